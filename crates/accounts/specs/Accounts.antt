@@ -1,0 +1,103 @@
+-- The accounting state ("books" in document 01): quotas, the last serial given, and hold records.
+use Prim.Native.Nat.{ℕ, zero, suc, _+_, _-_, _^_}
+use mathlib.Core.List.{List, [], _∷_, map}
+use mathlib.Core.Bool.{Bool, true, false, not, cond, _&&_}
+use mathlib.Core.Option.{Option, none, some}
+use lib.ListN.{getD, set, replicate}
+use lib.Dec.{leb, ltb, eqb}
+use Rattle.accounts.specs.declared.Quota.{Quota}
+use Rattle.accounts.specs.declared.Hold.{Hold}
+use Rattle.accounts.specs.declared.Accounts.{Accounts}
+use Rattle.accounts.specs.declared.Place.{Place}
+use Rattle.accounts.specs.declared.Place.the-variants.{At, Nothing}
+
+-- the number of quotas and of hold records
+abbrev pub QUOTAS : ℕ
+QUOTAS = 8
+
+abbrev pub HOLDS : ℕ
+HOLDS = 128
+
+-- zeros
+abbrev pub zero-quota : Quota
+zero-quota = record { grant = 0; remainder = 0 }
+
+abbrev pub zero-hold : Hold
+zero-hold = record { serial = 0; quota = 0; count = 0 }
+
+abbrev pub zero-accounts : Accounts
+zero-accounts = record { quotas = replicate QUOTAS zero-quota; «last_serial» = 0; holds = replicate HOLDS zero-hold }
+
+-- one function for each field that changes
+abbrev pub with-remainder : ℕ → Quota → Quota
+with-remainder n q = record { grant = q .grant; remainder = n }
+
+abbrev pub with-quotas : List Quota → Accounts → Accounts
+with-quotas qs k = record { quotas = qs; «last_serial» = k .«last_serial»; holds = k .holds }
+
+abbrev pub with-last-serial : ℕ → Accounts → Accounts
+with-last-serial n k = record { quotas = k .quotas; «last_serial» = n; holds = k .holds }
+
+abbrev pub with-holds : List Hold → Accounts → Accounts
+with-holds hs k = record { quotas = k .quotas; «last_serial» = k .«last_serial»; holds = hs }
+
+-- the accounts at opening: each grant is there whole, no serial has been given and no record is used
+abbrev pub granted : ℕ → Quota
+granted g = record { grant = g; remainder = g }
+
+unfoldable pub opened : List ℕ → Accounts
+opened grants = record { quotas = map granted grants; «last_serial» = 0; holds = replicate HOLDS zero-hold }
+
+-- the quota with a number, of zeros where there is none; and what remains of it
+abbrev pub quota-at : ℕ → Accounts → Quota
+quota-at q k = getD (k .quotas) q zero-quota
+
+unfoldable pub remaining : ℕ → Accounts → ℕ
+remaining q k = quota-at q k .remainder
+
+unfoldable pub set-remaining : ℕ → ℕ → Accounts → Accounts
+set-remaining q n k = with-quotas (set (k .quotas) q (with-remainder n (quota-at q k))) k
+
+-- the quota pays; where there is no such quota, or it has less than that, nothing changes
+unfoldable pub charge : ℕ → ℕ → Accounts → Accounts
+charge q n k = cond (ltb q QUOTAS && leb n (remaining q k)) (set-remaining q (remaining q k - n) k) k
+
+-- the quota is paid back; where there is no such quota, or the sum needs more than 32 bits, nothing changes
+unfoldable pub refund : ℕ → ℕ → Accounts → Accounts
+refund q n k = cond (ltb q QUOTAS && ltb (remaining q k + n) (2 ^ 32)) (set-remaining q (remaining q k + n) k) k
+
+-- an unused record is all zero; any other is used
+unfoldable pub used : Hold → Bool
+used h = not (eqb (h .serial) 0 && eqb (h .quota) 0 && eqb (h .count) 0)
+
+unfoldable pub unused : Hold → Bool
+unused h = not (used h)
+
+-- h is the record of this quota for the object with this serial
+unfoldable pub is-for : ℕ → ℕ → Hold → Bool
+is-for serial q h = used h && eqb (h .serial) serial && eqb (h .quota) q
+
+-- the first place from n on whose record passes a test
+unfoldable pub first-from : (Hold → Bool) → ℕ → List Hold → Place
+first-from p n [] = Nothing
+first-from p n (h ∷ hs) =
+    let later = first-from p (suc n) hs in
+    cond (p h) (At n) later
+
+-- the place of the quota's record for a serial; the place of the lowest unused record
+unfoldable pub find-hold : ℕ → ℕ → Accounts → Place
+find-hold serial q k = first-from (is-for serial q) 0 (k .holds)
+
+unfoldable pub lowest-unused : Accounts → Place
+lowest-unused k = first-from unused 0 (k .holds)
+
+-- the record at a place, of zeros where there is none
+unfoldable pub hold-at : ℕ → Accounts → Hold
+hold-at i k = getD (k .holds) i zero-hold
+
+-- another record at a place; a place out of range changes nothing
+unfoldable pub put-hold : ℕ → Hold → Accounts → Accounts
+put-hold i h k = with-holds (set (k .holds) i h) k
+
+unfoldable pub drop-hold : ℕ → Accounts → Accounts
+drop-hold i k = put-hold i zero-hold k

@@ -1,0 +1,5 @@
+pub mod Computing
+pub mod Marked
+pub mod Cases
+pub mod Bools
+pub mod Lists

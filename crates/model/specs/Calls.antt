@@ -1,0 +1,163 @@
+-- The calls (document 01, "The calls"), in its order: each gives the refusal of its lines, or else what it answers and leaves.
+use Prim.Native.Nat.{ℕ, zero, suc, _+_, _*_, _-_}
+use mathlib.Core.List.{List, [], _∷_}
+use mathlib.Core.Bool.{Bool, cond}
+use mathlib.Core.Option.{Option, none, some}
+use lib.ListN.{length, replicate}
+use lib.Dec.{eqb}
+use Rattle.accounts.specs.declared.Accounts.{Accounts}
+use Rattle.accounts.specs.Accounts.{zero-accounts, opened, with-holds, with-last-serial, charge, refund, remaining}
+use Rattle.layout.specs.Blocks.{Block, size, render}
+use Rattle.rounding.specs.Rounding.{object-length}
+use Rattle.model.specs.Lists.{first, or-else}
+use Rattle.model.specs.Answers.{Values, zero-handle, refused, accepted, given, amount-of, lent, listed}
+use Rattle.model.specs.Objects.{blocks-of, objects-of, lookup, lookup-whole, found}
+use Rattle.model.specs.Consistent.{charge-of, charges}
+use Rattle.model.specs.Space.{carve, settle, body-of, copy-into}
+use Rattle.model.specs.Holds.{count-of, take-record, raise-count, lower-count, drop-records}
+use Rattle.model.specs.Refusals.{Line, first-refusal, open-lines, check-lines, quota-lines, lend-lines, release-lines, claim-lines, claims-first, base-for, allocate-lines, reallocate-lines}
+use Rattle.model.specs.declared.Handle.{Handle}
+use Rattle.model.specs.declared.ListedBlock.{ListedBlock}
+
+-- what a call leaves and answers
+pub record Outcome : Type 0 where
+  pub heap : List ℕ
+  pub accounts : Accounts
+  pub values : Values
+
+-- the outcome that is due where there is no refusal; else the state that is handed back, with the refusal
+unfoldable pub unless : ℕ → List ℕ → Accounts → Outcome → Outcome
+unless zero s k done = done
+unless (suc n) s k done = record { heap = s; accounts = k; values = refused (suc n) }
+
+-- a call that changes nothing answers these values
+abbrev pub unchanged : List ℕ → Accounts → Values → Outcome
+unchanged s k v = record { heap = s; accounts = k; values = v }
+
+-- what the calls change: the blocks and the accounts
+pub record State : Type 0 where
+  pub blocks : List Block
+  pub accounts : Accounts
+
+abbrev pub leaves : State → Values → Outcome
+leaves t v = record { heap = render (t .blocks); accounts = t .accounts; values = v }
+
+-- Open: all bytes become zero, then one free block covers the heap. A refused open returns accounts that are all zero
+unfoldable pub fresh : ℕ → List ℕ → State
+fresh H grants = record { blocks = record { serial = 0; body = replicate (H - 8) 0 } ∷ []; accounts = opened grants }
+
+unfoldable pub open-heap : List ℕ → List ℕ → Outcome
+open-heap s grants =
+    let done = leaves (fresh (length s) grants) accepted in
+    unless (first-refusal (open-lines s)) s zero-accounts done
+
+-- Allocate: the object is carved out, the quota is charged, and the lowest unused record holds the new serial once
+unfoldable pub allocated : ℕ → Handle → State → State
+allocated q o t =
+    let k = t .accounts in
+    record {
+      blocks = carve (o .base) (o .length) (o .serial) (t .blocks);
+      accounts = with-last-serial (o .serial) (with-holds (take-record (o .serial) q (k .holds)) (charge q (charge-of (o .length)) k));
+    }
+
+-- Claim: a quota that has a record adds 1 to its count at no charge; another pays and takes the lowest unused record
+unfoldable pub claimed : ℕ → Handle → Accounts → Accounts
+claimed q o k =
+    let again = with-holds (raise-count (o .serial) q (k .holds)) k in
+    let anew = with-holds (take-record (o .serial) q (k .holds)) (charge q (charge-of (o .length)) k) in
+    cond (claims-first k q o) anew again
+
+-- Release: what is given back, and the state after it
+unfoldable pub given-back : ℕ → Handle → Accounts → ℕ
+given-back q o k = cond (eqb (count-of (o .serial) q (k .holds) - 1) 0) (charge-of (o .length)) 0
+
+unfoldable pub released : ℕ → Handle → State → State
+released q o t =
+    let k = t .accounts in
+    let hs = lower-count (o .serial) q (k .holds) in
+    record { blocks = settle hs (t .blocks); accounts = with-holds hs (refund q (given-back q o k) k) }
+
+-- Free-all: every record of the quota is dropped, and all that it paid is given back
+unfoldable pub freed : ℕ → ℕ → State → State
+freed q back t =
+    let k = t .accounts in
+    let hs = drop-records q (k .holds) in
+    record { blocks = settle hs (t .blocks); accounts = with-holds hs (refund q back k) }
+
+-- Reallocate: the shorter of the two lengths is copied from the old object to the new one
+unfoldable pub copied : Handle → Handle → State → State
+copied old new t = record { blocks = copy-into (new .serial) (body-of (old .serial) (t .blocks)) (t .blocks); accounts = t .accounts }
+
+-- the calls on blocks as calls on a heap
+abbrev pub state-of : List ℕ → Accounts → State
+state-of s k = record { blocks = blocks-of s; accounts = k }
+
+module _ (unit : ℕ → ℕ) where
+  -- the new object for a request of n bytes
+  unfoldable pub new-object : List ℕ → Accounts → ℕ → Handle
+  new-object s k n = record { base = or-else 0 (base-for unit s n); length = object-length unit n; serial = k .«last_serial» + 1 }
+
+  unfoldable pub allocate : List ℕ → Accounts → ℕ → ℕ → Outcome
+  allocate s k q n =
+      let o = new-object s k n in
+      let done = leaves (allocated q o (state-of s k)) (given o) in
+      unless (first-refusal (allocate-lines unit s k q n)) s k done
+
+  -- Allocate array: as allocate with the true product
+  unfoldable pub allocate-array : List ℕ → Accounts → ℕ → ℕ → ℕ → Outcome
+  allocate-array s k q count size = allocate s k q (count * size)
+
+unfoldable pub claim : List ℕ → Accounts → ℕ → Handle → Outcome
+claim s k q h =
+    let o = found (lookup h s) in
+    let done = unchanged s (claimed q o k) (amount-of (o .length)) in
+    unless (first-refusal (claim-lines s k q h)) s k done
+
+unfoldable pub release : List ℕ → Accounts → ℕ → Handle → Outcome
+release s k q h =
+    let o = found (lookup h s) in
+    let done = leaves (released q o (state-of s k)) (amount-of (given-back q o k)) in
+    unless (first-refusal (release-lines s k q h)) s k done
+
+unfoldable pub free-all : List ℕ → Accounts → ℕ → Outcome
+free-all s k q =
+    let back = charges (k .holds) q (objects-of s) in
+    let done = leaves (freed q back (state-of s k)) (amount-of back) in
+    unless (first-refusal (quota-lines s k q)) s k done
+
+module _ (unit : ℕ → ℕ) where
+  -- Reallocate: allocate while the old object still counts, copy, then release once
+  unfoldable pub reallocate : List ℕ → Accounts → ℕ → Handle → ℕ → Outcome
+  reallocate s k q h n =
+      let old = found (lookup-whole h s) in
+      let new = new-object unit s k n in
+      let done = leaves (released q old (copied old new (allocated q new (state-of s k)))) (given new) in
+      unless (first-refusal (reallocate-lines unit s k q h n)) s k done
+
+-- Lend: the object's bytes, as a part of the heap
+unfoldable pub lend : List ℕ → Accounts → Handle → Outcome
+lend s k h =
+    let o = found (lookup h s) in
+    let done = unchanged s k (lent (record { start = o .base; end = o .base + o .length })) in
+    unless (first-refusal (lend-lines s k h)) s k done
+
+-- Remaining and can release change nothing
+unfoldable pub remaining-of : List ℕ → Accounts → ℕ → Outcome
+remaining-of s k q = unless (first-refusal (quota-lines s k q)) s k (unchanged s k (amount-of (remaining q k)))
+
+unfoldable pub can-release : List ℕ → Accounts → ℕ → Handle → Outcome
+can-release s k q h = unless (first-refusal (release-lines s k q h)) s k (unchanged s k accepted)
+
+-- the check that every call but open begins with
+unfoldable pub check : List ℕ → Accounts → Outcome
+check s k = unless (first-refusal (check-lines s k)) s k (unchanged s k accepted)
+
+-- The listing: the blocks in order, each with its offset; and a step of it, the block that starts at a place
+unfoldable pub listing-from : ℕ → List Block → List ListedBlock
+listing-from at [] = []
+listing-from at (b ∷ bs) = record { offset = at; size = size b; serial = b .serial } ∷ listing-from (at + size b) bs
+
+unfoldable pub list-block : List ℕ → Accounts → ℕ → Outcome
+list-block s k at =
+    let b = first (λ l. eqb (l .offset) at) (listing-from 0 (blocks-of s)) in
+    unless (first-refusal (check-lines s k)) s k (unchanged s k (listed b))

@@ -1,0 +1,101 @@
+-- When heap and accounts are consistent ("sound" in document 01): one test for each sentence of that paragraph, in its order.
+use Prim.Native.Nat.{ℕ, suc, _+_, _%_}
+use mathlib.Core.List.{List, [], _∷_}
+use mathlib.Core.Bool.{Bool, true, false, not, cond, _&&_, _||_}
+use mathlib.Core.Option.{Option, none, some}
+use lib.Dec.{leb, ltb, eqb}
+use Rattle.accounts.specs.declared.Quota.{Quota}
+use Rattle.accounts.specs.declared.Hold.{Hold}
+use Rattle.accounts.specs.declared.Accounts.{Accounts}
+use Rattle.accounts.specs.Accounts.{QUOTAS, used, is-for}
+use Rattle.layout.specs.Blocks.{Block, size, live, parse}
+use Rattle.model.specs.Lists.{all, any, total}
+use Rattle.model.specs.Objects.{objects}
+use Rattle.model.specs.declared.Handle.{Handle}
+
+-- a heap length that is allowed: a multiple of 8, 64 to 32,768
+unfoldable pub allowed : ℕ → Bool
+allowed H = eqb (H % 8) 0 && (leb 64 H && leb H 32768)
+
+-- "A free block may be 8 bytes long, a live one is at least 16"
+unfoldable pub long-enough : Block → Bool
+long-enough b = not (live b) || leb 16 (size b)
+
+-- "Two free blocks never stand side by side"
+unfoldable pub starts-free : List Block → Bool
+starts-free [] = false
+starts-free (b ∷ bs) = not (live b)
+
+unfoldable pub free-apart : List Block → Bool
+free-apart [] = true
+free-apart (b ∷ bs) = (live b || not (starts-free bs)) && free-apart bs
+
+-- "The heap is cut as above": that every size and back size is true and the last block ends at H is layout's `parse`
+unfoldable pub well-cut : List Block → Bool
+well-cut bs = all long-enough bs && free-apart bs
+
+-- "Live serials differ from each other and are at most the last serial"
+abbrev pub has-serial : ℕ → Handle → Bool
+has-serial serial o = eqb (o .serial) serial
+
+unfoldable pub serials-differ : List Handle → Bool
+serials-differ [] = true
+serials-differ (o ∷ os) = not (any (has-serial (o .serial)) os) && serials-differ os
+
+unfoldable pub serials-given : ℕ → List Handle → Bool
+serials-given last os = all (λ o. leb (o .serial) last) os
+
+-- "Every used record has a live object's serial, a quota below 8 and a count of at least 1"
+unfoldable pub record-valid : List Handle → Hold → Bool
+record-valid os h = not (used h) || (any (has-serial (h .serial)) os && (ltb (h .quota) QUOTAS && leb 1 (h .count)))
+
+-- "No two used records have the same serial and quota"
+unfoldable pub records-differ : List Hold → Bool
+records-differ [] = true
+records-differ (h ∷ hs) = not (used h && any (is-for (h .serial) (h .quota)) hs) && records-differ hs
+
+-- "Every live object has a record"
+unfoldable pub is-of : ℕ → Hold → Bool
+is-of serial h = used h && eqb (h .serial) serial
+
+unfoldable pub held : List Hold → ℕ → Bool
+held hs serial = any (is-of serial) hs
+
+-- a charge is the object's length + 8, the header's size
+abbrev pub charge-of : ℕ → ℕ
+charge-of length = length + 8
+
+-- "the sum of (length + 8) over the objects it has a record for"
+unfoldable pub has-record : List Hold → ℕ → ℕ → Bool
+has-record hs q serial = any (is-for serial q) hs
+
+unfoldable pub charged-for : List Hold → ℕ → Handle → ℕ
+charged-for hs q o = cond (has-record hs q (o .serial)) (charge-of (o .length)) 0
+
+unfoldable pub charges : List Hold → ℕ → List Handle → ℕ
+charges hs q os = total (charged-for hs q) os
+
+-- "For each quota, grant = remainder + the sum", from the quota with number q on
+unfoldable pub balanced-from : List Handle → List Hold → ℕ → List Quota → Bool
+balanced-from os hs q [] = true
+balanced-from os hs q (x ∷ xs) = eqb (x .grant) (x .remainder + charges hs q os) && balanced-from os hs (suc q) xs
+
+-- all of it, of a heap that is cut into these blocks
+unfoldable pub consistent-blocks : List Block → Accounts → Bool
+consistent-blocks bs k =
+    let os = objects bs in
+    let hs = k .holds in
+    well-cut bs
+    && (serials-differ os
+    && (serials-given (k .«last_serial») os
+    && (all (record-valid os) hs
+    && (records-differ hs
+    && (all (λ o. held hs (o .serial)) os
+    && balanced-from os hs 0 (k .quotas))))))
+
+unfoldable pub consistent-parsed : Option (List Block) → Accounts → Bool
+consistent-parsed none k = false
+consistent-parsed (some bs) k = consistent-blocks bs k
+
+unfoldable pub consistent : List ℕ → Accounts → Bool
+consistent s k = consistent-parsed (parse s) k

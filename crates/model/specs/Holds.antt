@@ -1,0 +1,35 @@
+-- What the calls do to hold records (document 01, "Allocate" to "Free-all").
+use Prim.Native.Nat.{ℕ, _+_, _-_}
+use mathlib.Core.List.{List, [], _∷_, map}
+use mathlib.Core.Bool.{Bool, cond, _&&_}
+use mathlib.Core.Option.{Option}
+use lib.Dec.{eqb}
+use Rattle.accounts.specs.declared.Hold.{Hold}
+use Rattle.accounts.specs.Accounts.{zero-hold, used, unused, is-for}
+use Rattle.model.specs.Lists.{first, change-first, or-else}
+
+-- the count of a quota's record for a serial, 0 where it has none
+unfoldable pub count-of : ℕ → ℕ → List Hold → ℕ
+count-of serial q hs = or-else zero-hold (first (is-for serial q) hs) .count
+
+abbrev pub with-count : ℕ → Hold → Hold
+with-count n h = record { serial = h .serial; quota = h .quota; count = n }
+
+-- "takes the lowest unused record with count 1"
+unfoldable pub take-record : ℕ → ℕ → List Hold → List Hold
+take-record serial q hs = change-first unused (λ h. record { serial = serial; quota = q; count = 1 }) hs
+
+-- "adds 1 to its count"
+unfoldable pub raise-count : ℕ → ℕ → List Hold → List Hold
+raise-count serial q hs = change-first (is-for serial q) (λ h. with-count (h .count + 1) h) hs
+
+-- "takes 1 off the count. At 0 the record becomes zero"
+unfoldable pub less-one : Hold → Hold
+less-one h = cond (eqb (h .count - 1) 0) zero-hold (with-count (h .count - 1) h)
+
+unfoldable pub lower-count : ℕ → ℕ → List Hold → List Hold
+lower-count serial q hs = change-first (is-for serial q) less-one hs
+
+-- "drops every record of the quota, whatever its count"
+unfoldable pub drop-records : ℕ → List Hold → List Hold
+drop-records q hs = map (λ h. cond (used h && eqb (h .quota) q) zero-hold h) hs

@@ -1,0 +1,11 @@
+pub mod Lists
+pub mod Answers
+pub mod Objects
+pub mod Consistent
+pub mod Space
+pub mod Holds
+pub mod Refusals
+pub mod Calls
+pub mod Step
+pub mod Marked
+pub mod Cases

@@ -1,0 +1,128 @@
+-- Refusals (document 01, "Refusal numbers, checked in this order"): each line of the table, and each call's column of it.
+use Prim.Native.Nat.{ℕ, _+_}
+use mathlib.Core.List.{List, [], _∷_}
+use mathlib.Core.Bool.{Bool, true, false, not, _&&_, _||_}
+use mathlib.Core.Option.{Option}
+use lib.ListN.{length}
+use lib.Dec.{leb, ltb, eqb}
+use Rattle.accounts.specs.declared.Accounts.{Accounts}
+use Rattle.accounts.specs.Accounts.{QUOTAS, used, remaining}
+use Rattle.rounding.specs.Rounding.{object-length, alignment}
+use Rattle.model.specs.Lists.{all, is-none}
+use Rattle.model.specs.Objects.{blocks-of, lookup, lookup-whole, found}
+use Rattle.model.specs.Consistent.{allowed, consistent, charge-of, has-record}
+use Rattle.model.specs.Space.{lowest-base}
+use Rattle.model.specs.Holds.{count-of}
+use Rattle.model.specs.declared.Handle.{Handle}
+
+-- a line of the table: its number, and whether it holds
+pub data Line : Type 0 where
+  _when_ : ℕ → Bool → Line
+
+infix 5 _when_
+
+-- the number of the first line that holds, 0 where none does
+unfoldable pub first-refusal : List Line → ℕ
+first-refusal [] = 0
+first-refusal ((n when true) ∷ ls) = n
+first-refusal ((n when false) ∷ ls) = first-refusal ls
+
+-- the greatest length of a request, the greatest count of a record, and the greatest serial
+abbrev pub greatest-length : ℕ
+greatest-length = 32760
+
+abbrev pub greatest-count : ℕ
+greatest-count = 255
+
+abbrev pub greatest-serial : ℕ
+greatest-serial = 4294967295
+
+-- 1: heap length is not allowed
+unfoldable pub line-1 : List ℕ → Line
+line-1 s = 1 when not (allowed (length s))
+
+-- 2: heap and accounts are not consistent
+unfoldable pub line-2 : List ℕ → Accounts → Line
+line-2 s k = 2 when not (consistent s k)
+
+-- 3: quota is 8 or more
+unfoldable pub line-3 : ℕ → Line
+line-3 q = 3 when leb QUOTAS q
+
+-- 4: length or product is 0 or above 32,760
+unfoldable pub line-4 : ℕ → Line
+line-4 n = 4 when eqb n 0 || ltb greatest-length n
+
+-- 5: handle names no live object
+unfoldable pub line-5 : Option Handle → Line
+line-5 o = 5 when is-none o
+
+-- 6: this quota has no record for the object
+unfoldable pub line-6 : Accounts → ℕ → Handle → Line
+line-6 k q o = 6 when not (has-record (k .holds) q (o .serial))
+
+-- 7: this quota's count is 255
+unfoldable pub line-7 : Accounts → ℕ → Handle → Line
+line-7 k q o = 7 when eqb (count-of (o .serial) q (k .holds)) greatest-count
+
+-- 8: charge is above the remainder
+unfoldable pub line-8 : Accounts → ℕ → ℕ → Line
+line-8 k q n = 8 when ltb (remaining q k) (charge-of n)
+
+-- 9: no unused record
+unfoldable pub line-9 : Accounts → Line
+line-9 k = 9 when all used (k .holds)
+
+-- 10: last serial is 4,294,967,295
+unfoldable pub line-10 : Accounts → Line
+line-10 k = 10 when eqb (k .«last_serial») greatest-serial
+
+-- a line that is given only where a test holds
+unfoldable pub only-if : Bool → Line → Line
+only-if c (n when t) = n when c && t
+
+-- a quota without a record for the object pays for its claim
+unfoldable pub claims-first : Accounts → ℕ → Handle → Bool
+claims-first k q o = not (has-record (k .holds) q (o .serial))
+
+unfoldable pub open-lines : List ℕ → List Line
+open-lines s = line-1 s ∷ []
+
+unfoldable pub check-lines : List ℕ → Accounts → List Line
+check-lines s k = line-1 s ∷ line-2 s k ∷ []
+
+unfoldable pub quota-lines : List ℕ → Accounts → ℕ → List Line
+quota-lines s k q = line-1 s ∷ line-2 s k ∷ line-3 q ∷ []
+
+unfoldable pub lend-lines : List ℕ → Accounts → Handle → List Line
+lend-lines s k h = line-1 s ∷ line-2 s k ∷ line-5 (lookup h s) ∷ []
+
+unfoldable pub release-lines : List ℕ → Accounts → ℕ → Handle → List Line
+release-lines s k q h =
+    let o = found (lookup h s) in
+    line-1 s ∷ line-2 s k ∷ line-3 q ∷ line-5 (lookup h s) ∷ line-6 k q o ∷ []
+
+unfoldable pub claim-lines : List ℕ → Accounts → ℕ → Handle → List Line
+claim-lines s k q h =
+    let o = found (lookup h s) in
+    let pays = claims-first k q o in
+    line-1 s ∷ line-2 s k ∷ line-3 q ∷ line-5 (lookup h s) ∷ line-7 k q o ∷ only-if pays (line-8 k q (o .length)) ∷ only-if pays (line-9 k) ∷ []
+
+module _ (unit : ℕ → ℕ) where
+  -- the base of a new object for a request of n bytes
+  unfoldable pub base-for : List ℕ → ℕ → Option ℕ
+  base-for s n = lowest-base (length s) (blocks-of s) (alignment unit n) (object-length unit n)
+
+  -- 11: no offset b as above exists
+  unfoldable pub line-11 : List ℕ → ℕ → Line
+  line-11 s n = 11 when is-none (base-for s n)
+
+  unfoldable pub allocate-lines : List ℕ → Accounts → ℕ → ℕ → List Line
+  allocate-lines s k q n =
+      line-1 s ∷ line-2 s k ∷ line-3 q ∷ line-4 n ∷ line-8 k q (object-length unit n) ∷ line-9 k ∷ line-10 k ∷ line-11 s n ∷ []
+
+  unfoldable pub reallocate-lines : List ℕ → Accounts → ℕ → Handle → ℕ → List Line
+  reallocate-lines s k q h n =
+      let o = found (lookup-whole h s) in
+      line-1 s ∷ line-2 s k ∷ line-3 q ∷ line-4 n ∷ line-5 (lookup-whole h s) ∷ line-6 k q o
+      ∷ line-8 k q (object-length unit n) ∷ line-9 k ∷ line-10 k ∷ line-11 s n ∷ []

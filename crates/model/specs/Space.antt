@@ -1,0 +1,94 @@
+-- Where a new object goes, and what becomes of blocks (document 01, "Allocate" and "Release").
+use Prim.Native.Nat.{ℕ, zero, suc, _+_, _*_, _-_, _/_}
+use mathlib.Core.List.{List, [], _∷_, _++_}
+use mathlib.Core.Bool.{Bool, true, false, not, cond, _&&_, _||_}
+use mathlib.Core.Option.{Option, none, some}
+use lib.ListN.{length, take, drop, replicate}
+use lib.Dec.{leb, eqb}
+use Rattle.accounts.specs.declared.Hold.{Hold}
+use Rattle.layout.specs.Blocks.{Block, size, live}
+use Rattle.model.specs.Consistent.{held}
+
+-- a block whose bytes no new object may use
+abbrev pub occupied : Block → Bool
+occupied b = live b
+
+-- the bytes from start up to end lie outside every occupied block, where the first block starts at a place
+unfoldable pub outside-occupied : ℕ → ℕ → ℕ → List Block → Bool
+outside-occupied start end at [] = true
+outside-occupied start end at (b ∷ bs) =
+    (not (occupied b) || (leb end at || leb (at + size b) start)) && outside-occupied start end (at + size b) bs
+
+-- "the bytes from b - 8 to b + object length lie in the heap outside every live block"
+unfoldable pub suitable : ℕ → List Block → ℕ → ℕ → Bool
+suitable H bs n b = leb 8 b && (leb (b + n) H && outside-occupied (b - 8) (b + n) 0 bs)
+
+-- the first of from, from + step, .. that passes a test, of so many candidates
+unfoldable pub first-candidate : (ℕ → Bool) → ℕ → ℕ → ℕ → Option ℕ
+first-candidate p zero step from = none
+first-candidate p (suc count) step from =
+    let later = first-candidate p count step (from + step) in
+    cond (p from) (some from) later
+
+-- "the lowest offset b, a multiple of the unit, such that ..": of all multiples up to H
+unfoldable pub lowest-base : ℕ → List Block → ℕ → ℕ → Option ℕ
+lowest-base H bs alignment n = first-candidate (suitable H bs n) (suc (H / alignment)) alignment 0
+
+-- "What is left in front and behind becomes free blocks": of so many bytes with the header; none where nothing is left
+unfoldable pub left-over : ℕ → List ℕ → List Block
+left-over zero body = []
+left-over (suc n) body = record { serial = 0; body = body } ∷ []
+
+-- a free block at a place, cut so that an object of n zero bytes has its base there
+unfoldable pub cut-block : ℕ → ℕ → ℕ → ℕ → Block → List Block
+cut-block base n serial at b =
+    left-over (base - 8 - at) (take (base - 16 - at) (b .body))
+    ++ (record { serial = serial; body = replicate n 0 } ∷ left-over (at + size b - (base + n)) (drop (base + n - at) (b .body)))
+
+-- the blocks with the new object in the free block where its bytes lie
+unfoldable pub carve-from : ℕ → ℕ → ℕ → ℕ → List Block → List Block
+carve-from base n serial at [] = []
+carve-from base n serial at (b ∷ bs) =
+    let later = b ∷ carve-from base n serial (at + size b) bs in
+    let here = cut-block base n serial at b ++ bs in
+    cond (not (occupied b) && (leb (at + 8) base && leb (base + n) (at + size b))) here later
+
+unfoldable pub carve : ℕ → ℕ → ℕ → List Block → List Block
+carve base n serial bs = carve-from base n serial 0 bs
+
+-- a free block joins a free block behind it; the header that no longer starts a block becomes zero
+unfoldable pub join-front : Block → List Block → List Block
+join-front b [] = b ∷ []
+join-front b (c ∷ cs) =
+    cond (live b || live c) (b ∷ c ∷ cs) (record { serial = 0; body = b .body ++ (replicate 8 0 ++ c .body) } ∷ cs)
+
+-- what becomes of a block that nobody holds: it is free, and its object's bytes are zero
+unfoldable pub vacate : Block → Block
+vacate b = record { serial = 0; body = replicate (length (b .body)) 0 }
+
+unfoldable pub vacate-unheld : List Hold → List Block → List Block
+vacate-unheld hs [] = []
+vacate-unheld hs (b ∷ bs) = cond (live b && not (held hs (b .serial))) (vacate b) b ∷ vacate-unheld hs bs
+
+-- every free block joins those beside it
+unfoldable pub join-free : List Block → List Block
+join-free [] = []
+join-free (b ∷ bs) = join-front b (join-free bs)
+
+-- the blocks once only these records are left
+unfoldable pub settle : List Hold → List Block → List Block
+settle hs bs = join-free (vacate-unheld hs bs)
+
+-- the body of the block with a serial; another body in its place
+unfoldable pub body-of : ℕ → List Block → List ℕ
+body-of serial [] = []
+body-of serial (b ∷ bs) =
+    let later = body-of serial bs in
+    cond (eqb (b .serial) serial) (b .body) later
+
+-- the object with a serial begins with these bytes, as many as it has room for
+unfoldable pub copy-into : ℕ → List ℕ → List Block → List Block
+copy-into serial new [] = []
+copy-into serial new (b ∷ bs) =
+    let copied : Block = record { serial = serial; body = take (length (b .body)) new ++ drop (length new) (b .body) } in
+    cond (eqb (b .serial) serial) copied b ∷ copy-into serial new bs

@@ -1,0 +1,21 @@
+-- One step of a history: a call on a heap and its accounts.
+use Prim.Native.Nat.{ℕ}
+use mathlib.Core.List.{List}
+use Rattle.accounts.specs.declared.Accounts.{Accounts}
+use Rattle.model.specs.Calls.{Outcome, allocate, allocate-array, claim, release, free-all, reallocate, lend, remaining-of, can-release, list-block}
+use Rattle.model.specs.declared.Handle.{Handle}
+use Rattle.model.specs.declared.Call.{Call}
+use Rattle.model.specs.declared.Call.the-variants.{Allocate, AllocateArray, Claim, Release, FreeAll, Reallocate, Lend, Remaining, CanRelease, ListBlock}
+
+module _ (unit : ℕ → ℕ) where
+  unfoldable pub step : Call → List ℕ → Accounts → Outcome
+  step (Allocate q n) s k = allocate unit s k q n
+  step (AllocateArray q count size) s k = allocate-array unit s k q count size
+  step (Claim q h) s k = claim s k q h
+  step (Release q h) s k = release s k q h
+  step (FreeAll q) s k = free-all s k q
+  step (Reallocate q h n) s k = reallocate unit s k q h n
+  step (Lend h) s k = lend s k h
+  step (Remaining q) s k = remaining-of s k q
+  step (CanRelease q h) s k = can-release s k q h
+  step (ListBlock at) s k = list-block s k at

@@ -1,0 +1,117 @@
+// The calls of the shared heap and their answers, as types. The definitions in specs/ say what each call does; no code of a call is here.
+use accounts::Accounts;
+ghost use mathlib.Core.Path.{_≡_};
+ghost use Rattle.model.specs.Answers.{refusal-number};
+
+// An object's place, length and serial. It names an object where a live block's object has all three the same.
+#[repr(C)]
+pub struct Handle {
+    pub base: u32,
+    pub length: u32,
+    pub serial: u32,
+}
+
+// A part of the heap, from start up to end.
+#[repr(C)]
+pub struct Range {
+    pub start: usize,
+    pub end: usize,
+}
+
+// A block as the listing gives it: its offset, its size with the header, and its serial, 0 for a free block.
+#[repr(C)]
+pub struct ListedBlock {
+    pub offset: usize,
+    pub size: usize,
+    pub serial: u32,
+}
+
+// The eleven refusals, in the order in which they are checked.
+pub enum Refusal {
+    HeapLength,
+    Inconsistent,
+    QuotaNumber,
+    ObjectLength,
+    NoSuchObject,
+    NotHeld,
+    CountLimit,
+    QuotaExceeded,
+    HoldsExhausted,
+    SerialsExhausted,
+    NoSpace,
+}
+
+// The answer of a call that gives nothing but its verdict: open, can release, check.
+pub enum Verdict {
+    Accepted,
+    Refused(Refusal),
+}
+
+// The answer of allocate, allocate array and reallocate.
+pub enum HandleAnswer {
+    Given(Handle),
+    Refused(Refusal),
+}
+
+// The answer of claim (the object's length), release and free-all (quota given back) and remaining.
+pub enum AmountAnswer {
+    Amount(u32),
+    Refused(Refusal),
+}
+
+// The answer of lend.
+pub enum RangeAnswer {
+    Lent(Range),
+    Refused(Refusal),
+}
+
+// The answer of a step of the listing.
+pub enum BlockAnswer {
+    Listed(ListedBlock),
+    NoBlock,
+    Refused(Refusal),
+}
+
+// The answer of any call of a history.
+pub enum Answer {
+    Verdict(Verdict),
+    Handle(HandleAnswer),
+    Amount(AmountAnswer),
+    Range(RangeAnswer),
+    Block(BlockAnswer),
+}
+
+// A call of a history, with its arguments.
+pub enum Call {
+    Allocate { quota: u32, length: u32 },
+    AllocateArray { quota: u32, count: u32, size: u32 },
+    Claim { quota: u32, handle: Handle },
+    Release { quota: u32, handle: Handle },
+    FreeAll { quota: u32 },
+    Reallocate { quota: u32, handle: Handle, length: u32 },
+    Lend { handle: Handle },
+    Remaining { quota: u32 },
+    CanRelease { quota: u32, handle: Handle },
+    ListBlock { at: usize },
+}
+
+impl Refusal {
+    // The refusal's number.
+    pub fn number(self) -> u32
+        ensures { λ r. ⌜ r ≡ refusal-number self ⌝ }
+    {
+        match self {
+            Refusal::HeapLength => 1,
+            Refusal::Inconsistent => 2,
+            Refusal::QuotaNumber => 3,
+            Refusal::ObjectLength => 4,
+            Refusal::NoSuchObject => 5,
+            Refusal::NotHeld => 6,
+            Refusal::CountLimit => 7,
+            Refusal::QuotaExceeded => 8,
+            Refusal::HoldsExhausted => 9,
+            Refusal::SerialsExhausted => 10,
+            Refusal::NoSpace => 11,
+        }
+    }
+}

@@ -1,0 +1,36 @@
+-- Rounding of lengths (document 01, "Rounding of lengths"). Everything is derived from one function, the unit of a requested length.
+use Prim.Native.Nat.{ℕ, zero, suc, _+_, _*_, _-_, _/_, _%_, _^_, _<_}
+use mathlib.Core.Path.{_≡_}
+use mathlib.Core.Bool.{Bool, cond}
+use lib.Dec.{leb, ltb}
+
+-- document 01's table; a length below its first row or above its last one has that row's unit
+unfoldable pub unit : ℕ → ℕ
+unit n = cond (leb n 8191) 8 (cond (leb n 16383) 16 32)
+
+-- what every table of units has: its values are nonzero multiples of 8
+pub record Units (u : ℕ → ℕ) : Type 0 where
+  pub positive : (n : ℕ) → 0 < u n
+  pub eights : (n : ℕ) → u n % 8 ≡ 0
+
+-- the object's length: the request rounded up to a multiple of its unit
+unfoldable pub object-length : (ℕ → ℕ) → ℕ → ℕ
+object-length u n = (n + (u n - 1)) / u n * u n
+
+-- the base's alignment: the base is a multiple of the same unit
+unfoldable pub alignment : (ℕ → ℕ) → ℕ → ℕ
+alignment u n = u n
+
+-- the leading zeros of x, written with w bits
+unfoldable pub leading-zeros : ℕ → ℕ → ℕ
+leading-zeros zero x = 0
+leading-zeros (suc w) x =
+    let more = suc (leading-zeros w x) in
+    cond (ltb x (2 ^ w)) more 0
+
+-- source document 002: E = 52 - CountLeadingZeros(l[64:13]), and the alignment 2^(E+3)
+unfoldable pub exponent : ℕ → ℕ
+exponent n = 52 - leading-zeros 52 (n / 2 ^ 13)
+
+unfoldable pub representable-alignment : ℕ → ℕ
+representable-alignment n = 2 ^ (exponent n + 3)

@@ -1,0 +1,149 @@
+//! The accounting state: quotas, the last serial given and the hold records.
+//!
+//! The rules call this state the "books"; here it is named `Accounts`.
+
+use crate::Refusal;
+
+/// The number of quotas.
+pub const QUOTAS: usize = 8;
+
+/// The number of hold records.
+pub const HOLDS: usize = 128;
+
+/// One quota: what it was granted and what is left of it.
+#[derive(Clone, Copy, Debug, Default, PartialEq, Eq)]
+pub struct Quota {
+    /// The grant given at opening.
+    pub grant: u32,
+    /// What is left of the grant.
+    pub remainder: u32,
+}
+
+/// One hold record: a quota's holds on the object with this serial.
+// OPEN: the rules give the count as 1 to 255 and leave the width of the quota
+// field free; both are taken as one byte, so larger values cannot arise.
+#[derive(Clone, Copy, Debug, Default, PartialEq, Eq)]
+pub struct Hold {
+    /// The serial of the object.
+    pub serial: u32,
+    /// The number of the quota.
+    pub quota: u8,
+    /// How often the quota holds the object.
+    pub count: u8,
+}
+
+impl Hold {
+    /// The unused record: all fields zero.
+    pub const UNUSED: Hold = Hold {
+        serial: 0,
+        quota: 0,
+        count: 0,
+    };
+
+    /// Tells whether the record is used, that is, whether any field is not zero.
+    pub fn is_used(self) -> bool {
+        self != Hold::UNUSED
+    }
+}
+
+/// The accounting state, called "books" in the rules.
+#[derive(Clone, Debug, PartialEq, Eq)]
+pub struct Accounts {
+    /// The quotas, by number.
+    pub quotas: [Quota; QUOTAS],
+    /// The last serial given.
+    pub last_serial: u32,
+    /// The hold records.
+    pub holds: [Hold; HOLDS],
+}
+
+impl Default for Accounts {
+    /// Gives the all-zero accounts.
+    fn default() -> Self {
+        Accounts {
+            quotas: [Quota::default(); QUOTAS],
+            last_serial: 0,
+            holds: [Hold::UNUSED; HOLDS],
+        }
+    }
+}
+
+impl Accounts {
+    /// Gives the accounts of a freshly opened heap.
+    pub(crate) fn opened(grants: [u32; QUOTAS]) -> Accounts {
+        Accounts {
+            quotas: grants.map(|grant| Quota {
+                grant,
+                remainder: grant,
+            }),
+            ..Accounts::default()
+        }
+    }
+
+    /// Gives the remainder of a quota.
+    pub(crate) fn remainder(&self, quota: QuotaNumber) -> u32 {
+        self.quotas[quota.index()].remainder
+    }
+
+    /// Finds the place of the quota's record for the object with this serial.
+    pub(crate) fn find_hold(&self, quota: QuotaNumber, serial: u32) -> Option<usize> {
+        self.holds
+            .iter()
+            .position(|hold| hold.is_used() && hold.serial == serial && hold.quota == quota.0)
+    }
+
+    /// Finds the place of the lowest unused record.
+    pub(crate) fn lowest_unused(&self) -> Option<usize> {
+        self.holds.iter().position(|hold| !hold.is_used())
+    }
+
+    /// Tells whether any quota has a record for the object with this serial.
+    pub(crate) fn is_held(&self, serial: u32) -> bool {
+        self.holds
+            .iter()
+            .any(|hold| hold.is_used() && hold.serial == serial)
+    }
+
+    /// Gives the place of a record for a new hold, or refusal 8 or 9.
+    pub(crate) fn place_for_hold(&self, quota: QuotaNumber, charge: u32) -> Result<usize, Refusal> {
+        if charge > self.remainder(quota) {
+            return Err(Refusal::QuotaSpent);
+        }
+        self.lowest_unused().ok_or(Refusal::RecordsFull)
+    }
+
+    /// Charges the quota and writes its record with count 1.
+    pub(crate) fn add_hold(&mut self, place: usize, quota: QuotaNumber, serial: u32, charge: u32) {
+        self.quotas[quota.index()].remainder -= charge;
+        self.holds[place] = Hold {
+            serial,
+            quota: quota.0,
+            count: 1,
+        };
+    }
+
+    /// Clears the quota's record and gives the charge back to the quota.
+    pub(crate) fn drop_hold(&mut self, place: usize, quota: QuotaNumber, charge: u32) {
+        self.quotas[quota.index()].remainder += charge;
+        self.holds[place] = Hold::UNUSED;
+    }
+}
+
+/// A quota number that is known to be below the number of quotas.
+#[derive(Clone, Copy, Debug, PartialEq, Eq)]
+pub(crate) struct QuotaNumber(u8);
+
+impl QuotaNumber {
+    /// Takes a number as it comes from the caller, or gives refusal 3.
+    pub(crate) fn new(number: u32) -> Result<QuotaNumber, Refusal> {
+        match u8::try_from(number) {
+            Ok(small) if usize::from(small) < QUOTAS => Ok(QuotaNumber(small)),
+            _ => Err(Refusal::QuotaNumber),
+        }
+    }
+
+    /// Gives the place of the quota in the accounts.
+    fn index(self) -> usize {
+        usize::from(self.0)
+    }
+}

@@ -1,0 +1,110 @@
+//! The calls on the holds of an object: claim, release, free-all and can release.
+
+use crate::accounts::{Accounts, QuotaNumber};
+use crate::layout::{store, Block, Handle, Layout};
+use crate::sound::sound_layout;
+use crate::Refusal;
+
+/// Adds one hold of the quota on the object and gives the object's length.
+///
+/// Only the first hold of a quota on an object is charged.
+pub fn claim(
+    heap: &[u8],
+    accounts: &mut Accounts,
+    quota: u32,
+    handle: Handle,
+) -> Result<u32, Refusal> {
+    let layout = sound_layout(heap, accounts)?;
+    let quota = QuotaNumber::new(quota)?;
+    let object = layout.named(handle).ok_or(Refusal::NoObject)?;
+    match accounts.find_hold(quota, object.serial) {
+        Some(record) => {
+            let count = accounts.holds[record].count;
+            accounts.holds[record].count = count.checked_add(1).ok_or(Refusal::CountFull)?;
+        }
+        None => {
+            let record = accounts.place_for_hold(quota, object.charge())?;
+            accounts.add_hold(record, quota, object.serial, object.charge());
+        }
+    }
+    Ok(handle.length)
+}
+
+/// Takes one hold of the quota off the object and gives the quota given back.
+pub fn release(
+    heap: &mut [u8],
+    accounts: &mut Accounts,
+    quota: u32,
+    handle: Handle,
+) -> Result<u32, Refusal> {
+    let layout = sound_layout(heap, accounts)?;
+    let quota = QuotaNumber::new(quota)?;
+    let (object, record) = held_object(&layout, accounts, quota, handle)?;
+    Ok(release_once(heap, accounts, &layout, quota, object, record))
+}
+
+/// Drops every record of the quota and gives the quota given back.
+pub fn free_all(heap: &mut [u8], accounts: &mut Accounts, quota: u32) -> Result<u32, Refusal> {
+    let layout = sound_layout(heap, accounts)?;
+    let quota = QuotaNumber::new(quota)?;
+    let mut given_back = 0;
+    let mut freed = Vec::new();
+    for object in layout.live() {
+        let Some(record) = accounts.find_hold(quota, object.serial) else {
+            continue;
+        };
+        accounts.drop_hold(record, quota, object.charge());
+        given_back += object.charge();
+        if !accounts.is_held(object.serial) {
+            freed.push(object);
+        }
+    }
+    store(heap, &layout, &layout.without(&freed));
+    Ok(given_back)
+}
+
+/// Gives the refusal that release would give, and changes nothing.
+pub fn can_release(
+    heap: &[u8],
+    accounts: &Accounts,
+    quota: u32,
+    handle: Handle,
+) -> Result<(), Refusal> {
+    let layout = sound_layout(heap, accounts)?;
+    let quota = QuotaNumber::new(quota)?;
+    held_object(&layout, accounts, quota, handle).map(|_| ())
+}
+
+/// Finds the object that the handle names and the place of the quota's record
+/// for it, or gives refusal 5 or 6.
+pub(crate) fn held_object(
+    layout: &Layout,
+    accounts: &Accounts,
+    quota: QuotaNumber,
+    handle: Handle,
+) -> Result<(Block, usize), Refusal> {
+    let object = layout.named(handle).ok_or(Refusal::NoObject)?;
+    let record = accounts.find_hold(quota, object.serial);
+    Ok((object, record.ok_or(Refusal::NoRecord)?))
+}
+
+/// Takes one off the record's count, frees the object if no quota is left with
+/// a record for it, and gives the quota given back.
+pub(crate) fn release_once(
+    heap: &mut [u8],
+    accounts: &mut Accounts,
+    layout: &Layout,
+    quota: QuotaNumber,
+    object: Block,
+    record: usize,
+) -> u32 {
+    if accounts.holds[record].count > 1 {
+        accounts.holds[record].count -= 1;
+        return 0;
+    }
+    accounts.drop_hold(record, quota, object.charge());
+    if !accounts.is_held(object.serial) {
+        store(heap, layout, &layout.without(&[object]));
+    }
+    object.charge()
+}

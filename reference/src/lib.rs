@@ -1,0 +1,31 @@
+//! Reference implementation of a small shared heap with quotas and claims.
+//!
+//! It is written from the rules alone and serves as the second program against
+//! which another implementation is compared. Every call decodes the heap into a
+//! map of live objects, works on that map and writes the headers again from it.
+//!
+//! Every call accepts any heap bytes of any length, any accounts and any
+//! numbers. A refused call leaves heap and accounts as they were.
+
+#![forbid(unsafe_code)]
+#![warn(missing_docs)]
+
+mod accounts;
+mod allocation;
+mod claims;
+mod layout;
+mod queries;
+mod refusal;
+mod replay;
+mod rounding;
+mod sound;
+
+pub use accounts::{Accounts, Hold, Quota, HOLDS, QUOTAS};
+pub use allocation::{allocate, allocate_array, open, reallocate};
+pub use claims::{can_release, claim, free_all, release};
+pub use layout::{Block, Handle, HEADER_BYTES, SIZE_UNIT};
+pub use queries::{block_at, lend, lend_mut, remaining, Walker};
+pub use refusal::Refusal;
+pub use replay::{replay, MAX_INPUT};
+pub use rounding::{round_request, Rounded, MAX_REQUEST};
+pub use sound::{check, MAX_HEAP, MIN_HEAP};

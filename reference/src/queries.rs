@@ -1,0 +1,65 @@
+//! The calls that change nothing themselves: lend, remaining and the listing.
+
+use std::ops::Range;
+
+use crate::accounts::{Accounts, QuotaNumber};
+use crate::layout::{Block, Handle};
+use crate::sound::sound_layout;
+use crate::Refusal;
+
+/// Gives the range of the heap that holds the object's bytes.
+pub fn lend(heap: &[u8], accounts: &Accounts, handle: Handle) -> Result<Range<usize>, Refusal> {
+    let layout = sound_layout(heap, accounts)?;
+    let object = layout.named(handle).ok_or(Refusal::NoObject)?;
+    Ok(object.object_bytes())
+}
+
+/// Gives the object's bytes as a part of the heap, to be read and written.
+pub fn lend_mut<'heap>(
+    heap: &'heap mut [u8],
+    accounts: &Accounts,
+    handle: Handle,
+) -> Result<&'heap mut [u8], Refusal> {
+    let range = lend(heap, accounts, handle)?;
+    Ok(&mut heap[range])
+}
+
+/// Gives the remainder of the quota.
+pub fn remaining(heap: &[u8], accounts: &Accounts, quota: u32) -> Result<u32, Refusal> {
+    sound_layout(heap, accounts)?;
+    let quota = QuotaNumber::new(quota)?;
+    Ok(accounts.remainder(quota))
+}
+
+/// Gives the block that starts at the place, if one does: a step of the listing.
+pub fn block_at(heap: &[u8], accounts: &Accounts, place: usize) -> Result<Option<Block>, Refusal> {
+    let layout = sound_layout(heap, accounts)?;
+    let mut blocks = layout.blocks().into_iter();
+    Ok(blocks.find(|block| block.offset as usize == place))
+}
+
+/// A listing of the heap: it holds the heap and its place in it.
+#[derive(Clone, Debug)]
+pub struct Walker<'heap> {
+    /// The heap that is listed.
+    pub heap: &'heap [u8],
+    /// The offset at which the next block is looked for.
+    pub place: usize,
+}
+
+impl<'heap> Walker<'heap> {
+    /// Starts a listing at the first block.
+    pub fn new(heap: &'heap [u8]) -> Walker<'heap> {
+        Walker { heap, place: 0 }
+    }
+
+    /// Gives the block at the place and moves the place behind it.
+    // OPEN: where the place goes after no block is free; here it stays.
+    pub fn step(&mut self, accounts: &Accounts) -> Result<Option<Block>, Refusal> {
+        let block = block_at(self.heap, accounts, self.place)?;
+        if let Some(block) = block {
+            self.place = block.end() as usize;
+        }
+        Ok(block)
+    }
+}

@@ -1,0 +1,139 @@
+//! The checks that every call makes first: heap length and soundness.
+//!
+//! Soundness follows its paragraph in the rules sentence by sentence; each
+//! sentence is one function, and they are asked in the order of the rules.
+
+use std::collections::BTreeSet;
+
+use crate::accounts::{Accounts, Hold, QUOTAS};
+use crate::layout::{walk, Block, Found, Layout, HEADER_BYTES, SIZE_UNIT};
+use crate::Refusal;
+
+/// The shortest heap allowed, in bytes.
+pub const MIN_HEAP: usize = 64;
+
+/// The longest heap allowed, in bytes.
+pub const MAX_HEAP: usize = 32_768;
+
+/// The shortest live block: a header and one unit.
+const MIN_LIVE_BLOCK: u32 = HEADER_BYTES + SIZE_UNIT;
+
+/// Tells whether a heap may have this length.
+pub(crate) fn length_is_allowed(length: usize) -> bool {
+    length.is_multiple_of(SIZE_UNIT as usize) && (MIN_HEAP..=MAX_HEAP).contains(&length)
+}
+
+/// Gives refusal 1 or 2 if one of them holds, as every call but open does first.
+pub fn check(heap: &[u8], accounts: &Accounts) -> Result<(), Refusal> {
+    sound_layout(heap, accounts).map(|_| ())
+}
+
+/// Gives the layout of a sound heap, or refusal 1 or 2.
+pub(crate) fn sound_layout(heap: &[u8], accounts: &Accounts) -> Result<Layout, Refusal> {
+    if !length_is_allowed(heap.len()) {
+        return Err(Refusal::HeapLength);
+    }
+    let found = walk(heap).ok_or(Refusal::NotSound)?;
+    let live = live_blocks(&found);
+    let sound = heap_is_cut_truly(&found)
+        && live_serials_differ_and_were_given(&live, accounts)
+        && used_records_are_proper(&live, accounts)
+        && no_two_used_records_agree(accounts)
+        && every_object_has_a_record(&live, accounts)
+        && every_grant_is_accounted_for(&live, accounts);
+    if !sound {
+        return Err(Refusal::NotSound);
+    }
+    let by_offset = live.iter().map(|block| (block.offset, *block)).collect();
+    Ok(Layout::new(heap.len() as u32, by_offset))
+}
+
+/// Gives the live blocks among those that the walk found.
+fn live_blocks(found: &[Found]) -> Vec<Block> {
+    let blocks = found.iter().map(|found| found.block);
+    blocks.filter(|block| !block.is_free()).collect()
+}
+
+/// Gives the used records of the accounts.
+fn used_records(accounts: &Accounts) -> impl Iterator<Item = Hold> + '_ {
+    accounts.holds.iter().copied().filter(|hold| hold.is_used())
+}
+
+/// Sentence 1: the heap is cut into blocks with every size and back size true
+/// and the last block ending at the heap's end.
+///
+/// The walk itself has shown that the sizes lead from offset 0 to the end.
+fn heap_is_cut_truly(found: &[Found]) -> bool {
+    back_sizes_are_true(found) && live_blocks_are_long_enough(found) && no_two_free_touch(found)
+}
+
+/// Sentence 1, back sizes: 0 for the first block, else the size of the block before.
+fn back_sizes_are_true(found: &[Found]) -> bool {
+    let sizes_before = [0]
+        .into_iter()
+        .chain(found.iter().map(|found| found.block.size));
+    found
+        .iter()
+        .zip(sizes_before)
+        .all(|(found, size_before)| found.back_size == size_before)
+}
+
+/// Sentence 1, block sizes: a live block is at least 16 bytes long.
+fn live_blocks_are_long_enough(found: &[Found]) -> bool {
+    found
+        .iter()
+        .all(|found| found.block.is_free() || found.block.size >= MIN_LIVE_BLOCK)
+}
+
+/// Sentence 1, free blocks: two free blocks never stand side by side.
+fn no_two_free_touch(found: &[Found]) -> bool {
+    found
+        .windows(2)
+        .all(|pair| !(pair[0].block.is_free() && pair[1].block.is_free()))
+}
+
+/// Sentence 2: live serials differ from each other and are at most the last serial.
+fn live_serials_differ_and_were_given(live: &[Block], accounts: &Accounts) -> bool {
+    let serials: BTreeSet<u32> = live.iter().map(|block| block.serial).collect();
+    serials.len() == live.len() && serials.iter().all(|serial| *serial <= accounts.last_serial)
+}
+
+/// Sentence 3: every used record has a live object's serial, a quota number in
+/// range and a count of at least 1.
+fn used_records_are_proper(live: &[Block], accounts: &Accounts) -> bool {
+    let serials: BTreeSet<u32> = live.iter().map(|block| block.serial).collect();
+    used_records(accounts).all(|hold| {
+        serials.contains(&hold.serial) && usize::from(hold.quota) < QUOTAS && hold.count >= 1
+    })
+}
+
+/// Sentence 4: no two used records have the same serial and quota.
+fn no_two_used_records_agree(accounts: &Accounts) -> bool {
+    let mut seen = BTreeSet::new();
+    used_records(accounts).all(|hold| seen.insert((hold.serial, hold.quota)))
+}
+
+/// Sentence 5: every live object has a record.
+fn every_object_has_a_record(live: &[Block], accounts: &Accounts) -> bool {
+    let held: BTreeSet<u32> = used_records(accounts).map(|hold| hold.serial).collect();
+    live.iter().all(|block| held.contains(&block.serial))
+}
+
+/// Sentence 6: each grant is the remainder and the sum of the charges of the
+/// objects that the quota has a record for, in whole numbers.
+fn every_grant_is_accounted_for(live: &[Block], accounts: &Accounts) -> bool {
+    let held: BTreeSet<(u32, u8)> = used_records(accounts)
+        .map(|hold| (hold.serial, hold.quota))
+        .collect();
+    let mut sums = accounts.quotas.map(|quota| u64::from(quota.remainder));
+    for block in live {
+        for (_, quota) in held.range((block.serial, 0)..=(block.serial, u8::MAX)) {
+            // Sentence 3 holds here, so the quota number is in range.
+            if let Some(sum) = sums.get_mut(usize::from(*quota)) {
+                *sum += u64::from(block.charge());
+            }
+        }
+    }
+    let grants = accounts.quotas.map(|quota| u64::from(quota.grant));
+    sums == grants
+}

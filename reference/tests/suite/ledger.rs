@@ -1,0 +1,263 @@
+//! The ledger of a list of calls: it is fed arguments and answers only.
+
+use lokhazim_reference::{Block, Handle, HOLDS, QUOTAS};
+
+use crate::state::{Answer, Call};
+
+/// An object of the ledger with each quota's holds on it.
+#[derive(Clone, Debug, PartialEq, Eq)]
+pub struct Object {
+    pub handle: Handle,
+    pub holds: [u32; QUOTAS],
+}
+
+impl Object {
+    /// Gives the offset of the object's block.
+    pub fn start(&self) -> u32 {
+        self.handle.base - 8
+    }
+
+    /// Gives the offset behind the object.
+    pub fn end(&self) -> u32 {
+        self.handle.base + self.handle.length
+    }
+
+    /// Gives what a quota with holds on the object has paid for it.
+    pub fn charge(&self) -> u32 {
+        self.handle.length + 8
+    }
+}
+
+/// The ledger: heap length and grants as opened, the last serial answered, and
+/// the objects.
+#[derive(Clone, Debug)]
+pub struct Ledger {
+    pub heap_length: u32,
+    pub grants: [u32; QUOTAS],
+    pub last_serial: u32,
+    pub objects: Vec<Object>,
+}
+
+/// The unit of a requested length, or none if the length is not allowed.
+fn unit_of(request: u64) -> Option<u32> {
+    if request == 0 || request > 32_760 {
+        None
+    } else if request < 8_192 {
+        Some(8)
+    } else if request < 16_384 {
+        Some(16)
+    } else {
+        Some(32)
+    }
+}
+
+/// Gives the object length for a request: the least multiple that covers it.
+fn object_length(request: u64, unit: u32) -> u32 {
+    let multiples = (1..).map(|times| times * unit);
+    let mut enough = multiples.skip_while(|length| u64::from(*length) < request);
+    enough.next().unwrap_or(0)
+}
+
+impl Ledger {
+    /// Feeds a call with its answer to the ledger.
+    pub fn feed(&mut self, call: Call, answer: &Answer) {
+        match (call, answer) {
+            (Call::Allocate(q, _) | Call::Array(q, ..), Answer::Object(new)) => self.add(*new, q),
+            (Call::Claim(q, h), _) => self.change_holds(h.serial, q, |holds| holds + 1),
+            (Call::Release(q, h), _) => self.change_holds(h.serial, q, |holds| holds - 1),
+            (Call::FreeAll(q), _) => {
+                let serials: Vec<u32> = self.objects.iter().map(|o| o.handle.serial).collect();
+                for serial in serials {
+                    self.change_holds(serial, q, |_| 0);
+                }
+            }
+            (Call::Reallocate(q, old, _), Answer::Object(new)) => {
+                self.add(*new, q);
+                self.change_holds(old.serial, q, |holds| holds - 1);
+            }
+            _ => {}
+        }
+        let held = |object: &Object| object.holds.iter().any(|holds| *holds > 0);
+        self.objects.retain(held);
+    }
+
+    /// Adds an object with one hold of the quota.
+    fn add(&mut self, handle: Handle, quota: u32) {
+        let mut holds = [0; QUOTAS];
+        holds[quota as usize] = 1;
+        self.objects.push(Object { handle, holds });
+        self.last_serial = handle.serial;
+    }
+
+    /// Changes a quota's holds on the object with this serial.
+    fn change_holds(&mut self, serial: u32, quota: u32, change: impl Fn(u32) -> u32) {
+        for object in &mut self.objects {
+            if object.handle.serial == serial {
+                let holds = &mut object.holds[quota as usize];
+                *holds = change(*holds);
+            }
+        }
+    }
+
+    /// Finds the object that has all three numbers of the handle.
+    pub fn named(&self, handle: Handle) -> Option<&Object> {
+        self.objects.iter().find(|object| object.handle == handle)
+    }
+
+    /// Gives the grant less the charges of the objects that the quota holds.
+    pub fn remainder(&self, quota: usize) -> i128 {
+        let held = self.objects.iter().filter(|object| object.holds[quota] > 0);
+        let paid: i128 = held.map(|object| i128::from(object.charge())).sum();
+        i128::from(self.grants[quota]) - paid
+    }
+
+    /// Gives serial, quota and holds wherever the holds are above 0, in order.
+    pub fn records(&self) -> Vec<(u32, u8, u32)> {
+        let mut records = Vec::new();
+        for object in &self.objects {
+            for (quota, holds) in object.holds.iter().enumerate() {
+                if *holds > 0 {
+                    records.push((object.handle.serial, quota as u8, *holds));
+                }
+            }
+        }
+        records.sort_unstable();
+        records
+    }
+
+    /// Tells for each byte of the heap whether it lies in a live block.
+    fn taken(&self) -> Vec<bool> {
+        let mut taken = vec![false; self.heap_length as usize];
+        for object in &self.objects {
+            taken[object.start() as usize..object.end() as usize].fill(true);
+        }
+        taken
+    }
+
+    /// Gives the base of the lowest suitable run for a length, trying every one.
+    pub fn lowest_run(&self, unit: u32, length: u32) -> Option<u32> {
+        let taken = self.taken();
+        let bases = (0..=self.heap_length).step_by(unit as usize);
+        let mut in_heap = bases.filter(|b| *b >= 8 && b + length <= self.heap_length);
+        in_heap.find(|b| {
+            let run = &taken[*b as usize - 8..(*b + length) as usize];
+            run.iter().all(|byte| !byte)
+        })
+    }
+
+    /// Gives the blocks that the objects cut the heap into.
+    pub fn blocks(&self) -> Vec<Block> {
+        let mut objects: Vec<&Object> = self.objects.iter().collect();
+        objects.sort_by_key(|object| object.handle.base);
+        let mut blocks = Vec::new();
+        let mut at = 0;
+        for object in objects {
+            push_free(&mut blocks, at, object.start());
+            blocks.push(Block {
+                offset: object.start(),
+                size: object.charge(),
+                serial: object.handle.serial,
+            });
+            at = object.end();
+        }
+        push_free(&mut blocks, at, self.heap_length);
+        blocks
+    }
+
+    /// Gives the answer that a call must have, or the number of its refusal.
+    pub fn predict(&self, call: Call) -> Result<Answer, u8> {
+        match call {
+            Call::Allocate(q, n) => self.predict_request(q, u64::from(n), None),
+            Call::Array(q, n, s) => self.predict_request(q, u64::from(n) * u64::from(s), None),
+            Call::Reallocate(q, h, n) => self.predict_request(q, u64::from(n), Some(h)),
+            Call::Claim(q, h) => self.predict_claim(q, h),
+            Call::Release(q, h) => {
+                let object = self.releasable(q, h)?;
+                let last = object.holds[q as usize] == 1;
+                Ok(Answer::Number(if last { object.charge() } else { 0 }))
+            }
+            Call::CanRelease(q, h) => self.releasable(q, h).map(|_| Answer::Yes),
+            Call::FreeAll(q) => {
+                let left = self.remaining(q)?;
+                let grant = i128::from(self.grants[q as usize]);
+                Ok(Answer::Number((grant - left) as u32))
+            }
+            Call::Remaining(q) => Ok(Answer::Number(self.remaining(q)? as u32)),
+            Call::Lend(h) => {
+                let object = self.named(h).ok_or(5)?;
+                Ok(Answer::Part(h.base as usize..object.end() as usize))
+            }
+            Call::Step(place) => {
+                let mut blocks = self.blocks().into_iter();
+                let block = blocks.find(|block| block.offset as usize == place);
+                Ok(Answer::Listed(block))
+            }
+        }
+    }
+
+    /// Gives a quota's remainder, or refusal 3.
+    fn remaining(&self, quota: u32) -> Result<i128, u8> {
+        let number = quota as usize;
+        (number < QUOTAS).then(|| self.remainder(number)).ok_or(3)
+    }
+
+    /// Gives the object that the quota can release, or refusal 3, 5 or 6.
+    fn releasable(&self, quota: u32, handle: Handle) -> Result<&Object, u8> {
+        self.remaining(quota)?;
+        let object = self.named(handle).ok_or(5)?;
+        let held = object.holds[quota as usize] > 0;
+        held.then_some(object).ok_or(6)
+    }
+
+    /// Checks lines 8 and 9 for a charge.
+    fn payable(&self, quota: u32, charge: u32) -> Result<(), u8> {
+        if i128::from(charge) > self.remaining(quota)? {
+            return Err(8);
+        }
+        if self.records().len() >= HOLDS {
+            return Err(9);
+        }
+        Ok(())
+    }
+
+    /// Gives the answer of a claim.
+    fn predict_claim(&self, quota: u32, handle: Handle) -> Result<Answer, u8> {
+        self.remaining(quota)?;
+        let object = self.named(handle).ok_or(5)?;
+        match object.holds[quota as usize] {
+            0 => self.payable(quota, object.charge())?,
+            255 => return Err(7),
+            _ => {}
+        }
+        Ok(Answer::Number(handle.length))
+    }
+
+    /// Gives the answer of an allocate, array or reallocate.
+    fn predict_request(&self, quota: u32, request: u64, old: Option<Handle>) -> Result<Answer, u8> {
+        self.remaining(quota)?;
+        let unit = unit_of(request).ok_or(4)?;
+        if let Some(old) = old {
+            self.releasable(quota, old)?;
+        }
+        let length = object_length(request, unit);
+        self.payable(quota, length + 8)?;
+        let serial = self.last_serial.checked_add(1).ok_or(10)?;
+        let base = self.lowest_run(unit, length).ok_or(11)?;
+        Ok(Answer::Object(Handle {
+            base,
+            length,
+            serial,
+        }))
+    }
+}
+
+/// Adds a free block from start to end, if there are bytes between them.
+fn push_free(blocks: &mut Vec<Block>, start: u32, end: u32) {
+    if start < end {
+        blocks.push(Block {
+            offset: start,
+            size: end - start,
+            serial: 0,
+        });
+    }
+}

@@ -1,0 +1,15 @@
+//! The tests of the reference implementation.
+
+mod bytes;
+mod damage;
+mod ledger;
+mod ledger_checks;
+mod lines;
+mod naive;
+mod prng;
+mod random_bytes;
+mod random_lists;
+mod refusals;
+mod replay;
+mod run_m;
+mod state;
