@@ -41,6 +41,10 @@ with-last-serial n k = record { quotas = k .quotas; «last_serial» = n; holds =
 abbrev pub with-holds : List Hold → Accounts → Accounts
 with-holds hs k = record { quotas = k .quotas; «last_serial» = k .«last_serial»; holds = hs }
 
+-- what the quotas were granted
+abbrev pub grants : Accounts → List ℕ
+grants k = map (λ x. x .grant) (k .quotas)
+
 -- the accounts at opening: each grant is there whole, no serial has been given and no record is used
 abbrev pub granted : ℕ → Quota
 granted g = record { grant = g; remainder = g }

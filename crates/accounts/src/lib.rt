@@ -1,6 +1,7 @@
 // The accounting state of a shared heap: quotas and hold records, a state that goes in by value and comes back changed.
 ghost use mathlib.Core.Path.{_≡_};
-ghost use Rattle.accounts.specs.Accounts.{zero-accounts, opened, remaining as remaining-of};
+ghost use Rattle.accounts.specs.Accounts.{zero-hold, zero-accounts, used, is-for, opened, remaining, charge, refund, with-last-serial};
+ghost use Rattle.accounts.specs.Accounts.{find-hold, lowest-unused, hold-at, put-hold, drop-hold};
 
 // The number of quotas.
 pub const QUOTAS: usize = 8;
@@ -37,22 +38,188 @@ pub enum Place {
     Nothing,
 }
 
+impl Hold {
+    // An unused record.
+    pub fn zero() -> Hold
+        ensures { λ r. ⌜ r ≡ zero-hold ⌝ }
+    {
+        Hold {
+            serial: 0,
+            quota: 0,
+            count: 0,
+        }
+    }
+
+    // Whether the record is used: whether it is not all zero.
+    pub fn is_used(self) -> bool
+        ensures { λ r. ⌜ r ≡ used self ⌝ }
+    {
+        if self.serial != 0 {
+            return true;
+        }
+        if self.quota != 0 {
+            return true;
+        }
+        self.count != 0
+    }
+
+    // Whether it is the quota's record for the object with this serial.
+    pub fn is_for(self, serial: u32, quota: u8) -> bool
+        ensures { λ r. ⌜ r ≡ is-for serial quota self ⌝ }
+    {
+        if self.is_used() {
+            if self.serial == serial {
+                return self.quota == quota;
+            }
+        }
+        false
+    }
+}
+
 impl Accounts {
     // Accounts of zeros.
     pub fn zero() -> Accounts
         ensures { λ r. ⌜ r ≡ zero-accounts ⌝ }
     {
+        let quota = Quota {
+            grant: 0,
+            remainder: 0,
+        };
+        let hold = Hold::zero();
         Accounts {
-            quotas: [Quota {
-                grant: 0,
-                remainder: 0,
-            }; QUOTAS],
+            quotas: [quota; QUOTAS],
             last_serial: 0,
-            holds: [Hold {
-                serial: 0,
-                quota: 0,
-                count: 0,
-            }; HOLDS],
+            holds: [hold; HOLDS],
         }
+    }
+
+    // The accounts at opening: every grant is there whole.
+    pub fn open(grants: [u32; QUOTAS]) -> Accounts
+        ensures { λ r. ⌜ r ≡ opened grants ⌝ }
+    {
+        let mut accounts = Accounts::zero();
+        let mut quotas = accounts.quotas;
+        let mut i: usize = 0;
+        while i < QUOTAS {
+            let grant = grants[i];
+            quotas[i] = Quota {
+                grant: grant,
+                remainder: grant,
+            };
+            i += 1;
+        }
+        accounts.quotas = quotas;
+        accounts
+    }
+
+    // What remains of a quota; 0 where there is no such quota.
+    pub fn remaining(self, quota: u32) -> u32
+        ensures { λ r. ⌜ r ≡ remaining quota self ⌝ }
+    {
+        let q = quota as usize;
+        if q < QUOTAS {
+            return self.quotas[q].remainder;
+        }
+        0
+    }
+
+    // The quota pays; where there is no such quota, or it has less than that, nothing changes.
+    pub fn charge(mut self, quota: u32, amount: u32) -> Accounts
+        ensures { λ r. ⌜ r ≡ charge quota amount self ⌝ }
+    {
+        let q = quota as usize;
+        if QUOTAS <= q {
+            return self;
+        }
+        let mut entry = self.quotas[q];
+        if entry.remainder < amount {
+            return self;
+        }
+        entry.remainder = entry.remainder - amount;
+        self.quotas[q] = entry;
+        self
+    }
+
+    // The quota is paid back; where there is no such quota, or the sum needs more than 32 bits, nothing changes.
+    pub fn refund(mut self, quota: u32, amount: u32) -> Accounts
+        ensures { λ r. ⌜ r ≡ refund quota amount self ⌝ }
+    {
+        let q = quota as usize;
+        if QUOTAS <= q {
+            return self;
+        }
+        let mut entry = self.quotas[q];
+        if 4294967295 - amount < entry.remainder {
+            return self;
+        }
+        entry.remainder = entry.remainder + amount;
+        self.quotas[q] = entry;
+        self
+    }
+
+    // The accounts with another last serial.
+    pub fn with_last_serial(mut self, serial: u32) -> Accounts
+        ensures { λ r. ⌜ r ≡ with-last-serial serial self ⌝ }
+    {
+        self.last_serial = serial;
+        self
+    }
+
+    // The place of the quota's record for a serial.
+    pub fn find_hold(self, serial: u32, quota: u8) -> Place
+        ensures { λ r. ⌜ r ≡ find-hold serial quota self ⌝ }
+    {
+        let mut at: usize = 0;
+        while at < HOLDS {
+            let hold = self.holds[at];
+            if hold.is_for(serial, quota) {
+                return Place::At(at);
+            }
+            at += 1;
+        }
+        Place::Nothing
+    }
+
+    // The place of the lowest unused record.
+    pub fn lowest_unused(self) -> Place
+        ensures { λ r. ⌜ r ≡ lowest-unused self ⌝ }
+    {
+        let mut low: usize = 0;
+        while low < HOLDS {
+            let hold = self.holds[low];
+            if !hold.is_used() {
+                return Place::At(low);
+            }
+            low += 1;
+        }
+        Place::Nothing
+    }
+
+    // The record at a place, of zeros where there is none.
+    pub fn hold_at(self, at: usize) -> Hold
+        ensures { λ r. ⌜ r ≡ hold-at at self ⌝ }
+    {
+        if at < HOLDS {
+            return self.holds[at];
+        }
+        Hold::zero()
+    }
+
+    // Another record at a place; a place out of range changes nothing.
+    pub fn add_hold(mut self, at: usize, hold: Hold) -> Accounts
+        ensures { λ r. ⌜ r ≡ put-hold at hold self ⌝ }
+    {
+        if HOLDS <= at {
+            return self;
+        }
+        self.holds[at] = hold;
+        self
+    }
+
+    // The record at a place becomes unused; a place out of range changes nothing.
+    pub fn drop_hold(self, at: usize) -> Accounts
+        ensures { λ r. ⌜ r ≡ drop-hold at self ⌝ }
+    {
+        self.add_hold(at, Hold::zero())
     }
 }

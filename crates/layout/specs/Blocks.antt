@@ -2,11 +2,11 @@
 use Prim.Native.Nat.{ℕ, zero, suc, _+_, _*_, _-_, _/_, _^_, _<_}
 use mathlib.Core.Path.{_≡_}
 use mathlib.Core.List.{List, [], _∷_, _++_}
-use mathlib.Core.Bool.{Bool, true, false, not, cond, _&&_}
+use mathlib.Core.Bool.{Bool, not, cond, _&&_}
 use mathlib.Core.Option.{Option, none, some}
 use lib.ListN.{length, take, drop}
 use lib.Dec.{leb, eqb}
-use Rattle.layout.specs.Bytes.{bytes, number, overwrite}
+use Rattle.layout.specs.Bytes.{bytes, number, Octets, overwrite}
 use Rattle.layout.specs.declared.Header.{Header}
 use Rattle.layout.specs.declared.Start.{Start}
 use Rattle.layout.specs.declared.Start.the-variants.{Block as Starts, Nothing}
@@ -46,6 +46,16 @@ units b = size b / 8
 abbrev pub live : Block → Bool
 live b = not (eqb (b .serial) 0)
 
+-- the size of blocks, in bytes
+unfoldable pub total-size : List Block → ℕ
+total-size [] = 0
+total-size (b ∷ bs) = size b + total-size bs
+
+-- the units of the last of these blocks, which stand behind a block of `back` units
+unfoldable pub back-after : ℕ → List Block → ℕ
+back-after back [] = back
+back-after back (b ∷ bs) = back-after (units b) bs
+
 -- its header behind a block of `back` units
 abbrev pub header-of : ℕ → Block → Header
 header-of back b = record { size = units b; back = back; serial = b .serial }
@@ -79,6 +89,10 @@ parse-from (suc fuel) back (x ∷ xs) =
     let found = in-front (read-block (x ∷ xs)) rest in
     cond (starts-block (x ∷ xs) && eqb (h .back) back) found none
 
+-- the same for any number of blocks
+abbrev pub cut : ℕ → List ℕ → Option (List Block)
+cut back s = parse-from (length s) back s
+
 -- the blocks of a whole heap
 unfoldable pub parse : List ℕ → Option (List Block)
 parse s = parse-from (length s) 0 s
@@ -92,3 +106,8 @@ pub record Writable (b : Block) : Type 0 where
 abbrev pub AllWritable : List Block → Type 0
 AllWritable [] = Unit {0}
 AllWritable (b ∷ bs) = Writable b × AllWritable bs
+
+-- every body holds bytes
+abbrev pub AllOctets : List Block → Type 0
+AllOctets [] = Unit {0}
+AllOctets (b ∷ bs) = Octets (b .body) × AllOctets bs

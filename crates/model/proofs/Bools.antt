@@ -1,4 +1,4 @@
--- What a test that is an `and`, an `or` or a `not` says of its parts.
+-- What a test that is an `and`, an `or` or a `not` says of its parts: each law by the cases of a test.
 -- Assumes nothing.
 use mathlib.Core.Path.{_≡_, refl}
 use mathlib.Core.Bool.{Bool, true, false, not, _&&_, _||_, false≢true, true≢false}
@@ -33,3 +33,17 @@ or-right false b e = e
 pub or-neither : (a b : Bool) → (a || b) ≡ false → (a ≡ false) × (b ≡ false)
 or-neither true b e = absurd (true≢false e)
 or-neither false b e = (refl, e)
+
+-- `not a || b` says that a implies b
+pub implies : (a b : Bool) → (not a || b) ≡ true → a ≡ true → b ≡ true
+implies true b e t = e
+implies false b e t = absurd (false≢true t)
+
+pub implied : (a b : Bool) → (a ≡ true → b ≡ true) → (not a || b) ≡ true
+implied true b f = f refl
+implied false b f = refl
+
+-- a test that cannot be passed fails
+pub fails : (a : Bool) → (a ≡ true → ⊥) → a ≡ false
+fails true f = absurd (f refl)
+fails false f = refl

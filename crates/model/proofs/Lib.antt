@@ -3,3 +3,15 @@ pub mod Marked
 pub mod Cases
 pub mod Bools
 pub mod Lists
+pub mod Base
+pub mod Blocks
+pub mod Carve
+pub mod Join
+pub mod Settle
+pub mod Frame
+pub mod StepFrame
+pub mod Refusals
+pub mod Answers
+pub mod Consistent
+pub mod Lookup
+pub mod Listing

@@ -1,7 +1,7 @@
 -- Document 01's marked run, M1 to M12, of the definitions: one table, one theorem, by computation.
 -- Assumes nothing.
 use mathlib.Core.Path.{_≡_, refl}
-use mathlib.Core.List.{List, [], _∷_, map}
+use mathlib.Core.List.{[], _∷_, map}
 use lib.ListN.{replicate, take, drop}
 use Rattle.model.specs.Marked.{quota-of, call-of, answers, stated, after-open, after-M1, marked}
 use Rattle.model.proofs.Computing.{computing}

@@ -1,8 +1,7 @@
 -- The calls (document 01, "The calls"), in its order: each gives the refusal of its lines, or else what it answers and leaves.
 use Prim.Native.Nat.{ℕ, zero, suc, _+_, _*_, _-_}
 use mathlib.Core.List.{List, [], _∷_}
-use mathlib.Core.Bool.{Bool, cond}
-use mathlib.Core.Option.{Option, none, some}
+use mathlib.Core.Bool.{cond}
 use lib.ListN.{length, replicate}
 use lib.Dec.{eqb}
 use Rattle.accounts.specs.declared.Accounts.{Accounts}
@@ -10,12 +9,12 @@ use Rattle.accounts.specs.Accounts.{zero-accounts, opened, with-holds, with-las
 use Rattle.layout.specs.Blocks.{Block, size, render}
 use Rattle.rounding.specs.Rounding.{object-length}
 use Rattle.model.specs.Lists.{first, or-else}
-use Rattle.model.specs.Answers.{Values, zero-handle, refused, accepted, given, amount-of, lent, listed}
+use Rattle.model.specs.Answers.{Values, refused, accepted, given, amount-of, lent, listed}
 use Rattle.model.specs.Objects.{blocks-of, objects-of, lookup, lookup-whole, found}
 use Rattle.model.specs.Consistent.{charge-of, charges}
 use Rattle.model.specs.Space.{carve, settle, body-of, copy-into}
 use Rattle.model.specs.Holds.{count-of, take-record, raise-count, lower-count, drop-records}
-use Rattle.model.specs.Refusals.{Line, first-refusal, open-lines, check-lines, quota-lines, lend-lines, release-lines, claim-lines, claims-first, base-for, allocate-lines, reallocate-lines}
+use Rattle.model.specs.Refusals.{first-refusal, open-lines, check-lines, quota-lines, lend-lines, release-lines, claim-lines, claims-first, base-for, allocate-lines, reallocate-lines}
 use Rattle.model.specs.declared.Handle.{Handle}
 use Rattle.model.specs.declared.ListedBlock.{ListedBlock}
 

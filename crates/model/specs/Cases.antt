@@ -1,9 +1,8 @@
 -- Further runs that the definitions are held to: what document 01's marked run does not reach. That they give this is `proofs/Cases.antt`.
 use Prim.Native.Nat.{ℕ}
 use mathlib.Core.List.{List, [], _∷_, _++_}
-use mathlib.Core.Option.{Option, none, some}
+use mathlib.Core.Option.{none, some}
 use lib.ListN.{length, take, drop, replicate}
-use Rattle.accounts.specs.declared.Accounts.{Accounts}
 use Rattle.accounts.specs.Accounts.{opened, zero-accounts, zero-hold, with-holds, with-last-serial}
 use Rattle.rounding.specs.Rounding.{unit}
 use Rattle.model.specs.Answers.{Values, refused, accepted, given, amount-of, lent, listed}

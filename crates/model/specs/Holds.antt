@@ -1,8 +1,7 @@
 -- What the calls do to hold records (document 01, "Allocate" to "Free-all").
 use Prim.Native.Nat.{ℕ, _+_, _-_}
-use mathlib.Core.List.{List, [], _∷_, map}
-use mathlib.Core.Bool.{Bool, cond, _&&_}
-use mathlib.Core.Option.{Option}
+use mathlib.Core.List.{List, map}
+use mathlib.Core.Bool.{cond, _&&_}
 use lib.Dec.{eqb}
 use Rattle.accounts.specs.declared.Hold.{Hold}
 use Rattle.accounts.specs.Accounts.{zero-hold, used, unused, is-for}

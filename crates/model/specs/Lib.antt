@@ -9,3 +9,4 @@ pub mod Calls
 pub mod Step
 pub mod Marked
 pub mod Cases
+pub mod Joining

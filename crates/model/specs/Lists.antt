@@ -1,5 +1,5 @@
 -- Tests, sums and searches over lists.
-use Prim.Native.Nat.{ℕ, zero, suc, _+_}
+use Prim.Native.Nat.{ℕ, _+_}
 use mathlib.Core.List.{List, [], _∷_}
 use mathlib.Core.Bool.{Bool, true, false, cond, _&&_, _||_}
 use mathlib.Core.Option.{Option, none, some}
@@ -19,6 +19,13 @@ module _ {A : Type 0} where
   unfoldable pub total : (A → ℕ) → List A → ℕ
   total f [] = 0
   total f (x ∷ xs) = f x + total f xs
+
+  -- the elements of which the test holds
+  unfoldable pub keep : (A → Bool) → List A → List A
+  keep p [] = []
+  keep p (x ∷ xs) =
+      let rest = keep p xs in
+      cond (p x) (x ∷ rest) rest
 
   -- the first element of which the test holds
   unfoldable pub first : (A → Bool) → List A → Option A

@@ -1,5 +1,5 @@
 -- Refusals (document 01, "Refusal numbers, checked in this order"): each line of the table, and each call's column of it.
-use Prim.Native.Nat.{ℕ, _+_}
+use Prim.Native.Nat.{ℕ}
 use mathlib.Core.List.{List, [], _∷_}
 use mathlib.Core.Bool.{Bool, true, false, not, _&&_, _||_}
 use mathlib.Core.Option.{Option}
@@ -20,6 +20,11 @@ pub data Line : Type 0 where
   _when_ : ℕ → Bool → Line
 
 infix 5 _when_
+abbrev pub line-number : Line → ℕ
+line-number (n when t) = n
+
+abbrev pub line-holds : Line → Bool
+line-holds (n when t) = t
 
 -- the number of the first line that holds, 0 where none does
 unfoldable pub first-refusal : List Line → ℕ

@@ -3,7 +3,6 @@ use Prim.Native.Nat.{ℕ}
 use mathlib.Core.List.{List}
 use Rattle.accounts.specs.declared.Accounts.{Accounts}
 use Rattle.model.specs.Calls.{Outcome, allocate, allocate-array, claim, release, free-all, reallocate, lend, remaining-of, can-release, list-block}
-use Rattle.model.specs.declared.Handle.{Handle}
 use Rattle.model.specs.declared.Call.{Call}
 use Rattle.model.specs.declared.Call.the-variants.{Allocate, AllocateArray, Claim, Release, FreeAll, Reallocate, Lend, Remaining, CanRelease, ListBlock}
 

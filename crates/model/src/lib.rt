@@ -83,16 +83,44 @@ pub enum Answer {
 
 // A call of a history, with its arguments.
 pub enum Call {
-    Allocate { quota: u32, length: u32 },
-    AllocateArray { quota: u32, count: u32, size: u32 },
-    Claim { quota: u32, handle: Handle },
-    Release { quota: u32, handle: Handle },
-    FreeAll { quota: u32 },
-    Reallocate { quota: u32, handle: Handle, length: u32 },
-    Lend { handle: Handle },
-    Remaining { quota: u32 },
-    CanRelease { quota: u32, handle: Handle },
-    ListBlock { at: usize },
+    Allocate {
+        quota: u32,
+        length: u32,
+    },
+    AllocateArray {
+        quota: u32,
+        count: u32,
+        size: u32,
+    },
+    Claim {
+        quota: u32,
+        handle: Handle,
+    },
+    Release {
+        quota: u32,
+        handle: Handle,
+    },
+    FreeAll {
+        quota: u32,
+    },
+    Reallocate {
+        quota: u32,
+        handle: Handle,
+        length: u32,
+    },
+    Lend {
+        handle: Handle,
+    },
+    Remaining {
+        quota: u32,
+    },
+    CanRelease {
+        quota: u32,
+        handle: Handle,
+    },
+    ListBlock {
+        at: usize,
+    },
 }
 
 impl Refusal {

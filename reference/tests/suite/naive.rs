@@ -85,17 +85,17 @@ fn records_are_sound(live: &[Block], accounts: &Accounts) -> bool {
 
 /// Judges the sentence about grants.
 fn sums_are_sound(live: &[Block], accounts: &Accounts) -> bool {
-    (0..QUOTAS).all(|quota| {
-        let mut sum = i128::from(accounts.quotas[quota].remainder);
-        for block in live {
-            let has_record = accounts
-                .holds
-                .iter()
-                .any(|hold| hold.serial == block.serial && usize::from(hold.quota) == quota);
-            if has_record {
-                sum += i128::from(block.size);
+    let mut sums = accounts.quotas.map(|quota| i128::from(quota.remainder));
+    for block in live {
+        let mut has_record = [false; QUOTAS];
+        for hold in &accounts.holds {
+            if hold.serial == block.serial {
+                has_record[usize::from(hold.quota)] = true;
             }
         }
-        sum == i128::from(accounts.quotas[quota].grant)
-    })
+        for quota in (0..QUOTAS).filter(|quota| has_record[*quota]) {
+            sums[quota] += i128::from(block.size);
+        }
+    }
+    (0..QUOTAS).all(|quota| sums[quota] == i128::from(accounts.quotas[quota].grant))
 }

@@ -136,10 +136,9 @@ impl Run {
 
     /// Writes into some live objects, sometimes bytes that look like a header.
     fn write_objects(&mut self) {
-        for object in self.ledger.objects.clone() {
-            if !self.prng.percent(20) {
-                continue;
-            }
+        for _ in 0..self.prng.below(3).min(self.ledger.objects.len() as u32) {
+            let chosen = self.prng.index(self.ledger.objects.len());
+            let object = self.ledger.objects[chosen].clone();
             let at = object.handle.base + self.prng.below(object.handle.length / 8) * 8;
             let size = 8 + self.prng.below(6) * 8;
             let serial = self
@@ -322,8 +321,8 @@ fn lists_that_fill_all_hold_records() {
         grant: 60_000,
         quotas: QUOTAS as u32,
         longest: 16,
-        steps: HOLDS * 4,
-        shares: [40, 52, 4],
+        steps: HOLDS * 2,
+        shares: [40, 56, 2],
         ..PLAIN
     };
     all_given(lists(style, 400..402), &[9]);

@@ -1,0 +1,19 @@
+-- `accounts::Accounts::drop_hold` meets its contract: it stores a record of zeros.
+-- Assumes nothing.
+use borrow.Author.Needs.{needs}
+use Rattle.accounts.specs.Accounts.{drop-hold}
+use Rattle.accounts.proofs.Accounts.drop_hold.Statement.{statement}
+use Rattle.accounts.proofs.Accounts.drop_hold.Tie as tie
+
+zero-requires : tie.Need-zero-requires
+zero-requires c κs = search needs
+
+add-hold-requires : tie.Need-add-hold-requires
+add-hold-requires c κs = search needs
+
+returns : tie.Need-returns
+unfolding drop-hold
+returns c = cc
+
+pub drop-hold-spec : {M : Type 1} → statement M
+drop-hold-spec = tie.close (tie.spec zero-requires add-hold-requires returns)

@@ -1,0 +1,33 @@
+-- `accounts::Accounts::hold_at` meets its contract: past the table the definition gives a record of zeros.
+-- Assumes nothing.
+use borrow.Author.Needs.{needs}
+use native.Mathlib.Omega.{arith}
+use mathlib.Core.Path.{_≡_, refl, sym, _∙_}
+use lib.ListN.{length, length-map}
+use Rattle.accounts.specs.Accounts.{HOLDS, hold-at}
+use Rattle.accounts.proofs.Laws.{hold-at-out}
+use Rattle.accounts.proofs.Accounts.hold_at.Statement.{statement}
+use Rattle.accounts.proofs.Accounts.hold_at.Tie as tie
+
+mul-result : tie.Need-mul-result
+mul-result c = search needs
+
+element-copy-out-result : tie.Need-element-copy-out-result
+element-copy-out-result c = search needs
+
+returns : tie.Need-returns
+unfolding hold-at
+returns c = refl
+
+zero-requires : tie.Need-zero-requires
+zero-requires c κs = search needs
+
+returns-2 : tie.Need-returns-2
+returns-2 c =
+    let k = c .before .before .args .t1 in
+    let long : length (k .holds) ≡ HOLDS = simp length-map at (c .before .before .good .0 .1 .1 .1 .1 .0 .1 .0 .1) in
+    c .zero .ensures ∙ sym (hold-at-out (c .before .before .args .at) k (omega arith))
+
+pub hold-at-spec : {M : Type 1} → statement M
+hold-at-spec =
+    tie.close (tie.spec mul-result element-copy-out-result returns zero-requires returns-2)

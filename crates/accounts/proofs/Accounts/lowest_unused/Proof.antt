@@ -1,0 +1,80 @@
+-- `accounts::Accounts::lowest_unused` meets its contract. The loop's invariant: no record before place `low` passes the test. So a record that passes is
+-- the first one, and at the table's end there is none. The measure is what is left of the table.
+-- Assumes nothing.
+use Prim.Native.Nat.{ℕ, _≤_, _<_, _-_}
+use borrow.Author.Needs.{needs}
+use native.Mathlib.Omega.{arith}
+use borrow.Author.Count.{below-none, below-more}
+use mathlib.Core.Path.{_≡_, sym, _∙_, ap}
+use mathlib.Core.Bool.{false, not}
+use lib.ListN.{length, getD, length-map}
+use Rattle.accounts.specs.Accounts.{HOLDS, zero-hold, unused, lowest-unused}
+use Rattle.accounts.proofs.Laws.{first-found, none-nothing}
+use Rattle.accounts.proofs.Accounts.lowest_unused.Statement.{statement}
+use Rattle.accounts.proofs.Accounts.lowest_unused.Tie as tie
+
+abbrev Inv-loop : tie.InvT-loop
+Inv-loop self low₀ low = (low ≤ HOLDS) × ((j : ℕ) → j < low → unused (getD (self .holds) j zero-hold) ≡ false)
+
+abbrev μ-loop : tie.MeasureT-loop
+μ-loop self low₀ low = HOLDS - low
+
+-- the table has its length
+long : (c : tie.Start Inv-loop μ-loop) → length (c .args .t1 .holds) ≡ HOLDS
+long c = simp length-map at (c .good .0 .1 .1 .1 .1 .0 .1 .0 .1)
+
+loop-holds : tie.Need-loop-holds Inv-loop μ-loop
+loop-holds c = (search needs, below-none _)
+
+mul-hold : tie.Need-mul-hold Inv-loop μ-loop
+mul-hold c = search needs
+
+element-copy-out-hold : tie.Need-element-copy-out-hold Inv-loop μ-loop
+element-copy-out-hold c = search needs
+
+is-used-requires : tie.Need-is-used-requires Inv-loop μ-loop
+is-used-requires c κs = search needs
+
+returns : tie.Need-returns Inv-loop μ-loop
+unfolding lowest-unused unused
+returns c =
+    let at = c .before .before .before .before in
+    let a = at .before .args in
+    sym
+    (first-found unused (a .t1 .holds) (at .loop .low)
+    (record { within = omega (arith, long (at .before)); passes = ap not (sym (c .before .is-used .ensures)) ∙ c .if1 .taken; earlier = at .loop .inv .1 }))
+
+add-low : tie.Need-add-low Inv-loop μ-loop
+add-low c = search needs
+
+loop-less : tie.Need-loop-less Inv-loop μ-loop
+loop-less c = search needs
+
+loop-again : tie.Need-loop-again Inv-loop μ-loop
+unfolding unused
+loop-again c =
+    let at = c .before .before .before .before in
+    (search needs, below-more _ _ (at .loop .inv .1) (ap not (sym (c .before .is-used .ensures)) ∙ c .if1 .left))
+
+returns-2 : tie.Need-returns-2 Inv-loop μ-loop
+unfolding lowest-unused
+returns-2 c =
+    let at = c .before in
+    let a = at .before .args in
+    sym (none-nothing unused (a .t1 .holds) (λ j l. at .loop .inv .1 j (omega (arith, long (at .before)))))
+
+pub lowest-unused-spec : {M : Type 1} → statement M
+lowest-unused-spec =
+    tie.close
+    (tie.spec
+    Inv-loop
+    μ-loop
+    loop-holds
+    mul-hold
+    element-copy-out-hold
+    is-used-requires
+    returns
+    add-low
+    loop-less
+    loop-again
+    returns-2)

@@ -1,0 +1,270 @@
+-- Laws of the accounting state: the search for a hold record, what charging and refunding do, and what storing a record does.
+-- Assumes nothing.
+use Prim.Native.Nat.{ℕ, zero, suc, _+_, _-_, _^_, _≤_, _<_}
+use native.Mathlib.Omega.{arith}
+use mathlib.Core.Path.{_≡_, refl, ap, sym, subst, _∙_}
+use mathlib.Core.Bool.{Bool, true, false, cond, _&&_, true≢false}
+use mathlib.Core.Logic.{_⊎_, inl, inr, ⊎-elim, _≢_}
+use mathlib.Core.List.{List, [], _∷_, map}
+use lib.ListN.{length, getD, set, length-set, length-map, length-replicate, List·getD-map, List·getD-eq-default}
+use lib.Seq.{getD-set-same, getD-set-other, set-set, set-getD, set-out, map-set-same, ext-getD}
+use lib.Dec.{leb, ltb}
+use borrow.Author.Count.{below-more}
+use borrow.Author.Tests.{lt-ltb, le-ltb, le-leb, lt-leb}
+use Rattle.accounts.specs.declared.Quota.{Quota}
+use Rattle.accounts.specs.declared.Hold.{Hold}
+use Rattle.accounts.specs.declared.Accounts.{Accounts}
+use Rattle.accounts.specs.declared.Place.the-variants.{At, Nothing}
+use Rattle.accounts.specs.Accounts.{QUOTAS, HOLDS, zero-quota, zero-hold, zero-accounts, with-remainder, with-holds, with-last-serial, grants, granted, opened}
+use Rattle.accounts.specs.Accounts.{quota-at, remaining, set-remaining, charge, refund, first-from, hold-at, put-hold}
+
+-- the first record that passes a test stands at place i
+pub record First (p : Hold → Bool) (hs : List Hold) (i : ℕ) : Type 0 where
+  pub within : i < length hs
+  pub passes : p (getD hs i zero-hold) ≡ true
+  pub earlier : (j : ℕ) → j < i → p (getD hs j zero-hold) ≡ false
+
+-- no record passes a test
+abbrev pub None : (Hold → Bool) → List Hold → Type 0
+None p hs = (j : ℕ) → j < length hs → p (getD hs j zero-hold) ≡ false
+
+-- what holds at 0, and at each successor of a number below n, holds below the successor of n
+headed : (P : ℕ → Type 0) (n : ℕ) → P 0 → ((j : ℕ) → j < n → P (suc j)) → (j : ℕ) → j < suc n → P j
+headed P n here later zero l = here
+headed P n here later (suc j) l = later j (omega arith)
+
+module _ (p : Hold → Bool) where
+  -- what a search from place n on comes to: the first record that passes, or nothing where none does
+  Searched : ℕ → List Hold → Type 0
+  Searched n hs = ((i : ℕ) × (first-from p n hs ≡ At (n + i)) × First p hs i) ⊎ ((first-from p n hs ≡ Nothing) × None p hs)
+
+  by-test : (n : ℕ) (h : Hold) (hs : List Hold) (x : Bool) → p h ≡ x → Searched (suc n) hs → Searched n (h ∷ hs)
+  unfolding Searched first-from
+  by-test n h hs true e s =
+      let here : n ≡ n + 0 = omega arith in
+      inl (0, rw e (ap At here), record { within = omega arith; passes = e; earlier = λ j l. absurd (omega arith) })
+  by-test n h hs false e s =
+      ⊎-elim
+      (λ f.
+      let there : suc n + f .0 ≡ n + suc (f .0) = omega arith in
+      inl (
+        suc (f .0),
+        rw e (f .1 ∙ ap At there),
+        record {
+          within = omega (arith, f .2 .within);
+          passes = f .2 .passes;
+          earlier = headed (λ (j : ℕ). p (getD (h ∷ hs) j zero-hold) ≡ false) (f .0) e (f .2 .earlier);
+        },
+      ))
+      (λ f. inr (rw e (f .0), headed (λ (j : ℕ). p (getD (h ∷ hs) j zero-hold) ≡ false) (length hs) e (f .1)))
+      s
+
+  searched : (n : ℕ) (hs : List Hold) → Searched n hs
+  unfolding Searched first-from
+  searched n [] = inr (refl, λ j l. absurd (omega arith))
+  searched n (h ∷ hs) = by-test n h hs (p h) refl (searched (suc n) hs)
+
+  first-later : (n : ℕ) (hs : List Hold) (i : ℕ) → First p hs i → first-from p n hs ≡ At (n + i)
+  unfolding first-from
+  first-later n [] i f = absurd (omega (arith, f .within))
+  first-later n (h ∷ hs) zero f = let here : n ≡ n + 0 = omega arith in rw (f .passes) (ap At here)
+  first-later n (h ∷ hs) (suc i) f =
+      let later : First p hs i = record { within = omega (arith, f .within); passes = f .passes; earlier = λ j l. f .earlier (suc j) (omega arith) } in
+      let there : suc n + i ≡ n + suc i = omega arith in
+      rw (f .earlier 0 (omega arith)) (first-later (suc n) hs i later ∙ ap At there)
+
+  module _ (hs : List Hold) where
+    -- the place that a search finds is the first one that passes, and it finds that
+    pub found-first : (i : ℕ) → first-from p 0 hs ≡ At i → First p hs i
+    unfolding Searched
+    found-first i e =
+        ⊎-elim
+        (λ f. let same : 0 + f .0 ≡ i = cc in let same′ : f .0 ≡ i = omega arith in subst (λ (j : ℕ). First p hs j) same′ (f .2))
+        (λ f. let no : _≡_ {A = ℕ} 0 1 = cc in absurd (omega arith))
+        (searched 0 hs)
+
+    pub first-found : (i : ℕ) → First p hs i → first-from p 0 hs ≡ At i
+    first-found i f = let same : 0 + i ≡ i = omega arith in first-later 0 hs i f ∙ ap At same
+
+    -- a search finds nothing exactly where no record passes
+    pub nothing-none : first-from p 0 hs ≡ Nothing → None p hs
+    unfolding Searched
+    nothing-none e =
+        ⊎-elim (λ f. let no : _≡_ {A = ℕ} 0 1 = cc in absurd (omega arith)) (λ f. f .1) (searched 0 hs)
+
+    pub none-nothing : None p hs → first-from p 0 hs ≡ Nothing
+    unfolding Searched
+    none-nothing none =
+        ⊎-elim (λ f. absurd (true≢false (sym (f .2 .passes) ∙ none (f .0) (f .2 .within)))) (λ f. f .0) (searched 0 hs)
+
+-- the tables have their lengths
+pub record Sized (k : Accounts) : Type 0 where
+  pub quotas-long : length (k .quotas) ≡ QUOTAS
+  pub holds-long : length (k .holds) ≡ HOLDS
+
+-- r is k but for what remains of quota q
+pub record Kept (q : ℕ) (k r : Accounts) : Type 0 where
+  pub same-holds : r .holds ≡ k .holds
+  pub same-last : r .«last_serial» ≡ k .«last_serial»
+  pub same-grants : grants r ≡ grants k
+  pub same-count : length (r .quotas) ≡ length (k .quotas)
+  pub same-others : (o : ℕ) → o ≢ q → remaining o r ≡ remaining o k
+
+module _ (q : ℕ) (k : Accounts) where
+  pub remaining-out : length (k .quotas) ≤ q → remaining q k ≡ 0
+  unfolding remaining
+  remaining-out h = ap (λ (x : Quota). x .remainder) (List·getD-eq-default (k .quotas) zero-quota h)
+
+  pub remaining-set : (n : ℕ) → q < length (k .quotas) → remaining q (set-remaining q n k) ≡ n
+  unfolding remaining set-remaining
+  remaining-set n h = ap (λ (x : Quota). x .remainder) (getD-set-same (k .quotas) q (with-remainder n (quota-at q k)) zero-quota h)
+
+  pub set-twice : (m n : ℕ) → q < length (k .quotas) → set-remaining q n (set-remaining q m k) ≡ set-remaining q n k
+  unfolding set-remaining
+  set-twice m n h = rw (getD-set-same (k .quotas) q (with-remainder m (quota-at q k)) zero-quota h, set-set) refl
+
+  pub set-same : set-remaining q (remaining q k) k ≡ k
+  unfolding remaining set-remaining
+  set-same = rw (set-getD (k .quotas) q zero-quota) refl
+
+  pub kept : Kept q k k
+  kept = record { same-holds = refl; same-last = refl; same-grants = refl; same-count = refl; same-others = λ o d. refl }
+
+  pub set-kept : (n : ℕ) → Kept q k (set-remaining q n k)
+  unfolding remaining set-remaining
+  set-kept n =
+      record {
+        same-holds = refl;
+        same-last = refl;
+        same-grants = map-set-same (λ (x : Quota). x .grant) (k .quotas) q (with-remainder n (quota-at q k)) zero-quota refl;
+        same-count = length-set (k .quotas) q (with-remainder n (quota-at q k));
+        same-others = λ o d. ap (λ (x : Quota). x .remainder) (getD-set-other (k .quotas) q o (with-remainder n (quota-at q k)) zero-quota d);
+      }
+
+-- a payment: the quota is there and a test of the amount passes, or nothing changes
+module _ (q : ℕ) (t : Bool) (paid k : Accounts) where
+  pub pays : q < QUOTAS → t ≡ true → cond (ltb q QUOTAS && t) paid k ≡ paid
+  pays h e = rw (lt-ltb q QUOTAS h, e) refl
+
+  pub no-quota : QUOTAS ≤ q → cond (ltb q QUOTAS && t) paid k ≡ k
+  no-quota h = rw (le-ltb q QUOTAS h) refl
+
+  pub refused : t ≡ false → cond (ltb q QUOTAS && t) paid k ≡ k
+  refused e = by-quota (ltb q QUOTAS)
+    where
+      by-quota : (x : Bool) → cond (x && t) paid k ≡ k
+      by-quota true = rw e refl
+      by-quota false = refl
+
+either : (P : Accounts → Type 0) (t : Bool) (x y : Accounts) → P x → P y → P (cond t x y)
+either P true x y h l = h
+either P false x y h l = l
+
+module _ (q n : ℕ) (k : Accounts) where
+  -- charging takes the amount off where it is allowed, and changes nothing where it is not
+  pub charge-pays : q < QUOTAS → n ≤ remaining q k → charge q n k ≡ set-remaining q (remaining q k - n) k
+  unfolding charge
+  charge-pays h l = pays q (leb n (remaining q k)) (set-remaining q (remaining q k - n) k) k h (le-leb n (remaining q k) l)
+
+  pub charge-no-quota : QUOTAS ≤ q → charge q n k ≡ k
+  unfolding charge
+  charge-no-quota h = no-quota q (leb n (remaining q k)) (set-remaining q (remaining q k - n) k) k h
+
+  pub charge-short : remaining q k < n → charge q n k ≡ k
+  unfolding charge
+  charge-short l = refused q (leb n (remaining q k)) (set-remaining q (remaining q k - n) k) k (lt-leb n (remaining q k) l)
+
+  -- refunding adds it where it is allowed, and changes nothing where it is not
+  pub refund-pays : q < QUOTAS → remaining q k + n < 2 ^ 32 → refund q n k ≡ set-remaining q (remaining q k + n) k
+  unfolding refund
+  refund-pays h l = pays q (ltb (remaining q k + n) (2 ^ 32)) (set-remaining q (remaining q k + n) k) k h (lt-ltb (remaining q k + n) (2 ^ 32) l)
+
+  pub refund-no-quota : QUOTAS ≤ q → refund q n k ≡ k
+  unfolding refund
+  refund-no-quota h = no-quota q (ltb (remaining q k + n) (2 ^ 32)) (set-remaining q (remaining q k + n) k) k h
+
+  pub refund-long : 2 ^ 32 ≤ remaining q k + n → refund q n k ≡ k
+  unfolding refund
+  refund-long l = refused q (ltb (remaining q k + n) (2 ^ 32)) (set-remaining q (remaining q k + n) k) k (le-ltb (remaining q k + n) (2 ^ 32) l)
+
+  -- neither changes anything but what remains of that quota
+  pub charge-kept : Kept q k (charge q n k)
+  unfolding charge
+  charge-kept = either (Kept q k) (ltb q QUOTAS && leb n (remaining q k)) (set-remaining q (remaining q k - n) k) k (set-kept q k (remaining q k - n)) (kept q k)
+
+  pub refund-kept : Kept q k (refund q n k)
+  unfolding refund
+  refund-kept = either (Kept q k) (ltb q QUOTAS && ltb (remaining q k + n) (2 ^ 32)) (set-remaining q (remaining q k + n) k) k (set-kept q k (remaining q k + n)) (kept q k)
+
+module _ (q n : ℕ) (k : Accounts) (sized : Sized k) (h : q < QUOTAS) where
+  pub remaining-charged : n ≤ remaining q k → remaining q (charge q n k) ≡ remaining q k - n
+  remaining-charged l = ap (remaining q) (charge-pays q n k h l) ∙ remaining-set q k (remaining q k - n) (omega (arith, sized .quotas-long))
+
+  pub remaining-refunded : remaining q k + n < 2 ^ 32 → remaining q (refund q n k) ≡ remaining q k + n
+  remaining-refunded l = ap (remaining q) (refund-pays q n k h l) ∙ remaining-set q k (remaining q k + n) (omega (arith, sized .quotas-long))
+
+  -- what was charged and is refunded leaves the accounts as they were
+  pub refund-charged : n ≤ remaining q k → remaining q k < 2 ^ 32 → refund q n (charge q n k) ≡ k
+  refund-charged l fits =
+      let m = remaining q k - n in
+      let long : q < length (k .quotas) = omega (arith, sized .quotas-long) in
+      let left : remaining q (set-remaining q m k) ≡ m = remaining-set q k m long in
+      let back : remaining q (set-remaining q m k) + n ≡ remaining q k = omega arith in
+      ap (refund q n) (charge-pays q n k h l)
+      ∙ refund-pays q n (set-remaining q m k) h (omega arith)
+      ∙ ap (λ (x : ℕ). set-remaining q x (set-remaining q m k)) back
+      ∙ set-twice q k m (remaining q k) long
+      ∙ set-same q k
+
+-- the lengths stay
+pub kept-sized : {q : ℕ} {k r : Accounts} → Kept q k r → Sized k → Sized r
+kept-sized e s = record { quotas-long = e .same-count ∙ s .quotas-long; holds-long = ap length (e .same-holds) ∙ s .holds-long }
+
+pub sized-zero : Sized zero-accounts
+sized-zero = record { quotas-long = length-replicate QUOTAS zero-quota; holds-long = length-replicate HOLDS zero-hold }
+
+pub sized-last-serial : (n : ℕ) (k : Accounts) → Sized k → Sized (with-last-serial n k)
+sized-last-serial n k s = record { quotas-long = s .quotas-long; holds-long = s .holds-long }
+
+pub sized-opened : (gs : List ℕ) → length gs ≡ QUOTAS → Sized (opened gs)
+unfolding opened
+sized-opened gs e = record { quotas-long = length-map gs granted ∙ e; holds-long = length-replicate HOLDS zero-hold }
+
+-- the quotas before place i hold the grants whole: one more of them, and all
+module _ (gs : List ℕ) (qs : List Quota) (i : ℕ) (done : (j : ℕ) → j < i → getD qs j zero-quota ≡ granted (getD gs j 0)) where
+  pub granted-more : i < length qs → (j : ℕ) → j < i + 1 → getD (set qs i (granted (getD gs i 0))) j zero-quota ≡ granted (getD gs j 0)
+  granted-more h =
+      below-more (λ (j : ℕ). getD (set qs i (granted (getD gs i 0))) j zero-quota ≡ granted (getD gs j 0)) i
+      (λ j l. getD-set-other qs i j (granted (getD gs i 0)) zero-quota (λ e. omega arith) ∙ done j l)
+      (getD-set-same qs i (granted (getD gs i 0)) zero-quota h)
+
+  pub granted-all : length qs ≡ length gs → length qs ≤ i → qs ≡ map granted gs
+  granted-all e h =
+      ext-getD zero-quota qs (map granted gs) (e ∙ sym (length-map gs granted))
+      (λ j l. done j (omega arith) ∙ sym (List·getD-map granted gs j 0))
+
+-- storing a record
+module _ (i : ℕ) (h : Hold) (k : Accounts) where
+  pub hold-at-put : i < length (k .holds) → hold-at i (put-hold i h k) ≡ h
+  unfolding hold-at put-hold
+  hold-at-put l = getD-set-same (k .holds) i h zero-hold l
+
+  pub hold-at-other : (j : ℕ) → j ≢ i → hold-at j (put-hold i h k) ≡ hold-at j k
+  unfolding hold-at put-hold
+  hold-at-other j d = getD-set-other (k .holds) i j h zero-hold d
+
+  pub put-out : length (k .holds) ≤ i → put-hold i h k ≡ k
+  unfolding put-hold
+  put-out l = ap (λ (hs : List Hold). with-holds hs k) (set-out (k .holds) i h l)
+
+  pub put-rest : (put-hold i h k .quotas ≡ k .quotas) × (put-hold i h k .«last_serial» ≡ k .«last_serial»)
+  unfolding put-hold
+  put-rest = (refl, refl)
+
+  pub sized-put : Sized k → Sized (put-hold i h k)
+  unfolding put-hold
+  sized-put s = record { quotas-long = s .quotas-long; holds-long = length-set (k .holds) i h ∙ s .holds-long }
+
+pub hold-at-out : (i : ℕ) (k : Accounts) → length (k .holds) ≤ i → hold-at i k ≡ zero-hold
+unfolding hold-at
+hold-at-out i k l = List·getD-eq-default (k .holds) zero-hold l

@@ -1,0 +1,9 @@
+pub mod Rows
+pub mod Numbers
+pub mod Overwrite
+pub mod Fields
+pub mod Starts
+pub mod Parts
+pub mod Render
+pub mod Fuel
+pub mod Parse

@@ -1,0 +1,86 @@
+-- Laws of lists of blocks that carving and settling share: objects, sizes and free neighbours of a list that is put together from parts.
+-- Each goes along the first part block by block.
+-- Assumes nothing.
+use mathlib.Core.Path.{_≡_, refl}
+use Prim.Native.Nat.{ℕ, _+_, _%_}
+use native.Mathlib.Nat.{add-zero, add-assoc}
+use native.Mathlib.Omega.{arith}
+use mathlib.Core.List.{List, [], _∷_, _++_}
+use mathlib.Core.Bool.{Bool, true, false, not, _||_, or-false}
+use lib.Dec.{eqb}
+use borrow.Author.Tests.{eqb-true}
+use Rattle.layout.specs.Blocks.{Block, size, live}
+use Rattle.model.specs.Lists.{all, total}
+use Rattle.model.specs.Objects.{object, objects-from}
+use Rattle.model.specs.Consistent.{starts-free, free-apart}
+use Rattle.model.proofs.Bools.{and-left, and-right, and-both, or-left}
+
+-- the size is a multiple of 8
+unfoldable pub whole-size : Block → Bool
+whole-size b = eqb (size b % 8) 0
+
+-- every size is a multiple of 8
+abbrev pub Whole : List Block → Type 0
+Whole bs = all whole-size bs ≡ true
+
+-- where every size is a multiple of 8, their sum is one
+pub whole-total : (bs : List Block) → Whole bs → total size bs % 8 ≡ 0
+unfolding all total whole-size
+whole-total [] w = refl
+whole-total (b ∷ bs) w =
+    omega (arith, eqb-true (size b % 8) 0 (and-left (whole-size b) (all whole-size bs) w), whole-total bs (and-right (whole-size b) (all whole-size bs) w))
+
+-- a live block has its object in front of the others
+pub objects-live : (at : ℕ) (b : Block) (bs : List Block) → live b ≡ true → objects-from at (b ∷ bs) ≡ object at b ∷ objects-from (at + size b) bs
+unfolding objects-from
+objects-live at b bs e = rw e
+
+-- a free block has no object
+pub objects-free : (at : ℕ) (b : Block) (bs : List Block) → live b ≡ false → objects-from at (b ∷ bs) ≡ objects-from (at + size b) bs
+unfolding objects-from
+objects-free at b bs e = rw e
+
+-- the objects of two lists, the second behind the first
+pub objects-append : (at : ℕ) (xs ys : List Block) → objects-from at (xs ++ ys) ≡ objects-from at xs ++ objects-from (at + total size xs) ys
+unfolding objects-from total
+objects-append at [] ys = rw add-zero
+objects-append at (b ∷ bs) ys = go (live b) refl (objects-append (at + size b) bs ys)
+  where
+    go : (x : Bool) → live b ≡ x → objects-from (at + size b) (bs ++ ys) ≡ objects-from (at + size b) bs ++ objects-from (at + size b + total size bs) ys
+        → objects-from at (b ∷ bs ++ ys) ≡ objects-from at (b ∷ bs) ++ objects-from (at + (size b + total size bs)) ys
+    go true e ih = rw (e, ih, add-assoc at (size b) (total size bs))
+    go false e ih = rw (e, ih, add-assoc at (size b) (total size bs))
+
+-- where no two free blocks stand side by side, the first block is live or the next one is
+pub apart-head : (b : Block) (bs : List Block) → free-apart (b ∷ bs) ≡ true → (live b || not (starts-free bs)) ≡ true
+unfolding free-apart
+apart-head b bs a = and-left (live b || not (starts-free bs)) (free-apart bs) a
+
+-- and no two of the others stand side by side
+pub apart-tail : (b : Block) (bs : List Block) → free-apart (b ∷ bs) ≡ true → free-apart bs ≡ true
+unfolding free-apart
+apart-tail b bs a = and-right (live b || not (starts-free bs)) (free-apart bs) a
+
+-- a block may stand in front of others if it is live or they do not start free
+pub apart-cons : (b : Block) (bs : List Block) → (live b || not (starts-free bs)) ≡ true → free-apart bs ≡ true → free-apart (b ∷ bs) ≡ true
+unfolding free-apart
+apart-cons b bs h t = and-both (live b || not (starts-free bs)) (free-apart bs) h t
+
+-- in front of a free block stands no free one, so any blocks may take the place of that block
+replaced-head : (b : Block) (bs : List Block) (f : Block) (ys zs : List Block) → live f ≡ false → (live b || not (starts-free (bs ++ (f ∷ ys)))) ≡ true
+    → (live b || not (starts-free (bs ++ zs))) ≡ true
+unfolding starts-free
+replaced-head b [] f ys zs e a = or-left (live b) (not (starts-free zs)) (simp or-false at (rw e at a))
+replaced-head b (c ∷ cs) f ys zs e a = a
+
+-- where a free block and what follows it give way to others, no two free blocks stand side by side if no two of the others do
+pub apart-replaced : (xs : List Block) (f : Block) (ys zs : List Block) → live f ≡ false → free-apart (xs ++ (f ∷ ys)) ≡ true → free-apart zs ≡ true
+    → free-apart (xs ++ zs) ≡ true
+apart-replaced [] f ys zs e a h = h
+apart-replaced (b ∷ bs) f ys zs e a h =
+    apart-cons b (bs ++ zs) (replaced-head b bs f ys zs e (apart-head b (bs ++ (f ∷ ys)) a)) (apart-replaced bs f ys zs e (apart-tail b (bs ++ (f ∷ ys)) a) h)
+
+-- no two free blocks of a list's end stand side by side if no two of the list do
+pub apart-back : (xs ys : List Block) → free-apart (xs ++ ys) ≡ true → free-apart ys ≡ true
+apart-back [] ys a = a
+apart-back (b ∷ bs) ys a = apart-back bs ys (apart-tail b (bs ++ ys) a)

@@ -1,0 +1,271 @@
+-- What the test for consistency says (document 01, "Sound"): each sentence of that paragraph as a statement about blocks, objects, records and
+-- quotas, and the test passes exactly if all of them hold.
+-- The test is an `and` of seven tests. Each of these goes through a list, or through its pairs, and by induction on the list it passes exactly
+-- if what it tests holds of each member or of each two places.
+-- Assumes nothing.
+use mathlib.Core.Path.{_≡_, refl, ap, sym}
+use Prim.Native.Nat.{ℕ, zero, suc, _+_, _≤_, _<_, suc-le-suc, zero-le}
+use native.Mathlib.Nat.{not-suc-le-zero, le-of-suc-le-suc, add-zero, add-suc, suc-add, zero-add}
+use mathlib.Core.List.{List, [], _∷_, _++_, List·Memᴰ}
+use mathlib.Core.Bool.{Bool, true, false, not, _&&_, _||_, false≢true}
+use mathlib.Core.Option.{Option, none, some}
+use mathlib.Core.Logic.{_↔_}
+use lib.ListN.{length, getD}
+use lib.Dec.{leb, ltb, eqb}
+use borrow.Author.Tests.{leb-true, le-leb, ltb-true, lt-ltb, eqb-true, eq-eqb}
+use Rattle.accounts.specs.declared.Quota.{Quota}
+use Rattle.accounts.specs.declared.Hold.{Hold}
+use Rattle.accounts.specs.declared.Accounts.{Accounts}
+use Rattle.accounts.specs.Accounts.{QUOTAS, zero-quota, zero-hold, used, is-for}
+use Rattle.layout.specs.Blocks.{Block, size, live, parse}
+use Rattle.model.specs.Lists.{all, any, or-else}
+use Rattle.model.specs.Answers.{zero-handle}
+use Rattle.model.specs.Objects.{objects, blocks-of}
+use Rattle.model.specs.Consistent.{long-enough, starts-free, free-apart, well-cut, has-serial, serials-differ, serials-given, record-valid, records-differ, is-of, held, charges, balanced-from, consistent-blocks, consistent-parsed, consistent}
+use Rattle.model.specs.declared.Handle.{Handle}
+use Rattle.model.proofs.Bools.{and-left, and-right, and-both, implies, implied}
+use Rattle.model.proofs.Lists.{all-exactly, any-exactly, any-and, unrelated, unrelated-places, places-unrelated}
+
+-- the seven tests, in the paragraph's order
+pub record Tests (bs : List Block) (k : Accounts) : Type 0 where
+  pub cut : well-cut bs ≡ true
+  pub differ : serials-differ (objects bs) ≡ true
+  pub given : serials-given (k .«last_serial») (objects bs) ≡ true
+  pub valid : all (record-valid (objects bs)) (k .holds) ≡ true
+  pub unique : records-differ (k .holds) ≡ true
+  pub recorded : all (λ o. held (k .holds) (o .serial)) (objects bs) ≡ true
+  pub balance : balanced-from (objects bs) (k .holds) 0 (k .quotas) ≡ true
+
+-- what a used record has: a live object's serial, a quota below 8 and a count of at least 1
+abbrev pub Valid : List Handle → Hold → Type 0
+Valid os h = (o : Handle) × (List·Memᴰ o os) × (o .serial ≡ h .serial) × (h .quota < QUOTAS) × (1 ≤ h .count)
+
+-- a used record has this serial
+abbrev pub Held : List Hold → ℕ → Type 0
+Held hs serial = (h : Hold) × (List·Memᴰ h hs) × (used h ≡ true) × (h .serial ≡ serial)
+
+-- what they say
+pub record Facts (bs : List Block) (k : Accounts) : Type 0 where
+  pub long : (b : Block) → List·Memᴰ b bs → live b ≡ true → 16 ≤ size b
+  pub apart : (xs ys : List Block) (b c : Block) → bs ≡ xs ++ (b ∷ c ∷ ys) → live b ≡ false → live c ≡ false → ⊥
+  pub serials : (i j : ℕ) → i < j → j < length (objects bs) → getD (objects bs) i zero-handle .serial ≡ getD (objects bs) j zero-handle .serial → ⊥
+  pub given : (o : Handle) → List·Memᴰ o (objects bs) → o .serial ≤ k .«last_serial»
+  pub valid : (h : Hold) → List·Memᴰ h (k .holds) → used h ≡ true → Valid (objects bs) h
+  pub unique : (i j : ℕ) → i < j → j < length (k .holds) → used (getD (k .holds) i zero-hold) ≡ true → used (getD (k .holds) j zero-hold) ≡ true
+      → getD (k .holds) i zero-hold .serial ≡ getD (k .holds) j zero-hold .serial → getD (k .holds) i zero-hold .quota ≡ getD (k .holds) j zero-hold .quota → ⊥
+  pub recorded : (o : Handle) → List·Memᴰ o (objects bs) → Held (k .holds) (o .serial)
+  pub balance : (q : ℕ) → q < length (k .quotas)
+      → getD (k .quotas) q zero-quota .grant ≡ getD (k .quotas) q zero-quota .remainder + charges (k .holds) q (objects bs)
+
+-- the test is those seven
+pub tests-exactly : (bs : List Block) (k : Accounts) → (consistent-blocks bs k ≡ true) ↔ Tests bs k
+unfolding consistent-blocks
+tests-exactly bs k = (there, λ t. rw (t .cut, t .differ, t .given, t .valid, t .unique, t .recorded) (t .balance))
+  where
+    there : consistent-blocks bs k ≡ true → Tests bs k
+    there e =
+        let e₁ = and-right (well-cut bs) _ e in
+        let e₂ = and-right (serials-differ (objects bs)) _ e₁ in
+        let e₃ = and-right (serials-given (k .«last_serial») (objects bs)) _ e₂ in
+        let e₄ = and-right (all (record-valid (objects bs)) (k .holds)) _ e₃ in
+        let e₅ = and-right (records-differ (k .holds)) _ e₄ in
+        record {
+          cut = and-left _ _ e;
+          differ = and-left _ _ e₁;
+          given = and-left _ _ e₂;
+          valid = and-left _ _ e₃;
+          unique = and-left _ _ e₄;
+          recorded = and-left _ _ e₅;
+          balance = and-right (all (λ o. held (k .holds) (o .serial)) (objects bs)) _ e₅;
+        }
+
+-- "A free block may be 8 bytes long, a live one is at least 16"
+pub long-exactly : (bs : List Block) → (all long-enough bs ≡ true) ↔ ((b : Block) → List·Memᴰ b bs → live b ≡ true → 16 ≤ size b)
+unfolding long-enough
+long-exactly =
+    all-exactly long-enough (λ b. live b ≡ true → 16 ≤ size b)
+    (λ b. (λ e l. leb-true 16 (size b) (implies (live b) (leb 16 (size b)) e l), λ f. implied (live b) (leb 16 (size b)) (λ l. le-leb 16 (size b) (f l))))
+
+-- "Two free blocks never stand side by side"
+abbrev pub Apart : List Block → Type 0
+Apart bs = (xs ys : List Block) (b c : Block) → bs ≡ xs ++ (b ∷ c ∷ ys) → live b ≡ false → live c ≡ false → ⊥
+
+apart-at : (xs ys : List Block) (b c : Block) → free-apart (xs ++ (b ∷ c ∷ ys)) ≡ true → live b ≡ false → live c ≡ false → ⊥
+unfolding free-apart starts-free
+apart-at [] ys b c e eb ec = false≢true (rw (eb, ec) at e)
+apart-at (x ∷ xs) ys b c e eb ec = apart-at xs ys b c (and-right (live x || not (starts-free (xs ++ (b ∷ c ∷ ys)))) _ e) eb ec
+
+apart-front : (b : Block) (bs : List Block) → Apart (b ∷ bs) → (x : Bool) → live b ≡ x → (live b || not (starts-free bs)) ≡ true
+unfolding starts-free
+apart-front b bs f true e = rw e
+apart-front b [] f false e = rw e
+apart-front b (c ∷ cs) f false e = rw e (go (live c) refl)
+  where
+    go : (y : Bool) → live c ≡ y → not (not (live c)) ≡ true
+    go true ec = rw ec
+    go false ec = absurd (f [] cs b c refl e ec)
+
+apart-all : (bs : List Block) → Apart bs → free-apart bs ≡ true
+unfolding free-apart
+apart-all [] f = refl
+apart-all (b ∷ bs) f =
+    and-both (live b || not (starts-free bs)) (free-apart bs) (apart-front b bs f (live b) refl)
+    (apart-all bs (λ xs ys c d e. f (b ∷ xs) ys c d (ap (λ (l : List Block). b ∷ l) e)))
+
+pub apart-exactly : (bs : List Block) → (free-apart bs ≡ true) ↔ Apart bs
+apart-exactly bs = (λ e xs ys b c q. apart-at xs ys b c (rw q at e), apart-all bs)
+
+-- "Live serials differ from each other": no object has the serial of an earlier one
+pub serials-unrelated : (os : List Handle) → serials-differ os ≡ unrelated (λ o. has-serial (o .serial)) os
+unfolding serials-differ
+serials-unrelated [] = refl
+serials-unrelated (o ∷ os) = rw (serials-unrelated os)
+
+pub serials-exactly : (os : List Handle) → (serials-differ os ≡ true)
+    ↔ ((i j : ℕ) → i < j → j < length os → getD os i zero-handle .serial ≡ getD os j zero-handle .serial → ⊥)
+serials-exactly os =
+    rw serials-unrelated (
+      λ e i j l h q. unrelated-places (λ o. has-serial (o .serial)) zero-handle os e i j l h (eq-eqb _ _ (sym q)),
+      λ f. places-unrelated (λ o. has-serial (o .serial)) zero-handle os (λ i j l h t. f i j l h (sym (eqb-true _ _ t))),
+    )
+
+-- "and are at most the last serial"
+pub given-exactly : (last : ℕ) (os : List Handle) → (serials-given last os ≡ true) ↔ ((o : Handle) → List·Memᴰ o os → o .serial ≤ last)
+unfolding serials-given
+given-exactly last = all-exactly (λ o. leb (o .serial) last) (λ o. o .serial ≤ last) (λ o. (leb-true (o .serial) last, le-leb (o .serial) last))
+
+-- a record is used for a serial, and for a serial and a quota
+pub is-of-exactly : (serial : ℕ) (h : Hold) → (is-of serial h ≡ true) ↔ ((used h ≡ true) × (h .serial ≡ serial))
+unfolding is-of
+is-of-exactly serial h =
+    (λ e. (and-left (used h) _ e, eqb-true (h .serial) serial (and-right (used h) _ e)), λ f. and-both (used h) _ (f .0) (eq-eqb (h .serial) serial (f .1)))
+
+pub is-for-exactly : (serial q : ℕ) (h : Hold) → (is-for serial q h ≡ true) ↔ ((used h ≡ true) × (h .serial ≡ serial) × (h .quota ≡ q))
+unfolding is-for is-of
+is-for-exactly serial q h =
+    let o = is-of-exactly serial h in (
+      λ e. (let u = o .0 (and-left (is-of serial h) _ e) in (u .0, u .1, eqb-true (h .quota) q (and-right (is-of serial h) _ e))),
+      λ f. and-both (is-of serial h) _ (o .1 (f .0, f .1)) (eq-eqb (h .quota) q (f .2)),
+    )
+
+-- "Every used record has a live object's serial, a quota below 8 and a count of at least 1"
+pub valid-exactly : (os : List Handle) (hs : List Hold) → (all (record-valid os) hs ≡ true)
+    ↔ ((h : Hold) → List·Memᴰ h hs → used h ≡ true → Valid os h)
+unfolding record-valid
+valid-exactly os =
+    all-exactly (record-valid os) (λ h. used h ≡ true → Valid os h)
+    (λ h. (λ e u. there h (implies (used h) _ e u), λ f. implied (used h) _ (λ u. back h (f u))))
+  where
+    some-object : (h : Hold) → (any (has-serial (h .serial)) os ≡ true) ↔ ((o : Handle) × (List·Memᴰ o os) × (o .serial ≡ h .serial))
+    some-object h = any-exactly (has-serial (h .serial)) (λ o. o .serial ≡ h .serial) (λ o. (eqb-true (o .serial) (h .serial), eq-eqb (o .serial) (h .serial))) os
+
+    there : (h : Hold) → (any (has-serial (h .serial)) os && (ltb (h .quota) QUOTAS && leb 1 (h .count))) ≡ true → Valid os h
+    there h e =
+        let r = some-object h .0 (and-left (any (has-serial (h .serial)) os) _ e) in
+        let t = and-right (any (has-serial (h .serial)) os) _ e in
+        (r .0, r .1, r .2, ltb-true (h .quota) QUOTAS (and-left _ _ t), leb-true 1 (h .count) (and-right (ltb (h .quota) QUOTAS) _ t))
+
+    back : (h : Hold) → Valid os h → (any (has-serial (h .serial)) os && (ltb (h .quota) QUOTAS && leb 1 (h .count))) ≡ true
+    back h r = and-both _ _ (some-object h .1 (r .0, r .1, r .2)) (and-both _ _ (lt-ltb (h .quota) QUOTAS (r .3)) (le-leb 1 (h .count) (r .4)))
+
+-- "No two used records have the same serial and quota"
+abbrev pub same-hold : Hold → Hold → Bool
+same-hold h g = used h && is-for (h .serial) (h .quota) g
+
+pub records-unrelated : (hs : List Hold) → records-differ hs ≡ unrelated same-hold hs
+unfolding records-differ
+records-unrelated [] = refl
+records-unrelated (h ∷ hs) = rw (any-and, records-unrelated hs)
+
+pub unique-exactly : (hs : List Hold) → (records-differ hs ≡ true)
+    ↔ ((i j : ℕ) → i < j → j < length hs → used (getD hs i zero-hold) ≡ true → used (getD hs j zero-hold) ≡ true
+    → getD hs i zero-hold .serial ≡ getD hs j zero-hold .serial → getD hs i zero-hold .quota ≡ getD hs j zero-hold .quota → ⊥)
+unique-exactly hs =
+    rw records-unrelated (
+      λ e i j l h u v p q. unrelated-places same-hold zero-hold hs e i j l h (and-both _ _ u (is-for-exactly _ _ (getD hs j zero-hold) .1 (v, sym p, sym q))),
+      λ f. places-unrelated same-hold zero-hold hs (λ i j l h t.
+          (let r = is-for-exactly _ _ (getD hs j zero-hold) .0 (and-right (used (getD hs i zero-hold)) _ t) in f i j l h (and-left _ _ t) (r .0) (sym (r .1)) (sym (r .2)))),
+    )
+
+-- "Every live object has a record"
+pub held-exactly : (hs : List Hold) (serial : ℕ) → (held hs serial ≡ true) ↔ Held hs serial
+unfolding held
+held-exactly hs serial =
+    let r = any-exactly (is-of serial) _ (is-of-exactly serial) hs in
+    (λ e. (let h = r .0 e in (h .0, h .1, h .2 .0, h .2 .1)), λ h. r .1 (h .0, h .1, (h .2, h .3)))
+
+pub recorded-exactly : (hs : List Hold) (os : List Handle) → (all (λ o. held hs (o .serial)) os ≡ true) ↔ ((o : Handle) → List·Memᴰ o os → Held hs (o .serial))
+recorded-exactly hs = all-exactly (λ o. held hs (o .serial)) _ (λ o. held-exactly hs (o .serial))
+
+-- "For each quota, grant = remainder + the sum"
+abbrev pub Balance : List Handle → List Hold → ℕ → List Quota → Type 0
+Balance os hs q qs = (i : ℕ) → i < length qs → getD qs i zero-quota .grant ≡ getD qs i zero-quota .remainder + charges hs (q + i) os
+
+balanced-all : (os : List Handle) (hs : List Hold) (q : ℕ) (qs : List Quota) → balanced-from os hs q qs ≡ true → Balance os hs q qs
+unfolding balanced-from
+balanced-all os hs q [] e i h = absurd (not-suc-le-zero h)
+balanced-all os hs q (x ∷ xs) e zero h = rw add-zero (eqb-true (x .grant) _ (and-left (eqb (x .grant) (x .remainder + charges hs q os)) _ e))
+balanced-all os hs q (x ∷ xs) e (suc i) h =
+    rw (add-suc q i, ← suc-add q i) (balanced-all os hs (suc q) xs (and-right (eqb (x .grant) (x .remainder + charges hs q os)) _ e) i (le-of-suc-le-suc h))
+
+all-balanced : (os : List Handle) (hs : List Hold) (q : ℕ) (qs : List Quota) → Balance os hs q qs → balanced-from os hs q qs ≡ true
+unfolding balanced-from
+all-balanced os hs q [] f = refl
+all-balanced os hs q (x ∷ xs) f =
+    and-both _ _ (eq-eqb (x .grant) _ (rw add-zero at (f 0 (suc-le-suc zero-le))))
+    (all-balanced os hs (suc q) xs (λ i h. rw (suc-add q i, ← add-suc q i) (f (suc i) (suc-le-suc h))))
+
+pub balance-exactly : (os : List Handle) (hs : List Hold) (qs : List Quota) → (balanced-from os hs 0 qs ≡ true)
+    ↔ ((q : ℕ) → q < length qs → getD qs q zero-quota .grant ≡ getD qs q zero-quota .remainder + charges hs q os)
+balance-exactly os hs qs = (λ e q h. rw zero-add at (balanced-all os hs 0 qs e q h), λ f. all-balanced os hs 0 qs (λ q h. rw zero-add (f q h)))
+
+-- the test passes exactly if the facts hold
+pub facts-exactly : (bs : List Block) (k : Accounts) → (consistent-blocks bs k ≡ true) ↔ Facts bs k
+unfolding well-cut
+facts-exactly bs k = (λ e. there (tests-exactly bs k .0 e), λ f. tests-exactly bs k .1 (back f))
+  where
+    there : Tests bs k → Facts bs k
+    there t =
+        record {
+          long = long-exactly bs .0 (and-left _ _ (t .cut));
+          apart = apart-exactly bs .0 (and-right (all long-enough bs) _ (t .cut));
+          serials = serials-exactly (objects bs) .0 (t .differ);
+          given = given-exactly (k .«last_serial») (objects bs) .0 (t .given);
+          valid = valid-exactly (objects bs) (k .holds) .0 (t .valid);
+          unique = unique-exactly (k .holds) .0 (t .unique);
+          recorded = recorded-exactly (k .holds) (objects bs) .0 (t .recorded);
+          balance = balance-exactly (objects bs) (k .holds) (k .quotas) .0 (t .balance);
+        }
+
+    back : Facts bs k → Tests bs k
+    back f =
+        record {
+          cut = and-both _ _ (long-exactly bs .1 (f .long)) (apart-exactly bs .1 (f .apart));
+          differ = serials-exactly (objects bs) .1 (f .serials);
+          given = given-exactly (k .«last_serial») (objects bs) .1 (f .given);
+          valid = valid-exactly (objects bs) (k .holds) .1 (f .valid);
+          unique = unique-exactly (k .holds) .1 (f .unique);
+          recorded = recorded-exactly (k .holds) (objects bs) .1 (f .recorded);
+          balance = balance-exactly (objects bs) (k .holds) (k .quotas) .1 (f .balance);
+        }
+
+-- the blocks of a heap are those that it is cut into
+pub blocks-parsed : (s : List ℕ) (bs : List Block) → parse s ≡ some bs → blocks-of s ≡ bs
+unfolding blocks-of or-else
+blocks-parsed s bs e = rw e
+
+-- heap and accounts are consistent exactly if the heap is cut into blocks for which the test passes
+pub consistent-exactly : (s : List ℕ) (k : Accounts) → (consistent s k ≡ true) ↔ ((bs : List Block) × (parse s ≡ some bs) × (consistent-blocks bs k ≡ true))
+unfolding consistent consistent-parsed
+consistent-exactly s k = (go (parse s) refl, λ r. rw (r .1) (r .2))
+  where
+    go : (o : Option (List Block)) → parse s ≡ o → consistent-parsed o k ≡ true → (bs : List Block) × (parse s ≡ some bs) × (consistent-blocks bs k ≡ true)
+    go none p e = absurd (false≢true e)
+    go (some bs) p e = (bs, p, e)
+
+-- and these are its blocks
+pub consistent-cut : (s : List ℕ) (k : Accounts) → consistent s k ≡ true → (parse s ≡ some (blocks-of s)) × (consistent-blocks (blocks-of s) k ≡ true)
+consistent-cut s k e = let r = consistent-exactly s k .0 e in rw (blocks-parsed s (r .0) (r .1)) (r .1, r .2)
+
+pub consistent-facts : (s : List ℕ) (k : Accounts) → consistent s k ≡ true → Facts (blocks-of s) k
+consistent-facts s k e = facts-exactly (blocks-of s) k .0 (consistent-cut s k e .1)

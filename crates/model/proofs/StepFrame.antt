@@ -1,0 +1,144 @@
+-- What no rule names stays, of every call: one theorem about the accounts, and one about the last serial.
+-- A refused call changes nothing; an accepted one changes what `proofs/Frame.antt` shows of its definition.
+-- Assumes nothing.
+use mathlib.Core.Path.{_≡_, refl, sym}
+use Prim.Native.Nat.{ℕ, zero, suc, _+_, _*_, _-_, _^_}
+use native.Mathlib.Nat.{add-zero}
+use mathlib.Core.List.{List}
+use mathlib.Core.Bool.{Bool, true, false, cond, _&&_}
+use lib.Dec.{leb, ltb, eqb}
+use Rattle.accounts.specs.declared.Hold.{Hold}
+use Rattle.accounts.specs.declared.Accounts.{Accounts}
+use Rattle.accounts.specs.Accounts.{QUOTAS, remaining, set-remaining, charge, refund, with-holds, used}
+use Rattle.model.specs.Objects.{objects-of, lookup, lookup-whole, found}
+use Rattle.model.specs.Consistent.{charge-of, charges}
+use Rattle.model.specs.Holds.{take-record, raise-count}
+use Rattle.model.specs.Refusals.{first-refusal, claims-first, quota-lines, release-lines, claim-lines, allocate-lines, reallocate-lines, lend-lines, check-lines}
+use Rattle.model.specs.Calls.{Outcome, unless, state-of, allocated, claimed, given-back, released, freed, copied, new-object, allocate, allocate-array, claim, release, free-all, reallocate, lend, remaining-of, can-release, list-block}
+use Rattle.model.specs.Step.{step}
+use Rattle.model.specs.declared.Handle.{Handle}
+use Rattle.model.specs.declared.Call.{Call}
+use Rattle.model.specs.declared.Call.the-variants.{Allocate, AllocateArray, Claim, Release, FreeAll, Reallocate, Lend, Remaining, CanRelease, ListBlock}
+use Rattle.model.proofs.Frame.{Kept, kept-same, other-record, other-quota, allocated-keeps, claimed-keeps, released-keeps, reallocated-keeps, freed-keeps}
+
+-- the quotas whose remainder a call may change
+abbrev pub pays : Call → ℕ → Bool
+pays (Allocate q n) j = eqb q j
+pays (AllocateArray q count size) j = eqb q j
+pays (Claim q h) j = eqb q j
+pays (Release q h) j = eqb q j
+pays (FreeAll q) j = eqb q j
+pays (Reallocate q h n) j = eqb q j
+pays (Lend h) j = false
+pays (Remaining q) j = false
+pays (CanRelease q h) j = false
+pays (ListBlock at) j = false
+
+-- the records that it leaves as they are, each at its place
+abbrev pub bystander : Call → List ℕ → Hold → Bool
+bystander (Allocate q n) s x = used x
+bystander (AllocateArray q count size) s x = used x
+bystander (Claim q h) s x = other-record (found (lookup h s) .serial) q x
+bystander (Release q h) s x = other-record (found (lookup h s) .serial) q x
+bystander (FreeAll q) s x = other-quota q x
+bystander (Reallocate q h n) s x = other-record (found (lookup-whole h s) .serial) q x
+bystander (Lend h) s x = true
+bystander (Remaining q) s x = true
+bystander (CanRelease q h) s x = true
+bystander (ListBlock at) s x = true
+
+unless-keeps : (w : ℕ → Bool) (p : Hold → Bool) (n : ℕ) (s : List ℕ) (k : Accounts) (done : Outcome) → Kept w p k (done .accounts) → Kept w p k (unless n s k done .accounts)
+unfolding unless
+unless-keeps w p zero s k done a = a
+unless-keeps w p (suc n) s k done a = kept-same w p k
+
+module _ (unit : ℕ → ℕ) where
+  pub step-keeps : (c : Call) (s : List ℕ) (k : Accounts) → Kept (pays c) (bystander c s) k (step unit c s k .accounts)
+  unfolding step allocate allocate-array claim release free-all reallocate lend remaining-of can-release list-block
+  step-keeps (Allocate q n) s k =
+      unless-keeps (eqb q) used (first-refusal (allocate-lines unit s k q n)) s k _ (allocated-keeps q (new-object unit s k n) (state-of s k))
+  step-keeps (AllocateArray q count size) s k =
+      unless-keeps (eqb q) used (first-refusal (allocate-lines unit s k q (count * size))) s k _ (allocated-keeps q (new-object unit s k (count * size)) (state-of s k))
+  step-keeps (Claim q h) s k =
+      unless-keeps (eqb q) (other-record (found (lookup h s) .serial) q) (first-refusal (claim-lines s k q h)) s k _ (claimed-keeps q (found (lookup h s)) k)
+  step-keeps (Release q h) s k =
+      unless-keeps (eqb q) (other-record (found (lookup h s) .serial) q) (first-refusal (release-lines s k q h)) s k _
+      (released-keeps q (found (lookup h s)) (state-of s k))
+  step-keeps (FreeAll q) s k =
+      unless-keeps (eqb q) (other-quota q) (first-refusal (quota-lines s k q)) s k _ (freed-keeps q (charges (k .holds) q (objects-of s)) (state-of s k))
+  step-keeps (Reallocate q h n) s k =
+      unless-keeps (eqb q) (other-record (found (lookup-whole h s) .serial) q) (first-refusal (reallocate-lines unit s k q h n)) s k _
+      (reallocated-keeps q (found (lookup-whole h s)) (new-object unit s k n) (state-of s k))
+  step-keeps (Lend h) s k = unless-keeps (λ j. false) (λ x. true) (first-refusal (lend-lines s k h)) s k _ (kept-same _ _ k)
+  step-keeps (Remaining q) s k = unless-keeps (λ j. false) (λ x. true) (first-refusal (quota-lines s k q)) s k _ (kept-same _ _ k)
+  step-keeps (CanRelease q h) s k = unless-keeps (λ j. false) (λ x. true) (first-refusal (release-lines s k q h)) s k _ (kept-same _ _ k)
+  step-keeps (ListBlock at) s k = unless-keeps (λ j. false) (λ x. true) (first-refusal (check-lines s k)) s k _ (kept-same _ _ k)
+
+-- payments leave the last serial
+set-serial : (t : Bool) (q n : ℕ) (k : Accounts) → cond t (set-remaining q n k) k .«last_serial» ≡ k .«last_serial»
+unfolding set-remaining
+set-serial true q n k = refl
+set-serial false q n k = refl
+
+refund-serial : (q n : ℕ) (k : Accounts) → refund q n k .«last_serial» ≡ k .«last_serial»
+unfolding refund
+refund-serial q n k = set-serial (ltb q QUOTAS && ltb (remaining q k + n) (2 ^ 32)) q (remaining q k + n) k
+
+charge-serial : (q n : ℕ) (k : Accounts) → charge q n k .«last_serial» ≡ k .«last_serial»
+unfolding charge
+charge-serial q n k = set-serial (ltb q QUOTAS && leb n (remaining q k)) q (remaining q k - n) k
+
+claimed-serial : (q : ℕ) (o : Handle) (k : Accounts) → claimed q o k .«last_serial» ≡ k .«last_serial»
+unfolding claimed
+claimed-serial q o k = go (claims-first k q o)
+  where
+    go : (t : Bool)
+        → cond t (with-holds (take-record (o .serial) q (k .holds)) (charge q (charge-of (o .length)) k)) (with-holds (raise-count (o .serial) q (k .holds)) k) .«last_serial»
+        ≡ k .«last_serial»
+    go true = charge-serial q (charge-of (o .length)) k
+    go false = refl
+
+-- the serials that a call gives: one where it asks for a new object and is accepted
+abbrev pub one-if-accepted : ℕ → ℕ
+one-if-accepted zero = 1
+one-if-accepted (suc n) = 0
+
+abbrev pub serials-given-by : Call → ℕ → ℕ
+serials-given-by (Allocate q n) r = one-if-accepted r
+serials-given-by (AllocateArray q count size) r = one-if-accepted r
+serials-given-by (Claim q h) r = 0
+serials-given-by (Release q h) r = 0
+serials-given-by (FreeAll q) r = 0
+serials-given-by (Reallocate q h n) r = one-if-accepted r
+serials-given-by (Lend h) r = 0
+serials-given-by (Remaining q) r = 0
+serials-given-by (CanRelease q h) r = 0
+serials-given-by (ListBlock at) r = 0
+
+-- a refused call gives none; what it would have answered does not matter
+unless-same : (n : ℕ) (s : List ℕ) (k : Accounts) (done : Outcome) → done .accounts .«last_serial» ≡ k .«last_serial» → unless n s k done .accounts .«last_serial» ≡ k .«last_serial» + 0
+unfolding unless
+unless-same zero s k done e = rw add-zero e
+unless-same (suc n) s k done e = sym (add-zero (k .«last_serial»))
+
+unless-next : (n : ℕ) (s : List ℕ) (k : Accounts) (done : Outcome) → done .values .refusal ≡ 0 → done .accounts .«last_serial» ≡ k .«last_serial» + 1
+    → unless n s k done .accounts .«last_serial» ≡ k .«last_serial» + one-if-accepted (unless n s k done .values .refusal)
+unfolding unless
+unless-next zero s k done z e = rw z e
+unless-next (suc n) s k done z e = sym (add-zero (k .«last_serial»))
+
+module _ (unit : ℕ → ℕ) where
+  pub step-serial : (c : Call) (s : List ℕ) (k : Accounts)
+      → step unit c s k .accounts .«last_serial» ≡ k .«last_serial» + serials-given-by c (step unit c s k .values .refusal)
+  unfolding step allocate allocate-array claim release free-all reallocate lend remaining-of can-release list-block allocated released freed copied new-object
+  step-serial (Allocate q n) s k = unless-next (first-refusal (allocate-lines unit s k q n)) s k _ refl refl
+  step-serial (AllocateArray q count size) s k = unless-next (first-refusal (allocate-lines unit s k q (count * size))) s k _ refl refl
+  step-serial (Claim q h) s k = unless-same (first-refusal (claim-lines s k q h)) s k _ (claimed-serial q (found (lookup h s)) k)
+  step-serial (Release q h) s k = unless-same (first-refusal (release-lines s k q h)) s k _ (refund-serial q (given-back q (found (lookup h s)) k) k)
+  step-serial (FreeAll q) s k = unless-same (first-refusal (quota-lines s k q)) s k _ (refund-serial q (charges (k .holds) q (objects-of s)) k)
+  step-serial (Reallocate q h n) s k =
+      unless-next (first-refusal (reallocate-lines unit s k q h n)) s k _ refl (refund-serial q _ (allocated q (new-object unit s k n) (state-of s k) .accounts))
+  step-serial (Lend h) s k = unless-same (first-refusal (lend-lines s k h)) s k _ refl
+  step-serial (Remaining q) s k = unless-same (first-refusal (quota-lines s k q)) s k _ refl
+  step-serial (CanRelease q h) s k = unless-same (first-refusal (release-lines s k q h)) s k _ refl
+  step-serial (ListBlock at) s k = unless-same (first-refusal (check-lines s k)) s k _ refl

@@ -1,0 +1,37 @@
+-- `rounding::object_length` meets its contract: the code is the definition, and no step wraps, since the unit is at least 1 and
+-- rounding down again gives no more than what was rounded.
+-- Assumes nothing.
+use borrow.Author.Needs.{needs}
+use native.Mathlib.Nat.{div-mul-le-self, lt-of-le-of-lt}
+use native.Mathlib.Omega.{arith}
+use Rattle.rounding.specs.Rounding.{object-length}
+use Rattle.rounding.proofs.Rounding.{unit-is}
+use Rattle.rounding.proofs.object_length.Statement.{statement}
+use Rattle.rounding.proofs.object_length.Tie as tie
+
+unit-requires : tie.Need-unit-requires
+unit-requires c κs = search needs
+
+cast-unit : tie.Need-cast-unit
+cast-unit c = search needs
+
+sub-result : tie.Need-sub-result
+sub-result c = omega (arith, unit-is .positive (c .before .args .length))
+
+add-result : tie.Need-add-result
+add-result c = search needs
+
+div-result : tie.Need-div-result
+div-result c = omega (arith, unit-is .positive (c .before .args .length))
+
+mul-result : tie.Need-mul-result
+mul-result c = record { fits = lt-of-le-of-lt (div-mul-le-self _ _) (search needs) }
+
+returns : tie.Need-returns
+unfolding object-length
+returns c = cc
+
+pub object-length-spec : {M : Type 1} → statement M
+object-length-spec =
+    tie.close
+    (tie.spec unit-requires cast-unit sub-result add-result div-result mul-result returns)
