@@ -8,8 +8,8 @@ use native.Mathlib.Omega.{arith}
 use mathlib.Core.List.{List, [], _∷_, _++_}
 use mathlib.Core.Bool.{Bool, true, false, not, _||_, or-false}
 use lib.Dec.{eqb}
-use borrow.Author.Tests.{eqb-true}
-use Rattle.layout.specs.Blocks.{Block, size, live}
+use borrow.Author.Tests.{eqb-true, eq-eqb}
+use Rattle.layout.specs.Blocks.{Block, size, live, total-size, AllWritable}
 use Rattle.model.specs.Lists.{all, total}
 use Rattle.model.specs.Objects.{object, objects-from}
 use Rattle.model.specs.Consistent.{starts-free, free-apart}
@@ -29,6 +29,18 @@ unfolding all total whole-size
 whole-total [] w = refl
 whole-total (b ∷ bs) w =
     omega (arith, eqb-true (size b % 8) 0 (and-left (whole-size b) (all whole-size bs) w), whole-total bs (and-right (whole-size b) (all whole-size bs) w))
+
+-- the size of blocks in bytes is the sum of their sizes
+pub total-is : (bs : List Block) → total-size bs ≡ total size bs
+unfolding total-size total
+total-is [] = refl
+total-is (b ∷ bs) = rw (total-is bs)
+
+-- blocks that can be written have sizes that are multiples of 8
+pub writable-whole : (bs : List Block) → AllWritable bs → Whole bs
+unfolding all whole-size
+writable-whole [] w = refl
+writable-whole (b ∷ bs) w = and-both (whole-size b) (all whole-size bs) (eq-eqb (size b % 8) 0 (omega (arith, w .0 .whole))) (writable-whole bs (w .1))
 
 -- a live block has its object in front of the others
 pub objects-live : (at : ℕ) (b : Block) (bs : List Block) → live b ≡ true → objects-from at (b ∷ bs) ≡ object at b ∷ objects-from (at + size b) bs

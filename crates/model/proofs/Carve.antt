@@ -176,12 +176,13 @@ module _ (base n serial at : ℕ) (b : Block) where
       (left-all p (at + size b - (base + n)) (drop (base + n - at) (b .body)) g)
 
   module _ (here : at % 8 ≡ 0) (sized : size b % 8 ≡ 0) (aligned : base % 8 ≡ 0) (even : n % 8 ≡ 0) (low : at + 8 ≤ base) (high : base + n ≤ at + size b) where
-    front-size : 0 < base - 8 - at → base - 8 - at ≡ 8 + length (take (base - 16 - at) (b .body))
+    -- what is left over in front, and behind, is a header and a body
+    pub front-size : 0 < base - 8 - at → base - 8 - at ≡ 8 + length (take (base - 16 - at) (b .body))
     front-size p =
         let e : length (take (base - 16 - at) (b .body)) ≡ base - 16 - at = simp length-take (omega arith) in
         rw e (omega arith)
 
-    back-size : 0 < at + size b - (base + n) → at + size b - (base + n) ≡ 8 + length (drop (base + n - at) (b .body))
+    pub back-size : 0 < at + size b - (base + n) → at + size b - (base + n) ≡ 8 + length (drop (base + n - at) (b .body))
     back-size p = simp length-drop (omega arith)
 
     front-total : total size front-rest ≡ base - 8 - at
@@ -288,10 +289,11 @@ module _ {base n serial at : ℕ} {bs cs : List Block} (c : Carved base n serial
       (carved-apart new (and-right (all long-enough bs) (free-apart bs) w))
 
   module _ (here : at % 8 ≡ 0) (whole : Whole bs) (aligned : base % 8 ≡ 0) (even : n % 8 ≡ 0) where
-    place-whole : place % 8 ≡ 0
+    -- the block that is cut starts at a multiple of 8, and its size is one
+    pub place-whole : place % 8 ≡ 0
     place-whole = omega (arith, here, whole-total (c .front) (all-front whole-size whole))
 
-    block-whole : size (c .block) % 8 ≡ 0
+    pub block-whole : size (c .block) % 8 ≡ 0
     unfolding whole-size
     block-whole = eqb-true (size (c .block) % 8) 0 (and-left (whole-size (c .block)) (all whole-size (c .back)) (all-behind whole-size whole))
 

@@ -15,3 +15,6 @@ pub mod Answers
 pub mod Consistent
 pub mod Lookup
 pub mod Listing
+pub mod Same
+pub mod CarveBytes
+pub mod SettleBytes

@@ -10,3 +10,4 @@ pub mod Step
 pub mod Marked
 pub mod Cases
 pub mod Joining
+pub mod Touched

@@ -11,5 +11,6 @@ mod random_bytes;
 mod random_lists;
 mod refusals;
 mod replay;
+mod replay_lists;
 mod run_m;
 mod state;

@@ -1,0 +1,129 @@
+-- No call changes a byte of an object that stays. An object's bytes are the body of its block; a call leaves every live block as it is, but for the new object's and those
+-- that become free; and no two live blocks have the same serial.
+-- Assumes nothing.
+use Prim.Native.Nat.{ℕ, zero, suc, _+_, _<_}
+use native.Mathlib.Nat.{add-zero, zero-add, add-assoc}
+use native.Mathlib.Omega.{arith}
+use mathlib.Core.Path.{_≡_, refl, ap, sym, _∙_}
+use mathlib.Core.List.{List, [], _∷_, _++_, List·Memᴰ, List·Memᴰ·head, List·Memᴰ·tail, List·Memᴰ·not-nil, List·Memᴰ·cases-cons, List·Memᴰ·append-cases, Memᴰ·append-left, Memᴰ·append-right, Memᴰ·cast}
+use mathlib.Core.Bool.{Bool, true, false, not, cond, _&&_, _||_, false≢true, true≢false}
+use mathlib.Core.Logic.{_⊎_, inl, inr, ⊎-elim}
+use lib.ListN.{length, take, drop}
+use lib.Dec.{eqb}
+use borrow.Author.Tests.{eqb-true, eqb-false}
+use Rattle.accounts.specs.declared.Hold.{Hold}
+use Rattle.layout.specs.Blocks.{Block, size, live, render, render-from, total-size}
+use Rattle.layout.proofs.Render.{body-stands}
+use Rattle.model.specs.Objects.{object, objects-from, objects}
+use Rattle.model.specs.Consistent.{held, serials-differ}
+use Rattle.model.specs.Space.{left-over, cut-block, vacate, vacate-unheld, join-front, join-free, settle, copy-into}
+use Rattle.model.specs.declared.Handle.{Handle}
+use Rattle.model.proofs.Lookup.{same-serial}
+use Rattle.model.proofs.Blocks.{total-is}
+use Rattle.model.proofs.Carve.{Carved, new-block}
+use Rattle.model.proofs.Join.{joined, join-elim}
+use Rattle.ledger.specs.Contents.{contents}
+
+-- the live block of an object, and its bytes
+pub record Block-of (o : Handle) (bs : List Block) : Type 0 where
+  pub block : Block
+  pub member : List·Memᴰ block bs
+  pub alive : live block ≡ true
+  pub serial : o .serial ≡ block .serial
+  pub bytes : contents o (render bs) ≡ block .body
+
+-- an object at a block of a list has that block's body
+at-block : (xs : List Block) (b : Block) (ys : List Block) → contents (object (total-size xs) b) (render (xs ++ (b ∷ ys))) ≡ b .body
+unfolding contents render
+at-block xs b ys = body-stands 0 xs b ys
+
+-- where the block of an object stands
+record Placed (at : ℕ) (o : Handle) (bs : List Block) : Type 0 where
+  front : List Block
+  block : Block
+  back : List Block
+  split : bs ≡ front ++ (block ∷ back)
+  alive : live block ≡ true
+  place : o ≡ object (at + total-size front) block
+
+placed-later : (at : ℕ) (b : Block) (bs : List Block) (o : Handle) → Placed (at + size b) o bs → Placed at o (b ∷ bs)
+unfolding total-size
+placed-later at b bs o p =
+    record {
+      front = b ∷ p .front;
+      block = p .block;
+      back = p .back;
+      split = ap (λ (l : List Block). b ∷ l) (p .split);
+      alive = p .alive;
+      place = p .place ∙ ap (λ (n : ℕ). object n (p .block)) (add-assoc at (size b) (total-size (p .front)));
+    }
+
+placed-here : (at : ℕ) (b : Block) (bs : List Block) (o : Handle) → live b ≡ true → o ≡ object at b → Placed at o (b ∷ bs)
+unfolding total-size
+placed-here at b bs o l e = record { front = []; block = b; back = bs; split = refl; alive = l; place = e ∙ ap (λ (n : ℕ). object n b) (sym (add-zero at)) }
+
+placed : (at : ℕ) (bs : List Block) (o : Handle) → List·Memᴰ o (objects-from at bs) → Placed at o bs
+unfolding objects-from
+placed at [] o m = absurd (List·Memᴰ·not-nil m)
+placed at (b ∷ bs) o m = go (live b) refl m (placed (at + size b) bs o)
+  where
+    go : (x : Bool) → live b ≡ x → List·Memᴰ o (cond x (object at b ∷ objects-from (at + size b) bs) (objects-from (at + size b) bs))
+        → (List·Memᴰ o (objects-from (at + size b) bs) → Placed (at + size b) o bs) → Placed at o (b ∷ bs)
+    go true e x ih = ⊎-elim (λ q. placed-here at b bs o e q) (λ y. placed-later at b bs o (ih y)) (List·Memᴰ·cases-cons x)
+    go false e x ih = placed-later at b bs o (ih x)
+
+-- the object of a live block that stands behind others
+object-there : (at : ℕ) (xs : List Block) (b : Block) (ys : List Block) → live b ≡ true → List·Memᴰ (object (at + total-size xs) b) (objects-from at (xs ++ (b ∷ ys)))
+unfolding objects-from total-size
+object-there at [] b ys l = rw (l, add-zero at) (List·Memᴰ·head refl)
+object-there at (x ∷ xs) b ys l = go (live x) (object-there (at + size x) xs b ys l)
+  where
+    go : (t : Bool) → List·Memᴰ (object (at + size x + total-size xs) b) (objects-from (at + size x) (xs ++ (b ∷ ys)))
+        → List·Memᴰ (object (at + (size x + total-size xs)) b) (cond t (object at x ∷ objects-from (at + size x) (xs ++ (b ∷ ys))) (objects-from (at + size x) (xs ++ (b ∷ ys))))
+    go true m = List·Memᴰ·tail (rw (add-assoc at (size x) (total-size xs)) at m)
+    go false m = rw (add-assoc at (size x) (total-size xs)) at m
+
+-- an object has a live block with its serial and its bytes
+block-placed : (bs : List Block) (o : Handle) → Placed 0 o bs → Block-of o bs
+block-placed bs o p =
+    let e : o ≡ object (total-size (p .front)) (p .block) = p .place ∙ ap (λ (n : ℕ). object n (p .block)) (zero-add (total-size (p .front))) in
+    record {
+      block = p .block;
+      member = rw (p .split) (Memᴰ·append-right (p .front) (List·Memᴰ·head refl));
+      alive = p .alive;
+      serial = ap (λ (x : Handle). x .serial) e;
+      bytes = (λ i. contents (e i) (render (p .split i))) ∙ at-block (p .front) (p .block) (p .back);
+    }
+
+pub block-of : (bs : List Block) (o : Handle) → List·Memᴰ o (objects bs) → Block-of o bs
+unfolding objects
+block-of bs o m = block-placed bs o (placed 0 bs o m)
+
+-- a live block has an object with its serial and its bytes
+record Object-of (b : Block) (bs : List Block) : Type 0 where
+  object : Handle
+  member : List·Memᴰ object (objects bs)
+  serial : object .serial ≡ b .serial
+  bytes : contents object (render bs) ≡ b .body
+
+splits : (b : Block) (bs : List Block) → List·Memᴰ b bs → (xs : List Block) × (ys : List Block) × (bs ≡ xs ++ (b ∷ ys))
+splits b [] m = absurd (List·Memᴰ·not-nil m)
+splits b (c ∷ cs) m = ⊎-elim (λ q. ([], cs, ap (λ (x : Block). x ∷ cs) (sym q))) (λ y. (let r = splits b cs y in (c ∷ r .0, r .1, ap (λ (l : List Block). c ∷ l) (r .2)))) (List·Memᴰ·cases-cons m)
+
+object-split : (bs xs : List Block) (b : Block) (ys : List Block) → bs ≡ xs ++ (b ∷ ys) → live b ≡ true → Object-of b bs
+unfolding objects
+object-split bs xs b ys e l =
+    let x : List·Memᴰ (object (total-size xs) b) (objects-from 0 (xs ++ (b ∷ ys))) = rw (zero-add (total-size xs)) at (object-there 0 xs b ys l) in
+    record { object = object (total-size xs) b; member = rw e x; serial = refl; bytes = rw e (at-block xs b ys) }
+
+object-of : (bs : List Block) (b : Block) → live b ≡ true → List·Memᴰ b bs → Object-of b bs
+object-of bs b l m = let r = splits b bs m in object-split bs (r .0) b (r .1) (r .2) l
+
+-- where every live block of a list, but one with a new serial, was there before, an object that was there keeps its bytes
+pub contents-stay : (bs cs : List Block) (new : ℕ) → serials-differ (objects bs) ≡ true → ((b : Block) → live b ≡ true → List·Memᴰ b cs → (b .serial ≡ new → ⊥) → List·Memᴰ b bs)
+    → (o : Handle) → List·Memᴰ o (objects bs) → List·Memᴰ o (objects cs) → (o .serial ≡ new → ⊥) → contents o (render cs) ≡ contents o (render bs)
+contents-stay bs cs new d f o m n ne =
+    let c = block-of cs o n in
+    let w = object-of bs (c .block) (c .alive) (f (c .block) (c .alive) (c .member) (λ e. ne (c .serial ∙ e))) in
+    let same : w .object ≡ o = same-serial (objects bs) d (w .object) o (w .member) m (w .serial ∙ sym (c .serial)) in
+    c .bytes ∙ sym (w .bytes) ∙ ap (λ (x : Handle). contents x (render bs)) same

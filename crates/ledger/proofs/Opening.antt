@@ -1,0 +1,131 @@
+-- After an accepted opening the empty ledger agrees with heap and accounts. The heap is one free block of an allowed length, so that there is no
+-- object; no record is used, and each remainder is the grant. So every test of consistency passes, and nothing has to match.
+-- Assumes nothing.
+use Prim.Native.Nat.{ℕ, zero, suc, _+_, _-_, _%_, _≤_, _<_, _^_}
+use native.Mathlib.Nat.{add-zero}
+use native.Mathlib.Omega.{arith}
+use mathlib.Core.Path.{_≡_, refl, ap, _∙_}
+use mathlib.Core.List.{List, [], _∷_, map, List·Memᴰ·not-nil}
+use mathlib.Core.Bool.{Bool, true, false}
+use lib.ListN.{length, getD, replicate, length-replicate, length-map, List·getD-map}
+use lib.Dec.{leb, eqb, lit<}
+use borrow.Author.Tests.{leb-true, eqb-true}
+use Rattle.accounts.specs.declared.Quota.{Quota}
+use Rattle.accounts.specs.declared.Accounts.{Accounts}
+use Rattle.accounts.specs.Accounts.{QUOTAS, HOLDS, zero-hold, granted, opened, used}
+use Rattle.layout.specs.Blocks.{render}
+use Rattle.model.specs.Lists.{all, total}
+use Rattle.model.specs.Answers.{accepted}
+use Rattle.model.specs.Objects.{objects-from, objects}
+use Rattle.model.specs.Consistent.{allowed, long-enough, starts-free, free-apart, well-cut, serials-differ, serials-given, record-valid, records-differ, charges}
+use Rattle.model.specs.Refusals.{first-refusal, line-1, open-lines}
+use Rattle.model.specs.Calls.{Outcome, unless, fresh, open-heap}
+use Rattle.model.proofs.Bools.{and-left, and-right}
+use Rattle.model.proofs.Consistent.{Tests, balance-exactly}
+use Rattle.ledger.specs.Ledger.{empty}
+use Rattle.ledger.specs.History.{Opened, Begins, Opening}
+use Rattle.ledger.proofs.Agreement.{Good, Agrees}
+use Rattle.ledger.proofs.Heaps.{good-heap}
+use Rattle.ledger.proofs.Matching.{no-hold}
+
+-- heap and accounts are the fresh ones of an allowed length
+record Fresh (grants s : List ℕ) (k : Accounts) : Type 0 where
+  extent : ℕ
+  fits : allowed extent ≡ true
+  heap : render (fresh extent grants .blocks) ≡ s
+  accounts : opened grants ≡ k
+
+-- an accepted opening leaves these, since any other length is refused
+opened-fresh : (grants s : List ℕ) (k : Accounts) → Opened grants s k → Fresh grants s k
+unfolding open-heap open-lines line-1 first-refusal unless fresh
+opened-fresh grants s k o = go (allowed (length (o .before))) refl (o .opens)
+  where
+    go : (t : Bool) → allowed (length (o .before)) ≡ t → open-heap (o .before) grants ≡ record { heap = s; accounts = k; values = accepted } → Fresh grants s k
+    go true t e =
+        let f = rw t at e in
+        record { extent = length (o .before); fits = t; heap = ap (λ (x : Outcome). x .heap) f; accounts = ap (λ (x : Outcome). x .accounts) f }
+    go false t e =
+        let f = rw t at e in
+        let z : _≡_ {A = ℕ} 1 0 = ap (λ (x : Outcome). x .values .refusal) f in
+        absurd (omega arith)
+
+-- unused records differ, and there is nothing to ask of them
+unused-differ : (n : ℕ) → records-differ (replicate n zero-hold) ≡ true
+unfolding records-differ used
+unused-differ zero = refl
+unused-differ (suc n) = unused-differ n
+
+unused-valid : (n : ℕ) → all (record-valid []) (replicate n zero-hold) ≡ true
+unfolding all record-valid used
+unused-valid zero = refl
+unused-valid (suc n) = unused-valid n
+
+module _ (H : ℕ) (fits : allowed H ≡ true) (grants : List ℕ) where
+  -- the length is a multiple of 8, 64 to 32,768
+  sized : (H % 8 ≡ 0) × (64 ≤ H) × (H ≤ 32768)
+  unfolding allowed
+  sized =
+      let r = and-right (eqb (H % 8) 0) _ fits in
+      (eqb-true (H % 8) 0 (and-left _ _ fits), leb-true 64 H (and-left _ _ r), leb-true H 32768 (and-right (leb 64 H) _ r))
+
+  -- the free block covers it
+  fresh-size : 8 + length (replicate {A = ℕ} (H - 8) 0) ≡ H
+  fresh-size = let z = sized in rw length-replicate (omega arith)
+
+  -- every test passes: no object, no used record, and each remainder is the grant
+  fresh-tests : Tests (fresh H grants .blocks) (opened grants)
+  unfolding fresh opened objects objects-from well-cut all long-enough free-apart starts-free serials-differ serials-given charges total
+  fresh-tests =
+      record {
+        cut = refl;
+        differ = refl;
+        given = refl;
+        valid = unused-valid HOLDS;
+        unique = unused-differ HOLDS;
+        recorded = refl;
+        balance = balance-exactly [] (replicate HOLDS zero-hold) (map granted grants) .1 (λ q h. rw (List·getD-map granted grants q 0, add-zero));
+      }
+
+  -- the fresh state is good
+  fresh-good : length grants ≡ QUOTAS → ((q : ℕ) → getD grants q 0 < 2 ^ 32) → Good (fresh H grants)
+  unfolding fresh opened total
+  fresh-good n w =
+      let z = sized in
+      let e = fresh-size in
+      record {
+        writable = (record { whole = rw e (omega arith); small = rw e (omega arith); narrow = lit< tt }, tt);
+        octets = (λ i. rw no-hold (lit< tt), tt);
+        extent = rw (e, add-zero) fits;
+        tests = fresh-tests;
+        quotas = length-map grants granted ∙ n;
+        narrow = λ q. rw (List·getD-map granted grants q 0) (w q);
+        serial = lit< tt;
+      }
+
+-- the grants are kept as given
+grants-again : (grants : List ℕ) → map (λ (x : Quota). x .grant) (map granted grants) ≡ grants
+grants-again [] = refl
+grants-again (g ∷ gs) = rw (grants-again gs)
+
+-- the empty ledger agrees with the fresh heap
+fresh-agrees : (H : ℕ) → allowed H ≡ true → (grants : List ℕ) → length grants ≡ QUOTAS → ((q : ℕ) → getD grants q 0 < 2 ^ 32) → Agrees (empty grants) (render (fresh H grants .blocks)) (opened grants)
+unfolding empty fresh opened objects objects-from serials-differ
+fresh-agrees H f grants n w =
+    let g = fresh-good H f grants n w in
+    let h = good-heap (fresh H grants) g in
+    record {
+      extent = h .allowed;
+      octets = h .octets;
+      sound = h .sound;
+      quotas = g .quotas;
+      narrow = g .narrow;
+      serial = g .serial;
+      grants = grants-again grants;
+      matches = rw (h .objects) (record { objects = λ o. (λ m. m, λ m. m); once = refl; quotas = n; widths = λ e m. absurd (List·Memᴰ·not-nil m); holds = λ e m. absurd (List·Memᴰ·not-nil m) });
+    }
+
+-- and so with every accepted opening
+pub opening-agrees : (grants : List ℕ) (s : List ℕ) (k : Accounts) → Begins grants s k → Agrees (empty grants) s k
+opening-agrees grants s k (Opening o) =
+    let f = opened-fresh grants s k o in
+    rw (f .heap, f .accounts) at (fresh-agrees (f .extent) (f .fits) grants (o .quotas) (o .narrow))

@@ -1,0 +1,138 @@
+-- The space sentence of demand 3: a request that passes every other line is refused by 11 exactly if no suitable run of bytes exists, and accepted otherwise.
+-- Its last line says that the search found no base; the search finds one exactly if some multiple of the alignment is suitable; and what is suitable is said
+-- over bytes by model's laws.
+-- Assumes nothing.
+use Prim.Native.Nat.{ℕ, _+_, _*_, _%_, _≤_, _<_}
+use native.Mathlib.Nat.{add-assoc}
+use native.Mathlib.Omega.{arith}
+use mathlib.Core.Path.{_≡_, refl, ap, sym, _∙_}
+use mathlib.Core.List.{List, [], _∷_, _++_}
+use mathlib.Core.Bool.{Bool, true, false, not, cond, _&&_, _||_, true≢false}
+use mathlib.Core.Option.{Option, none, some, Option·none-ne-some, Option·some-injective}
+use mathlib.Core.Logic.{_↔_}
+use lib.ListN.{length}
+use lib.Dec.{leb, ltb, eqb}
+use borrow.Author.Tests.{le-leb, lt-leb, leb-true, leb-false, not-true}
+use Rattle.accounts.specs.declared.Accounts.{Accounts}
+use Rattle.rounding.specs.Rounding.{Units, object-length, alignment}
+use Rattle.rounding.proofs.Rounding.{alignment-positive}
+use Rattle.layout.specs.Blocks.{Block, size, live}
+use Rattle.model.specs.Lists.{any, keep, is-none}
+use Rattle.model.specs.Objects.{objects-from, objects, blocks-of, objects-of, lookup-whole, found}
+use Rattle.model.specs.Space.{lowest-base, suitable}
+use Rattle.model.specs.Refusals.{Line, _when_, line-holds, line-number, first-refusal, line-1, line-2, line-3, line-4, line-5, line-6, line-8, line-9, line-10, line-11, base-for, allocate-lines, reallocate-lines}
+use Rattle.model.specs.Step.{step}
+use Rattle.model.specs.declared.Handle.{Handle}
+use Rattle.model.specs.declared.Call.{Call}
+use Rattle.model.specs.declared.Call.the-variants.{Allocate, AllocateArray, Claim, Release, FreeAll, Reallocate, Lend, Remaining, CanRelease, ListBlock}
+use Rattle.model.proofs.Refusals.{lines-of, by-lines, refusal-of-lines}
+use Rattle.model.proofs.Base.{in-occupied, lowest-some, lowest-none, suitable-bytes, bytes-suitable}
+use Rattle.ledger.specs.Demand3.{in-live-block, SuitableRun, Request, request-of, passes-others}
+
+-- a byte lies in the live block of an object exactly if it lies in a live block
+leb-eights : (a i : ℕ) → leb (a + 8) (i + 8) ≡ leb a i
+leb-eights a i = go (leb a i) refl
+  where
+    go : (x : Bool) → leb a i ≡ x → leb (a + 8) (i + 8) ≡ x
+    go true e = let l = leb-true a i e in le-leb (a + 8) (i + 8) (omega arith)
+    go false e = let l = leb-false a i e in lt-leb (a + 8) (i + 8) (omega arith)
+
+blocks-objects : (i at : ℕ) (bs : List Block) → in-live-block i (objects-from at bs) ≡ in-occupied i at bs
+unfolding in-live-block in-occupied objects-from any
+blocks-objects i at [] = refl
+blocks-objects i at (b ∷ bs) = go (live b) (blocks-objects i (at + size b) bs)
+  where
+    go : (x : Bool) → in-live-block i (objects-from (at + size b) bs) ≡ in-occupied i (at + size b) bs
+        → any (λ (o : Handle). leb (o .base) (i + 8) && ltb i (o .base + o .length))
+        (cond x (record { base = at + 8; length = length (b .body); serial = b .serial } ∷ objects-from (at + size b) bs) (objects-from (at + size b) bs))
+        ≡ ((x && (leb at i && ltb i (at + size b))) || in-occupied i (at + size b) bs)
+    go true e = rw (leb-eights at i, add-assoc at 8 (length (b .body)), e)
+    go false e = e
+
+same-places : (i : ℕ) (s : List ℕ) → in-live-block i (objects-of s) ≡ in-occupied i 0 (blocks-of s)
+unfolding objects-of objects
+same-places i s = blocks-objects i 0 (blocks-of s)
+
+-- a suitable run is a suitable multiple of the alignment
+module _ (unit : ℕ → ℕ) (s : List ℕ) (n b : ℕ) where
+  run-suitable : SuitableRun unit s n b → suitable (length s) (blocks-of s) (object-length unit n) b ≡ true
+  run-suitable r =
+      bytes-suitable (length s) (blocks-of s) (object-length unit n) b
+      (record { low = r .low; high = r .high; clear = λ i p q. sym (same-places i s) ∙ r .outside i p q })
+
+  suitable-run : b % alignment unit n ≡ 0 → suitable (length s) (blocks-of s) (object-length unit n) b ≡ true → SuitableRun unit s n b
+  suitable-run m e =
+      let u = suitable-bytes (length s) (blocks-of s) (object-length unit n) b e in
+      record { low = u .low; multiple = m; high = u .high; outside = λ i p q. same-places i s ∙ u .clear i p q }
+
+-- line 11 holds exactly if there is no suitable run
+module _ (unit : ℕ → ℕ) (units : Units unit) (s : List ℕ) (n : ℕ) where
+  none-fits : base-for unit s n ≡ none → (b : ℕ) → SuitableRun unit s n b → ⊥
+  unfolding base-for
+  none-fits e b r =
+      true≢false
+      (sym (run-suitable unit s n b r)
+      ∙ lowest-none (length s) (blocks-of s) (alignment unit n) (object-length unit n) (alignment-positive unit units n) e b (r .multiple))
+
+  some-fits : (b : ℕ) → base-for unit s n ≡ some b → SuitableRun unit s n b
+  unfolding base-for
+  some-fits b e =
+      let w = lowest-some (length s) (blocks-of s) (alignment unit n) (object-length unit n) (alignment-positive unit units n) b e in
+      suitable-run unit s n b (w .multiple) (w .fits)
+
+-- what a request answers once every other line has passed
+pub record Decided (unit : ℕ → ℕ) (s : List ℕ) (n refusal : ℕ) : Type 0 where
+  pub no-space : (refusal ≡ 11) ↔ ((b : ℕ) → SuitableRun unit s n b → ⊥)
+  pub space : (b : ℕ) → SuitableRun unit s n b → refusal ≡ 0
+
+-- the last line alone is left
+last-decides : (front : List Line) (t : Bool) → any line-holds front ≡ false → first-refusal (front ++ ((11 when t) ∷ [])) ≡ cond t 11 0
+unfolding first-refusal any
+last-decides [] true e = refl
+last-decides [] false e = refl
+last-decides ((n when true) ∷ ls) t e = absurd (true≢false e)
+last-decides ((n when false) ∷ ls) t e = last-decides ls t e
+
+module _ (unit : ℕ → ℕ) (units : Units unit) (s : List ℕ) (n : ℕ) where
+  decides : (o : Option ℕ) → base-for unit s n ≡ o → Decided unit s n (cond (is-none o) 11 0)
+  unfolding is-none
+  decides none e = record { no-space = (λ z. none-fits unit units s n e, λ z. refl); space = λ b r. absurd (none-fits unit units s n e b r) }
+  decides (some b) e = record { no-space = (λ z. absurd (omega arith), λ f. absurd (f b (some-fits unit units s n b e))); space = λ b r. refl }
+
+  line-decides : (front : List Line) → any line-holds front ≡ false → Decided unit s n (first-refusal (front ++ (line-11 unit s n ∷ [])))
+  unfolding line-11
+  line-decides front e = rw (last-decides front (is-none (base-for unit s n)) e) (decides (base-for unit s n) refl)
+
+-- the lines but 11 of each request
+module _ (unit : ℕ → ℕ) (units : Units unit) (s : List ℕ) (k : Accounts) where
+  allocate-decided : (q n : ℕ) → passes-others (allocate-lines unit s k q n) ≡ true → Decided unit s n (first-refusal (allocate-lines unit s k q n))
+  unfolding passes-others allocate-lines keep line-1 line-2 line-3 line-4 line-8 line-9 line-10 line-11
+  allocate-decided q n e =
+      line-decides unit units s n (line-1 s ∷ line-2 s k ∷ line-3 q ∷ line-4 n ∷ line-8 k q (object-length unit n) ∷ line-9 k ∷ line-10 k ∷ []) (not-true _ e)
+
+  reallocate-decided : (q : ℕ) (h : Handle) (n : ℕ) → passes-others (reallocate-lines unit s k q h n) ≡ true → Decided unit s n (first-refusal (reallocate-lines unit s k q h n))
+  unfolding passes-others reallocate-lines keep line-1 line-2 line-3 line-4 line-5 line-6 line-8 line-9 line-10 line-11
+  reallocate-decided q h n e =
+      line-decides unit units s n
+      (line-1 s ∷ line-2 s k ∷ line-3 q ∷ line-4 n ∷ line-5 (lookup-whole h s) ∷ line-6 k q (found (lookup-whole h s)) ∷ line-8 k q (object-length unit n) ∷ line-9 k ∷ line-10 k ∷ [])
+      (not-true _ e)
+
+  -- the lines of a call give its refusal
+  of-request : (c : Call) (r₀ r : Request) → some r₀ ≡ some r → passes-others (r .lines) ≡ true
+      → (passes-others (r₀ .lines) ≡ true → Decided unit s (r₀ .asked) (first-refusal (lines-of unit c s k))) → Decided unit s (r .asked) (step unit c s k .values .refusal)
+  of-request c r₀ r e p f =
+      let x : r₀ ≡ r = Option·some-injective r₀ r e in
+      rw (refusal-of-lines (by-lines unit c s k), ← x) (f (rw x p))
+
+  pub space-decided : (c : Call) (r : Request) → request-of unit c s k ≡ some r → passes-others (r .lines) ≡ true → Decided unit s (r .asked) (step unit c s k .values .refusal)
+  unfolding request-of
+  space-decided (Allocate q n) r e p = of-request (Allocate q n) _ r e p (allocate-decided q n)
+  space-decided (AllocateArray q count size) r e p = of-request (AllocateArray q count size) _ r e p (allocate-decided q (count * size))
+  space-decided (Claim q h) r e p = absurd (Option·none-ne-some r e)
+  space-decided (Release q h) r e p = absurd (Option·none-ne-some r e)
+  space-decided (FreeAll q) r e p = absurd (Option·none-ne-some r e)
+  space-decided (Reallocate q h n) r e p = of-request (Reallocate q h n) _ r e p (reallocate-decided q h n)
+  space-decided (Lend h) r e p = absurd (Option·none-ne-some r e)
+  space-decided (Remaining q) r e p = absurd (Option·none-ne-some r e)
+  space-decided (CanRelease q h) r e p = absurd (Option·none-ne-some r e)
+  space-decided (ListBlock at) r e p = absurd (Option·none-ne-some r e)

@@ -1,0 +1,113 @@
+-- Demand 3 does not hold of the wrong heaps: each is refuted by a short list of calls that is computed, at the field that document 01 names for it.
+-- Assumes nothing.
+use Prim.Native.Nat.{ℕ, zero, suc, _<_, _^_}
+use native.Mathlib.Omega.{arith}
+use mathlib.Core.Path.{_≡_, refl, ap}
+use mathlib.Core.List.{List, [], _∷_, List·Memᴰ, List·Memᴰ·head, List·Memᴰ·cases-cons, List·Memᴰ·not-nil}
+use mathlib.Core.Bool.{Bool, true, _&&_}
+use mathlib.Core.Logic.{_⊎_, inl, inr}
+use lib.ListN.{replicate, getD}
+use lib.Dec.{ltb}
+use borrow.Author.Tests.{ltb-true}
+use Rattle.accounts.specs.declared.Accounts.{Accounts}
+use Rattle.rounding.specs.Rounding.{unit}
+use Rattle.model.specs.Lists.{all, total, keep}
+use Rattle.model.specs.Answers.{Values, given, amount-of, zero-handle}
+use Rattle.model.specs.Calls.{Outcome, open-heap}
+use Rattle.model.specs.declared.Handle.{Handle}
+use Rattle.model.specs.declared.Call.{Call}
+use Rattle.model.specs.declared.Call.the-variants.{Allocate, Release}
+use Rattle.model.proofs.Bools.{and-left, and-right}
+use Rattle.model.proofs.Computing.{computing}
+use Rattle.ledger.specs.Ledger.{Event, Called, empty, change-holds, at-serial, is-held, leave, add-object, add-hold, take-hold, take-all, record-accepted, record-call, record-event, ledger-of, cost-to}
+use Rattle.ledger.specs.History.{Run, Opened, Begins, Opening, History}
+use Rattle.ledger.specs.Demand3.{SuitableRun, in-live-block, request-of, passes-others, Holds, Demand3}
+use Rattle.ledger.specs.Wrong.{refuses-all, at-allocate, at-release, at-remaining, fixed-handle, idle-release, pretends, invented-remainder, invented-refund}
+
+grants : List ℕ
+grants = 1000 ∷ replicate 7 0
+
+fresh : Outcome
+fresh = open-heap (replicate 64 0) grants
+
+-- grants that are all below a bound
+below : (gs : List ℕ) → all (λ g. ltb g (2 ^ 32)) gs ≡ true → (q : ℕ) → getD gs q 0 < 2 ^ 32
+unfolding all
+below [] e q = omega arith
+below (g ∷ gs) e zero = ltb-true g (2 ^ 32) (and-left (ltb g (2 ^ 32)) (all (λ g. ltb g (2 ^ 32)) gs) e)
+below (g ∷ gs) e (suc q) = below gs (and-right (ltb g (2 ^ 32)) (all (λ g. ltb g (2 ^ 32)) gs) e) q
+
+opening : Begins grants (fresh .heap) (fresh .accounts)
+unfolding computing grants fresh
+opening = Opening (record { before = replicate 64 0; quotas = refl; narrow = below grants refl; opens = refl })
+
+-- an opening and these calls, the newest first
+after : Run → List Call → Outcome
+after run [] = fresh
+after run (c ∷ cs) = run c (after run cs .heap) (after run cs .accounts)
+
+events : Run → List Call → List Event
+events run [] = []
+events run (c ∷ cs) = Called c (run c (after run cs .heap) (after run cs .accounts) .values) ∷ events run cs
+
+history : (run : Run) (cs : List Call) → History run grants (events run cs) (after run cs .heap) (after run cs .accounts)
+unfolding after events
+history run [] = opening
+history run (c ∷ cs) = (after run cs .heap, after run cs .accounts, history run cs, refl)
+
+-- what demand 3 says of such a list
+said : (run : Run) → Demand3 unit run → (cs : List Call) → Holds unit run grants (events run cs) [] (after run cs .heap) (after run cs .accounts)
+said run d cs = d .always grants (events run cs) [] (after run cs .heap) (after run cs .accounts) (history run cs)
+
+-- the first two objects of 8 bytes
+abbrev first : Handle
+first = record { base = 8; length = 8; serial = 1 }
+
+abbrev second : Handle
+second = record { base = 24; length = 8; serial = 2 }
+
+-- every call is refused for space: there is a run of bytes at 8
+pub refuted-refuses-all : Demand3 unit refuses-all → ⊥
+unfolding computing grants fresh after refuses-all request-of passes-others in-live-block keep
+refuted-refuses-all d =
+    let h = said refuses-all d [] in
+    let r : SuitableRun unit (after refuses-all [] .heap) 8 8 = record { low = omega arith; multiple = refl; high = omega arith; outside = λ i p q. refl } in
+    let e : _≡_ {A = ℕ} 11 0 = h .space (Allocate 0 8) _ refl refl 8 r in
+    omega arith
+
+-- two objects of the ledger have the same bytes
+pub refuted-fixed-handle : Demand3 unit fixed-handle → ⊥
+unfolding computing grants fresh after events fixed-handle at-allocate ledger-of record-event record-call record-accepted add-object empty
+refuted-fixed-handle d = said fixed-handle d (Allocate 0 8 ∷ Allocate 0 8 ∷ []) .apart 0 1 (omega arith) (omega arith) 8 (omega arith) (omega arith)
+
+-- the ledger's sum: nothing is held any more, and the charge has not come back
+pub refuted-idle-release : Demand3 unit idle-release → ⊥
+unfolding computing grants fresh after events idle-release at-release ledger-of record-event record-call record-accepted add-object empty take-hold leave is-held at-serial change-holds keep cost-to
+refuted-idle-release d =
+    let e : _≡_ {A = ℕ} 984 1000 = said idle-release d (Release 0 first ∷ Allocate 0 8 ∷ []) .balanced 0 (omega arith) in
+    omega arith
+
+-- the second object is in the ledger and not in the heap
+pub refuted-pretends : Demand3 unit pretends → ⊥
+unfolding computing grants fresh after events pretends ledger-of record-event record-call record-accepted add-object empty
+refuted-pretends d =
+    let m : List·Memᴰ second (first ∷ []) = said pretends d (Allocate 0 8 ∷ Allocate 0 8 ∷ []) .recorded-live second (List·Memᴰ·head refl) in
+    other (List·Memᴰ·cases-cons m)
+  where
+    other : (second ≡ first) ⊎ List·Memᴰ second [] → ⊥
+    other (inl e) = let z : _≡_ {A = ℕ} 2 1 = ap (λ (o : Handle). o .serial) e in omega arith
+    other (inr x) = List·Memᴰ·not-nil x
+
+-- remaining answers more than what remains
+pub refuted-invented-remainder : Demand3 unit invented-remainder → ⊥
+unfolding computing grants fresh after invented-remainder at-remaining
+refuted-invented-remainder d =
+    let e : _≡_ {A = ℕ} 1001 1000 = ap (λ (v : Values). v .amount) (said invented-remainder d [] .answered 0 (omega arith)) in
+    omega arith
+
+-- a release gives back more than was paid
+pub refuted-invented-refund : Demand3 unit invented-refund → ⊥
+unfolding computing grants fresh after events invented-refund at-release ledger-of record-event record-call record-accepted add-object empty take-hold leave is-held at-serial change-holds keep cost-to
+refuted-invented-refund d =
+    let e : _≡_ {A = ℕ} 1001 1000 = said invented-refund d (Release 0 first ∷ Allocate 0 8 ∷ []) .balanced 0 (omega arith) in
+    omega arith

@@ -1,0 +1,49 @@
+-- Histories: every list of calls, refused ones included, from an accepted opening of one heap, with writes inside live objects in between.
+use Prim.Native.Nat.{ℕ, _+_, _<_, _^_}
+use mathlib.Core.Path.{_≡_}
+use mathlib.Core.List.{List, [], _∷_}
+use mathlib.Core.Bool.{Bool, false, _&&_}
+use lib.ListN.{length, getD}
+use lib.Dec.{leb, ltb}
+use Rattle.accounts.specs.declared.Accounts.{Accounts}
+use Rattle.accounts.specs.Accounts.{QUOTAS}
+use Rattle.layout.specs.Bytes.{Octets}
+use Rattle.model.specs.Lists.{any}
+use Rattle.model.specs.Answers.{accepted}
+use Rattle.model.specs.Objects.{objects-of}
+use Rattle.model.specs.Calls.{Outcome, open-heap}
+use Rattle.model.specs.declared.Handle.{Handle}
+use Rattle.model.specs.declared.Call.{Call}
+use Rattle.ledger.specs.Ledger.{Event, Called, Wrote}
+
+-- whatever performs a call on a heap and its accounts
+abbrev pub Run : Type 0
+Run = Call → List ℕ → Accounts → Outcome
+
+-- an accepted opening: any bytes of an allowed length, any 32-bit grants
+pub record Opened (grants : List ℕ) (s : List ℕ) (k : Accounts) : Type 0 where
+  pub before : List ℕ
+  pub quotas : length grants ≡ QUOTAS
+  pub narrow : (q : ℕ) → getD grants q 0 < 2 ^ 32
+  pub opens : open-heap before grants ≡ record { heap = s; accounts = k; values = accepted }
+
+-- how a history begins
+pub data Begins (grants : List ℕ) (s : List ℕ) (k : Accounts) : Type 0 where
+  Opening : Opened grants s k → Begins grants s k
+
+-- a byte lies in one of these objects
+unfoldable pub in-object : ℕ → List Handle → Bool
+in-object i os = any (λ o. leb (o .base) i && ltb i (o .base + o .length)) os
+
+-- bytes inside live objects are written in whatever way, and nobody writes any others
+pub record Written (s s′ : List ℕ) : Type 0 where
+  pub same-length : length s′ ≡ length s
+  pub octets : Octets s′
+  pub inside : (i : ℕ) → in-object i (objects-of s) ≡ false → getD s′ i 0 ≡ getD s i 0
+
+-- the events, the newest first, that lead to a heap and its accounts
+abbrev pub History : Run → List ℕ → List Event → List ℕ → Accounts → Type 0
+History run grants [] s k = Begins grants s k
+History run grants (Called c v ∷ es) s k =
+    (s₀ : List ℕ) × (k₀ : Accounts) × History run grants es s₀ k₀ × (run c s₀ k₀ ≡ record { heap = s; accounts = k; values = v })
+History run grants (Wrote ∷ es) s k = (s₀ : List ℕ) × History run grants es s₀ k × Written s₀ s

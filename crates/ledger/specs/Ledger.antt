@@ -1,0 +1,94 @@
+-- The ledger (document 01, "The ledger of demand 3"). It is fed each call's arguments and answer, and nothing of heap or accounts.
+use Prim.Native.Nat.{ℕ, _+_, _-_}
+use mathlib.Core.List.{List, [], _∷_, map}
+use mathlib.Core.Bool.{Bool, cond}
+use lib.ListN.{length, getD, set, replicate}
+use lib.Dec.{ltb, eqb}
+use Rattle.model.specs.Lists.{any, keep}
+use Rattle.model.specs.Answers.{Values}
+use Rattle.model.specs.declared.Handle.{Handle}
+use Rattle.model.specs.declared.Call.{Call}
+use Rattle.model.specs.declared.Call.the-variants.{Allocate, AllocateArray, Claim, Release, FreeAll, Reallocate, Lend, Remaining, CanRelease, ListBlock}
+
+-- an object of the ledger: its base, length and serial, and each quota's holds on it, by the quota's number
+pub record Entry : Type 0 where
+  pub object : Handle
+  pub holds : List ℕ
+
+-- "It keeps the grants as opened and objects, at first none"
+pub record Ledger : Type 0 where
+  pub grants : List ℕ
+  pub entries : List Entry
+
+unfoldable pub empty : List ℕ → Ledger
+empty grants = record { grants = grants; entries = [] }
+
+abbrev pub with-entries : List Entry → Ledger → Ledger
+with-entries es l = record { grants = l .grants; entries = es }
+
+abbrev pub holds-of : ℕ → Entry → ℕ
+holds-of q e = getD (e .holds) q 0
+
+unfoldable pub change-holds : ℕ → (ℕ → ℕ) → Entry → Entry
+change-holds q f e = record { object = e .object; holds = set (e .holds) q (f (holds-of q e)) }
+
+-- "the object with the handle's serial"
+unfoldable pub at-serial : ℕ → (Entry → Entry) → List Entry → List Entry
+at-serial serial f es = map (λ e. cond (eqb (e .object .serial) serial) (f e) e) es
+
+-- "An object without holds leaves"
+unfoldable pub is-held : Entry → Bool
+is-held e = any (λ n. ltb 0 n) (e .holds)
+
+unfoldable pub leave : Ledger → Ledger
+leave l = with-entries (keep is-held (l .entries)) l
+
+-- "Allocate and array add the answered handle with one hold of that quota"
+unfoldable pub add-object : ℕ → Handle → Ledger → Ledger
+add-object q o l = with-entries (record { object = o; holds = set (replicate (length (l .grants)) 0) q 1 } ∷ l .entries) l
+
+-- "Claim adds one to that quota's holds on the object with the handle's serial, release takes one off"
+unfoldable pub add-hold : ℕ → ℕ → Ledger → Ledger
+add-hold q serial l = with-entries (at-serial serial (change-holds q (λ n. n + 1)) (l .entries)) l
+
+unfoldable pub take-hold : ℕ → ℕ → Ledger → Ledger
+take-hold q serial l = leave (with-entries (at-serial serial (change-holds q (λ n. n - 1)) (l .entries)) l)
+
+-- "Free-all takes all of that quota's holds off every object"
+unfoldable pub take-all : ℕ → Ledger → Ledger
+take-all q l = leave (with-entries (map (change-holds q (λ n. 0)) (l .entries)) l)
+
+-- an accepted call with its answer; lend, remaining, can release and the listing change nothing
+unfoldable pub record-accepted : Call → Values → Ledger → Ledger
+record-accepted (Allocate q n) v l = add-object q (v .handle) l
+record-accepted (AllocateArray q count size) v l = add-object q (v .handle) l
+record-accepted (Claim q h) v l = add-hold q (h .serial) l
+record-accepted (Release q h) v l = take-hold q (h .serial) l
+record-accepted (FreeAll q) v l = take-all q l
+record-accepted (Reallocate q h n) v l = take-hold q (h .serial) (add-object q (v .handle) l)
+record-accepted (Lend h) v l = l
+record-accepted (Remaining q) v l = l
+record-accepted (CanRelease q h) v l = l
+record-accepted (ListBlock at) v l = l
+
+-- a call with its answer: "Refused calls change nothing", and a refusal's number is not 0
+unfoldable pub record-call : Call → Values → Ledger → Ledger
+record-call c v l = cond (eqb (v .refusal) 0) (record-accepted c v l) l
+
+-- an event: a call and its answer, or a write of bytes inside live objects
+pub data Event : Type 0 where
+  Called : Call → Values → Event
+  Wrote : Event
+
+unfoldable pub record-event : Event → Ledger → Ledger
+record-event (Called c v) l = record-call c v l
+record-event Wrote l = l
+
+-- the ledger of the grants at the opening and of the events since, the newest first
+unfoldable pub ledger-of : List ℕ → List Event → Ledger
+ledger-of grants [] = empty grants
+ledger-of grants (e ∷ es) = record-event e (ledger-of grants es)
+
+-- what the objects that a quota has holds on cost: length + 8 each
+unfoldable pub cost-to : ℕ → Entry → ℕ
+cost-to q e = cond (ltb 0 (holds-of q e)) (e .object .length + 8) 0

@@ -1,0 +1,6 @@
+pub mod Ledger
+pub mod History
+pub mod Demand3
+pub mod Wrong
+pub mod Reading
+pub mod Contents

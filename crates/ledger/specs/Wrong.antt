@@ -1,0 +1,85 @@
+-- Wrong heaps (document 01, "What the promises have to decide"): what each does instead of `step`. That demand 3 does not hold of them is `proofs/Wrong.antt`.
+use Prim.Native.Nat.{ℕ, _+_}
+use mathlib.Core.List.{List}
+use mathlib.Core.Bool.{cond}
+use lib.Dec.{eqb}
+use Rattle.accounts.specs.declared.Accounts.{Accounts}
+use Rattle.accounts.specs.Accounts.{remaining, refund}
+use Rattle.rounding.specs.Rounding.{unit}
+use Rattle.model.specs.Answers.{Values, refused, given, amount-of}
+use Rattle.model.specs.Calls.{Outcome, unchanged}
+use Rattle.model.specs.Step.{step}
+use Rattle.model.specs.declared.Handle.{Handle}
+use Rattle.model.specs.declared.Call.{Call}
+use Rattle.model.specs.declared.Call.the-variants.{Allocate, AllocateArray, Claim, Release, FreeAll, Reallocate, Lend, Remaining, CanRelease, ListBlock}
+
+-- "A heap that refuses every call", here for want of space
+unfoldable pub refuses-all : Call → List ℕ → Accounts → Outcome
+refuses-all c s k = unchanged s k (refused 11)
+
+-- what is done at one kind of call, and what at any other
+unfoldable pub at-allocate : (ℕ → ℕ → Outcome) → Call → Outcome → Outcome
+at-allocate f (Allocate q n) t = f q n
+at-allocate f (AllocateArray q count size) t = t
+at-allocate f (Claim q h) t = t
+at-allocate f (Release q h) t = t
+at-allocate f (FreeAll q) t = t
+at-allocate f (Reallocate q h n) t = t
+at-allocate f (Lend h) t = t
+at-allocate f (Remaining q) t = t
+at-allocate f (CanRelease q h) t = t
+at-allocate f (ListBlock at) t = t
+
+unfoldable pub at-release : (ℕ → Handle → Outcome) → Call → Outcome → Outcome
+at-release f (Allocate q n) t = t
+at-release f (AllocateArray q count size) t = t
+at-release f (Claim q h) t = t
+at-release f (Release q h) t = f q h
+at-release f (FreeAll q) t = t
+at-release f (Reallocate q h n) t = t
+at-release f (Lend h) t = t
+at-release f (Remaining q) t = t
+at-release f (CanRelease q h) t = t
+at-release f (ListBlock at) t = t
+
+unfoldable pub at-remaining : (ℕ → Outcome) → Call → Outcome → Outcome
+at-remaining f (Allocate q n) t = t
+at-remaining f (AllocateArray q count size) t = t
+at-remaining f (Claim q h) t = t
+at-remaining f (Release q h) t = t
+at-remaining f (FreeAll q) t = t
+at-remaining f (Reallocate q h n) t = t
+at-remaining f (Lend h) t = t
+at-remaining f (Remaining q) t = f q
+at-remaining f (CanRelease q h) t = t
+at-remaining f (ListBlock at) t = t
+
+-- "one fixed handle"
+unfoldable pub fixed-handle : Call → List ℕ → Accounts → Outcome
+fixed-handle c s k =
+    let t = step unit c s k in
+    at-allocate (λ q n. record { heap = t .heap; accounts = t .accounts; values = given (record { base = 8; length = 8; serial = 1 }) }) c t
+
+-- "a do-nothing release": it answers as a release does
+unfoldable pub idle-release : Call → List ℕ → Accounts → Outcome
+idle-release c s k =
+    let t = step unit c s k in
+    at-release (λ q h. unchanged s k (t .values)) c t
+
+-- "a heap that serves the first call and then only pretends": it answers as the calls do
+unfoldable pub pretends : Call → List ℕ → Accounts → Outcome
+pretends c s k =
+    let t = step unit c s k in
+    cond (eqb (k .«last_serial») 0) t (unchanged s k (t .values))
+
+-- "an invented remainder": what remaining answers
+unfoldable pub invented-remainder : Call → List ℕ → Accounts → Outcome
+invented-remainder c s k =
+    let t = step unit c s k in
+    at-remaining (λ q. unchanged s k (amount-of (remaining q k + 1))) c t
+
+-- "or refund": what release gives back
+unfoldable pub invented-refund : Call → List ℕ → Accounts → Outcome
+invented-refund c s k =
+    let t = step unit c s k in
+    at-release (λ q h. record { heap = t .heap; accounts = refund q 1 (t .accounts); values = amount-of (t .values .amount + 1) }) c t
