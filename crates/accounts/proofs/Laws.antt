@@ -17,6 +17,7 @@ use Rattle.accounts.specs.declared.Accounts.{Accounts}
 use Rattle.accounts.specs.declared.Place.the-variants.{At, Nothing}
 use Rattle.accounts.specs.Accounts.{QUOTAS, HOLDS, zero-quota, zero-hold, zero-accounts, with-remainder, with-holds, with-last-serial, grants, granted, opened}
 use Rattle.accounts.specs.Accounts.{quota-at, remaining, set-remaining, charge, refund, first-from, hold-at, put-hold}
+use Rattle.accounts.proofs.Rows
 
 -- the first record that passes a test stands at place i
 pub record First (p : Hold → Bool) (hs : List Hold) (i : ℕ) : Type 0 where
@@ -64,6 +65,7 @@ module _ (p : Hold → Bool) where
   searched n [] = inr (refl, λ j l. absurd (omega arith))
   searched n (h ∷ hs) = by-test n h hs (p h) refl (searched (suc n) hs)
 
+  -- a search that starts at place n counts on from there
   first-later : (n : ℕ) (hs : List Hold) (i : ℕ) → First p hs i → first-from p n hs ≡ At (n + i)
   unfolding first-from
   first-later n [] i f = absurd (omega (arith, f .within))
@@ -110,6 +112,7 @@ pub record Kept (q : ℕ) (k r : Accounts) : Type 0 where
   pub same-count : length (r .quotas) ≡ length (k .quotas)
   pub same-others : (o : ℕ) → o ≢ q → remaining o r ≡ remaining o k
 
+-- what remains of a quota, and setting it
 module _ (q : ℕ) (k : Accounts) where
   pub remaining-out : length (k .quotas) ≤ q → remaining q k ≡ 0
   unfolding remaining
@@ -156,6 +159,7 @@ module _ (q : ℕ) (t : Bool) (paid k : Accounts) where
       by-quota true = rw e refl
       by-quota false = refl
 
+-- what holds of both outcomes holds of the one that a test picks
 either : (P : Accounts → Type 0) (t : Bool) (x y : Accounts) → P x → P y → P (cond t x y)
 either P true x y h l = h
 either P false x y h l = l
@@ -196,6 +200,7 @@ module _ (q n : ℕ) (k : Accounts) where
   unfolding refund
   refund-kept = either (Kept q k) (ltb q QUOTAS && ltb (remaining q k + n) (2 ^ 32)) (set-remaining q (remaining q k + n) k) k (set-kept q k (remaining q k + n)) (kept q k)
 
+-- what remains after a charge and after a refund
 module _ (q n : ℕ) (k : Accounts) (sized : Sized k) (h : q < QUOTAS) where
   pub remaining-charged : n ≤ remaining q k → remaining q (charge q n k) ≡ remaining q k - n
   remaining-charged l = ap (remaining q) (charge-pays q n k h l) ∙ remaining-set q k (remaining q k - n) (omega (arith, sized .quotas-long))
@@ -216,7 +221,7 @@ module _ (q n : ℕ) (k : Accounts) (sized : Sized k) (h : q < QUOTAS) where
       ∙ set-twice q k m (remaining q k) long
       ∙ set-same q k
 
--- the lengths stay
+-- every operation keeps the lengths, and the accounts of zeros and the opened ones have them
 pub kept-sized : {q : ℕ} {k r : Accounts} → Kept q k r → Sized k → Sized r
 kept-sized e s = record { quotas-long = e .same-count ∙ s .quotas-long; holds-long = ap length (e .same-holds) ∙ s .holds-long }
 

@@ -5,13 +5,13 @@ use mathlib.Core.List.{List, [], _∷_, _++_, append-assoc}
 use mathlib.Core.Bool.{true}
 use Prim.Native.Nat.{ℕ, _+_, _*_, _-_, _^_, _<_}
 use native.Mathlib.Omega.{arith}
-use lib.Dec.{lit<}
 use lib.ListN.{length, take, drop, length-append}
 use lib.Seq.{take-at, drop-at, drop-drop}
 use Rattle.layout.specs.Bytes.{Octets, overwrite}
-use Rattle.layout.specs.Blocks.{Block, size, units, total-size, back-after, header-of, header-bytes, read-header, read-block, starts-block, start-at, write-header, render-from, Writable, AllOctets}
+use Rattle.layout.specs.Blocks.{Block, size, units, total-size, back-after, header-of, header-bytes, read-header, read-block, starts-block, start-at, write-header, render-from, Writable, All, AllWritable, AllOctets}
 use Rattle.layout.specs.declared.Header.{Header}
 use Rattle.layout.specs.declared.Start.the-variants.{Block as Starts, Nothing}
+use Rattle.layout.proofs.Rows.{zero-byte}
 use Rattle.layout.proofs.Numbers.{octets-append}
 use Rattle.layout.proofs.Overwrite.{overwrite-at}
 use Rattle.layout.proofs.Fields.{header-length, header-octets, header-read, header-behind}
@@ -65,10 +65,30 @@ length-render back (b ∷ bs) = written-length back b (render-from (units b) bs)
 
 pub octets-render : (back : ℕ) (bs : List Block) → AllOctets bs → Octets (render-from back bs)
 unfolding render-from
-octets-render back [] o = λ i. lit< tt
+octets-render back [] o = λ i. zero-byte
 octets-render back (b ∷ bs) o =
     octets-append (header-bytes (header-of back b)) (b .body ++ render-from (units b) bs) (header-octets (header-of back b))
     (octets-append (b .body) (render-from (units b) bs) (o .0) (octets-render (units b) bs (o .1)))
+
+-- what holds of every block of two lists holds of every block of both together, and the other way round
+module _ (P : Block → Type 0) where
+  pub all-append : (xs ys : List Block) → All P xs → All P ys → All P (xs ++ ys)
+  all-append [] ys a b = b
+  all-append (x ∷ xs) ys a b = (a .0, all-append xs ys (a .1) b)
+
+  pub all-left : (xs ys : List Block) → All P (xs ++ ys) → All P xs
+  all-left [] ys a = tt
+  all-left (x ∷ xs) ys a = (a .0, all-left xs ys (a .1))
+
+  pub all-right : (xs ys : List Block) → All P (xs ++ ys) → All P ys
+  all-right [] ys a = a
+  all-right (x ∷ xs) ys a = all-right xs ys (a .1)
+
+-- the units of the last block fit two bytes
+pub back-small : (back : ℕ) (xs : List Block) → back < 2 ^ 16 → AllWritable xs → back-after back xs < 2 ^ 16
+unfolding back-after
+back-small back [] l w = l
+back-small back (b ∷ xs) l w = back-small (units b) xs (w .0 .small) (w .1)
 
 -- two parts of a list of blocks
 pub render-append : (back : ℕ) (xs ys : List Block) → render-from back (xs ++ ys) ≡ render-from back xs ++ render-from (back-after back xs) ys

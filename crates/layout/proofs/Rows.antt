@@ -3,10 +3,15 @@
 use mathlib.Core.Path.{_≡_, refl}
 use mathlib.Core.List.{List, [], _∷_, _++_}
 use mathlib.Core.Option.{none, some}
-use Prim.Native.Nat.{ℕ}
+use Prim.Native.Nat.{ℕ, _<_}
+use lib.Dec.{lit<}
 use Rattle.layout.specs.Bytes.{bytes, number, overwrite, read-number, write-number, zero-part, copy-part}
 use Rattle.layout.specs.Blocks.{header-bytes, read-header, starts-block, start-at, write-header, render-from, render, read-block, in-front, parse-from, parse}
 use Rattle.layout.specs.declared.Start.the-variants.{Block as Starts, Nothing}
+
+-- 0, which stands past the end of every list, is a byte
+pub zero-byte : 0 < 256
+zero-byte = lit< tt
 
 four : List ℕ
 four = 1 ∷ 2 ∷ 3 ∷ 4 ∷ []

@@ -46,7 +46,11 @@ units b = size b / 8
 abbrev pub live : Block → Bool
 live b = not (eqb (b .serial) 0)
 
--- the size of blocks, in bytes
+-- its header behind a block of `back` units
+abbrev pub header-of : ℕ → Block → Header
+header-of back b = record { size = units b; back = back; serial = b .serial }
+
+-- the bytes that blocks take, headers included
 unfoldable pub total-size : List Block → ℕ
 total-size [] = 0
 total-size (b ∷ bs) = size b + total-size bs
@@ -55,10 +59,6 @@ total-size (b ∷ bs) = size b + total-size bs
 unfoldable pub back-after : ℕ → List Block → ℕ
 back-after back [] = back
 back-after back (b ∷ bs) = back-after (units b) bs
-
--- its header behind a block of `back` units
-abbrev pub header-of : ℕ → Block → Header
-header-of back b = record { size = units b; back = back; serial = b .serial }
 
 -- the bytes of blocks that stand behind a block of `back` units
 unfoldable pub render-from : ℕ → List Block → List ℕ
@@ -103,11 +103,14 @@ pub record Writable (b : Block) : Type 0 where
   pub small : units b < 2 ^ 16
   pub narrow : b .serial < 2 ^ 32
 
+-- P holds of every block
+abbrev pub All : (Block → Type 0) → List Block → Type 0
+All P [] = Unit {0}
+All P (b ∷ bs) = P b × All P bs
+
 abbrev pub AllWritable : List Block → Type 0
-AllWritable [] = Unit {0}
-AllWritable (b ∷ bs) = Writable b × AllWritable bs
+AllWritable bs = All Writable bs
 
 -- every body holds bytes
 abbrev pub AllOctets : List Block → Type 0
-AllOctets [] = Unit {0}
-AllOctets (b ∷ bs) = Octets (b .body) × AllOctets bs
+AllOctets bs = All (λ b. Octets (b .body)) bs

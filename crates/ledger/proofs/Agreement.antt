@@ -12,7 +12,7 @@ use Rattle.accounts.specs.declared.Hold.{Hold}
 use Rattle.accounts.specs.declared.Accounts.{Accounts}
 use Rattle.accounts.specs.Accounts.{QUOTAS, zero-quota, used}
 use Rattle.layout.specs.Bytes.{Octets}
-use Rattle.layout.specs.Blocks.{Block, size, AllWritable, AllOctets}
+use Rattle.layout.specs.Blocks.{size, AllWritable, AllOctets}
 use Rattle.model.specs.Lists.{all, total}
 use Rattle.model.specs.Objects.{objects-of}
 use Rattle.model.specs.Consistent.{allowed, consistent, serials-differ, records-differ}
@@ -22,6 +22,7 @@ use Rattle.model.specs.declared.Handle.{Handle}
 use Rattle.model.proofs.Consistent.{Tests}
 use Rattle.ledger.specs.Ledger.{Entry, Ledger, holds-of}
 use Rattle.ledger.specs.Demand3.{objects-in}
+use Rattle.ledger.proofs.Rows
 
 -- records that are in order by themselves: a used one has a quota that exists and a count, and no two have the same serial and quota
 unfoldable pub proper : Hold → Bool

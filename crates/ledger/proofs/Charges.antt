@@ -3,22 +3,22 @@
 -- serials is at most the sum over any list that has them all: take each of them out of that list, one after the other. So two such lists with the
 -- same members have the same sum. The other laws are by induction on the list.
 -- Assumes nothing.
-use mathlib.Core.Path.{_≡_, refl, ap, sym, _∙_, subst}
+use mathlib.Core.Path.{_≡_, refl, ap, sym, _∙_}
 use Prim.Native.Nat.{ℕ, _+_, _≤_}
 use native.Mathlib.Omega.{arith}
-use mathlib.Core.List.{List, [], _∷_, _++_, List·Memᴰ, List·Memᴰ·head, List·Memᴰ·tail, List·Memᴰ·not-nil, List·Memᴰ·cases-cons, List·Memᴰ·append-cases, Memᴰ·append-left, Memᴰ·append-right}
-use mathlib.Core.Bool.{Bool, true, false, not, cond}
+use mathlib.Core.List.{List, [], _∷_, List·Memᴰ, List·Memᴰ·head, List·Memᴰ·tail, List·Memᴰ·not-nil, List·Memᴰ·cases-cons}
+use mathlib.Core.Bool.{Bool, true, false, cond}
 use mathlib.Core.Logic.{_↔_, _⊎_, inl, inr}
 use lib.Dec.{ltb}
-use borrow.Author.Tests.{ltb-true, lt-ltb, eq-eqb, not-true}
+use borrow.Author.Tests.{ltb-true, lt-ltb}
 use Rattle.accounts.specs.declared.Hold.{Hold}
-use Rattle.model.specs.Lists.{any, total, keep}
-use Rattle.model.specs.Consistent.{has-serial, charge-of, has-record, charged-for, charges, serials-differ}
+use Rattle.model.specs.Lists.{total, keep}
+use Rattle.model.specs.Consistent.{charge-of, has-record, charged-for, charges, serials-differ}
 use Rattle.model.specs.Holds.{count-of}
 use Rattle.model.specs.declared.Handle.{Handle}
-use Rattle.model.proofs.Bools.{and-left, and-right}
-use Rattle.model.proofs.Lists.{none-member, total-append}
+use Rattle.model.proofs.Lists.{total-append}
 use Rattle.model.proofs.Carve.{Added}
+use Rattle.ledger.proofs.Members.{added-cases, differ-cons}
 use Rattle.ledger.proofs.Agreement.{Ordered}
 use Rattle.ledger.proofs.Counts.{record-counted}
 
@@ -74,46 +74,20 @@ taken-out o (p ∷ ps) m = go (List·Memᴰ·cases-cons m) (taken-out o ps)
           },
         )
 
--- a member of a list is the added one or a member of the others
-pub added-cases : (o : Handle) (os os′ : List Handle) → Added o os os′ → (p : Handle) → List·Memᴰ p os′ → (p ≡ o) ⊎ List·Memᴰ p os
-added-cases o os os′ a p m = go (List·Memᴰ·append-cases (a .front) (subst (λ (l : List Handle). List·Memᴰ p l) (a .now) m))
-  where
-    back : List·Memᴰ p (a .front ++ a .back) → List·Memᴰ p os
-    back n = subst (λ (l : List Handle). List·Memᴰ p l) (sym (a .old)) n
-
-    later : (p ≡ o) ⊎ List·Memᴰ p (a .back) → (p ≡ o) ⊎ List·Memᴰ p os
-    later (inl e) = inl e
-    later (inr n) = inr (back (Memᴰ·append-right (a .front) n))
-
-    go : List·Memᴰ p (a .front) ⊎ List·Memᴰ p (o ∷ a .back) → (p ≡ o) ⊎ List·Memᴰ p os
-    go (inl n) = inr (back (Memᴰ·append-left (a .back) n))
-    go (inr n) = later (List·Memᴰ·cases-cons n)
-
--- where serials differ, no later object has the first one's serial
-pub other-serial : (o : Handle) (os : List Handle) → serials-differ (o ∷ os) ≡ true → (p : Handle) → List·Memᴰ p os → p .serial ≡ o .serial → ⊥
-unfolding serials-differ
-other-serial o os d p m e =
-    none-member (has-serial (o .serial)) os (not-true (any (has-serial (o .serial)) os) (and-left _ _ d)) p m (eq-eqb (p .serial) (o .serial) e)
-
--- and the later ones' serials differ
-pub later-differ : (o : Handle) (os : List Handle) → serials-differ (o ∷ os) ≡ true → serials-differ os ≡ true
-unfolding serials-differ
-later-differ o os d = and-right (not (any (has-serial (o .serial)) os)) (serials-differ os) d
-
 -- a list that has all of these members has at least their sum
 pub total-within : (f : Handle → ℕ) (os ps : List Handle) → serials-differ os ≡ true → ((o : Handle) → List·Memᴰ o os → List·Memᴰ o ps) → total f os ≤ total f ps
 unfolding total
 total-within f [] ps d m = omega arith
 total-within f (o ∷ os) ps d m =
     let r = taken-out o ps (m o (List·Memᴰ·head refl)) in
-    let l : total f os ≤ total f (r .0) = total-within f os (r .0) (later-differ o os d) (λ p n. stays (r .0) (r .1) p n) in
+    let l : total f os ≤ total f (r .0) = total-within f os (r .0) (differ-cons o os .0 d .1) (λ p n. stays (r .0) (r .1) p n) in
     omega (arith, l, total-added f o (r .0) ps (r .1))
   where
     stays : (qs : List Handle) → Added o qs ps → (p : Handle) → List·Memᴰ p os → List·Memᴰ p qs
     stays qs a p n = go (added-cases o qs ps a p (m p (List·Memᴰ·tail n)))
       where
         go : (p ≡ o) ⊎ List·Memᴰ p qs → List·Memᴰ p qs
-        go (inl e) = absurd (other-serial o os d p n (ap (λ (x : Handle). x .serial) e))
+        go (inl e) = absurd ((differ-cons o os .0 d .0) p n (ap (λ (x : Handle). x .serial) e))
         go (inr k) = k
 
 -- sums over the same members are the same
@@ -126,14 +100,14 @@ pub total-more : (f g : Handle → ℕ) (os : List Handle) (o : Handle) (d : ℕ
 unfolding total
 total-more f g [] o d df m e k = absurd (List·Memᴰ·not-nil m)
 total-more f g (p ∷ os) o d df m e k =
-    go (List·Memᴰ·cases-cons m) (λ n. total-more f g os o d (later-differ p os df) n e (λ x l. k x (List·Memᴰ·tail l)))
+    go (List·Memᴰ·cases-cons m) (λ n. total-more f g os o d (differ-cons p os .0 df .1) n e (λ x l. k x (List·Memᴰ·tail l)))
   where
     go : (o ≡ p) ⊎ List·Memᴰ o os → (List·Memᴰ o os → total g os ≡ total f os + d) → total g (p ∷ os) ≡ total f (p ∷ os) + d
     go (inl q) ih =
-        let rest : total g os ≡ total f os = total-members g f os (λ x l. k x (List·Memᴰ·tail l) (λ s. other-serial p os df x l (s ∙ ap (λ (y : Handle). y .serial) q))) in
+        let rest : total g os ≡ total f os = total-members g f os (λ x l. k x (List·Memᴰ·tail l) (λ s. (differ-cons p os .0 df .0) x l (s ∙ ap (λ (y : Handle). y .serial) q))) in
         let here : g p ≡ f p + d = rw q at e in
         omega arith
-    go (inr n) ih = omega (arith, ih n, k p (List·Memᴰ·head refl) (λ s. other-serial p os df o n (sym s)))
+    go (inr n) ih = omega (arith, ih n, k p (List·Memᴰ·head refl) (λ s. (differ-cons p os .0 df .0) o n (sym s)))
 
 -- objects that pay nothing may go
 pub total-kept : (f : Handle → ℕ) (p : Handle → Bool) (os : List Handle) → ((o : Handle) → List·Memᴰ o os → p o ≡ false → f o ≡ 0) → total f (keep p os) ≡ total f os

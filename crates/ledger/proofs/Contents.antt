@@ -1,27 +1,18 @@
 -- No call changes a byte of an object that stays. An object's bytes are the body of its block; a call leaves every live block as it is, but for the new object's and those
 -- that become free; and no two live blocks have the same serial.
 -- Assumes nothing.
-use Prim.Native.Nat.{ℕ, zero, suc, _+_, _<_}
+use Prim.Native.Nat.{ℕ, _+_}
 use native.Mathlib.Nat.{add-zero, zero-add, add-assoc}
-use native.Mathlib.Omega.{arith}
 use mathlib.Core.Path.{_≡_, refl, ap, sym, _∙_}
-use mathlib.Core.List.{List, [], _∷_, _++_, List·Memᴰ, List·Memᴰ·head, List·Memᴰ·tail, List·Memᴰ·not-nil, List·Memᴰ·cases-cons, List·Memᴰ·append-cases, Memᴰ·append-left, Memᴰ·append-right, Memᴰ·cast}
-use mathlib.Core.Bool.{Bool, true, false, not, cond, _&&_, _||_, false≢true, true≢false}
-use mathlib.Core.Logic.{_⊎_, inl, inr, ⊎-elim}
-use lib.ListN.{length, take, drop}
-use lib.Dec.{eqb}
-use borrow.Author.Tests.{eqb-true, eqb-false}
-use Rattle.accounts.specs.declared.Hold.{Hold}
-use Rattle.layout.specs.Blocks.{Block, size, live, render, render-from, total-size}
+use mathlib.Core.List.{List, [], _∷_, _++_, List·Memᴰ, List·Memᴰ·head, List·Memᴰ·tail, List·Memᴰ·not-nil, List·Memᴰ·cases-cons, Memᴰ·append-right}
+use mathlib.Core.Bool.{Bool, true, false, cond}
+use mathlib.Core.Logic.{⊎-elim}
+use Rattle.layout.specs.Blocks.{Block, size, live, render, total-size}
 use Rattle.layout.proofs.Render.{body-stands}
 use Rattle.model.specs.Objects.{object, objects-from, objects}
-use Rattle.model.specs.Consistent.{held, serials-differ}
-use Rattle.model.specs.Space.{left-over, cut-block, vacate, vacate-unheld, join-front, join-free, settle, copy-into}
+use Rattle.model.specs.Consistent.{serials-differ}
 use Rattle.model.specs.declared.Handle.{Handle}
 use Rattle.model.proofs.Lookup.{same-serial}
-use Rattle.model.proofs.Blocks.{total-is}
-use Rattle.model.proofs.Carve.{Carved, new-block}
-use Rattle.model.proofs.Join.{joined, join-elim}
 use Rattle.ledger.specs.Contents.{contents}
 
 -- the live block of an object, and its bytes
@@ -100,11 +91,11 @@ unfolding objects
 block-of bs o m = block-placed bs o (placed 0 bs o m)
 
 -- a live block has an object with its serial and its bytes
-record Object-of (b : Block) (bs : List Block) : Type 0 where
-  object : Handle
-  member : List·Memᴰ object (objects bs)
-  serial : object .serial ≡ b .serial
-  bytes : contents object (render bs) ≡ b .body
+pub record Object-of (b : Block) (bs : List Block) : Type 0 where
+  pub object : Handle
+  pub member : List·Memᴰ object (objects bs)
+  pub serial : object .serial ≡ b .serial
+  pub bytes : contents object (render bs) ≡ b .body
 
 splits : (b : Block) (bs : List Block) → List·Memᴰ b bs → (xs : List Block) × (ys : List Block) × (bs ≡ xs ++ (b ∷ ys))
 splits b [] m = absurd (List·Memᴰ·not-nil m)
@@ -116,7 +107,7 @@ object-split bs xs b ys e l =
     let x : List·Memᴰ (object (total-size xs) b) (objects-from 0 (xs ++ (b ∷ ys))) = rw (zero-add (total-size xs)) at (object-there 0 xs b ys l) in
     record { object = object (total-size xs) b; member = rw e x; serial = refl; bytes = rw e (at-block xs b ys) }
 
-object-of : (bs : List Block) (b : Block) → live b ≡ true → List·Memᴰ b bs → Object-of b bs
+pub object-of : (bs : List Block) (b : Block) → live b ≡ true → List·Memᴰ b bs → Object-of b bs
 object-of bs b l m = let r = splits b bs m in object-split bs (r .0) b (r .1) (r .2) l
 
 -- where every live block of a list, but one with a new serial, was there before, an object that was there keeps its bytes
@@ -127,3 +118,10 @@ contents-stay bs cs new d f o m n ne =
     let w = object-of bs (c .block) (c .alive) (f (c .block) (c .alive) (c .member) (λ e. ne (c .serial ∙ e))) in
     let same : w .object ≡ o = same-serial (objects bs) d (w .object) o (w .member) m (w .serial ∙ sym (c .serial)) in
     c .bytes ∙ sym (w .bytes) ∙ ap (λ (x : Handle). contents x (render bs)) same
+
+-- and the object of a block with a serial that no other has
+pub contents-are : (bs : List Block) → serials-differ (objects bs) ≡ true → (o : Handle) → List·Memᴰ o (objects bs) → (b : Block) → live b ≡ true → List·Memᴰ b bs
+    → o .serial ≡ b .serial → contents o (render bs) ≡ b .body
+contents-are bs d o m b l n e =
+    let w = object-of bs b l n in
+    ap (λ (x : Handle). contents x (render bs)) (same-serial (objects bs) d o (w .object) m (w .member) (e ∙ sym (w .serial))) ∙ w .bytes

@@ -2,9 +2,9 @@
 -- The blocks of a good state can be written, so they are read again as they were written, and the tests of the heap are those of the blocks.
 -- Of a consistent heap, the blocks that were read can be written, and writing them gives the heap again.
 -- Assumes nothing.
-use Prim.Native.Nat.{ℕ, _+_, _<_, _^_}
+use Prim.Native.Nat.{ℕ, _<_, _^_}
 use mathlib.Core.Path.{_≡_, refl, ap, sym, _∙_}
-use mathlib.Core.List.{List, [], _∷_}
+use mathlib.Core.List.{List}
 use mathlib.Core.Bool.{true, _&&_}
 use mathlib.Core.Option.{some}
 use lib.ListN.{length, getD}
@@ -13,7 +13,7 @@ use borrow.Author.Tests.{le-leb, lt-ltb}
 use Rattle.accounts.specs.declared.Accounts.{Accounts}
 use Rattle.accounts.specs.Accounts.{QUOTAS, zero-quota, used}
 use Rattle.layout.specs.Bytes.{Octets}
-use Rattle.layout.specs.Blocks.{Block, size, total-size, render, parse, AllWritable}
+use Rattle.layout.specs.Blocks.{Block, size, render, parse, AllWritable}
 use Rattle.layout.proofs.Render.{length-render, octets-render}
 use Rattle.layout.proofs.Parse.{parse-is, parse-octets}
 use Rattle.model.specs.Lists.{total}
@@ -23,18 +23,13 @@ use Rattle.model.specs.Calls.{State, state-of}
 use Rattle.model.proofs.Bools.{and-both, implied}
 use Rattle.model.proofs.Lists.{member-all}
 use Rattle.model.proofs.Consistent.{tests-exactly, valid-exactly, blocks-parsed, consistent-exactly, consistent-cut}
+use Rattle.model.proofs.Blocks.{total-is}
 use Rattle.ledger.proofs.Agreement.{proper, Good, Ordered}
-
--- the size of blocks is the sum of their sizes
-pub size-total : (bs : List Block) → total-size bs ≡ total size bs
-unfolding total-size total
-size-total [] = refl
-size-total (b ∷ bs) = ap (λ (n : ℕ). size b + n) (size-total bs)
 
 -- as many bytes are written as the blocks have
 pub render-total : (bs : List Block) → length (render bs) ≡ total size bs
 unfolding render
-render-total bs = length-render 0 bs ∙ size-total bs
+render-total bs = length-render 0 bs ∙ total-is bs
 
 -- the heap of a good state
 pub record Written-out (t : State) : Type 0 where

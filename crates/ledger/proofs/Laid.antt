@@ -10,10 +10,11 @@ use mathlib.Core.Bool.{Bool, true, false, cond, _&&_}
 use mathlib.Core.Logic.{_↔_}
 use lib.ListN.{length, take, drop, replicate, length-append, length-take, length-drop}
 use lib.Dec.{leb, ltb, eqb, lit<}
-use borrow.Author.Tests.{ltb-true, lt-ltb, leb-true, eqb-true, eq-eqb}
+use borrow.Author.Tests.{ltb-true, lt-ltb, leb-true, eqb-true}
 use Rattle.accounts.specs.declared.Hold.{Hold}
 use Rattle.layout.specs.Bytes.{Octets}
 use Rattle.layout.specs.Blocks.{Block, size, AllWritable, AllOctets}
+use Rattle.layout.proofs.Parts.{zeros-octets}
 use Rattle.layout.proofs.Numbers.{octets-take, octets-drop, octets-append}
 use Rattle.model.specs.Lists.{all, total}
 use Rattle.model.specs.Objects.{objects-from, objects}
@@ -40,12 +41,6 @@ pub record Laid (bs : List Block) : Type 0 where
   pub cut : well-cut bs ≡ true
   pub differ : serials-differ (objects bs) ≡ true
 
--- zeros are bytes
-pub zeros-octets : (n : ℕ) → Octets (replicate n 0)
-zeros-octets zero i = lit< tt
-zeros-octets (suc n) zero = lit< tt
-zeros-octets (suc n) (suc i) = zeros-octets n i
-
 -- the test of bytes says that they are bytes
 octets-tested : (s : List ℕ) → all (λ x. ltb x 256) s ≡ true → Octets s
 unfolding all
@@ -66,12 +61,6 @@ storable-exactly b = (
   λ e. (ltb-true (b .serial) (2 ^ 32) (and-left _ _ e), octets-tested (b .body) (and-right (ltb (b .serial) (2 ^ 32)) _ e)),
   λ r. and-both (ltb (b .serial) (2 ^ 32)) _ (lt-ltb (b .serial) (2 ^ 32) (r .0)) (tested-octets (b .body) (r .1)),
 )
-
--- blocks that can be written have whole sizes
-pub writable-whole : (bs : List Block) → AllWritable bs → Whole bs
-unfolding all whole-size
-writable-whole [] w = refl
-writable-whole (b ∷ bs) w = and-both (whole-size b) _ (eq-eqb (size b % 8) 0 (omega (arith, w .0 .whole))) (writable-whole bs (w .1))
 
 -- and pass the test
 pub writable-storable : (bs : List Block) → AllWritable bs → AllOctets bs → all storable bs ≡ true

@@ -1,10 +1,11 @@
+pub mod Rows
 pub mod Wrong
 pub mod Agreement
+pub mod Members
 pub mod Sums
 pub mod Counts
 pub mod Charges
 pub mod Heaps
-pub mod Members
 pub mod Laid
 pub mod Recorded
 pub mod Payments
@@ -25,3 +26,6 @@ pub mod Space
 pub mod Theorem
 pub mod Reading
 pub mod Contents
+pub mod Staying
+pub mod Bytes
+pub mod NewBytes

@@ -5,13 +5,13 @@
 use Prim.Native.Nat.{ℕ, zero, suc, _+_, _-_, _<_}
 use native.Mathlib.Omega.{arith}
 use mathlib.Core.Path.{_≡_, refl, ap, sym, _∙_}
-use mathlib.Core.List.{List, [], _∷_, _++_, map, List·Memᴰ, List·Memᴰ·head, List·Memᴰ·tail, List·Memᴰ·not-nil, List·Memᴰ·cases-cons, List·Memᴰ·append-cases, Memᴰ·append-left, Memᴰ·append-right, Memᴰ·map, Memᴰ·of-map}
-use mathlib.Core.Bool.{Bool, true, false, not, cond, _&&_, true≢false}
+use mathlib.Core.List.{List, [], _∷_, _++_, map, List·Memᴰ, List·Memᴰ·head, List·Memᴰ·tail, List·Memᴰ·cases-cons, List·Memᴰ·append-cases, Memᴰ·append-left, Memᴰ·append-right, Memᴰ·map, Memᴰ·of-map}
+use mathlib.Core.Bool.{Bool, true, false, not, cond, _&&_}
 use mathlib.Core.Logic.{_↔_, _⊎_, inl, inr}
 use lib.ListN.{length, getD, set, replicate, length-set, length-replicate}
 use lib.Seq.{getD-set-same, getD-set-other}
 use lib.Dec.{eqb, ltb}
-use borrow.Author.Tests.{eqb-true, eqb-false, eq-eqb, ne-eqb, ltb-true, lt-ltb, not-true}
+use borrow.Author.Tests.{eqb-true, eqb-false, eq-eqb, ne-eqb, ltb-true, lt-ltb}
 use Rattle.accounts.specs.declared.Hold.{Hold}
 use Rattle.accounts.specs.Accounts.{QUOTAS}
 use Rattle.model.specs.Lists.{any, keep}
@@ -19,12 +19,13 @@ use Rattle.model.specs.Answers.{zero-handle}
 use Rattle.model.specs.Consistent.{has-serial, serials-differ}
 use Rattle.model.specs.Holds.{count-of}
 use Rattle.model.specs.declared.Handle.{Handle}
-use Rattle.model.proofs.Bools.{and-left, and-right, and-both}
+use Rattle.model.proofs.Bools.{and-both}
 use Rattle.model.proofs.Lists.{any-member, member-any, none-exactly, getD-member, member-getD}
 use Rattle.model.proofs.Carve.{Added}
 use Rattle.model.proofs.Settle.{object-held}
 use Rattle.ledger.specs.Ledger.{Entry, Ledger, with-entries, holds-of, change-holds, at-serial, is-held, leave, add-object, add-hold, take-hold, take-all}
 use Rattle.ledger.specs.Demand3.{objects-in}
+use Rattle.ledger.proofs.Members.{keep-exactly, differ-kept}
 use Rattle.ledger.proofs.Agreement.{Ordered, Matches}
 use Rattle.ledger.proofs.Counts.{counted-quota, held-counted}
 
@@ -33,42 +34,6 @@ same-test : (a b : Bool) → (a ≡ true → b ≡ true) → (b ≡ true → a �
 same-test true b f g = sym (f refl)
 same-test false true f g = g refl
 same-test false false f g = refl
-
--- what is kept are the members of which the test holds
-pub keep-member : {A : Type 0} (p : A → Bool) (xs : List A) (x : A) → List·Memᴰ x (keep p xs) ↔ (List·Memᴰ x xs × (p x ≡ true))
-unfolding keep
-keep-member p [] x = (λ m. absurd (List·Memᴰ·not-nil m), λ r. r .0)
-keep-member p (y ∷ ys) x = go (p y) refl (keep-member p ys x)
-  where
-    go : (t : Bool) → p y ≡ t → List·Memᴰ x (keep p ys) ↔ (List·Memᴰ x ys × (p x ≡ true)) → List·Memᴰ x (cond t (y ∷ keep p ys) (keep p ys)) ↔ (List·Memᴰ x (y ∷ ys) × (p x ≡ true))
-    go true e ih = (λ m. there (List·Memᴰ·cases-cons m), λ r. back (r .1) (List·Memᴰ·cases-cons (r .0)))
-      where
-        there : (x ≡ y) ⊎ List·Memᴰ x (keep p ys) → List·Memᴰ x (y ∷ ys) × (p x ≡ true)
-        there (inl q) = (List·Memᴰ·head q, rw q e)
-        there (inr m) = let r = ih .0 m in (List·Memᴰ·tail (r .0), r .1)
-
-        back : p x ≡ true → (x ≡ y) ⊎ List·Memᴰ x ys → List·Memᴰ x (y ∷ keep p ys)
-        back t (inl q) = List·Memᴰ·head q
-        back t (inr m) = List·Memᴰ·tail (ih .1 (m, t))
-    go false e ih = (λ m. (let r = ih .0 m in (List·Memᴰ·tail (r .0), r .1)), λ r. back (r .1) (List·Memᴰ·cases-cons (r .0)))
-      where
-        back : p x ≡ true → (x ≡ y) ⊎ List·Memᴰ x ys → List·Memᴰ x (keep p ys)
-        back t (inl q) = absurd (true≢false (sym t ∙ rw q e))
-        back t (inr m) = ih .1 (m, t)
-
--- of objects with different serials, those that are kept have different serials
-kept-once : (p : Handle → Bool) (os : List Handle) → serials-differ os ≡ true → serials-differ (keep p os) ≡ true
-unfolding keep serials-differ
-kept-once p [] d = refl
-kept-once p (o ∷ os) d = go (p o) (kept-once p os (and-right (not (any (has-serial (o .serial)) os)) _ d))
-  where
-    go : (t : Bool) → serials-differ (keep p os) ≡ true → serials-differ (cond t (o ∷ keep p os) (keep p os)) ≡ true
-    go false ih = ih
-    go true ih =
-        let n = not-true (any (has-serial (o .serial)) os) (and-left (not (any (has-serial (o .serial)) os)) _ d) in
-        let none : any (has-serial (o .serial)) (keep p os) ≡ false =
-        none-exactly (has-serial (o .serial)) (keep p os) .1 (λ x m t. none-exactly (has-serial (o .serial)) os .0 n x (keep-member p os x .0 m .0) t) in
-        and-both _ _ (ap not none) ih
 
 -- the objects of entries
 abbrev objects-at : List Entry → List Handle
@@ -112,13 +77,13 @@ module _ (l : Ledger) (os : List Handle) (hs : List Hold) (m : Matches l os hs) 
       let p = object-held hs in
       record {
         objects = λ o. rw same (
-          λ i. (let k = keep-member p os o .0 i in keep-member p (objects-in l) o .1 (m .objects o .0 (k .0), k .1)),
-          λ i. (let k = keep-member p (objects-in l) o .0 i in keep-member p os o .1 (m .objects o .1 (k .0), k .1)),
+          λ i. (let k = keep-exactly p os o .0 i in keep-exactly p (objects-in l) o .1 (m .objects o .0 (k .0), k .1)),
+          λ i. (let k = keep-exactly p (objects-in l) o .0 i in keep-exactly p os o .1 (m .objects o .1 (k .0), k .1)),
         );
-        once = rw same (kept-once p (objects-in l) (m .once));
+        once = rw same (differ-kept p (objects-in l) (m .once));
         quotas = m .quotas;
-        widths = λ e i. m .widths e (keep-member is-held (l .entries) e .0 i .0);
-        holds = λ e i. m .holds e (keep-member is-held (l .entries) e .0 i .0);
+        widths = λ e i. m .widths e (keep-exactly is-held (l .entries) e .0 i .0);
+        holds = λ e i. m .holds e (keep-exactly is-held (l .entries) e .0 i .0);
       }
 
 -- a change of entries that keeps their objects and makes their holds the counts of other records

@@ -14,6 +14,7 @@ use Rattle.model.specs.Calls.{listing-from}
 use Rattle.model.specs.declared.Handle.{Handle}
 use Rattle.model.specs.declared.ListedBlock.{ListedBlock}
 use Rattle.model.proofs.Listing.{listed-at}
+use Rattle.model.proofs.Listing.{starts-behind}
 use Rattle.ledger.specs.Demand3.{Within}
 
 -- an object is that of the first block, or one of the others
@@ -59,16 +60,6 @@ objects-apart at (b ∷ bs) o p m n i w v = go (objects-cases at b bs o m) (obje
     go (inr m) (inl f) ih = behind p o f m v w
     go (inr m) (inr n) ih = ih m n
 
--- a block is listed where it starts, and the others behind it
-listed-behind : (at : ℕ) (bs : List Block) (l : ListedBlock) → List·Memᴰ l (listing-from at bs) → at ≤ l .offset
-unfolding listing-from
-listed-behind at [] l m = absurd (List·Memᴰ·not-nil m)
-listed-behind at (b ∷ bs) l m = go (List·Memᴰ·cases-cons m) (listed-behind (at + size b) bs l)
-  where
-    go : (l ≡ listed-at at b) ⊎ List·Memᴰ l (listing-from (at + size b) bs) → (List·Memᴰ l (listing-from (at + size b) bs) → at + size b ≤ l .offset) → at ≤ l .offset
-    go (inl e) ih = rw e (omega arith)
-    go (inr m) ih = omega (arith, ih m)
-
 -- no byte of an object is one of a header
 pub headers-apart : (at : ℕ) (bs : List Block) (o : Handle) (l : ListedBlock) → List·Memᴰ o (objects-from at bs) → List·Memᴰ l (listing-from at bs)
     → (i : ℕ) → Within i o → l .offset ≤ i → i < l .offset + 8 → ⊥
@@ -85,7 +76,7 @@ headers-apart at (b ∷ bs) o l m n i w low high =
         omega arith
     go (inl e) (inr n) ih =
         let x : o .base + o .length ≡ at + 8 + length (b .body) = rw e in
-        let y = listed-behind (at + size b) bs l n in
+        let y = starts-behind (at + size b) bs l n in
         omega arith
     go (inr m) (inl f) ih =
         let x = objects-lie (at + size b) bs o m in

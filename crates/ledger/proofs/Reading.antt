@@ -5,9 +5,9 @@ use Prim.Native.Nat.{ℕ, zero, suc, _+_, _≤_, _<_, _^_}
 use native.Mathlib.Nat.{not-suc-le-zero}
 use native.Mathlib.Omega.{arith}
 use mathlib.Core.Path.{_≡_, refl, ap, sym, _∙_}
-use mathlib.Core.List.{List, [], _∷_, map, List·Memᴰ, List·Memᴰ·head, List·Memᴰ·tail, List·Memᴰ·not-nil, List·Memᴰ·cases-cons}
+use mathlib.Core.List.{List, [], _∷_, map, List·Memᴰ, List·Memᴰ·not-nil, List·Memᴰ·cases-cons}
 use mathlib.Core.Bool.{Bool, true, false}
-use mathlib.Core.Logic.{_⊎_, inl, inr, _↔_}
+use mathlib.Core.Logic.{_⊎_, inl, inr}
 use lib.ListN.{length, getD, length-map}
 use lib.Dec.{ltb}
 use borrow.Author.Tests.{ltb-true, ltb-false}
@@ -16,15 +16,14 @@ use Rattle.accounts.specs.declared.Hold.{Hold}
 use Rattle.accounts.specs.declared.Accounts.{Accounts}
 use Rattle.accounts.specs.Accounts.{QUOTAS, zero-quota}
 use Rattle.layout.specs.Bytes.{Octets}
-use Rattle.model.specs.Objects.{objects-of, objects, blocks-of}
-use Rattle.model.specs.Consistent.{allowed, consistent, serials-differ}
+use Rattle.model.specs.Objects.{objects-of, objects}
+use Rattle.model.specs.Consistent.{allowed, consistent}
 use Rattle.model.specs.Holds.{count-of}
 use Rattle.model.specs.Calls.{state-of}
 use Rattle.model.specs.declared.Handle.{Handle}
-use Rattle.ledger.specs.Ledger.{Entry, Ledger, holds-of}
-use Rattle.ledger.specs.Demand3.{objects-in}
+use Rattle.ledger.specs.Ledger.{Entry, holds-of}
 use Rattle.ledger.specs.Reading.{values-from, read-entry, read-ledger}
-use Rattle.ledger.proofs.Agreement.{Ordered, Good, Matches, Agrees}
+use Rattle.ledger.proofs.Agreement.{Ordered, Agrees}
 use Rattle.ledger.proofs.Heaps.{heap-good, good-ordered}
 use Rattle.ledger.proofs.Counts.{counted-quota}
 

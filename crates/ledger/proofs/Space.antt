@@ -2,16 +2,16 @@
 -- Its last line says that the search found no base; the search finds one exactly if some multiple of the alignment is suitable; and what is suitable is said
 -- over bytes by model's laws.
 -- Assumes nothing.
-use Prim.Native.Nat.{ℕ, _+_, _*_, _%_, _≤_, _<_}
+use Prim.Native.Nat.{ℕ, _+_, _*_, _%_}
 use native.Mathlib.Nat.{add-assoc}
 use native.Mathlib.Omega.{arith}
-use mathlib.Core.Path.{_≡_, refl, ap, sym, _∙_}
+use mathlib.Core.Path.{_≡_, refl, sym, _∙_}
 use mathlib.Core.List.{List, [], _∷_, _++_}
-use mathlib.Core.Bool.{Bool, true, false, not, cond, _&&_, _||_, true≢false}
+use mathlib.Core.Bool.{Bool, true, false, cond, _&&_, _||_, true≢false}
 use mathlib.Core.Option.{Option, none, some, Option·none-ne-some, Option·some-injective}
 use mathlib.Core.Logic.{_↔_}
 use lib.ListN.{length}
-use lib.Dec.{leb, ltb, eqb}
+use lib.Dec.{leb, ltb}
 use borrow.Author.Tests.{le-leb, lt-leb, leb-true, leb-false, not-true}
 use Rattle.accounts.specs.declared.Accounts.{Accounts}
 use Rattle.rounding.specs.Rounding.{Units, object-length, alignment}
@@ -19,8 +19,8 @@ use Rattle.rounding.proofs.Rounding.{alignment-positive}
 use Rattle.layout.specs.Blocks.{Block, size, live}
 use Rattle.model.specs.Lists.{any, keep, is-none}
 use Rattle.model.specs.Objects.{objects-from, objects, blocks-of, objects-of, lookup-whole, found}
-use Rattle.model.specs.Space.{lowest-base, suitable}
-use Rattle.model.specs.Refusals.{Line, _when_, line-holds, line-number, first-refusal, line-1, line-2, line-3, line-4, line-5, line-6, line-8, line-9, line-10, line-11, base-for, allocate-lines, reallocate-lines}
+use Rattle.model.specs.Space.{suitable}
+use Rattle.model.specs.Refusals.{Line, _when_, line-holds, first-refusal, line-1, line-2, line-3, line-4, line-5, line-6, line-8, line-9, line-10, line-11, base-for, allocate-lines, reallocate-lines}
 use Rattle.model.specs.Step.{step}
 use Rattle.model.specs.declared.Handle.{Handle}
 use Rattle.model.specs.declared.Call.{Call}

@@ -2,49 +2,46 @@
 -- A refused call changes nothing and is not recorded. An accepted one has passed its lines, which give what its change needs; the change keeps a good
 -- state, and the ledger's change matches that of objects and records.
 -- Assumes nothing.
-use Prim.Native.Nat.{ℕ, zero, suc, _+_, _*_, _-_, _%_, _≤_, _<_, _^_}
+use Prim.Native.Nat.{ℕ, zero, suc, _*_, _-_, _%_, _<_}
 use native.Mathlib.Nat.{mod-mod-of-dvd, dvd-of-mod-eq-zero}
 use native.Mathlib.Omega.{arith}
 use mathlib.Core.Path.{_≡_, refl, ap, sym, _∙_, subst, subst₂}
-use mathlib.Core.List.{List, [], _∷_, _++_, map, List·Memᴰ, List·Memᴰ·tail, List·Memᴰ·append-cases, Memᴰ·append-left, Memᴰ·append-right}
-use mathlib.Core.Logic.{_⊎_, inl, inr}
-use mathlib.Core.Bool.{Bool, true, false, cond, _&&_, false≢true}
-use mathlib.Core.Option.{Option, none, some}
+use mathlib.Core.List.{List, map, List·Memᴰ}
+use mathlib.Core.Bool.{true, false, cond, _&&_}
+use mathlib.Core.Option.{some}
 use lib.ListN.{length}
 use lib.Dec.{eqb}
 use borrow.Author.Tests.{eq-eqb, ne-eqb}
 use Rattle.accounts.specs.declared.Quota.{Quota}
 use Rattle.accounts.specs.declared.Accounts.{Accounts}
-use Rattle.accounts.specs.Accounts.{QUOTAS, used, remaining}
+use Rattle.accounts.specs.Accounts.{QUOTAS}
 use Rattle.rounding.specs.Rounding.{Units, object-length, alignment}
 use Rattle.rounding.proofs.Rounding as R
 use Rattle.layout.specs.Blocks.{size, render}
-use Rattle.model.specs.Lists.{any, all, total, keep, or-else}
-use Rattle.model.specs.Answers.{Values}
+use Rattle.model.specs.Lists.{total, keep, or-else}
 use Rattle.model.specs.Objects.{blocks-of, objects, objects-of, lookup, lookup-whole, found}
-use Rattle.model.specs.Consistent.{charge-of, charges, has-record}
-use Rattle.model.specs.Space.{lowest-base, suitable}
+use Rattle.model.specs.Consistent.{charges, has-record}
 use Rattle.model.specs.Holds.{count-of, lower-count, drop-records}
-use Rattle.model.specs.Refusals.{Line, _when_, line-holds, first-refusal, line-1, line-2, line-3, line-4, line-5, line-6, line-7, line-8, line-9, line-10, line-11, only-if, claims-first, base-for, quota-lines, lend-lines, release-lines, claim-lines, check-lines, allocate-lines, reallocate-lines}
+use Rattle.model.specs.Refusals.{first-refusal, base-for, quota-lines, lend-lines, release-lines, claim-lines, check-lines, allocate-lines, reallocate-lines}
 use Rattle.model.specs.Calls.{Outcome, State, unless, state-of, allocated, claimed, released, freed, copied, new-object, allocate, allocate-array, claim, release, free-all, reallocate, lend, remaining-of, can-release, list-block}
 use Rattle.model.specs.Step.{step}
 use Rattle.model.specs.declared.Handle.{Handle}
 use Rattle.model.specs.declared.Call.{Call}
 use Rattle.model.specs.declared.Call.the-variants.{Allocate, AllocateArray, Claim, Release, FreeAll, Reallocate, Lend, Remaining, CanRelease, ListBlock}
-use Rattle.model.proofs.Refusals.{Numbered, accepted-exactly, by-lines}
+use Rattle.model.proofs.Refusals.{accepted-exactly, by-lines}
 use Rattle.model.proofs.Consistent.{given-exactly}
 use Rattle.model.proofs.Lookup.{lookup-exactly, lookup-whole-is}
 use Rattle.model.proofs.Base.{Lowest, lowest-some}
-use Rattle.model.proofs.Carve.{Added}
 use Rattle.model.proofs.Settle.{object-held}
-use Rattle.model.proofs.Frame.{allocated-keeps, claimed-keeps, released-keeps, freed-keeps, reallocated-keeps}
+use Rattle.model.proofs.Frame.{allocated-keeps, claimed-keeps, released-keeps, freed-keeps}
 use Rattle.ledger.specs.Ledger.{Ledger, add-object, add-hold, take-hold, take-all, leave, record-accepted, record-call}
 use Rattle.ledger.proofs.Agreement.{Ordered, Good, Matches, Agrees}
+use Rattle.ledger.proofs.Members.{added-old}
 use Rattle.ledger.proofs.Counts.{record-counted, lower-ordered, lower-counted, drop-ordered, drop-count}
 use Rattle.ledger.proofs.Heaps.{good-heap, heap-good, heap-again, good-ordered}
 use Rattle.ledger.proofs.Transitions.{Room, allocated-good, allocated-objects, allocated-fresh, allocated-counts, claimed-good, claimed-counts, released-good, released-objects, freed-good, freed-objects, copied-good, copied-objects}
 use Rattle.ledger.proofs.Matching.{match-added, match-raised, match-lowered, match-dropped}
-use Rattle.ledger.proofs.Passed.{passed, quota-exists, length-asked, object-found, quota-holds, charge-left, record-left, serial-left, base-found, only-passed}
+use Rattle.ledger.proofs.Passed.{Allocatable, allocate-passed, Claimable, claim-passed, Releasable, release-passed, quota-passed, Reallocatable, reallocate-passed}
 
 -- a refused call is not recorded and changes nothing
 accepted-step : (c : Call) (l : Ledger) (s : List ℕ) (k : Accounts) (n : ℕ) (done : Outcome) → Agrees l s k → done .values .refusal ≡ 0
@@ -72,14 +69,14 @@ agrees-from l t g e m =
 
 module _ (l : Ledger) (s : List ℕ) (k : Accounts) (a : Agrees l s k) where
   -- the state that a call starts from
-  good : Good (state-of s k)
+  pub good : Good (state-of s k)
   good = heap-good s k (a .extent) (a .octets) (a .sound) (a .quotas) (a .narrow) (a .serial)
 
-  matching : Matches l (objects (blocks-of s)) (k .holds)
+  pub matching : Matches l (objects (blocks-of s)) (k .holds)
   unfolding objects-of
   matching = a .matches
 
-  again : render (blocks-of s) ≡ s
+  pub again : render (blocks-of s) ≡ s
   again = heap-again s k (a .octets) (a .sound)
 
 -- a multiple of a multiple of 8
@@ -87,62 +84,46 @@ eights : (b a : ℕ) → a % 8 ≡ 0 → b % a ≡ 0 → b % 8 ≡ 0
 eights b a e f = sym (mod-mod-of-dvd 8 b (dvd-of-mod-eq-zero 8 e)) ∙ ap (λ (x : ℕ). x % 8) f
 
 module _ (unit : ℕ → ℕ) (units : Units unit) (l : Ledger) (s : List ℕ) (k : Accounts) (a : Agrees l s k) where
-  -- the new object of a request that passes its lines may be made
-  module _ (q n : ℕ) (p3 : line-holds (line-3 q) ≡ false) (p4 : line-holds (line-4 n) ≡ false) (p8 : line-holds (line-8 k q (object-length unit n)) ≡ false)
-      (p9 : line-holds (line-9 k) ≡ false) (p10 : line-holds (line-10 k) ≡ false) (p11 : line-holds (line-11 unit s n) ≡ false) where
-    base-lowest : (b : ℕ) → base-for unit s n ≡ some b → Lowest (length s) (blocks-of s) (alignment unit n) (object-length unit n) b
+  -- the new object of a request that has passed its lines
+  module _ (q n : ℕ) (p : Allocatable unit s k q n) where
+    base-lowest : Lowest (length s) (blocks-of s) (alignment unit n) (object-length unit n) (p .base)
     unfolding base-for
-    base-lowest b e = lowest-some (length s) (blocks-of s) (alignment unit n) (object-length unit n) (R.alignment-positive unit units n) b e
+    base-lowest = lowest-some (length s) (blocks-of s) (alignment unit n) (object-length unit n) (R.alignment-positive unit units n) (p .base) (p .based)
 
-    room : Room q (new-object unit s k n) (state-of s k)
+    -- it may be made
+    pub room : Room q (new-object unit s k n) (state-of s k)
     unfolding new-object or-else
     room =
-        let b = base-found unit s n p11 in
-        let w = base-lowest (b .0) (b .1) in
-        let r = R.rounded unit units n in
+        let w = base-lowest in
         let h = good-heap (state-of s k) (good l s k a) in
         let size-is : total size (blocks-of s) ≡ length s = sym (h .extent) ∙ ap length (again l s k a) in
         record {
-          exists = quota-exists q p3;
-          paid = charge-left k q (object-length unit n) p8;
-          unused = record-left k p9;
+          exists = p .exists;
+          paid = p .paid;
+          unused = p .unused;
           next = refl;
-          narrow = serial-left k p10 (a .serial);
-          long = R.at-least-8 unit units n (length-asked n p4 .0);
-          even = r .eights;
-          aligned = rw (b .1) (eights (b .0) (alignment unit n) (R.alignment-eights unit units n) (w .multiple));
-          fits = rw (b .1, size-is) (w .fits);
+          narrow = p .left (a .serial);
+          long = R.at-least-8 unit units n (p .asked);
+          even = R.rounded unit units n .eights;
+          aligned = rw (p .based) (eights (p .base) (alignment unit n) (R.alignment-eights unit units n) (w .multiple));
+          fits = rw (p .based, size-is) (w .fits);
         }
 
     -- no object has its serial yet
-    fresh-serial : (p : Handle) → List·Memᴰ p (objects (blocks-of s)) → p .serial ≡ new-object unit s k n .serial → ⊥
+    pub fresh-serial : (x : Handle) → List·Memᴰ x (objects (blocks-of s)) → x .serial ≡ new-object unit s k n .serial → ⊥
     unfolding new-object
-    fresh-serial p m e = let f = given-exactly (k .«last_serial») (objects (blocks-of s)) .0 (good l s k a .tests .given) p m in omega arith
+    fresh-serial x m e = let f = given-exactly (k .«last_serial») (objects (blocks-of s)) .0 (good l s k a .tests .given) x m in omega arith
 
-    made : Agrees (add-object q (new-object unit s k n) l) (render (allocated q (new-object unit s k n) (state-of s k) .blocks)) (allocated q (new-object unit s k n) (state-of s k) .accounts)
+    allocates : Agrees (add-object q (new-object unit s k n) l) (render (allocated q (new-object unit s k n) (state-of s k) .blocks))
+        (allocated q (new-object unit s k n) (state-of s k) .accounts)
     unfolding add-object
-    made =
+    allocates =
         let o = new-object unit s k n in
         let t = state-of s k in
         let g = good l s k a in
         agrees-from (add-object q o l) (allocated q o t) (allocated-good q o t g room) (allocated-keeps q o t .grants ∙ a .grants)
         (match-added l (objects (blocks-of s)) (k .holds) (allocated q o t .accounts .holds) (matching l s k a) q (room .exists) o
         (objects (allocated q o t .blocks)) (allocated-objects q o t g room) fresh-serial (allocated-fresh q o t g room) (allocated-counts q o t g room))
-
-  -- the lines of a request, one by one
-  allocates : (q n : ℕ) → any line-holds (allocate-lines unit s k q n) ≡ false
-      → Agrees (add-object q (new-object unit s k n) l) (render (allocated q (new-object unit s k n) (state-of s k) .blocks)) (allocated q (new-object unit s k n) (state-of s k) .accounts)
-  unfolding allocate-lines
-  allocates q n e =
-      let e₂ = passed (line-1 s) _ e .1 in
-      let e₃ = passed (line-2 s k) _ e₂ .1 in
-      let p₃ = passed (line-3 q) _ e₃ in
-      let p₄ = passed (line-4 n) _ (p₃ .1) in
-      let p₈ = passed (line-8 k q (object-length unit n)) _ (p₄ .1) in
-      let p₉ = passed (line-9 k) _ (p₈ .1) in
-      let p₁₀ = passed (line-10 k) _ (p₉ .1) in
-      let p₁₁ = passed (line-11 unit s n) [] (p₁₀ .1) in
-      made q n (p₃ .0) (p₄ .0) (p₈ .0) (p₉ .0) (p₁₀ .0) (p₁₁ .0)
 
 released-matches : (l : Ledger) (t : State) → Matches l (objects (t .blocks)) (t .accounts .holds) → (q : ℕ) (o : Handle) → q < QUOTAS
     → Ordered (lower-count (o .serial) q (t .accounts .holds))
@@ -164,51 +145,35 @@ release-good l t g e m q o x there held =
 
 -- the object that a handle names is there, and is the handle
 module _ (l : Ledger) (s : List ℕ) (k : Accounts) (a : Agrees l s k) (q : ℕ) (h : Handle) where
-  there : (o : Handle) → lookup h s ≡ some o → List·Memᴰ (found (lookup h s)) (objects (blocks-of s))
+  pub there : (o : Handle) → lookup h s ≡ some o → List·Memᴰ (found (lookup h s)) (objects (blocks-of s))
   unfolding found or-else objects-of
   there o e = let p = lookup-exactly h s o .0 e in rw (e, ← p .0) (p .1)
 
-  same-serial-as : (o : Handle) → lookup h s ≡ some o → found (lookup h s) .serial ≡ h .serial
+  pub same-serial-as : (o : Handle) → lookup h s ≡ some o → found (lookup h s) .serial ≡ h .serial
   unfolding found or-else
   same-serial-as o e = rw e (ap (λ (x : Handle). x .serial) (sym (lookup-exactly h s o .0 e .0)))
 
-  claims : any line-holds (claim-lines s k q h) ≡ false → Agrees (add-hold q (h .serial) l) s (claimed q (found (lookup h s)) k)
-  unfolding claim-lines add-hold
-  claims e =
+  claims : Claimable s k q h → Agrees (add-hold q (h .serial) l) s (claimed q (found (lookup h s)) k)
+  unfolding add-hold
+  claims p =
       let o = found (lookup h s) in
-      let e₂ = passed (line-1 s) _ e .1 in
-      let e₃ = passed (line-2 s k) _ e₂ .1 in
-      let p₃ = passed (line-3 q) _ e₃ in
-      let p₅ = passed (line-5 (lookup h s)) _ (p₃ .1) in
-      let p₇ = passed (line-7 k q o) _ (p₅ .1) in
-      let p₈ = passed (only-if (claims-first k q o) (line-8 k q (o .length))) _ (p₇ .1) in
-      let p₉ = passed (only-if (claims-first k q o) (line-9 k)) [] (p₈ .1) in
-      let f = object-found (lookup h s) (p₅ .0) in
       let t : State = state-of s k in
       let g = good l s k a in
-      let m = there (f .0) (f .1) in
-      let x = quota-exists q (p₃ .0) in
-      let pays : claims-first k q o ≡ true → charge-of (o .length) ≤ remaining q k = λ c. charge-left k q (o .length) (only-passed (claims-first k q o) (line-8 k q (o .length)) (p₈ .0) c) in
-      let room : claims-first k q o ≡ true → all used (k .holds) ≡ false = λ c. record-left k (only-passed (claims-first k q o) (line-9 k) (p₉ .0) c) in
+      let m = there (p .object) (p .names) in
       let r : Agrees (add-hold q (o .serial) l) (render (blocks-of s)) (claimed q o k) =
-      agrees-from (add-hold q (o .serial) l) (record { blocks = blocks-of s; accounts = claimed q o k }) (claimed-good q o t g m x pays room)
+      agrees-from (add-hold q (o .serial) l) (record { blocks = blocks-of s; accounts = claimed q o k }) (claimed-good q o t g m (p .exists) (p .pays) (p .unused))
       (claimed-keeps q o k .grants ∙ a .grants)
-      (match-raised l (objects (blocks-of s)) (k .holds) (claimed q o k .holds) (matching l s k a) q x (o .serial) (claimed-counts q o t g m x pays room)) in
-      subst₂ (λ (y : ℕ) (z : List ℕ). Agrees (add-hold q y l) z (claimed q o k)) (same-serial-as (f .0) (f .1)) (again l s k a) r
+      (match-raised l (objects (blocks-of s)) (k .holds) (claimed q o k .holds) (matching l s k a) q (p .exists) (o .serial)
+      (claimed-counts q o t g m (p .exists) (p .pays) (p .unused))) in
+      subst₂ (λ (y : ℕ) (z : List ℕ). Agrees (add-hold q y l) z (claimed q o k)) (same-serial-as (p .object) (p .names)) (again l s k a) r
 
-  releases : any line-holds (release-lines s k q h) ≡ false
+  releases : Releasable s k q h
       → Agrees (take-hold q (h .serial) l) (render (released q (found (lookup h s)) (state-of s k) .blocks)) (released q (found (lookup h s)) (state-of s k) .accounts)
-  unfolding release-lines
-  releases e =
+  releases p =
       let o = found (lookup h s) in
-      let e₂ = passed (line-1 s) _ e .1 in
-      let e₃ = passed (line-2 s k) _ e₂ .1 in
-      let p₃ = passed (line-3 q) _ e₃ in
-      let p₅ = passed (line-5 (lookup h s)) _ (p₃ .1) in
-      let p₆ = passed (line-6 k q o) [] (p₅ .1) in
-      let f = object-found (lookup h s) (p₅ .0) in
-      subst (λ (y : ℕ). Agrees (take-hold q y l) (render (released q o (state-of s k) .blocks)) (released q o (state-of s k) .accounts)) (same-serial-as (f .0) (f .1))
-      (release-good l (state-of s k) (good l s k a) (a .grants) (matching l s k a) q o (quota-exists q (p₃ .0)) (there (f .0) (f .1)) (quota-holds k q o (p₆ .0)))
+      subst (λ (y : ℕ). Agrees (take-hold q y l) (render (released q o (state-of s k) .blocks)) (released q o (state-of s k) .accounts))
+      (same-serial-as (p .object) (p .names))
+      (release-good l (state-of s k) (good l s k a) (a .grants) (matching l s k a) q o (p .exists) (there (p .object) (p .names)) (p .recorded))
 
 module _ (l : Ledger) (s : List ℕ) (k : Accounts) (a : Agrees l s k) (q : ℕ) where
   back : ℕ
@@ -220,13 +185,10 @@ module _ (l : Ledger) (s : List ℕ) (k : Accounts) (a : Agrees l s k) (q : ℕ)
       let r = good-ordered (state-of s k) (good l s k a) in
       match-dropped l (objects (blocks-of s)) (k .holds) (drop-records q (k .holds)) (matching l s k a) q x (drop-ordered (k .holds) r q) (drop-count (k .holds) r q)
 
-  frees : any line-holds (quota-lines s k q) ≡ false
+  frees : q < QUOTAS
       → Agrees (take-all q l) (render (freed q (charges (k .holds) q (objects-of s)) (state-of s k) .blocks)) (freed q (charges (k .holds) q (objects-of s)) (state-of s k) .accounts)
-  unfolding quota-lines take-all leave objects-of back
-  frees e =
-      let e₂ = passed (line-1 s) _ e .1 in
-      let e₃ = passed (line-2 s k) _ e₂ .1 in
-      let x = quota-exists q (passed (line-3 q) [] e₃ .0) in
+  unfolding take-all leave objects-of back
+  frees x =
       let t = state-of s k in
       let g = good l s k a in
       agrees-from (take-all q l) (freed q back t) (freed-good q t g x) (freed-keeps q back t .grants ∙ a .grants) (rw (freed-objects q t g x) (freed-matches x))
@@ -240,13 +202,17 @@ still-held q old new t g r ne held =
     let z : eqb (new .serial) (old .serial) ≡ false = ne-eqb (new .serial) (old .serial) (λ p. ne (sym p)) in
     record-counted (allocated q new t .accounts .holds) (good-ordered (allocated q new t) (allocated-good q new t g r)) (old .serial) q .1 (rw e (rw z c))
 
--- an object stays when another is made
-still-there : (new old : Handle) (os os′ : List Handle) → Added new os os′ → List·Memᴰ old os → List·Memᴰ old os′
-still-there new old os os′ d m = rw (d .now) (between (List·Memᴰ·append-cases (d .front) (rw (d .old) at m)))
-  where
-    between : List·Memᴰ old (d .front) ⊎ List·Memᴰ old (d .back) → List·Memᴰ old (d .front ++ (new ∷ d .back))
-    between (inl x) = Memᴰ·append-left (new ∷ d .back) x
-    between (inr x) = Memᴰ·append-right (d .front) (List·Memᴰ·tail x)
+-- the old object is there and held once the new one is made and has its bytes
+pub still-releasable : (t : State) (g : Good t) (q : ℕ) (old new : Handle) (r : Room q new t) → (old .serial ≡ new .serial → ⊥) → List·Memᴰ old (objects (t .blocks))
+    → has-record (t .accounts .holds) q (old .serial) ≡ true
+    → List·Memᴰ old (objects (copied old new (allocated q new t) .blocks)) × (has-record (copied old new (allocated q new t) .accounts .holds) q (old .serial) ≡ true)
+unfolding copied
+still-releasable t g q old new r ne there held =
+    let t₁ = allocated q new t in
+    let d = allocated-objects q new t g r in (
+      rw (copied-objects old new t₁ (allocated-good q new t g r)) (added-old new (objects (t .blocks)) (objects (t₁ .blocks)) d old there),
+      still-held q old new t g r ne held,
+    )
 
 -- a new object made, the old one's bytes copied to it, and the old one released, in any good state
 reallocate-good : (l : Ledger) (t : State) (g : Good t) → map (λ (x : Quota). x .grant) (t .accounts .quotas) ≡ l .grants → (m : Matches l (objects (t .blocks)) (t .accounts .holds))
@@ -258,42 +224,32 @@ unfolding add-object copied
 reallocate-good l t g e m q old new r fresh there held =
     let t₁ = allocated q new t in
     let g₁ = allocated-good q new t g r in
-    let d = allocated-objects q new t g r in
-    let m₁ = match-added l (objects (t .blocks)) (t .accounts .holds) (t₁ .accounts .holds) m q (r .exists) new (objects (t₁ .blocks)) d fresh (allocated-fresh q new t g r) (allocated-counts q new t g r) in
-    let o₂ = copied-objects old new t₁ g₁ in
-    release-good (add-object q new l) (copied old new t₁) (copied-good old new t₁ g₁) (allocated-keeps q new t .grants ∙ e) (rw o₂ m₁) q old (r .exists)
-    (rw o₂ (still-there new old (objects (t .blocks)) (objects (t₁ .blocks)) d there)) (still-held q old new t g r (fresh old there) held)
+    let m₁ = match-added l (objects (t .blocks)) (t .accounts .holds) (t₁ .accounts .holds) m q (r .exists) new (objects (t₁ .blocks)) (allocated-objects q new t g r) fresh (allocated-fresh q new t g r) (allocated-counts q new t g r) in
+    let x = still-releasable t g q old new r (fresh old there) there held in
+    release-good (add-object q new l) (copied old new t₁) (copied-good old new t₁ g₁) (allocated-keeps q new t .grants ∙ e) (rw (copied-objects old new t₁ g₁) m₁) q old (r .exists)
+    (x .0) (x .1)
 
 module _ (unit : ℕ → ℕ) (units : Units unit) (l : Ledger) (s : List ℕ) (k : Accounts) (a : Agrees l s k) (q : ℕ) (h : Handle) (n : ℕ) where
-  reallocates : any line-holds (reallocate-lines unit s k q h n) ≡ false
+  pub old-there : (o : Handle) → lookup-whole h s ≡ some o → List·Memᴰ (found (lookup-whole h s)) (objects (blocks-of s))
+  old-there o e = let w = lookup-whole-is h s in rw w (there l s k a q h o (sym w ∙ e))
+
+  old-serial : (o : Handle) → lookup-whole h s ≡ some o → found (lookup-whole h s) .serial ≡ h .serial
+  old-serial o e = let w = lookup-whole-is h s in rw w (same-serial-as l s k a q h o (sym w ∙ e))
+
+  reallocates : Reallocatable unit s k q h n
       → Agrees (take-hold q (h .serial) (add-object q (new-object unit s k n) l))
       (render (released q (found (lookup-whole h s)) (copied (found (lookup-whole h s)) (new-object unit s k n) (allocated q (new-object unit s k n) (state-of s k))) .blocks))
       (released q (found (lookup-whole h s)) (copied (found (lookup-whole h s)) (new-object unit s k n) (allocated q (new-object unit s k n) (state-of s k))) .accounts)
-  unfolding reallocate-lines add-object
-  reallocates e =
+  reallocates p =
       let old = found (lookup-whole h s) in
       let new = new-object unit s k n in
-      let e₂ = passed (line-1 s) _ e .1 in
-      let e₃ = passed (line-2 s k) _ e₂ .1 in
-      let p₃ = passed (line-3 q) _ e₃ in
-      let p₄ = passed (line-4 n) _ (p₃ .1) in
-      let p₅ = passed (line-5 (lookup-whole h s)) _ (p₄ .1) in
-      let p₆ = passed (line-6 k q old) _ (p₅ .1) in
-      let p₈ = passed (line-8 k q (object-length unit n)) _ (p₆ .1) in
-      let p₉ = passed (line-9 k) _ (p₈ .1) in
-      let p₁₀ = passed (line-10 k) _ (p₉ .1) in
-      let p₁₁ = passed (line-11 unit s n) [] (p₁₀ .1) in
-      let f = object-found (lookup-whole h s) (p₅ .0) in
-      let w = lookup-whole-is h s in
-      let r = room unit units l s k a q n (p₃ .0) (p₄ .0) (p₈ .0) (p₉ .0) (p₁₀ .0) (p₁₁ .0) in
-      let x = fresh-serial unit units l s k a q n (p₃ .0) (p₄ .0) (p₈ .0) (p₉ .0) (p₁₀ .0) (p₁₁ .0) in
-      let there-old : List·Memᴰ old (objects (blocks-of s)) = rw w (there l s k a q h (f .0) (sym w ∙ f .1)) in
-      let serial-is : old .serial ≡ h .serial = rw w (same-serial-as l s k a q h (f .0) (sym w ∙ f .1)) in
       subst
       (λ (y : ℕ).
       Agrees (take-hold q y (add-object q new l)) (render (released q old (copied old new (allocated q new (state-of s k))) .blocks))
       (released q old (copied old new (allocated q new (state-of s k))) .accounts))
-      serial-is (reallocate-good l (state-of s k) (good l s k a) (a .grants) (matching l s k a) q old new r x there-old (quota-holds k q old (p₆ .0)))
+      (old-serial (p .object) (p .names))
+      (reallocate-good l (state-of s k) (good l s k a) (a .grants) (matching l s k a) q old new (room unit units l s k a q n (p .new))
+      (fresh-serial unit units l s k a q n (p .new)) (old-there (p .object) (p .names)) (p .recorded))
 
 -- every call keeps agreement
 module _ (unit : ℕ → ℕ) (units : Units unit) where
@@ -302,22 +258,22 @@ module _ (unit : ℕ → ℕ) (units : Units unit) where
   unfolding step record-accepted allocate allocate-array claim release free-all reallocate lend remaining-of can-release list-block
   step-agrees (Allocate q n) l s k a =
       accepted-step (Allocate q n) l s k (first-refusal (allocate-lines unit s k q n)) _ a refl
-      (λ e. allocates unit units l s k a q n (accepted-exactly (allocate-lines unit s k q n) (by-lines unit (Allocate q n) s k .numbered) .0 e))
+      (λ e. allocates unit units l s k a q n (allocate-passed unit s k q n (accepted-exactly (allocate-lines unit s k q n) (by-lines unit (Allocate q n) s k .numbered) .0 e)))
   step-agrees (AllocateArray q count size) l s k a =
       accepted-step (AllocateArray q count size) l s k (first-refusal (allocate-lines unit s k q (count * size))) _ a refl
-      (λ e. allocates unit units l s k a q (count * size) (accepted-exactly (allocate-lines unit s k q (count * size)) (by-lines unit (AllocateArray q count size) s k .numbered) .0 e))
+      (λ e. allocates unit units l s k a q (count * size) (allocate-passed unit s k q (count * size) (accepted-exactly (allocate-lines unit s k q (count * size)) (by-lines unit (AllocateArray q count size) s k .numbered) .0 e)))
   step-agrees (Claim q h) l s k a =
       accepted-step (Claim q h) l s k (first-refusal (claim-lines s k q h)) _ a refl
-      (λ e. claims l s k a q h (accepted-exactly (claim-lines s k q h) (by-lines unit (Claim q h) s k .numbered) .0 e))
+      (λ e. claims l s k a q h (claim-passed s k q h (accepted-exactly (claim-lines s k q h) (by-lines unit (Claim q h) s k .numbered) .0 e)))
   step-agrees (Release q h) l s k a =
       accepted-step (Release q h) l s k (first-refusal (release-lines s k q h)) _ a refl
-      (λ e. releases l s k a q h (accepted-exactly (release-lines s k q h) (by-lines unit (Release q h) s k .numbered) .0 e))
+      (λ e. releases l s k a q h (release-passed s k q h (accepted-exactly (release-lines s k q h) (by-lines unit (Release q h) s k .numbered) .0 e)))
   step-agrees (FreeAll q) l s k a =
       accepted-step (FreeAll q) l s k (first-refusal (quota-lines s k q)) _ a refl
-      (λ e. frees l s k a q (accepted-exactly (quota-lines s k q) (by-lines unit (FreeAll q) s k .numbered) .0 e))
+      (λ e. frees l s k a q (quota-passed s k q (accepted-exactly (quota-lines s k q) (by-lines unit (FreeAll q) s k .numbered) .0 e)))
   step-agrees (Reallocate q h n) l s k a =
       accepted-step (Reallocate q h n) l s k (first-refusal (reallocate-lines unit s k q h n)) _ a refl
-      (λ e. reallocates unit units l s k a q h n (accepted-exactly (reallocate-lines unit s k q h n) (by-lines unit (Reallocate q h n) s k .numbered) .0 e))
+      (λ e. reallocates unit units l s k a q h n (reallocate-passed unit s k q h n (accepted-exactly (reallocate-lines unit s k q h n) (by-lines unit (Reallocate q h n) s k .numbered) .0 e)))
   step-agrees (Lend h) l s k a = accepted-step (Lend h) l s k (first-refusal (lend-lines s k h)) _ a refl (λ e. a)
   step-agrees (Remaining q) l s k a = accepted-step (Remaining q) l s k (first-refusal (quota-lines s k q)) _ a refl (λ e. a)
   step-agrees (CanRelease q h) l s k a = accepted-step (CanRelease q h) l s k (first-refusal (release-lines s k q h)) _ a refl (λ e. a)

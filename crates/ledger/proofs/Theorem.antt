@@ -5,7 +5,7 @@
 use Prim.Native.Nat.{ℕ, _<_}
 use native.Mathlib.Omega.{arith}
 use mathlib.Core.Path.{_≡_, refl, subst, ap, _∙_}
-use mathlib.Core.List.{List, [], _∷_, _++_, List·Memᴰ}
+use mathlib.Core.List.{List, [], _∷_, _++_}
 use mathlib.Core.Bool.{Bool, true, false, cond}
 use lib.ListN.{length, getD}
 use lib.Dec.{eqb}
@@ -30,6 +30,7 @@ use Rattle.ledger.proofs.Writing.{written-agrees}
 use Rattle.ledger.proofs.Steps.{step-agrees}
 use Rattle.ledger.proofs.Fields.{live-once-of, apart-of, off-headers-of, inside-of, record-held-of, hold-recorded-of, records-once-of, balanced-of, answered-of}
 use Rattle.ledger.proofs.Space.{space-decided}
+use Rattle.ledger.proofs.Wrong
 
 -- no two objects of the ledger, at two places, share a byte: their serials differ, and each is the object of a live block
 apart-places : (l : Ledger) (s : List ℕ) (k : Accounts) → Agrees l s k → (i j : ℕ) → i < j → j < length (objects-in l)

@@ -4,23 +4,22 @@ use Prim.Native.Nat.{ℕ, zero, suc, _<_, _^_}
 use native.Mathlib.Omega.{arith}
 use mathlib.Core.Path.{_≡_, refl, ap}
 use mathlib.Core.List.{List, [], _∷_, List·Memᴰ, List·Memᴰ·head, List·Memᴰ·cases-cons, List·Memᴰ·not-nil}
-use mathlib.Core.Bool.{Bool, true, _&&_}
+use mathlib.Core.Bool.{true}
 use mathlib.Core.Logic.{_⊎_, inl, inr}
 use lib.ListN.{replicate, getD}
 use lib.Dec.{ltb}
 use borrow.Author.Tests.{ltb-true}
-use Rattle.accounts.specs.declared.Accounts.{Accounts}
 use Rattle.rounding.specs.Rounding.{unit}
-use Rattle.model.specs.Lists.{all, total, keep}
-use Rattle.model.specs.Answers.{Values, given, amount-of, zero-handle}
+use Rattle.model.specs.Lists.{all, keep}
+use Rattle.model.specs.Answers.{Values}
 use Rattle.model.specs.Calls.{Outcome, open-heap}
 use Rattle.model.specs.declared.Handle.{Handle}
 use Rattle.model.specs.declared.Call.{Call}
 use Rattle.model.specs.declared.Call.the-variants.{Allocate, Release}
 use Rattle.model.proofs.Bools.{and-left, and-right}
 use Rattle.model.proofs.Computing.{computing}
-use Rattle.ledger.specs.Ledger.{Event, Called, empty, change-holds, at-serial, is-held, leave, add-object, add-hold, take-hold, take-all, record-accepted, record-call, record-event, ledger-of, cost-to}
-use Rattle.ledger.specs.History.{Run, Opened, Begins, Opening, History}
+use Rattle.ledger.specs.Ledger.{Event, Called, empty, change-holds, at-serial, is-held, leave, add-object, take-hold, record-accepted, record-call, record-event, ledger-of, cost-to}
+use Rattle.ledger.specs.History.{Run, Begins, Opening, History}
 use Rattle.ledger.specs.Demand3.{SuitableRun, in-live-block, request-of, passes-others, Holds, Demand3}
 use Rattle.ledger.specs.Wrong.{refuses-all, at-allocate, at-release, at-remaining, fixed-handle, idle-release, pretends, invented-remainder, invented-refund}
 

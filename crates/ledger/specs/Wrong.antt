@@ -6,7 +6,7 @@ use lib.Dec.{eqb}
 use Rattle.accounts.specs.declared.Accounts.{Accounts}
 use Rattle.accounts.specs.Accounts.{remaining, refund}
 use Rattle.rounding.specs.Rounding.{unit}
-use Rattle.model.specs.Answers.{Values, refused, given, amount-of}
+use Rattle.model.specs.Answers.{refused, given, amount-of}
 use Rattle.model.specs.Calls.{Outcome, unchanged}
 use Rattle.model.specs.Step.{step}
 use Rattle.model.specs.declared.Handle.{Handle}

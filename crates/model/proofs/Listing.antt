@@ -79,7 +79,7 @@ pub step-end : (bs : List Block) (at : ℕ) → total size bs ≤ at → block-a
 step-end bs at h = step-past 0 bs at (omega arith)
 
 -- the blocks of a listing start no earlier than it, so no two start at one place
-starts-behind : (from : ℕ) (bs : List Block) (l : ListedBlock) → List·Memᴰ l (listing-from from bs) → from ≤ l .offset
+pub starts-behind : (from : ℕ) (bs : List Block) (l : ListedBlock) → List·Memᴰ l (listing-from from bs) → from ≤ l .offset
 unfolding listing-from
 starts-behind from [] l m = absurd (List·Memᴰ·not-nil m)
 starts-behind from (b ∷ bs) l m = go (List·Memᴰ·cases-cons m) (starts-behind (from + size b) bs l)

@@ -1,2 +1,3 @@
+-- The crate's laws. The computed rows come first: they are checked before the laws that hold of every length.
 pub mod Rows
 pub mod Rounding

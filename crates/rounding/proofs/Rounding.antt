@@ -11,7 +11,7 @@ use borrow.Author.Tests.{leb-true, leb-false}
 use Rattle.rounding.specs.Rounding.{unit, Units, object-length, alignment, leading-zeros, exponent, representable-alignment}
 use Rattle.rounding.proofs.Rows
 
--- what an object's length is to the request
+-- what an object's length is to the request; aligned is a law of today's alignment, which is the unit
 pub record Rounded (u : ℕ → ℕ) (n : ℕ) : Type 0 where
   pub multiple : object-length u n % u n ≡ 0
   pub aligned : object-length u n % alignment u n ≡ 0
@@ -63,6 +63,7 @@ unit-is = record {
   eights = λ n. by-row (λ (k : ℕ). k % 8 ≡ 0) n (λ _. refl) (λ _ _. refl) (λ _. refl);
 }
 
+-- no unit is greater than the last row's
 pub unit-most : (n : ℕ) → unit n ≤ 32
 unit-most n = by-row (λ (k : ℕ). k ≤ 32) n (λ _. omega arith) (λ _ _. omega arith) (λ _. omega arith)
 

@@ -1,7 +1,7 @@
 -- Rounding of lengths (document 01, "Rounding of lengths"). Everything is derived from one function, the unit of a requested length.
 use Prim.Native.Nat.{ℕ, zero, suc, _+_, _*_, _-_, _/_, _%_, _^_, _<_}
 use mathlib.Core.Path.{_≡_}
-use mathlib.Core.Bool.{Bool, cond}
+use mathlib.Core.Bool.{cond}
 use lib.Dec.{leb, ltb}
 
 -- document 01's table; a length below its first row or above its last one has that row's unit

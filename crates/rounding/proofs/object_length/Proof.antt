@@ -1,6 +1,8 @@
 -- `rounding::object_length` meets its contract: the code is the definition, and no step wraps, since the unit is at least 1 and
 -- rounding down again gives no more than what was rounded.
 -- Assumes nothing.
+use Prim.Native.Nat.{ℕ, _+_, _*_, _-_, _/_}
+use mathlib.Core.Path.{ap}
 use borrow.Author.Needs.{needs}
 use native.Mathlib.Nat.{div-mul-le-self, lt-of-le-of-lt}
 use native.Mathlib.Omega.{arith}
@@ -29,7 +31,7 @@ mul-result c = record { fits = lt-of-le-of-lt (div-mul-le-self _ _) (search need
 
 returns : tie.Need-returns
 unfolding object-length
-returns c = cc
+returns c = ap (λ (u : ℕ). (c .before .args .length + (u - 1)) / u * u) (c .unit .ensures)
 
 pub object-length-spec : {M : Type 1} → statement M
 object-length-spec =

@@ -1,4 +1,4 @@
--- `accounts::Accounts::charge` meets its contract: the two tests are the definition's, and the sum is taken off only after both.
+-- `accounts::Accounts::charge` meets its contract: the two tests are the definition's, and the amount is taken off only after both.
 -- Assumes nothing.
 use borrow.Author.Needs.{needs}
 use mathlib.Core.Path.{sym}

@@ -1,7 +1,9 @@
 -- `accounts::Accounts::drop_hold` meets its contract: it stores a record of zeros.
 -- Assumes nothing.
 use borrow.Author.Needs.{needs}
-use Rattle.accounts.specs.Accounts.{drop-hold}
+use mathlib.Core.Path.{ap, _∙_}
+use Rattle.accounts.specs.declared.Hold.{Hold}
+use Rattle.accounts.specs.Accounts.{put-hold, drop-hold}
 use Rattle.accounts.proofs.Accounts.drop_hold.Statement.{statement}
 use Rattle.accounts.proofs.Accounts.drop_hold.Tie as tie
 
@@ -13,7 +15,9 @@ add-hold-requires c κs = search needs
 
 returns : tie.Need-returns
 unfolding drop-hold
-returns c = cc
+returns c =
+    let start = c .before .before in
+    c .add-hold .ensures ∙ ap (λ (h : Hold). put-hold (start .args .at) h (start .args .self)) (c .before .zero .ensures)
 
 pub drop-hold-spec : {M : Type 1} → statement M
 drop-hold-spec = tie.close (tie.spec zero-requires add-hold-requires returns)

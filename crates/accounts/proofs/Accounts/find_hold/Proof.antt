@@ -1,5 +1,5 @@
--- `accounts::Accounts::find_hold` meets its contract. The loop's invariant: no record before place `at` passes the test. So a record that passes is
--- the first one, and at the table's end there is none. The measure is what is left of the table.
+-- `accounts::Accounts::find_hold` meets its contract. The loop's invariant: no record before place `at` is the quota's for the serial. So one that
+-- is stands first, and at the table's end there is none. The measure is what is left of the table.
 -- Assumes nothing.
 use Prim.Native.Nat.{ℕ, _≤_, _<_, _-_}
 use borrow.Author.Needs.{needs}

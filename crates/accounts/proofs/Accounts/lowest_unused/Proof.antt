@@ -1,5 +1,5 @@
--- `accounts::Accounts::lowest_unused` meets its contract. The loop's invariant: no record before place `low` passes the test. So a record that passes is
--- the first one, and at the table's end there is none. The measure is what is left of the table.
+-- `accounts::Accounts::lowest_unused` meets its contract. The loop's invariant: every record before place `low` is used. So an unused one is the
+-- lowest, and at the table's end there is none. The measure is what is left of the table.
 -- Assumes nothing.
 use Prim.Native.Nat.{ℕ, _≤_, _<_, _-_}
 use borrow.Author.Needs.{needs}

@@ -1,4 +1,4 @@
--- `accounts::Accounts::open` meets its contract. The loop's invariant: the quotas before place i are the grants', whole. The rest is as
+-- `accounts::Accounts::open` meets its contract. The loop's invariant: each quota before place `i` holds its grant whole. The rest is as
 -- `Accounts::zero` gives it. The measure is what is left of the table.
 -- Assumes nothing.
 use Prim.Native.Nat.{ℕ, _≤_, _<_, _-_}
@@ -48,11 +48,10 @@ loop-less c = search needs
 
 loop-again : tie.Need-loop-again Inv-loop μ-loop
 loop-again c =
-    let at = c .before in
-    let gs = at .before .before .before .args .t1 in (
+    let at = c .before in (
       search needs,
-      length-set (at .loop .quotas) (at .loop .i) (granted (getD gs (at .loop .i) 0)) ∙ at .loop .inv .1,
-      granted-more gs (at .loop .quotas) (at .loop .i) (at .loop .inv .2) (omega arith),
+      simp length-set (at .loop .inv .1),
+      granted-more (at .before .before .before .args .t1) (at .loop .quotas) (at .loop .i) (at .loop .inv .2) (omega arith),
     )
 
 returns : tie.Need-returns Inv-loop μ-loop

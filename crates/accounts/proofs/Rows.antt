@@ -1,0 +1,41 @@
+-- Small cases of the definitions, computed: both sides of what a charge and a refund allow, and the places that a search finds.
+-- Assumes nothing.
+use mathlib.Core.Path.{_≡_, refl}
+use mathlib.Core.Bool.{true, false}
+use mathlib.Core.List.{[], _∷_, map}
+use lib.ListN.{replicate}
+use Rattle.accounts.specs.declared.Hold.{Hold}
+use Rattle.accounts.specs.declared.Accounts.{Accounts}
+use Rattle.accounts.specs.declared.Place.the-variants.{At, Nothing}
+use Rattle.accounts.specs.Accounts.{QUOTAS, HOLDS, opened, remaining, set-remaining, charge, refund, used, unused, is-for, first-from, find-hold, lowest-unused, put-hold, drop-hold}
+
+-- every quota has 5
+unfoldable pub five : Accounts
+five = opened (replicate QUOTAS 5)
+
+-- one hold record, at place 2
+unfoldable pub holder : Hold
+holder = record { serial = 7; quota = 1; count = 1 }
+
+unfoldable pub held : Accounts
+held = put-hold 2 holder five
+
+-- a charge up to what remains is paid, one more is not, and a quota that is not there pays nothing
+pub charge-rows : (map (λ n. remaining 1 (charge 1 n five)) (0 ∷ 4 ∷ 5 ∷ 6 ∷ []) ≡ 5 ∷ 1 ∷ 0 ∷ 5 ∷ []) × (charge QUOTAS 1 five ≡ five)
+unfolding five opened remaining set-remaining charge
+charge-rows = (refl, refl)
+
+-- a refund is paid up to 32 bits, one more is not
+pub refund-rows : (map (λ n. remaining 1 (refund 1 n five)) (1 ∷ 4294967290 ∷ 4294967291 ∷ []) ≡ 6 ∷ 4294967295 ∷ 5 ∷ []) × (refund QUOTAS 1 five ≡ five)
+unfolding five opened remaining set-remaining refund
+refund-rows = (refl, refl)
+
+-- each number of a record makes it used
+pub used-rows : map used (record { serial = 0; quota = 0; count = 0 } ∷ record { serial = 1; quota = 0; count = 0 } ∷ record { serial = 0; quota = 1; count = 0 } ∷ record { serial = 0; quota = 0; count = 1 } ∷ []) ≡ false ∷ true ∷ true ∷ true ∷ []
+unfolding used
+used-rows = refl
+
+-- the search finds the record by serial and quota; dropping it leaves none; a place past the table stores nothing
+pub place-rows : (map (λ s. find-hold s 1 held) (7 ∷ 8 ∷ 0 ∷ []) ≡ At 2 ∷ Nothing ∷ Nothing ∷ []) × (find-hold 7 0 held ≡ Nothing) × (lowest-unused held ≡ At 0) × (drop-hold 2 held ≡ five) × (put-hold HOLDS holder five ≡ five)
+unfolding five holder held opened used unused is-for first-from find-hold lowest-unused put-hold drop-hold
+place-rows = (refl, refl, refl, refl, refl)

@@ -1,0 +1,49 @@
+-- The ledger of short lists of events, computed: what each sentence of document 01's ledger does to it.
+-- Assumes nothing.
+use Prim.Native.Nat.{ℕ}
+use mathlib.Core.Path.{_≡_, refl}
+use mathlib.Core.List.{List, [], _∷_}
+use lib.ListN.{replicate}
+use Rattle.model.specs.Lists.{any, keep}
+use Rattle.model.specs.Answers.{accepted, refused, given, amount-of}
+use Rattle.model.specs.declared.Handle.{Handle}
+use Rattle.model.specs.declared.Call.the-variants.{Allocate, AllocateArray, Claim, Release, FreeAll, Reallocate, Lend}
+use Rattle.ledger.specs.Ledger.{Entry, Event, Called, Wrote, empty, change-holds, at-serial, is-held, leave, add-object, add-hold, take-hold, take-all, record-accepted, record-call, record-event, ledger-of}
+
+pub grants : List ℕ
+grants = 100 ∷ 1000 ∷ replicate 6 0
+
+pub a : Handle
+a = record { base = 8; length = 16; serial = 1 }
+
+pub b : Handle
+b = record { base = 32; length = 96; serial = 2 }
+
+-- an object with holds of quotas 0 and 1
+pub entry : Handle → ℕ → ℕ → Entry
+entry o x y = record { object = o; holds = x ∷ y ∷ replicate 6 0 }
+
+pub entries : List Event → List Entry
+entries es = ledger-of grants es .entries
+
+-- each list, the newest first, and the ledger's objects after it
+pub made : List Event
+made = Called (Allocate 0 10) (given a) ∷ []
+
+pub claimed : List Event
+claimed = Called (Claim 1 a) (amount-of 16) ∷ Called (Claim 1 a) (amount-of 16) ∷ made
+
+pub shared : List Event
+shared = Called (AllocateArray 1 12 8) (given b) ∷ claimed
+
+pub ledger-rows : (entries made ≡ entry a 1 0 ∷ [])
+    × (entries (Called (Allocate 0 68) (refused 8) ∷ Called (Lend a) accepted ∷ Wrote ∷ made) ≡ entry a 1 0 ∷ [])
+    × (entries claimed ≡ entry a 1 2 ∷ [])
+    × (entries (Called (Release 0 a) (amount-of 24) ∷ claimed) ≡ entry a 0 2 ∷ [])
+    × (entries (Called (Release 1 a) (amount-of 0) ∷ claimed) ≡ entry a 1 1 ∷ [])
+    × (entries (Called (Release 0 a) (amount-of 24) ∷ made) ≡ [])
+    × (entries (Called (FreeAll 1) (amount-of 128) ∷ shared) ≡ entry a 1 0 ∷ [])
+    × (entries (Called (Reallocate 0 a 90) (given b) ∷ claimed) ≡ entry b 1 0 ∷ entry a 0 2 ∷ [])
+    × (entries (Called (Reallocate 0 a 90) (given b) ∷ made) ≡ entry b 1 0 ∷ [])
+unfolding any keep empty change-holds at-serial is-held leave add-object add-hold take-hold take-all record-accepted record-call record-event ledger-of entries grants a b entry made claimed shared
+ledger-rows = (refl, refl, refl, refl, refl, refl, refl, refl, refl)
