@@ -18,3 +18,4 @@ pub mod Listing
 pub mod Same
 pub mod CarveBytes
 pub mod SettleBytes
+pub mod FreeAll

@@ -1,0 +1,79 @@
+-- Free-all with no record (document 01: "accepted, 0, nothing changes"): of a consistent state the very heap bytes and accounts come back.
+-- No record is dropped, so nothing is charged for, every object is held still, and settling and writing the blocks gives what was read.
+-- Assumes nothing.
+use Prim.Native.Nat.{ℕ, _+_, _^_}
+use native.Mathlib.Nat.{add-zero, zero-add}
+use mathlib.Core.Path.{_≡_, refl, ap, sym, _∙_}
+use mathlib.Core.List.{List, [], _∷_}
+use mathlib.Core.Bool.{Bool, true, false, cond, _&&_}
+use lib.Dec.{ltb}
+use borrow.Author.Tests.{eq-eqb}
+use Rattle.accounts.specs.declared.Hold.{Hold}
+use Rattle.accounts.specs.declared.Accounts.{Accounts}
+use Rattle.accounts.specs.Accounts.{QUOTAS, used, is-for, remaining, set-remaining, refund, with-holds}
+use Rattle.accounts.proofs.Laws.{set-same}
+use Rattle.layout.specs.Bytes.{Octets}
+use Rattle.layout.specs.Blocks.{render}
+use Rattle.layout.proofs.Parse.{parse-is}
+use Rattle.model.specs.Lists.{all, any, total}
+use Rattle.model.specs.Answers.{amount-of}
+use Rattle.model.specs.Objects.{blocks-of, objects, objects-of}
+use Rattle.model.specs.Consistent.{consistent, has-record, charged-for, charges, well-cut, long-enough, free-apart}
+use Rattle.model.specs.Refusals.{first-refusal, quota-lines}
+use Rattle.model.specs.Calls.{State, leaves, unless, unchanged, state-of, freed, free-all}
+use Rattle.model.specs.declared.Handle.{Handle}
+use Rattle.model.proofs.Bools.{and-right, and-both}
+use Rattle.model.proofs.Consistent.{Tests, tests-exactly, consistent-cut, is-for-exactly}
+use Rattle.model.proofs.Settle.{record-of, stays, stays-objects, drop-none, settle-none}
+use Rattle.model.proofs.Lists.{none-exactly}
+
+-- a quota without records is charged for nothing
+none-for : (q : ℕ) (hs : List Hold) → any (record-of q) hs ≡ false → (serial : ℕ) → has-record hs q serial ≡ false
+unfolding has-record
+none-for q hs e serial =
+    none-exactly (is-for serial q) hs .1
+    (λ h m t. (let r = is-for-exactly serial q h .0 t in none-exactly (record-of q) hs .0 e h m (and-both (used h) _ (r .0) (eq-eqb (h .quota) q (r .2)))))
+
+charges-none : (q : ℕ) (hs : List Hold) → any (record-of q) hs ≡ false → (os : List Handle) → charges hs q os ≡ 0
+unfolding charges total charged-for
+charges-none q hs e [] = refl
+charges-none q hs e (o ∷ os) = rw (none-for q hs e (o .serial)) (zero-add _ ∙ charges-none q hs e os)
+
+-- nothing is given back
+refund-none : (q : ℕ) (k : Accounts) → refund q 0 k ≡ k
+unfolding refund
+refund-none q k = go (ltb q QUOTAS && ltb (remaining q k + 0) (2 ^ 32))
+  where
+    go : (t : Bool) → cond t (set-remaining q (remaining q k + 0) k) k ≡ k
+    go true = rw (add-zero (remaining q k)) (set-same q k)
+    go false = refl
+
+module _ (s : List ℕ) (k : Accounts) (o : Octets s) (c : consistent s k ≡ true) (q : ℕ) (none : any (record-of q) (k .holds) ≡ false) where
+  tests : Tests (blocks-of s) k
+  tests = tests-exactly (blocks-of s) k .0 (consistent-cut s k c .1)
+
+  apart : free-apart (blocks-of s) ≡ true
+  unfolding well-cut
+  apart = and-right (all long-enough (blocks-of s)) (free-apart (blocks-of s)) (tests .cut)
+
+  stay : all (stays (k .holds)) (blocks-of s) ≡ true
+  unfolding objects
+  stay = sym (stays-objects (k .holds) 0 (blocks-of s)) ∙ tests .recorded
+
+  freed-none : freed q 0 (state-of s k) ≡ state-of s k
+  unfolding freed
+  freed-none =
+      λ i.
+      record {
+        blocks = settle-none q (k .holds) (blocks-of s) none stay apart i;
+        accounts = with-holds (drop-none q (k .holds) none i) (refund-none q k i);
+      }
+
+  -- free-all leaves heap and accounts as they are and answers 0
+  pub free-all-none : free-all s k q ≡ unless (first-refusal (quota-lines s k q)) s k (unchanged s k (amount-of 0))
+  unfolding free-all
+  free-all-none =
+      let again : render (blocks-of s) ≡ s = parse-is s (blocks-of s) o .0 (consistent-cut s k c .0) .0 in
+      rw (charges-none q (k .holds) none (objects-of s))
+      (ap (λ (t : State). unless (first-refusal (quota-lines s k q)) s k (leaves t (amount-of 0))) freed-none
+      ∙ ap (λ (x : List ℕ). unless (first-refusal (quota-lines s k q)) s k (unchanged x k (amount-of 0))) again)
