@@ -1,6 +1,6 @@
 -- Demand 3 does not hold of the wrong heaps: each is refuted by a short list of calls that is computed, at the field that document 01 names for it.
 -- Assumes nothing.
-use Prim.Native.Nat.{ℕ, zero, suc, _<_, _^_}
+use Prim.Native.Nat.{ℕ, zero, suc, _-_, _<_, _^_}
 use native.Mathlib.Omega.{arith}
 use mathlib.Core.Path.{_≡_, refl, ap}
 use mathlib.Core.List.{List, [], _∷_, List·Memᴰ, List·Memᴰ·head, List·Memᴰ·cases-cons, List·Memᴰ·not-nil}
@@ -9,6 +9,7 @@ use mathlib.Core.Logic.{_⊎_, inl, inr}
 use lib.ListN.{replicate, getD}
 use lib.Dec.{ltb}
 use borrow.Author.Tests.{ltb-true}
+use Rattle.accounts.specs.Accounts.{QUOTAS}
 use Rattle.rounding.specs.Rounding.{unit}
 use Rattle.model.specs.Lists.{all, keep}
 use Rattle.model.specs.Answers.{Values}
@@ -24,7 +25,7 @@ use Rattle.ledger.specs.Demand3.{SuitableRun, in-live-block, request-of,
 use Rattle.ledger.specs.Wrong.{refuses-all, at-allocate, at-release, at-remaining, fixed-handle, idle-release, pretends, invented-remainder, invented-refund}
 
 grants : List ℕ
-grants = 1000 ∷ replicate 7 0
+grants = 1000 ∷ replicate (QUOTAS - 1) 0
 
 fresh : Outcome
 fresh = open-heap (replicate 64 0) grants

@@ -1,9 +1,9 @@
 -- Further runs that the definitions are held to: what document 01's marked run does not reach. That they give this is `proofs/Cases.antt`.
-use Prim.Native.Nat.{ℕ}
+use Prim.Native.Nat.{ℕ, _-_}
 use mathlib.Core.List.{List, [], _∷_, _++_}
 use mathlib.Core.Option.{none, some}
 use lib.ListN.{length, take, drop, replicate}
-use Rattle.accounts.specs.Accounts.{opened, zero-accounts, zero-hold, with-holds, with-last-serial}
+use Rattle.accounts.specs.Accounts.{QUOTAS, HOLDS, opened, zero-accounts, zero-hold, with-holds, with-last-serial}
 use Rattle.rounding.specs.Rounding.{unit}
 use Rattle.model.specs.Answers.{Values, refused, accepted, given, amount-of, lent, listed}
 use Rattle.model.specs.Calls.{Outcome, open-heap, unchanged}
@@ -33,7 +33,7 @@ unfoldable pub wanted : Case → List Values × List ℕ
 wanted (case t cs vs at bytes) = (vs, bytes)
 
 abbrev pub grants : List ℕ
-grants = 100000 ∷ 1000 ∷ replicate 6 0
+grants = 100000 ∷ 1000 ∷ replicate (QUOTAS - 2) 0
 
 -- a fresh heap; one free block whose bytes are not zero; a last serial; one object, held by quota 0 so often
 unfoldable pub fresh-heap : ℕ → Outcome
@@ -48,7 +48,7 @@ with-serial n = unchanged (8 ∷ replicate 63 0) (with-last-serial n (opened gra
 unfoldable pub held-times : ℕ → Outcome
 held-times n =
     let t = run (fresh-heap 64) (Allocate 0 8 ∷ []) in
-    unchanged (t .heap) (with-holds (record { serial = 1; quota = 0; count = n } ∷ replicate 127 zero-hold) (t .accounts)) accepted
+    unchanged (t .heap) (with-holds (record { serial = 1; quota = 0; count = n } ∷ replicate (HOLDS - 1) zero-hold) (t .accounts)) accepted
 
 -- one object of 8 bytes, in which 1 to 8 were written
 unfoldable pub written-heap : Outcome
@@ -77,9 +77,9 @@ cases =
     ∷ case written-heap (Release 0 (handle 8 8 1) ∷ []) (amount-of 16 ∷ []) 0 (8 ∷ replicate 63 0)
     ∷ case used-heap (Allocate 0 8 ∷ Release 0 (handle 8 8 1) ∷ []) (given (handle 8 8 1) ∷ amount-of 16 ∷ []) 0 (8 ∷ replicate 23 0 ++ replicate 40 170)
     -- lines 1, 2, 3 and 4 in this order; lines 10 and 11
-    ∷ case (unchanged (replicate 56 0) zero-accounts accepted) (Allocate 8 0 ∷ []) (refused 1 ∷ []) 0 []
-    ∷ case (unchanged (replicate 64 0) zero-accounts accepted) (Allocate 8 0 ∷ []) (refused 2 ∷ []) 0 []
-    ∷ case (with-serial 4294967295) (Allocate 8 0 ∷ Reallocate 0 (handle 8 8 1) 0 ∷ Allocate 0 64 ∷ []) (refused 3 ∷ refused 4 ∷ refused 10 ∷ []) 0 []
+    ∷ case (unchanged (replicate 56 0) zero-accounts accepted) (Allocate QUOTAS 0 ∷ []) (refused 1 ∷ []) 0 []
+    ∷ case (unchanged (replicate 64 0) zero-accounts accepted) (Allocate QUOTAS 0 ∷ []) (refused 2 ∷ []) 0 []
+    ∷ case (with-serial 4294967295) (Allocate QUOTAS 0 ∷ Reallocate 0 (handle 8 8 1) 0 ∷ Allocate 0 64 ∷ []) (refused 3 ∷ refused 4 ∷ refused 10 ∷ []) 0 []
     ∷ case (with-serial 4294967294) (Allocate 0 64 ∷ Allocate 0 8 ∷ []) (refused 11 ∷ given (handle 8 8 4294967295) ∷ []) 0 []
     -- a count of 255; what lend, remaining and can release answer
     ∷ case (held-times 255) (Claim 0 (handle 8 8 1) ∷ Release 0 (handle 8 8 1) ∷ Claim 0 (handle 8 8 1) ∷ Lend (handle 8 8 1) ∷ Remaining 0 ∷ CanRelease 1 (handle 8 8 1) ∷ FreeAll 1 ∷ FreeAll 0 ∷ [])

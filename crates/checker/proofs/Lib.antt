@@ -1,0 +1,15 @@
+pub mod Cases
+pub mod Tables
+pub mod Records
+pub mod Chains
+pub mod Linking
+pub mod Striking
+pub mod Settling
+pub mod Visiting
+pub mod Walking
+pub mod Struck
+pub mod Payments
+pub mod Agreement
+pub mod Cutting
+pub mod Consistency
+pub mod Verdicts

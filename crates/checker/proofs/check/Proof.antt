@@ -1,0 +1,110 @@
+-- `checker::check` meets its contract. A length that is not allowed is refused for that; else a record that is not well-formed, a remainder above its grant
+-- or a walk that fails is refused as inconsistent, since the three together are the audit and the audit is the definition's test
+-- (`audited-is-consistent`).
+-- Assumes nothing.
+use native.Mathlib.Omega.{arith}
+use borrow.Author.Needs.{needs}
+use borrow.Author.Tests.{not-true, not-false}
+use mathlib.Core.Path.{_≡_, sym, subst, _∙_}
+use mathlib.Core.Bool.{Bool, true, false, cond}
+use lib.ListN.{length, length-map}
+use Rattle.accounts.specs.Accounts.{QUOTAS}
+use Rattle.model.specs.declared.Refusal.the-variants.{Inconsistent}
+use Rattle.model.specs.declared.Verdict.the-variants.{Accepted, Refused}
+use Rattle.model.specs.Answers.{verdict-values}
+use Rattle.model.specs.Consistent.{allowed}
+use Rattle.model.specs.Calls.{check as check-of}
+use Rattle.checker.specs.Contracts.{Owing}
+use Rattle.checker.proofs.Verdicts.{fresh, verdict-length, verdict-ill, verdict-insolvent, ready, verdict-walk, indexed}
+use Rattle.checker.proofs.check.Statement.{statement}
+use Rattle.checker.proofs.check.Tie as tie
+
+is-allowed-requires : tie.Need-is-allowed-requires
+is-allowed-requires c κs = search needs
+
+returns : tie.Need-returns
+returns c =
+    let a = c .before .before .before .args in
+    verdict-length (a .heap .now) (a .accounts) (sym (c .before .is-allowed .ensures) ∙ not-true _ (c .if1 .taken))
+
+cast-end : tie.Need-cast-end
+cast-end c = search needs
+
+index-requires : tie.Need-index-requires
+index-requires c κs = fresh
+
+-- the length is allowed, and the table of quotas has its length
+fits : (c : tie.Else1) → allowed (length (c .before .before .before .args .heap .now)) ≡ true
+fits c = sym (c .before .is-allowed .ensures) ∙ not-false _ (c .if1 .left)
+
+long : (c : tie.Start) → length (c .args .accounts .quotas) ≡ QUOTAS
+long c = simp length-map at (c .good .1 .0 .1 .1 .0 .1 .0 .1)
+
+returns-2 : tie.Need-returns-2
+returns-2 c =
+    let x = c .before in
+    let f = x .before .before .before .before .before in
+    let s = f .before .before .before in
+    verdict-ill (s .args .heap .now) (s .args .accounts) (fits f) (long s) (x .index .ensures) (omega arith)
+
+owing-requires : tie.Need-owing-requires
+owing-requires c κs = search needs
+
+-- what the quotas owe, by the answer of `owing`
+abbrev entry : tie.After-owing → tie.Start
+entry c = c .before .before .before .before .before .before .before .before .before .before .before .before
+
+owing-is : (c : tie.After-owing) (t : Bool) → c .owing .result ≡ t → Owing (entry c .args .accounts .quotas) t (c .owing .last .1 .0)
+owing-is c t e = subst (λ (x : Bool). Owing (entry c .args .accounts .quotas) x (c .owing .last .1 .0)) e (c .owing .ensures)
+
+returns-3 : tie.Need-returns-3
+returns-3 c =
+    let o = c .before in
+    let f = o .before .before .before .before .before .before .before .before .before in
+    let s = f .before .before .before in
+    verdict-insolvent (s .args .heap .now) (s .args .accounts) (fits f) (long s) (owing-is o false (not-true _ (c .if3 .taken)))
+
+walk-requires : tie.Need-walk-requires
+walk-requires c κs =
+    let e = c .before .before .before .before in
+    let o = e .before in
+    let x = o .before .before .before .before in
+    let f = x .before .before .before .before .before in
+    let s = f .before .before .before in
+    let i = indexed (x .index .ensures) (omega arith) in
+    (i .counted, ready (s .args .heap .now) (s .args .accounts) (fits f) (long s) i (owing-is o true (not-false _ (e .if3 .left))))
+
+-- the verdict, by the answer of `walk`
+abbrev owing-before : tie.After-walk → tie.After-owing
+owing-before c = c .before .before .before .before .before .before
+
+walked : (c : tie.After-walk) (t : Bool) → c .walk .result ≡ t
+    → verdict-values (cond t Accepted (Refused Inconsistent)) ≡ check-of (entry (owing-before c) .args .heap .now) (entry (owing-before c) .args .accounts) .values
+walked c t r =
+    let e = c .before .before .before .before .before in
+    let o = e .before in
+    let x = o .before .before .before .before in
+    let f = x .before .before .before .before .before in
+    let s = f .before .before .before in
+    verdict-walk (s .args .heap .now) (s .args .accounts) (fits f) (long s) (indexed (x .index .ensures) (omega arith)) (owing-is o true (not-false _ (e .if3 .left))) t (sym r ∙ c .walk .ensures)
+
+returns-4 : tie.Need-returns-4
+returns-4 c = walked (c .before) false (not-true _ (c .if4 .taken))
+
+returns-5 : tie.Need-returns-5
+returns-5 c = walked (c .before) true (not-false _ (c .if4 .left))
+
+pub check-spec : {M : Type 1} → statement M
+check-spec =
+    tie.close
+    (tie.spec
+    is-allowed-requires
+    returns
+    cast-end
+    index-requires
+    returns-2
+    owing-requires
+    returns-3
+    walk-requires
+    returns-4
+    returns-5)

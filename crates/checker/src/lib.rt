@@ -1,0 +1,293 @@
+// The check of a whole heap and its accounting state: one pass over the hold records and one walk over the blocks.
+// Each used record becomes a key, in the chain of its serial's slot. Each live block strikes its serial's keys, and their quotas pay for it. At the
+// end every key is struck and no quota owes anything. Serials that share a slot make its chain long, so serials picked on purpose cost more.
+use accounts::Accounts;
+use accounts::HOLDS;
+use accounts::Hold;
+use accounts::QUOTAS;
+use accounts::Quota;
+use layout::Start;
+use model::Refusal;
+use model::Verdict;
+ghost use mathlib.Core.Path.{_≡_};
+ghost use mathlib.Core.Option.{some};
+ghost use Prim.Native.Nat.{_<_};
+ghost use lib.Dec.{eqb};
+ghost use lib.ListN.{length};
+ghost use Rattle.model.specs.Answers.{verdict-values};
+ghost use Rattle.model.specs.Consistent.{allowed};
+ghost use Rattle.model.specs.Calls.{check as check-of};
+ghost use Rattle.accounts.specs.Accounts.{QUOTAS, HOLDS};
+ghost use Rattle.layout.specs.Blocks.{parse};
+ghost use Rattle.checker.specs.Keys.{well-formed, key-of, used-keys, for-serial};
+ghost use Rattle.checker.specs.Chains.{slot, search-from};
+ghost use Rattle.checker.specs.Audit.{none-owed, begin, audit-parsed};
+ghost use Rattle.checker.specs.Contracts.{Findable, Fresh, Indexed, Owing, Payable, Settled, Ready, Visited};
+
+// Whether a heap may have this length.
+fn is_allowed(len: usize) -> bool
+    ensures { λ r. ⌜ r ≡ allowed len ⌝ }
+{
+    if len % 8 != 0 {
+        return false;
+    }
+    if len < 64 {
+        return false;
+    }
+    len <= 32768
+}
+
+// Whether a record is unused, or has a serial, a quota and a count that are possible.
+fn is_well_formed(hold: Hold) -> bool
+    ensures { λ r. ⌜ r ≡ well-formed hold ⌝ }
+{
+    if !hold.is_used() {
+        return true;
+    }
+    if hold.serial < 1 {
+        return false;
+    }
+    if QUOTAS <= hold.quota as usize {
+        return false;
+    }
+    1 <= hold.count
+}
+
+// A record's serial and quota as one number.
+fn key(hold: Hold) -> usize
+    ensures { λ r. ⌜ r ≡ key-of hold ⌝ }
+{
+    (hold.serial as usize) * QUOTAS + (hold.quota as usize)
+}
+
+// The slot of a serial: its product with 2^32 over the golden ratio, scaled to the number of slots.
+fn slot_of(serial: u32) -> usize
+    ensures { λ r. ⌜ (r ≡ slot serial) × (r < HOLDS) ⌝ }
+{
+    (serial as usize) * 2654435769 % 4294967296 * HOLDS / 4294967296
+}
+
+// The place that a link leads to.
+fn place(link: u16) -> usize
+    ensures { λ r. ⌜ r ≡ link ⌝ }
+{
+    link as usize
+}
+
+// The keys of the records, chained by their serials' slots from the last place down, so that links go up. How many records are used;
+// HOLDS + 1 where one is not well-formed.
+fn index(
+    holds: [Hold; HOLDS],
+    keys: &mut [usize; HOLDS],
+    next: &mut [u16; HOLDS],
+    heads: &mut [u16; HOLDS],
+) -> usize
+    requires { ⌜ Fresh (now keys) (now next) (now heads) ⌝ }
+    ensures { λ r. ⌜ Indexed holds r (now (keys .exit)) (now (next .exit)) (now (heads .exit)) ⌝ }
+{
+    let mut used: usize = 0;
+    let mut i = HOLDS;
+    while 0 < i {
+        i -= 1;
+        let hold = holds[i];
+        if !is_well_formed(hold) {
+            return HOLDS + 1;
+        }
+        keys[i] = key(hold);
+        let serial = hold.serial;
+        if serial != 0 {
+            let slot = slot_of(serial);
+            next[i] = heads[slot];
+            heads[slot] = i as u16;
+            used += 1;
+        }
+    }
+    used
+}
+
+// What each quota owes; false where a remainder is above its grant.
+fn owing(quotas: [Quota; QUOTAS], owed: &mut [usize; QUOTAS]) -> bool
+    requires { ⌜ length (now owed) ≡ QUOTAS ⌝ }
+    ensures { λ r. ⌜ Owing quotas r (now (owed .exit)) ⌝ }
+{
+    let mut i: usize = 0;
+    while i < QUOTAS {
+        let quota = quotas[i];
+        if quota.grant < quota.remainder {
+            return false;
+        }
+        owed[i] = (quota.grant - quota.remainder) as usize;
+        i += 1;
+    }
+    true
+}
+
+// The first place from `from` on with a key of the serial, along the chain; HOLDS where there is none.
+fn find(keys: &[usize; HOLDS], next: &[u16; HOLDS], from: usize, serial: usize) -> usize
+    requires { ⌜ Findable (now keys) (now next) from serial ⌝ }
+    ensures { λ r. ⌜ r ≡ search-from (for-serial serial) from (now (keys .entry)) ⌝ }
+{
+    let mut at = from;
+    while at < HOLDS {
+        if keys[at] / QUOTAS == serial {
+            return at;
+        }
+        at = place(next[at]);
+    }
+    at
+}
+
+// The keys of the serial are struck, and the quota of each pays, once. How many are struck; 0 where a quota cannot pay.
+fn settle(
+    keys: &mut [usize; HOLDS],
+    next: &[u16; HOLDS],
+    owed: &mut [usize; QUOTAS],
+    from: usize,
+    serial: usize,
+    charge: usize,
+) -> usize
+    requires { ⌜ Payable (now keys) (now next) (now owed) from serial ⌝ }
+    ensures { λ r. ⌜ Settled serial charge (now (keys .entry)) (now (owed .entry)) r (now (keys .exit)) (now (owed .exit)) ⌝ }
+{
+    let mut seen = [0u8; QUOTAS];
+    let mut struck: usize = 0;
+    let mut at = from;
+    loop {
+        at = find(keys, next, at, serial);
+        if HOLDS <= at {
+            return struck;
+        }
+        let quota = keys[at] % QUOTAS;
+        if seen[quota] != 0 {
+            return 0;
+        }
+        if owed[quota] < charge {
+            return 0;
+        }
+        seen[quota] = 1;
+        owed[quota] = owed[quota] - charge;
+        keys[at] = 0;
+        struck += 1;
+        at = place(next[at]);
+    }
+}
+
+// A block of the walk, behind a free block or not: a live one strikes its keys and is paid for. How many it strikes; HOLDS + 1 where the block
+// is not as it must be.
+fn visit(
+    keys: &mut [usize; HOLDS],
+    next: &[u16; HOLDS],
+    heads: &[u16; HOLDS],
+    owed: &mut [usize; QUOTAS],
+    last: u32,
+    free: bool,
+    serial: u32,
+    size: usize,
+) -> usize
+    requires { ⌜ Ready (now keys) (now next) (now heads) (now owed) ⌝ }
+    ensures { λ r. ⌜ Visited last serial size free (now (next .entry)) (now (heads .entry)) (now (keys .entry)) (now (owed .entry)) r (eqb serial 0) (now (keys .exit)) (now (owed .exit)) ⌝ }
+{
+    if serial == 0 {
+        if free {
+            return HOLDS + 1;
+        }
+        return 0;
+    }
+    if size < 16 {
+        return HOLDS + 1;
+    }
+    if last < serial {
+        return HOLDS + 1;
+    }
+    let slot = slot_of(serial);
+    let from = place(heads[slot]);
+    let struck = settle(keys, next, owed, from, serial as usize, size);
+    if struck == 0 {
+        return HOLDS + 1;
+    }
+    struck
+}
+
+// Whether nothing is owed.
+fn is_paid(owed: &[usize; QUOTAS]) -> bool
+    requires { ⌜ length (now owed) ≡ QUOTAS ⌝ }
+    ensures { λ r. ⌜ r ≡ none-owed (now (owed .entry)) ⌝ }
+{
+    let mut i: usize = 0;
+    while i < QUOTAS {
+        if owed[i] != 0 {
+            return false;
+        }
+        i += 1;
+    }
+    true
+}
+
+// The walk over the blocks: whether the heap is cut into blocks, each as it must be, and at the end every key is struck and nothing is owed.
+fn walk(
+    heap: &[u8],
+    keys: &mut [usize; HOLDS],
+    next: &[u16; HOLDS],
+    heads: &[u16; HOLDS],
+    owed: &mut [usize; QUOTAS],
+    last: u32,
+    used: usize,
+) -> bool
+    requires { ⌜ (used ≡ used-keys (now keys)) × Ready (now keys) (now next) (now heads) (now owed) ⌝ }
+    ensures { λ r. ⌜ r ≡ audit-parsed last (parse (now (heap .entry))) (some (begin (now (keys .entry)) (now (owed .entry)))) ⌝ }
+{
+    let mut left = used;
+    let mut free = false;
+    let mut back: usize = 0;
+    let mut at: usize = 0;
+    while at < heap.len() {
+        let Start::Block(header) = layout::start_at(heap, at) else {
+            return false;
+        };
+        if header.back != back {
+            return false;
+        }
+        let serial = header.serial;
+        let size = 8 * header.size;
+        let struck = visit(keys, next, heads, owed, last, free, serial, size);
+        if HOLDS < struck {
+            return false;
+        }
+        left -= struck;
+        free = serial == 0;
+        back = header.size;
+        at += size;
+    }
+    if left != 0 {
+        return false;
+    }
+    is_paid(owed)
+}
+
+// The verdict on a heap and its accounting state: refused for its length, refused as inconsistent, or accepted.
+pub fn check(heap: &[u8], accounts: Accounts) -> Verdict
+    ensures { λ r. ⌜ verdict-values r ≡ check-of (now (heap .entry)) accounts .values ⌝ }
+{
+    if !is_allowed(heap.len()) {
+        return Verdict::Refused(Refusal::HeapLength);
+    }
+    let end = HOLDS as u16;
+    let mut keys = [0usize; HOLDS];
+    let mut next = [end; HOLDS];
+    let mut heads = [end; HOLDS];
+    let mut owed = [0usize; QUOTAS];
+    let holds = accounts.holds;
+    let used = index(holds, &mut keys, &mut next, &mut heads);
+    if HOLDS < used {
+        return Verdict::Refused(Refusal::Inconsistent);
+    }
+    let quotas = accounts.quotas;
+    if !owing(quotas, &mut owed) {
+        return Verdict::Refused(Refusal::Inconsistent);
+    }
+    let last = accounts.last_serial;
+    if !walk(heap, &mut keys, &next, &heads, &mut owed, last, used) {
+        return Verdict::Refused(Refusal::Inconsistent);
+    }
+    Verdict::Accepted
+}

@@ -1,0 +1,122 @@
+// The walk over the heap's blocks from offset 0: the block whose object a handle names, and the first free block with room for a new object.
+use layout::Start;
+use model::Handle;
+ghost use mathlib.Core.Path.{_≡_};
+ghost use Prim.Native.Nat.{_<_};
+ghost use Rattle.finder.specs.Walk.{Bounded, met-at, holds-named, fit-in, find-object, find-fit};
+
+// A block that the walk met: its place, its size in bytes with the header, the units of the block before it, and its serial.
+pub struct Met {
+    pub at: usize,
+    pub size: usize,
+    pub back: usize,
+    pub serial: u32,
+}
+
+// The block that was looked for.
+pub enum Lookup {
+    Found(Met),
+    Missing,
+}
+
+// The block that has room for a new object, and the object's base.
+pub enum Fit {
+    At(Met, usize),
+    Nowhere,
+}
+
+// The block that starts at a place.
+fn met_at(heap: &[u8], at: usize) -> Lookup
+    ensures { λ r. ⌜ r ≡ met-at at (now (heap .entry)) ⌝ }
+{
+    let Start::Block(header) = layout::start_at(heap, at) else {
+        return Lookup::Missing;
+    };
+    Lookup::Found(Met {
+        at: at,
+        size: 8 * header.size,
+        back: header.back,
+        serial: header.serial,
+    })
+}
+
+// Whether a block is live, and its object is the one that a handle names: base, length and serial are the same.
+fn holds_named(block: Met, handle: Handle) -> bool
+    requires { ⌜ Bounded block ⌝ }
+    ensures { λ r. ⌜ r ≡ holds-named handle block ⌝ }
+{
+    let base = handle.base as usize;
+    let length = handle.length as usize;
+    let start = block.at + 8;
+    let room = block.size - 8;
+    if block.serial == 0 {
+        return false;
+    }
+    if base != start {
+        return false;
+    }
+    if length != room {
+        return false;
+    }
+    handle.serial == block.serial
+}
+
+// The block whose object a handle names.
+pub fn find_object(heap: &[u8], handle: Handle) -> Lookup
+    ensures { λ r. ⌜ r ≡ find-object handle (now (heap .entry)) ⌝ }
+{
+    let mut at: usize = 0;
+    loop {
+        let Lookup::Found(block) = met_at(heap, at) else {
+            return Lookup::Missing;
+        };
+        if holds_named(block, handle) {
+            return Lookup::Found(block);
+        }
+        let size = block.size;
+        at += size;
+    }
+}
+
+// Where an object has its base in a block, if the block is free and has room. A gap up to the next multiple of the alignment stands in front of it.
+fn fit_in(block: Met, alignment: usize, length: usize) -> Fit
+    requires { ⌜ (0 < alignment) × Bounded block ⌝ }
+    ensures { λ r. ⌜ r ≡ fit-in alignment length block ⌝ }
+{
+    let start = block.at + 8;
+    let room = block.size - 8;
+    if block.serial != 0 {
+        return Fit::Nowhere;
+    }
+    let gap = alignment - 1 - (start - 1) % alignment;
+    if room < gap {
+        return Fit::Nowhere;
+    }
+    let left = room - gap;
+    if left < length {
+        return Fit::Nowhere;
+    }
+    Fit::At(block, start + gap)
+}
+
+// The first free block with room for an object of this alignment and length, and the object's base.
+pub fn find_base(heap: &[u8], alignment: u32, length: usize) -> Fit
+    ensures { λ r. ⌜ r ≡ find-fit alignment length (now (heap .entry)) ⌝ }
+{
+    let unit = alignment as usize;
+    if unit == 0 {
+        return Fit::Nowhere;
+    }
+    let mut place: usize = 0;
+    loop {
+        let Lookup::Found(block) = met_at(heap, place) else {
+            return Fit::Nowhere;
+        };
+        let fit = fit_in(block, unit, length);
+        if let Fit::At(found, base) = fit {
+            return Fit::At(found, base);
+        }
+        let size = block.size;
+        place += size;
+    }
+}
