@@ -132,6 +132,12 @@ valid-well os z h e =
     (λ q. le-leb 1 (h .serial) (omega (arith, q))))
     (and-right (any (has-serial (h .serial)) os) (ltb (h .quota) QUOTAS && leb 1 (h .count)) v))
 
+-- so where the tests pass, all records are
+pub tests-well : (bs : List Block) (k : Accounts) → Tests bs k → all well-formed (k .holds) ≡ true
+unfolding objects
+tests-well bs k t =
+    member-all well-formed (k .holds) (λ h m. valid-well (objects bs) (objects-serial 0 bs) h (all-member (record-valid (objects bs)) (k .holds) (t .valid) h m))
+
 module _ (bs : List Block) (k : Accounts) (long : length (k .quotas) ≡ QUOTAS) where
   abbrev entry : ℕ → Quota
   entry q = getD (k .quotas) q zero-quota
@@ -166,8 +172,7 @@ module _ (bs : List Block) (k : Accounts) (long : length (k .quotas) ≡ QUOTAS)
   unfolding audited audit-parsed objects
   tests-audited t =
       let balance = balance-exactly (objects bs) (k .holds) (k .quotas) .0 (t .balance) in
-      let w : all well-formed (k .holds) ≡ true =
-      member-all well-formed (k .holds) (λ h m. valid-well (objects bs) (objects-serial 0 bs) h (all-member (record-valid (objects bs)) (k .holds) (t .valid) h m)) in
+      let w = tests-well bs k t in
       and-both _ _ w
       (and-both _ _ (all-places solvent zero-quota (k .quotas) (λ q l. le-leb (entry q .remainder) (entry q .grant) (let b = balance q l in omega arith)))
       (says w .1 (

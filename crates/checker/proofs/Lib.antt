@@ -13,3 +13,4 @@ pub mod Agreement
 pub mod Cutting
 pub mod Consistency
 pub mod Verdicts
+pub mod Holders

@@ -2,3 +2,4 @@ pub mod Keys
 pub mod Chains
 pub mod Audit
 pub mod Contracts
+pub mod Holders

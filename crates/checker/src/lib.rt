@@ -1,6 +1,7 @@
 // The check of a whole heap and its accounting state: one pass over the hold records and one walk over the blocks.
 // Each used record becomes a key, in the chain of its serial's slot. Each live block strikes its serial's keys, and their quotas pay for it. At the
 // end every key is struck and no quota owes anything. Serials that share a slot make its chain long, so serials picked on purpose cost more.
+// `held_each` follows the same chains to say which serials have a record.
 use accounts::Accounts;
 use accounts::HOLDS;
 use accounts::Hold;
@@ -11,6 +12,7 @@ use model::Refusal;
 use model::Verdict;
 ghost use mathlib.Core.Path.{_≡_};
 ghost use mathlib.Core.Option.{some};
+ghost use mathlib.Core.List.{map};
 ghost use Prim.Native.Nat.{_<_};
 ghost use lib.Dec.{eqb};
 ghost use lib.ListN.{length};
@@ -23,6 +25,7 @@ ghost use Rattle.checker.specs.Keys.{well-formed, key-of, used-keys, for
 ghost use Rattle.checker.specs.Chains.{slot, search-from};
 ghost use Rattle.checker.specs.Audit.{none-owed, begin, audit-parsed};
 ghost use Rattle.checker.specs.Contracts.{Findable, Fresh, Indexed, Owing, Payable, Settled, Ready, Visited};
+ghost use Rattle.checker.specs.Holders.{held-each, has-key, Chained};
 
 // Whether a heap may have this length.
 fn is_allowed(len: usize) -> bool
@@ -290,4 +293,53 @@ pub fn check(heap: &[u8], accounts: Accounts) -> Verdict
         return Verdict::Refused(Refusal::Inconsistent);
     }
     Verdict::Accepted
+}
+
+// Whether a used record's key has the serial: the chain of the serial's slot leads to one.
+fn is_held(keys: &[usize; HOLDS], next: &[u16; HOLDS], heads: &[u16; HOLDS], serial: u32) -> bool
+    requires { ⌜ Chained (now keys) (now next) (now heads) ⌝ }
+    ensures { λ r. ⌜ r ≡ has-key (now (keys .entry)) serial ⌝ }
+{
+    if serial == 0 {
+        return false;
+    }
+    let slot = slot_of(serial);
+    let from = place(heads[slot]);
+    find(keys, next, from, serial as usize) < HOLDS
+}
+
+// For each of the serials whether a key has it.
+fn are_held(
+    keys: &[usize; HOLDS],
+    next: &[u16; HOLDS],
+    heads: &[u16; HOLDS],
+    serials: [u32; HOLDS],
+) -> [bool; HOLDS]
+    requires { ⌜ Chained (now keys) (now next) (now heads) ⌝ }
+    ensures { λ r. ⌜ r ≡ map (has-key (now (keys .entry))) serials ⌝ }
+{
+    let mut answers = [false; HOLDS];
+    let mut i: usize = 0;
+    while i < HOLDS {
+        let serial = serials[i];
+        answers[i] = is_held(keys, next, heads, serial);
+        i += 1;
+    }
+    answers
+}
+
+// For each of the serials whether a used record has it, by one pass over the records and one over the serials. Where a record is not well-formed,
+// every serial counts as held.
+pub fn held_each(holds: [Hold; HOLDS], serials: [u32; HOLDS]) -> [bool; HOLDS]
+    ensures { λ r. ⌜ r ≡ held-each holds serials ⌝ }
+{
+    let end = HOLDS as u16;
+    let mut keys = [0usize; HOLDS];
+    let mut next = [end; HOLDS];
+    let mut heads = [end; HOLDS];
+    let used = index(holds, &mut keys, &mut next, &mut heads);
+    if HOLDS < used {
+        return [true; HOLDS];
+    }
+    are_held(&keys, &next, &heads, serials)
 }

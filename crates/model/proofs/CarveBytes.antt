@@ -79,13 +79,13 @@ rest-written p (suc m) u body g w r e l sized d =
     rw (lt-ltb 0 (suc m) (omega arith), append-nil, append-assoc, ← q) o
 
 -- bytes that become zero, and an object's header in front of them
-zero-written : (base n : ℕ) (g y r : List ℕ) → length g ≡ base → length y ≡ n → zero-part base (base + n) (g ++ (y ++ r)) ≡ g ++ (replicate n 0 ++ r)
+pub zero-written : (base n : ℕ) (g y r : List ℕ) → length g ≡ base → length y ≡ n → zero-part base (base + n) (g ++ (y ++ r)) ≡ g ++ (replicate n 0 ++ r)
 unfolding zero-part
 zero-written base n g y r e l =
     let k : base + n - base ≡ n = omega arith in
     rw k (overwrite-at g y r (replicate n 0) base e (length-replicate n 0 ∙ sym l))
 
-object-written : (base n u serial : ℕ) (g x y r : List ℕ) → length g + 8 ≡ base → length x ≡ 8 → length y ≡ n
+pub object-written : (base n u serial : ℕ) (g x y r : List ℕ) → length g + 8 ≡ base → length x ≡ 8 → length y ≡ n
     → write-object base n u serial (g ++ (x ++ (y ++ r))) ≡ g ++ (header-bytes (record { size = (n + 8) / 8; back = u; serial = serial }) ++ (replicate n 0 ++ r))
 unfolding write-object write-header
 object-written base n u serial g x y r e lx ly =
@@ -96,7 +96,7 @@ object-written base n u serial g x y r e lx ly =
     ∙ overwrite-at g x (replicate n 0 ++ r) h (base - 8) (omega arith) lh
 
 -- the back size of the first of some blocks
-next-written : (at u v : ℕ) (g : List ℕ) (bs : List Block) → length g ≡ at → write-next at v (g ++ render-from u bs) ≡ g ++ render-from v bs
+pub next-written : (at u v : ℕ) (g : List ℕ) (bs : List Block) → length g ≡ at → write-next at v (g ++ render-from u bs) ≡ g ++ render-from v bs
 unfolding write-next write-number render-from header-bytes
 next-written at u v g [] e = rw (append-nil, e, le-ltb at at (omega arith))
 next-written at u v g (b ∷ bs) e =
@@ -245,7 +245,7 @@ untouched at end base n i e =
     (one .0, two .0, two .1)
 
 -- a free block's serial is 0
-free-serial : (b : Block) → live b ≡ false → b .serial ≡ 0
+pub free-serial : (b : Block) → live b ≡ false → b .serial ≡ 0
 free-serial b e = eqb-true (b .serial) 0 (not-false (eqb (b .serial) 0) e)
 
 -- the bytes of the old blocks, with the block that is cut

@@ -19,3 +19,5 @@ pub mod Same
 pub mod CarveBytes
 pub mod SettleBytes
 pub mod FreeAll
+pub mod FreeBytes
+pub mod CopyBytes

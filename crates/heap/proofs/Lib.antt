@@ -1,0 +1,13 @@
+pub mod Lines
+pub mod Records
+pub mod Lookups
+pub mod Claims
+pub mod Cleared
+pub mod Writes
+pub mod Placed
+pub mod Granted
+pub mod Listed
+pub mod Lent
+pub mod Freeing
+pub mod Released
+pub mod ReleaseAnswers

@@ -1,0 +1,87 @@
+-- `heap::releasing::free_block` meets its contract: the rooms are read before anything is written, and then its three steps are the definition's. What
+-- is behind the block ends in the heap, so every place is a small number.
+-- Assumes nothing.
+use mathlib.Core.Path.{ap}
+use Prim.Native.Nat.{_+_}
+use Rattle.heap.specs.declared.releasing.Room.{Room}
+use Rattle.heap.proofs.Freeing.{room-ends, freed-is}
+use native.Mathlib.Omega.{arith}
+use borrow.Author.Needs.{needs}
+use Rattle.heap.proofs.releasing.free_block.Statement.{statement}
+use Rattle.heap.proofs.releasing.free_block.Tie as tie
+
+add-end : tie.Need-add-end
+add-end c = search needs
+
+mul-room-at : tie.Need-mul-room-at
+mul-room-at c = search needs
+
+sub-room-at : tie.Need-sub-room-at
+sub-room-at c = search needs
+
+room-at-requires : tie.Need-room-at-requires
+room-at-requires c κs = search needs
+
+room-at-requires-2 : tie.Need-room-at-requires-2
+room-at-requires-2 c κs = search needs
+
+sub-start : tie.Need-sub-start
+sub-start c = omega (arith, c .before .before .before .before .before .before .pre .front, ap (λ (x : Room). x .free) (c .before .before .before .room-at .ensures))
+
+add-stop : tie.Need-add-stop
+add-stop c =
+    let a = c .before .before .before .before .before .before .before in
+    let p = a .pre in
+    let r = ap (λ (x : Room). x .free) (c .before .before .room-at2 .ensures) in
+    omega (arith, p .end, p .allowed, r, room-ends (a .args .block .at + a .args .block .size) (a .args .heap .now) (p .end))
+
+add-write-object : tie.Need-add-write-object
+add-write-object c = search needs
+
+sub-write-object : tie.Need-sub-write-object
+sub-write-object c = search needs
+
+write-object-requires : tie.Need-write-object-requires
+write-object-requires c κs = search needs
+
+join-requires : tie.Need-join-requires
+join-requires c κs =
+    let a = c .before .before .before .before .before .before .before .before .before .before .before .before in
+    let p = a .pre in
+    let r = ap (λ (x : Room). x .free) (c .before .before .before .before .before .before .before .room-at2 .ensures) in
+    omega (arith, p .end, p .allowed, r, room-ends (a .args .block .at + a .args .block .size) (a .args .heap .now) (p .end))
+
+join-requires-2 : tie.Need-join-requires-2
+join-requires-2 c κs =
+    let a = c .before .before .before .before .before .before .before .before .before .before .before .before .before .before .before .before in
+    let p = a .pre in
+    let r = ap (λ (x : Room). x .free) (c .before .before .before .before .before .before .before .before .before .before .before .room-at2 .ensures) in
+    omega (arith, p .end, p .allowed, r, room-ends (a .args .block .at + a .args .block .size) (a .args .heap .now) (p .end))
+
+same-length : tie.Need-same-length
+same-length c = search needs
+
+returns : tie.Need-returns
+returns c =
+    let a = c .before .before .before .before .before .before .before .before .before .before .before .before .before .before .before .before .before .before .before in
+    freed-is (a .args .block) (a .args .heap .now) (a .pre .header) (c .before .before .before .before .before .before .before .before .before .before .before .before .before .before .before .before .room-at .result) (c .before .before .before .before .before .before .before .before .before .before .before .before .before .before .room-at2 .result) (c .before .before .before .before .before .before .before .before .before .before .before .before .before .before .before .before .room-at .ensures) (c .before .before .before .before .before .before .before .before .before .before .before .before .before .before .room-at2 .ensures) _ _ _
+    (c .before .before .before .before .before .before .before .before .before .before .write-object .ensures) (c .before .before .before .before .before .before .join .ensures) (c .before .before .join2 .ensures)
+
+pub free-block-spec : {M : Type 1} → statement M
+free-block-spec =
+    tie.close
+    (tie.spec
+    add-end
+    mul-room-at
+    sub-room-at
+    room-at-requires
+    room-at-requires-2
+    sub-start
+    add-stop
+    add-write-object
+    sub-write-object
+    write-object-requires
+    join-requires
+    join-requires-2
+    same-length
+    returns)

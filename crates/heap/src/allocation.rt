@@ -1,0 +1,188 @@
+// Allocation: the refusals in their order, then an object is cut out of a free block and its quota pays.
+use crate::HandleResult;
+use accounts::Accounts;
+use accounts::Hold;
+use accounts::Place;
+use accounts::QUOTAS;
+use finder::Fit;
+use finder::Met;
+use layout::Header;
+use model::Handle;
+use model::HandleAnswer;
+use model::Refusal;
+use model::Verdict;
+ghost use mathlib.Core.Path.{_≡_};
+ghost use Prim.Native.Nat.{_+_, _≤_};
+ghost use Rattle.accounts.specs.Accounts.{with-last-serial, put-hold, charge as charge-to};
+ghost use Rattle.model.specs.declared.HandleAnswer.the-variants.{Given, Refused};
+ghost use Rattle.model.specs.Calls.{allocate as allocate-of, allocate-array};
+ghost use Rattle.model.proofs.CarveBytes.{write-rest, units-after, write-object, write-next, carve-bytes};
+ghost use Rattle.rounding.specs.Rounding.{unit};
+ghost use Rattle.heap.specs.Results.{handle-outcome};
+ghost use Rattle.heap.specs.Room.{Room};
+
+// A refused call's result.
+fn refused(accounts: Accounts, refusal: Refusal) -> HandleResult
+    ensures { λ r. ⌜ r ≡ record { accounts = accounts; answer = Refused refusal } ⌝ }
+{
+    HandleResult {
+        accounts: accounts,
+        answer: HandleAnswer::Refused(refusal),
+    }
+}
+
+// An accepted call's result.
+fn given(accounts: Accounts, base: usize, length: u32, serial: u32) -> HandleResult
+    requires { ⌜ base ≤ 32768 ⌝ }
+    ensures { λ r. ⌜ r ≡ record { accounts = accounts; answer = Given (record { base = base; length = length; serial = serial }) } ⌝ }
+{
+    let handle = Handle {
+        base: base as u32,
+        length: length,
+        serial: serial,
+    };
+    HandleResult {
+        accounts: accounts,
+        answer: HandleAnswer::Given(handle),
+    }
+}
+
+// The header of `count` free bytes at a place, if there are any.
+fn write_rest(heap: &mut [u8], at: usize, count: usize, back: usize)
+    ensures { λ _. ⌜ now (heap .exit) ≡ write-rest at count back (now (heap .entry)) ⌝ }
+{
+    if 0 < count {
+        let header = Header {
+            size: count / 8,
+            back: back,
+            serial: 0,
+        };
+        layout::write_header(heap, at, header);
+    }
+}
+
+// The units of the block in front of what follows `count` free bytes.
+fn units_after(back: usize, count: usize) -> usize
+    ensures { λ r. ⌜ r ≡ units-after back count ⌝ }
+{
+    if 0 < count {
+        return count / 8;
+    }
+    back
+}
+
+// An object's zero bytes, and its header in front of them.
+fn write_object(heap: &mut [u8], base: usize, length: usize, back: usize, serial: u32)
+    requires { ⌜ (8 ≤ base) × (base + length ≤ 32768) ⌝ }
+    ensures { λ _. ⌜ now (heap .exit) ≡ write-object base length back serial (now (heap .entry)) ⌝ }
+{
+    layout::zero_part(heap, base, base + length);
+    let header = Header {
+        size: (length + 8) / 8,
+        back: back,
+        serial: serial,
+    };
+    layout::write_header(heap, base - 8, header);
+}
+
+// The back size of the block that starts at a place, if one does.
+fn write_next(heap: &mut [u8], at: usize, back: usize)
+    requires { ⌜ (at ≤ 32768) × (back ≤ 32768) ⌝ }
+    ensures { λ _. ⌜ now (heap .exit) ≡ write-next at back (now (heap .entry)) ⌝ }
+{
+    if at < heap.len() {
+        layout::write_u16(heap, at + 2, back as u32);
+    }
+}
+
+// The writes that cut an object out of a free block.
+fn carve(heap: &mut [u8], block: Met, base: usize, length: usize, serial: u32)
+    requires { ⌜ Room block base length ⌝ }
+    ensures { λ _.
+        ⌜ now (heap .exit) ≡ carve-bytes (block .at) (block .at + block .size) base length (block .back) serial (now (heap .entry)) ⌝ }
+{
+    let at = block.at;
+    let back = block.back;
+    let end = at + block.size;
+    let front = base - 8 - at;
+    let behind = end - (base + length);
+    let own = (length + 8) / 8;
+    write_rest(heap, at, front, back);
+    write_object(heap, base, length, units_after(back, front), serial);
+    write_rest(heap, base + length, behind, own);
+    write_next(heap, end, units_after(own, behind));
+}
+
+// The accounts after a quota has paid for a new object and holds it once.
+fn booked(accounts: Accounts, quota: u8, charge: u32, place: usize, serial: u32) -> Accounts
+    ensures { λ r.
+        ⌜ r ≡ with-last-serial serial (put-hold place (record { serial = serial; quota = quota; count = 1 }) (charge-to quota charge accounts)) ⌝ }
+{
+    let hold = Hold {
+        serial: serial,
+        quota: quota,
+        count: 1,
+    };
+    let paid = accounts.charge(quota as u32, charge);
+    let held = paid.add_hold(place, hold);
+    held.with_last_serial(serial)
+}
+
+// Allocation for a length of any size.
+fn allocate_wide(heap: &mut [u8], accounts: Accounts, quota: u32, length: u64) -> HandleResult
+    ensures { λ r. ⌜ handle-outcome (now (heap .exit)) r ≡ allocate-of unit (now (heap .entry)) accounts quota length ⌝ }
+{
+    if let Verdict::Refused(refusal) = checker::check(heap, accounts) {
+        return refused(accounts, refusal);
+    }
+    if QUOTAS <= quota as usize {
+        return refused(accounts, Refusal::QuotaNumber);
+    }
+    if length == 0 {
+        return refused(accounts, Refusal::ObjectLength);
+    }
+    if 32760 < length {
+        return refused(accounts, Refusal::ObjectLength);
+    }
+    let asked = length as u32;
+    let size = rounding::object_length(asked) as u32;
+    let charge = size + 8;
+    if accounts.remaining(quota) < charge {
+        return refused(accounts, Refusal::QuotaExceeded);
+    }
+    let Place::At(place) = accounts.lowest_unused() else {
+        return refused(accounts, Refusal::HoldsExhausted);
+    };
+    let last = accounts.last_serial;
+    if 4294967295 <= last {
+        return refused(accounts, Refusal::SerialsExhausted);
+    }
+    let alignment = rounding::alignment(asked);
+    let Fit::At(block, base) = finder::find_base(heap, alignment, size as usize) else {
+        return refused(accounts, Refusal::NoSpace);
+    };
+    let serial = last + 1;
+    carve(heap, block, base, size as usize, serial);
+    let next = booked(accounts, quota as u8, charge, place, serial);
+    given(next, base, size, serial)
+}
+
+// A new object of at least `length` bytes.
+pub fn allocate(heap: &mut [u8], accounts: Accounts, quota: u32, length: u32) -> HandleResult
+    ensures { λ r. ⌜ handle-outcome (now (heap .exit)) r ≡ allocate-of unit (now (heap .entry)) accounts quota length ⌝ }
+{
+    allocate_wide(heap, accounts, quota, length as u64)
+}
+
+// A new object for `count` elements of `size` bytes. The product of two 32-bit numbers fits 64 bits.
+pub fn allocate_array(
+    heap: &mut [u8],
+    accounts: Accounts,
+    quota: u32,
+    count: u32,
+    size: u32,
+) -> HandleResult
+    ensures { λ r. ⌜ handle-outcome (now (heap .exit)) r ≡ allocate-array unit (now (heap .entry)) accounts quota count size ⌝ }
+{
+    allocate_wide(heap, accounts, quota, (count as u64) * (size as u64))
+}
