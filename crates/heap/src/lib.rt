@@ -24,11 +24,11 @@ pub use query::can_release;
 pub use query::object_range;
 pub use query::remaining;
 pub use releasing::release;
+pub use walker::Walker;
 pub use walker::advance;
 pub use walker::list_from;
 pub use walker::next;
 pub use walker::walk;
-pub use walker::Walker;
 
 // What open gives: the accounts, all zero where it is refused, and the verdict.
 pub struct Opened {
