@@ -1,4 +1,4 @@
-# make run    prove the definitions, and print what is proved so far
+# make run    prove every crate, and print what is proved so far
 # make test   prove everything from nothing, try every must-fail edit, run every test
 
 .PHONY: run test clean
