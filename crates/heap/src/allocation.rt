@@ -174,7 +174,7 @@ pub fn allocate(heap: &mut [u8], accounts: Accounts, quota: u32, length: u32) ->
     allocate_wide(heap, accounts, quota, length as u64)
 }
 
-// A new object for `count` elements of `size` bytes. The product of two 32-bit numbers fits 64 bits.
+// A new object for `count` elements of `size` bytes: as allocate, with the true product.
 pub fn allocate_array(
     heap: &mut [u8],
     accounts: Accounts,

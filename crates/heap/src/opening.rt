@@ -7,7 +7,6 @@ use model::Refusal;
 use model::Verdict;
 ghost use mathlib.Core.Path.{_≡_};
 ghost use Prim.Native.Nat.{_/_};
-ghost use lib.ListN.{length};
 ghost use Rattle.layout.specs.Bytes.{zero-part};
 ghost use Rattle.layout.specs.Blocks.{write-header};
 ghost use Rattle.model.specs.Consistent.{allowed};

@@ -154,7 +154,7 @@ returns-5 c =
     let a = at .before .before .before .before .before .before .before .before .before .before .before .before .before .before .before .before .args in
     fewer-result (a .heap .now) (a .accounts) (octets (at .before .before .before .before .before .before .before .before .before .before .before .before .before .before .before)) (sound at .1) (a .handle) (at .before .before .before .before .before .before .block .given .0 .0) (block-is at) (a .quota) (at .before .before .place .given .0 .0) (place-is at) (passes at)
     (at .hold-at .result) (at .hold-at .ensures)
-    (c .before .before .before .if2 .taken) (c .before .add-hold .result) (c .before .add-hold .ensures) (c .given-back .result) (c .given-back .ensures)
+    (omega (arith, c .before .before .before .if2 .taken)) (c .before .add-hold .result) (c .before .add-hold .ensures) (c .given-back .result) (c .given-back .ensures)
 
 add-charge : tie.Need-add-charge
 add-charge c =
@@ -184,7 +184,7 @@ returns-6 c =
     let a = at .before .before .before .before .before .before .before .before .before .before .before .before .before .before .before .before .args in
     held-result (a .heap .now) (a .accounts) (octets (at .before .before .before .before .before .before .before .before .before .before .before .before .before .before .before)) (sound at .1) (a .handle) (at .before .before .before .before .before .before .block .given .0 .0) (block-is at) (a .quota) (at .before .before .place .given .0 .0) (place-is at) (passes at)
     (at .hold-at .result) (at .hold-at .ensures)
-    (c .before .before .before .before .before .before .before .if2 .left) (c .before .before .before .before .before .refund .result) (c .before .before .before .before .drop-hold .result) (c .before .before .before .before .before .refund .ensures) (c .before .before .before .before .drop-hold .ensures) (c .before .before .is-held .result) (c .before .before .is-held .ensures) (c .given-back2 .result) (c .given-back2 .ensures) (c .before .if3 .taken)
+    (omega (arith, c .before .before .before .before .before .before .before .if2 .left)) (c .before .before .before .before .before .refund .result) (c .before .before .before .before .drop-hold .result) (c .before .before .before .before .before .refund .ensures) (c .before .before .before .before .drop-hold .ensures) (c .before .before .is-held .result) (c .before .before .is-held .ensures) (c .given-back2 .result) (c .given-back2 .ensures) (c .before .if3 .taken)
 
 free-block-requires : tie.Need-free-block-requires
 free-block-requires c κs =
@@ -204,7 +204,7 @@ returns-7 c =
     let a = at .before .before .before .before .before .before .before .before .before .before .before .before .before .before .before .before .args in
     freed-result (a .heap .now) (a .accounts) (octets (at .before .before .before .before .before .before .before .before .before .before .before .before .before .before .before)) (sound at .1) (a .handle) (at .before .before .before .before .before .before .block .given .0 .0) (block-is at) (a .quota) (at .before .before .place .given .0 .0) (place-is at) (passes at)
     (at .hold-at .result) (at .hold-at .ensures)
-    (c .before .before .before .before .before .before .before .before .before .before .before .if2 .left) (c .before .before .before .before .before .before .before .before .before .refund .result) (c .before .before .before .before .before .before .before .before .drop-hold .result) (c .before .before .before .before .before .before .before .before .before .refund .ensures) (c .before .before .before .before .before .before .before .before .drop-hold .ensures) (c .before .before .before .before .before .before .is-held .result) (c .before .before .before .before .before .before .is-held .ensures) (c .given-back3 .result) (c .given-back3 .ensures) (c .before .before .before .before .before .if3 .left) _ (c .before .before .before .free-block .ensures)
+    (omega (arith, c .before .before .before .before .before .before .before .before .before .before .before .if2 .left)) (c .before .before .before .before .before .before .before .before .before .refund .result) (c .before .before .before .before .before .before .before .before .drop-hold .result) (c .before .before .before .before .before .before .before .before .before .refund .ensures) (c .before .before .before .before .before .before .before .before .drop-hold .ensures) (c .before .before .before .before .before .before .is-held .result) (c .before .before .before .before .before .before .is-held .ensures) (c .given-back3 .result) (c .given-back3 .ensures) (c .before .before .before .before .before .if3 .left) _ (c .before .before .before .free-block .ensures)
 
 pub release-spec : {M : Type 1} → statement M
 release-spec =
