@@ -1,5 +1,7 @@
 // Allocation: the refusals in their order, then an object is cut out of a free block and its quota pays.
 use crate::HandleResult;
+use crate::writing::put_next;
+use crate::writing::put_object;
 use accounts::Accounts;
 use accounts::Hold;
 use accounts::Place;
@@ -16,7 +18,7 @@ ghost use Prim.Native.Nat.{_+_, _≤_};
 ghost use Rattle.accounts.specs.Accounts.{with-last-serial, put-hold, charge as charge-to};
 ghost use Rattle.model.specs.declared.HandleAnswer.the-variants.{Given, Refused};
 ghost use Rattle.model.specs.Calls.{allocate as allocate-of, allocate-array};
-ghost use Rattle.model.proofs.CarveBytes.{write-rest, units-after, write-object, write-next, carve-bytes};
+ghost use Rattle.model.proofs.CarveBytes.{write-rest, units-after, carve-bytes};
 ghost use Rattle.rounding.specs.Rounding.{unit};
 ghost use Rattle.heap.specs.Results.{handle-outcome};
 ghost use Rattle.heap.specs.Room.{Room};
@@ -71,30 +73,6 @@ fn units_after(back: usize, count: usize) -> usize
     back
 }
 
-// An object's zero bytes, and its header in front of them.
-fn write_object(heap: &mut [u8], base: usize, length: usize, back: usize, serial: u32)
-    requires { ⌜ (8 ≤ base) × (base + length ≤ 32768) ⌝ }
-    ensures { λ _. ⌜ now (heap .exit) ≡ write-object base length back serial (now (heap .entry)) ⌝ }
-{
-    layout::zero_part(heap, base, base + length);
-    let header = Header {
-        size: (length + 8) / 8,
-        back: back,
-        serial: serial,
-    };
-    layout::write_header(heap, base - 8, header);
-}
-
-// The back size of the block that starts at a place, if one does.
-fn write_next(heap: &mut [u8], at: usize, back: usize)
-    requires { ⌜ (at ≤ 32768) × (back ≤ 32768) ⌝ }
-    ensures { λ _. ⌜ now (heap .exit) ≡ write-next at back (now (heap .entry)) ⌝ }
-{
-    if at < heap.len() {
-        layout::write_u16(heap, at + 2, back as u32);
-    }
-}
-
 // The writes that cut an object out of a free block.
 fn carve(heap: &mut [u8], block: Met, base: usize, length: usize, serial: u32)
     requires { ⌜ Room block base length ⌝ }
@@ -108,9 +86,9 @@ fn carve(heap: &mut [u8], block: Met, base: usize, length: usize, serial: u32)
     let behind = end - (base + length);
     let own = (length + 8) / 8;
     write_rest(heap, at, front, back);
-    write_object(heap, base, length, units_after(back, front), serial);
+    put_object(heap, base, length, units_after(back, front), serial);
     write_rest(heap, base + length, behind, own);
-    write_next(heap, end, units_after(own, behind));
+    put_next(heap, end, units_after(own, behind));
 }
 
 // The accounts after a quota has paid for a new object and holds it once.

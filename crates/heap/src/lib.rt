@@ -12,6 +12,7 @@ mod opening;
 mod query;
 mod releasing;
 mod walker;
+mod writing;
 
 pub use allocation::allocate;
 pub use allocation::allocate_array;

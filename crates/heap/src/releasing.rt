@@ -1,5 +1,7 @@
 // Release: a quota gives up one claim, and the block that no quota holds any more becomes free.
 use crate::AmountResult;
+use crate::writing::put_next;
+use crate::writing::put_object;
 use accounts::Accounts;
 use accounts::HOLDS;
 use accounts::Hold;
@@ -14,10 +16,9 @@ use model::Handle;
 use model::Refusal;
 use model::Verdict;
 ghost use mathlib.Core.Path.{_≡_};
-ghost use Prim.Native.Nat.{_+_, _^_, _≤_, _<_};
+ghost use Prim.Native.Nat.{_^_, _<_};
 ghost use Rattle.model.specs.Calls.{release as release-of};
 ghost use Rattle.model.specs.Consistent.{is-of, held};
-ghost use Rattle.model.proofs.CarveBytes.{write-object, write-next};
 ghost use Rattle.model.proofs.FreeBytes.{join-bytes};
 ghost use Rattle.heap.specs.Freeing.{Inside, room-at, free-block};
 ghost use Rattle.heap.specs.Results.{amount-outcome};
@@ -26,34 +27,6 @@ ghost use Rattle.heap.specs.Results.{amount-outcome};
 struct Room {
     free: usize,
     back: usize,
-}
-
-// Zeros for an object, and its header in front of them.
-fn write_object(heap: &mut [u8], base: usize, length: usize, back: usize, serial: u32)
-    requires { ⌜ (8 ≤ base) × (base + length < 2 ^ 32) ⌝ }
-    ensures { λ _. ⌜ now (heap .exit) ≡ write-object base length back serial (now (heap .entry)) ⌝ }
-{
-    layout::zero_part(heap, base, base + length);
-    layout::write_header(
-        heap,
-        base - 8,
-        Header {
-            size: (length + 8) / 8,
-            back: back,
-            serial: serial,
-        },
-    );
-}
-
-// The back size of the block that starts at a place.
-fn write_next(heap: &mut [u8], at: usize, back: u32)
-    requires { ⌜ at < 2 ^ 32 ⌝ }
-    ensures { λ _. ⌜ now (heap .exit) ≡ write-next at back (now (heap .entry)) ⌝ }
-{
-    if heap.len() <= at {
-        return;
-    }
-    layout::write_u16(heap, at + 2, back);
 }
 
 // Two blocks that stand side by side become one free block; nothing is written where one of them has no bytes.
@@ -78,7 +51,7 @@ fn join(heap: &mut [u8], start: usize, mid: usize, stop: usize, back: usize)
             serial: 0,
         },
     );
-    write_next(heap, stop, size as u32);
+    put_next(heap, stop, size);
 }
 
 // The room at a place.
@@ -113,7 +86,7 @@ pub(crate) fn free_block(heap: &mut [u8], block: Met)
     let behind = room_at(heap, end);
     let start = at - front.free;
     let stop = end + behind.free;
-    write_object(heap, at + 8, size - 8, back, 0);
+    put_object(heap, at + 8, size - 8, back, 0);
     join(heap, at, end, stop, back);
     join(heap, start, at, stop, front.back);
 }

@@ -31,8 +31,8 @@ write-rest-requires c κs = search needs
 units-after-requires : tie.Need-units-after-requires
 units-after-requires c κs = search needs
 
-write-object-requires : tie.Need-write-object-requires
-write-object-requires c κs = search needs
+put-object-requires : tie.Need-put-object-requires
+put-object-requires c κs = search needs
 
 add-write-rest : tie.Need-add-write-rest
 add-write-rest c = search needs
@@ -43,15 +43,15 @@ write-rest-requires-2 c κs = search needs
 units-after-requires-2 : tie.Need-units-after-requires-2
 units-after-requires-2 c κs = search needs
 
-write-next-requires : tie.Need-write-next-requires
-write-next-requires c κs =
+put-next-requires : tie.Need-put-next-requires
+put-next-requires c κs =
     let s = c .before .before .before .before .before .before .before .before .before .before .before .before .before .before .before .before .before in
     let a = s .args in
-    let p = s .pre in (
-      omega (arith, p .inside),
-      units-most ((a .length + 8) / 8) (a .block .at + a .block .size - (a .base + a .length)) (c .units-after2 .ensures)
-          (omega (arith, p .inside, p .high)) (omega (arith, p .inside)),
-    )
+    let p = s .pre in
+    let u =
+    units-most ((a .length + 8) / 8) (a .block .at + a .block .size - (a .base + a .length)) (c .units-after2 .ensures) (omega (arith, p .inside, p .high))
+    (omega (arith, p .inside)) in
+    (omega (arith, p .inside), omega (arith, u))
 
 same-length : tie.Need-same-length
 same-length c = search needs
@@ -66,7 +66,7 @@ returns c =
     let f = u .before .before .before .before in
     let a = f .before .before .before .before .args in
     carve-steps (a .block .at) (a .block .at + a .block .size) (a .base) (a .length) (a .block .back) (a .serial) (a .heap .now) (f .write-rest .ensures) (u .units-after .ensures)
-    (o .write-object .ensures) (r .write-rest2 .ensures) (v .units-after2 .ensures) (n .write-next .ensures)
+    (o .put-object .ensures) (r .write-rest2 .ensures) (v .units-after2 .ensures) (n .put-next .ensures)
 
 pub carve-spec : {M : Type 1} → statement M
 carve-spec =
@@ -80,10 +80,10 @@ carve-spec =
     add-own
     write-rest-requires
     units-after-requires
-    write-object-requires
+    put-object-requires
     add-write-rest
     write-rest-requires-2
     units-after-requires-2
-    write-next-requires
+    put-next-requires
     same-length
     returns)

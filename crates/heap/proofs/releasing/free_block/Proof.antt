@@ -35,14 +35,14 @@ add-stop c =
     let r = ap (λ (x : Room). x .free) (c .before .before .room-at2 .ensures) in
     omega (arith, p .end, p .allowed, r, room-ends (a .args .block .at + a .args .block .size) (a .args .heap .now) (p .end))
 
-add-write-object : tie.Need-add-write-object
-add-write-object c = search needs
+add-put-object : tie.Need-add-put-object
+add-put-object c = search needs
 
-sub-write-object : tie.Need-sub-write-object
-sub-write-object c = search needs
+sub-put-object : tie.Need-sub-put-object
+sub-put-object c = search needs
 
-write-object-requires : tie.Need-write-object-requires
-write-object-requires c κs = search needs
+put-object-requires : tie.Need-put-object-requires
+put-object-requires c κs = search needs
 
 join-requires : tie.Need-join-requires
 join-requires c κs =
@@ -65,7 +65,7 @@ returns : tie.Need-returns
 returns c =
     let a = c .before .before .before .before .before .before .before .before .before .before .before .before .before .before .before .before .before .before .before in
     freed-is (a .args .block) (a .args .heap .now) (a .pre .header) (c .before .before .before .before .before .before .before .before .before .before .before .before .before .before .before .before .room-at .result) (c .before .before .before .before .before .before .before .before .before .before .before .before .before .before .room-at2 .result) (c .before .before .before .before .before .before .before .before .before .before .before .before .before .before .before .before .room-at .ensures) (c .before .before .before .before .before .before .before .before .before .before .before .before .before .before .room-at2 .ensures) _ _ _
-    (c .before .before .before .before .before .before .before .before .before .before .write-object .ensures) (c .before .before .before .before .before .before .join .ensures) (c .before .before .join2 .ensures)
+    (c .before .before .before .before .before .before .before .before .before .before .put-object .ensures) (c .before .before .before .before .before .before .join .ensures) (c .before .before .join2 .ensures)
 
 pub free-block-spec : {M : Type 1} → statement M
 free-block-spec =
@@ -78,9 +78,9 @@ free-block-spec =
     room-at-requires-2
     sub-start
     add-stop
-    add-write-object
-    sub-write-object
-    write-object-requires
+    add-put-object
+    sub-put-object
+    put-object-requires
     join-requires
     join-requires-2
     same-length

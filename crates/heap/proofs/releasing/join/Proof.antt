@@ -26,11 +26,8 @@ zero-part-requires c κs = search needs
 write-header-requires : tie.Need-write-header-requires
 write-header-requires c κs = search needs
 
-cast-write-next : tie.Need-cast-write-next
-cast-write-next c = search needs
-
-write-next-requires : tie.Need-write-next-requires
-write-next-requires c κs = search needs
+put-next-requires : tie.Need-put-next-requires
+put-next-requires c κs = search needs
 
 same-length : tie.Need-same-length
 same-length c = search needs
@@ -49,7 +46,6 @@ join-spec =
     add-zero-part
     zero-part-requires
     write-header-requires
-    cast-write-next
-    write-next-requires
+    put-next-requires
     same-length
     returns-3)

@@ -1,12 +1,12 @@
--- `heap::write_object` meets its contract: the two writes are the definition's, in its order.
+-- `heap::writing::put_object` meets its contract: the two writes are the definition's, in its order.
 -- Assumes nothing.
 use mathlib.Core.Path.{ap, _∙_}
 use Prim.Native.Nat.{_+_, _-_, _/_}
 use Rattle.layout.specs.Blocks.{write-header}
 use Rattle.model.proofs.CarveBytes.{write-object}
 use borrow.Author.Needs.{needs}
-use Rattle.heap.proofs.allocation.write_object.Statement.{statement}
-use Rattle.heap.proofs.allocation.write_object.Tie as tie
+use Rattle.heap.proofs.writing.put_object.Statement.{statement}
+use Rattle.heap.proofs.writing.put_object.Tie as tie
 
 add-zero-part : tie.Need-add-zero-part
 add-zero-part c = search needs
@@ -35,8 +35,8 @@ returns c =
     w .write-header .ensures
     ∙ ap (write-header (a .base - 8) (record { size = (a .length + 8) / 8; back = a .back; serial = a .serial })) (z .zero-part .ensures)
 
-pub write-object-spec : {M : Type 1} → statement M
-write-object-spec =
+pub put-object-spec : {M : Type 1} → statement M
+put-object-spec =
     tie.close
     (tie.spec
     add-zero-part

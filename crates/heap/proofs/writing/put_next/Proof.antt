@@ -1,10 +1,10 @@
--- `heap::write_next` meets its contract: the back size is written where a block starts, and else nothing is.
+-- `heap::writing::put_next` meets its contract: the back size is written where a block starts, and else nothing is.
 -- Assumes nothing.
 use Rattle.heap.proofs.Writes.{next-some, next-none}
 use mathlib.Core.Path.{_∙_}
 use borrow.Author.Needs.{needs}
-use Rattle.heap.proofs.allocation.write_next.Statement.{statement}
-use Rattle.heap.proofs.allocation.write_next.Tie as tie
+use Rattle.heap.proofs.writing.put_next.Statement.{statement}
+use Rattle.heap.proofs.writing.put_next.Tie as tie
 
 add-write-u16 : tie.Need-add-write-u16
 add-write-u16 c = search needs
@@ -30,7 +30,7 @@ returns-2 c =
     let a = c .before .before .args in
     next-none (a .at) (a .back) (a .heap .now) (c .if1 .left)
 
-pub write-next-spec : {M : Type 1} → statement M
-write-next-spec =
+pub put-next-spec : {M : Type 1} → statement M
+put-next-spec =
     tie.close
     (tie.spec add-write-u16 cast-write-u16 write-u16-requires same-length returns returns-2)
