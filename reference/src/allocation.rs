@@ -12,6 +12,8 @@ use crate::Refusal;
 /// Clears the heap, makes it one free block and gives fresh accounts.
 ///
 /// A refused open leaves the heap as it was and gives all-zero accounts.
+// OPEN: once quotas have permissions, whether all-zero accounts have them all
+// cleared is free; taken by the letter, every bit is 0.
 pub fn open(heap: &mut [u8], grants: [u32; QUOTAS]) -> (Accounts, Result<(), Refusal>) {
     if !length_is_allowed(heap.len()) {
         return (Accounts::default(), Err(Refusal::HeapLength));
