@@ -1,46 +1,23 @@
--- What the proof of demand 3 keeps from call to call: a good state, records that are in order, and a ledger that matches them.
+-- What the proof of demand 3 keeps from call to call: a consistent state, and a ledger that matches it.
 -- Assumes nothing.
 use Prim.Native.Nat.{ℕ, _<_, _^_}
 use mathlib.Core.Path.{_≡_}
 use mathlib.Core.List.{List, map, List·Memᴰ}
-use mathlib.Core.Bool.{Bool, true, not, _&&_, _||_}
+use mathlib.Core.Bool.{true}
 use mathlib.Core.Logic.{_↔_}
 use lib.ListN.{length, getD}
-use lib.Dec.{leb, ltb}
 use Rattle.accounts.specs.declared.Quota.{Quota}
 use Rattle.accounts.specs.declared.Hold.{Hold}
 use Rattle.accounts.specs.declared.Accounts.{Accounts}
-use Rattle.accounts.specs.Accounts.{QUOTAS, zero-quota, used}
+use Rattle.accounts.specs.Accounts.{QUOTAS, zero-quota}
 use Rattle.layout.specs.Bytes.{Octets}
-use Rattle.layout.specs.Blocks.{size, AllWritable, AllOctets}
-use Rattle.model.specs.Lists.{all, total}
 use Rattle.model.specs.Objects.{objects-of}
-use Rattle.model.specs.Consistent.{allowed, consistent, serials-differ, records-differ}
+use Rattle.model.specs.Consistent.{allowed, consistent, serials-differ}
 use Rattle.model.specs.Holds.{count-of}
-use Rattle.model.specs.Calls.{State}
 use Rattle.model.specs.declared.Handle.{Handle}
-use Rattle.model.proofs.Consistent.{Tests}
 use Rattle.ledger.specs.Ledger.{Entry, Ledger, holds-of}
 use Rattle.ledger.specs.Demand3.{objects-in}
 use Rattle.ledger.proofs.Rows
-
--- records that are in order by themselves: a used one has a quota that exists and a count, and no two have the same serial and quota
-unfoldable pub proper : Hold → Bool
-proper h = not (used h) || (ltb (h .quota) QUOTAS && leb 1 (h .count))
-
-pub record Ordered (hs : List Hold) : Type 0 where
-  pub each : all proper hs ≡ true
-  pub differ : records-differ hs ≡ true
-
--- blocks and accounts of which a consistent heap is written
-pub record Good (t : State) : Type 0 where
-  pub writable : AllWritable (t .blocks)
-  pub octets : AllOctets (t .blocks)
-  pub extent : allowed (total size (t .blocks)) ≡ true
-  pub tests : Tests (t .blocks) (t .accounts)
-  pub quotas : length (t .accounts .quotas) ≡ QUOTAS
-  pub narrow : (q : ℕ) → getD (t .accounts .quotas) q zero-quota .grant < 2 ^ 32
-  pub serial : t .accounts .«last_serial» < 2 ^ 32
 
 -- a ledger matches objects and records: the same objects, none twice, and each quota's holds are the count of its record
 pub record Matches (l : Ledger) (os : List Handle) (hs : List Hold) : Type 0 where

@@ -27,12 +27,13 @@ use Rattle.model.proofs.Bools.{and-right}
 use Rattle.model.proofs.Carve.{carved}
 use Rattle.ledger.specs.Ledger.{Ledger}
 use Rattle.ledger.specs.Contents.{contents}
-use Rattle.ledger.proofs.Agreement.{Good, Agrees}
-use Rattle.ledger.proofs.Heaps.{good-heap}
+use Rattle.invariant.proofs.Good.{Good}
+use Rattle.ledger.proofs.Agreement.{Agrees}
+use Rattle.invariant.proofs.Heaps.{good-heap}
 use Rattle.ledger.proofs.Contents.{contents-stay}
 use Rattle.ledger.proofs.Staying.{carved-live, settled-live, copied-live}
-use Rattle.ledger.proofs.Transitions.{Room, allocated-good, released-good, freed-good, copied-good}
-use Rattle.ledger.proofs.Passed.{Allocatable, allocate-passed, Releasable, release-passed, quota-passed, Reallocatable, reallocate-passed}
+use Rattle.invariant.proofs.Transitions.{Room, allocated-good, released-good, freed-good, copied-good}
+use Rattle.invariant.proofs.Passed.{Allocatable, allocate-passed, Releasable, release-passed, quota-passed, Reallocatable, reallocate-passed}
 use Rattle.ledger.proofs.Steps.{good, again, room, fresh-serial, there, old-there, still-releasable}
 
 -- every live block of u but one with a new serial is one of t

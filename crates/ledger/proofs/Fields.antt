@@ -31,10 +31,11 @@ use Rattle.model.specs.declared.Call.the-variants.{Remaining}
 use Rattle.model.proofs.Consistent.{Tests, tests-exactly, valid-exactly, balance-exactly, consistent-cut}
 use Rattle.ledger.specs.Ledger.{Entry, Ledger, holds-of, cost-to}
 use Rattle.ledger.specs.Demand3.{Within, objects-in}
-use Rattle.ledger.proofs.Agreement.{Ordered, Agrees}
-use Rattle.ledger.proofs.Counts.{count-member, member-count}
-use Rattle.ledger.proofs.Charges.{cost, charges-counted, total-same}
-use Rattle.ledger.proofs.Heaps.{heap-good, good-ordered}
+use Rattle.invariant.proofs.Good.{Ordered}
+use Rattle.ledger.proofs.Agreement.{Agrees}
+use Rattle.invariant.proofs.Counts.{count-member, member-count}
+use Rattle.invariant.proofs.Charges.{cost, charges-counted, total-same}
+use Rattle.invariant.proofs.Heaps.{heap-good, good-ordered}
 use Rattle.ledger.proofs.Places.{objects-lie, objects-apart, headers-apart}
 
 -- a sum over entries is a sum over their objects, where what is added is the same

@@ -25,9 +25,10 @@ use Rattle.model.proofs.Carve.{Added}
 use Rattle.model.proofs.Settle.{object-held}
 use Rattle.ledger.specs.Ledger.{Entry, Ledger, with-entries, holds-of, change-holds, at-serial, is-held, leave, add-object, add-hold, take-hold, take-all}
 use Rattle.ledger.specs.Demand3.{objects-in}
-use Rattle.ledger.proofs.Members.{keep-exactly, differ-kept}
-use Rattle.ledger.proofs.Agreement.{Ordered, Matches}
-use Rattle.ledger.proofs.Counts.{counted-quota, held-counted}
+use Rattle.invariant.proofs.Members.{keep-exactly, differ-kept}
+use Rattle.invariant.proofs.Good.{Ordered}
+use Rattle.ledger.proofs.Agreement.{Matches}
+use Rattle.invariant.proofs.Counts.{counted-quota, held-counted}
 
 -- two tests are the same if each passes where the other does
 same-test : (a b : Bool) → (a ≡ true → b ≡ true) → (b ≡ true → a ≡ true) → a ≡ b

@@ -27,16 +27,17 @@ use Rattle.model.proofs.Refusals.{accepted-exactly, by-lines}
 use Rattle.model.proofs.Lookup.{lookup-exactly, lookup-whole-is}
 use Rattle.ledger.specs.Ledger.{Ledger}
 use Rattle.ledger.specs.Contents.{contents}
-use Rattle.ledger.proofs.Agreement.{Good, Agrees}
+use Rattle.invariant.proofs.Good.{Good}
+use Rattle.ledger.proofs.Agreement.{Agrees}
 use Rattle.ledger.proofs.Contents.{contents-stay, contents-are, block-of, object-of}
 use Rattle.ledger.proofs.Staying.{copied-live, body-there}
-use Rattle.ledger.proofs.Transitions.{Room, allocated-objects, allocated-counts, released-objects, copied-objects}
-use Rattle.ledger.proofs.Heaps.{good-heap, good-ordered}
+use Rattle.invariant.proofs.Transitions.{Room, allocated-objects, allocated-counts, released-objects, copied-objects}
+use Rattle.invariant.proofs.Heaps.{good-heap, good-ordered}
 use Rattle.ledger.proofs.Fields.{inside-of}
-use Rattle.ledger.proofs.Members.{added-old, added-new, keep-exactly}
-use Rattle.ledger.proofs.Counts.{held-counted, lower-ordered, lower-counted}
+use Rattle.invariant.proofs.Members.{added-old, added-new, keep-exactly}
+use Rattle.invariant.proofs.Counts.{held-counted, lower-ordered, lower-counted}
 use Rattle.model.proofs.Settle.{object-held}
-use Rattle.ledger.proofs.Passed.{Allocatable, allocate-passed, Reallocatable, reallocate-passed}
+use Rattle.invariant.proofs.Passed.{Allocatable, allocate-passed, Reallocatable, reallocate-passed}
 use Rattle.ledger.proofs.Steps.{good, room, fresh-serial, still-releasable}
 use Rattle.ledger.proofs.Bytes.{allocated-live, released-leaves, new-good, allocate-bytes, old, new, made-good, old-here}
 

@@ -24,8 +24,9 @@ use Rattle.model.proofs.Bools.{and-left, and-right}
 use Rattle.model.proofs.Consistent.{Tests, balance-exactly}
 use Rattle.ledger.specs.Ledger.{empty}
 use Rattle.ledger.specs.History.{Opened, Begins, Opening}
-use Rattle.ledger.proofs.Agreement.{Good, Agrees}
-use Rattle.ledger.proofs.Heaps.{good-heap}
+use Rattle.invariant.proofs.Good.{Good}
+use Rattle.ledger.proofs.Agreement.{Agrees}
+use Rattle.invariant.proofs.Heaps.{good-heap}
 use Rattle.ledger.proofs.Matching.{no-hold}
 
 -- heap and accounts are the fresh ones of an allowed length

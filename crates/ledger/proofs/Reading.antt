@@ -23,9 +23,10 @@ use Rattle.model.specs.Calls.{state-of}
 use Rattle.model.specs.declared.Handle.{Handle}
 use Rattle.ledger.specs.Ledger.{Entry, holds-of}
 use Rattle.ledger.specs.Reading.{values-from, read-entry, read-ledger}
-use Rattle.ledger.proofs.Agreement.{Ordered, Agrees}
-use Rattle.ledger.proofs.Heaps.{heap-good, good-ordered}
-use Rattle.ledger.proofs.Counts.{counted-quota}
+use Rattle.invariant.proofs.Good.{Ordered}
+use Rattle.ledger.proofs.Agreement.{Agrees}
+use Rattle.invariant.proofs.Heaps.{heap-good, good-ordered}
+use Rattle.invariant.proofs.Counts.{counted-quota}
 
 values-length : (f : ℕ → ℕ) (from n : ℕ) → length (values-from f from n) ≡ n
 unfolding values-from

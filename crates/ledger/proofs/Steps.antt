@@ -35,13 +35,14 @@ use Rattle.model.proofs.Base.{Lowest, lowest-some}
 use Rattle.model.proofs.Settle.{object-held}
 use Rattle.model.proofs.Frame.{allocated-keeps, claimed-keeps, released-keeps, freed-keeps}
 use Rattle.ledger.specs.Ledger.{Ledger, add-object, add-hold, take-hold, take-all, leave, record-accepted, record-call}
-use Rattle.ledger.proofs.Agreement.{Ordered, Good, Matches, Agrees}
-use Rattle.ledger.proofs.Members.{added-old}
-use Rattle.ledger.proofs.Counts.{record-counted, lower-ordered, lower-counted, drop-ordered, drop-count}
-use Rattle.ledger.proofs.Heaps.{good-heap, heap-good, heap-again, good-ordered}
-use Rattle.ledger.proofs.Transitions.{Room, allocated-good, allocated-objects, allocated-fresh, allocated-counts, claimed-good, claimed-counts, released-good, released-objects, freed-good, freed-objects, copied-good, copied-objects}
+use Rattle.invariant.proofs.Good.{Ordered, Good}
+use Rattle.ledger.proofs.Agreement.{Matches, Agrees}
+use Rattle.invariant.proofs.Members.{added-old}
+use Rattle.invariant.proofs.Counts.{record-counted, lower-ordered, lower-counted, drop-ordered, drop-count}
+use Rattle.invariant.proofs.Heaps.{good-heap, heap-good, heap-again, good-ordered}
+use Rattle.invariant.proofs.Transitions.{Room, allocated-good, allocated-objects, allocated-fresh, allocated-counts, claimed-good, claimed-counts, released-good, released-objects, freed-good, freed-objects, copied-good, copied-objects}
 use Rattle.ledger.proofs.Matching.{match-added, match-raised, match-lowered, match-dropped}
-use Rattle.ledger.proofs.Passed.{Allocatable, allocate-passed, Claimable, claim-passed, Releasable, release-passed, quota-passed, Reallocatable, reallocate-passed}
+use Rattle.invariant.proofs.Passed.{Allocatable, allocate-passed, Claimable, claim-passed, Releasable, release-passed, quota-passed, Reallocatable, reallocate-passed}
 
 -- a refused call is not recorded and changes nothing
 accepted-step : (c : Call) (l : Ledger) (s : List ℕ) (k : Accounts) (n : ℕ) (done : Outcome) → Agrees l s k → done .values .refusal ≡ 0

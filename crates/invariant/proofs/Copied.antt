@@ -5,9 +5,9 @@ use Rattle.model.specs.Objects.{objects}
 use Rattle.model.specs.Space.{body-of}
 use Rattle.model.specs.Calls.{State, copied}
 use Rattle.model.specs.declared.Handle.{Handle}
-use Rattle.ledger.proofs.Agreement.{Good}
-use Rattle.ledger.proofs.Laid.{copy-objects, copy-laid, body-octets}
-use Rattle.ledger.proofs.Recorded.{good-laid, good-recorded, good-limits, good-state}
+use Rattle.invariant.proofs.Good.{Good}
+use Rattle.invariant.proofs.Laid.{copy-objects, copy-laid, body-octets}
+use Rattle.invariant.proofs.Recorded.{good-laid, good-recorded, good-limits, good-state}
 
 -- one object's bytes copied to another
 module _ (old new : Handle) (t : State) (g : Good t) where

@@ -25,11 +25,11 @@ use Rattle.model.proofs.Bools.{and-left, and-right, and-no, implies}
 use Rattle.model.proofs.Lists.{all-member, member-all}
 use Rattle.model.proofs.Consistent.{Valid, given-exactly, valid-exactly, balance-exactly}
 use Rattle.model.proofs.Blocks.{writable-whole}
-use Rattle.ledger.proofs.Agreement.{proper, Ordered, Good}
-use Rattle.ledger.proofs.Counts.{count-member, member-count, held-counted}
-use Rattle.ledger.proofs.Charges.{cost, charges-counted}
-use Rattle.ledger.proofs.Heaps.{good-ordered}
-use Rattle.ledger.proofs.Laid.{Laid, writable-storable, storable-writable, storable-octets, allowed-most}
+use Rattle.invariant.proofs.Good.{proper, Ordered, Good}
+use Rattle.invariant.proofs.Counts.{count-member, member-count, held-counted}
+use Rattle.invariant.proofs.Charges.{cost, charges-counted}
+use Rattle.invariant.proofs.Heaps.{good-ordered}
+use Rattle.invariant.proofs.Laid.{Laid, writable-storable, storable-writable, storable-octets, allowed-most}
 
 -- what a quota pays for an object, and for objects, by counts
 abbrev pub due : List Hold → ℕ → Handle → ℕ

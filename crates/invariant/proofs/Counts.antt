@@ -23,8 +23,8 @@ use Rattle.model.proofs.Lists.{all-member, member-any, first-some, first-found,
 use Rattle.model.proofs.Consistent.{is-for-exactly, held-exactly}
 use Rattle.model.proofs.Lookup.{same-record}
 use Rattle.model.proofs.Settle.{record-of}
-use Rattle.ledger.proofs.Agreement.{proper, Ordered}
-use Rattle.ledger.proofs.Sums.{Changed, changed, changed-member, changed-total, changed-all, for-same, weight, weight-same, weight-unused, zero-weight, sum-of, times, sum-none, differ-times, times-differ, count-sum}
+use Rattle.invariant.proofs.Good.{proper, Ordered}
+use Rattle.invariant.proofs.Sums.{Changed, changed, changed-member, changed-total, changed-all, for-same, weight, weight-same, weight-unused, zero-weight, sum-of, times, sum-none, differ-times, times-differ, count-sum}
 
 -- a record with a count is used
 pub counted-used : (h : Hold) → 0 < h .count → used h ≡ true

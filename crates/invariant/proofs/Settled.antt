@@ -19,13 +19,13 @@ use Rattle.model.specs.Holds.{count-of, lower-count, drop-records}
 use Rattle.model.specs.Calls.{State, given-back, released, freed}
 use Rattle.model.specs.declared.Handle.{Handle}
 use Rattle.model.proofs.Settle.{object-held, settle-objects}
-use Rattle.ledger.proofs.Agreement.{Ordered, Good}
-use Rattle.ledger.proofs.Counts.{record-counted, counted-quota, lower-ordered, lower-counted, drop-ordered, drop-count}
-use Rattle.ledger.proofs.Charges.{cost, charges-counted, total-members}
-use Rattle.ledger.proofs.Laid.{settle-laid}
-use Rattle.ledger.proofs.Recorded.{due, owed, Recorded, good-laid, good-recorded, good-limits, good-state}
-use Rattle.ledger.proofs.Payments.{same-grant, same-limits, refunded, cost-some, themselves, owed-moved}
-use Rattle.ledger.proofs.Moves.{Fewer, kept-recorded}
+use Rattle.invariant.proofs.Good.{Ordered, Good}
+use Rattle.invariant.proofs.Counts.{record-counted, counted-quota, lower-ordered, lower-counted, drop-ordered, drop-count}
+use Rattle.invariant.proofs.Charges.{cost, charges-counted, total-members}
+use Rattle.invariant.proofs.Laid.{settle-laid}
+use Rattle.invariant.proofs.Recorded.{due, owed, Recorded, good-laid, good-recorded, good-limits, good-state}
+use Rattle.invariant.proofs.Payments.{same-grant, same-limits, refunded, cost-some, themselves, owed-moved}
+use Rattle.invariant.proofs.Moves.{Fewer, kept-recorded}
 
 -- counts fall, and a quota is paid back what it no longer owes
 module _ (q n : ℕ) (t : State) (g : Good t) (exists : q < QUOTAS) (hs : List Hold) (r : Ordered hs) (less : (j : ℕ) → owed (t .accounts .holds) j (objects (t .blocks)) ≡ owed hs j (objects (t .blocks)) + cond (eqb q j) n 0) where

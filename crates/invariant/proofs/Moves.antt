@@ -18,12 +18,12 @@ use Rattle.model.specs.Holds.{count-of}
 use Rattle.model.specs.declared.Handle.{Handle}
 use Rattle.model.proofs.Bools.{and-left}
 use Rattle.model.proofs.Settle.{object-held}
-use Rattle.ledger.proofs.Agreement.{Ordered}
-use Rattle.ledger.proofs.Counts.{held-counted}
-use Rattle.ledger.proofs.Charges.{cost, total-kept}
-use Rattle.ledger.proofs.Members.{keep-exactly}
-use Rattle.ledger.proofs.Recorded.{due, owed, Recorded}
-use Rattle.ledger.proofs.Payments.{Elsewhere, themselves}
+use Rattle.invariant.proofs.Good.{Ordered}
+use Rattle.invariant.proofs.Counts.{held-counted}
+use Rattle.invariant.proofs.Charges.{cost, total-kept}
+use Rattle.invariant.proofs.Members.{keep-exactly}
+use Rattle.invariant.proofs.Recorded.{due, owed, Recorded}
+use Rattle.invariant.proofs.Payments.{Elsewhere, themselves}
 
 -- the count of one object and one quota is one more, and every other the same
 abbrev pub Raised : ℕ → ℕ → List Hold → List Hold → Type 0

@@ -20,11 +20,11 @@ use Rattle.model.specs.Holds.{count-of, take-record, raise-count}
 use Rattle.model.specs.Refusals.{claims-first}
 use Rattle.model.specs.Calls.{State, claimed}
 use Rattle.model.specs.declared.Handle.{Handle}
-use Rattle.ledger.proofs.Agreement.{Ordered, Good}
-use Rattle.ledger.proofs.Counts.{record-counted, unrecorded, take-ordered, take-count, raise-ordered, raise-counted}
-use Rattle.ledger.proofs.Recorded.{due, good-laid, good-recorded, good-limits, good-state}
-use Rattle.ledger.proofs.Payments.{same-grant, same-limits, charged, cost-some, owed-moved}
-use Rattle.ledger.proofs.Moves.{Raised, raised-first, raised-elsewhere, raised-here, raised-stays, raised-recorded}
+use Rattle.invariant.proofs.Good.{Ordered, Good}
+use Rattle.invariant.proofs.Counts.{record-counted, unrecorded, take-ordered, take-count, raise-ordered, raise-counted}
+use Rattle.invariant.proofs.Recorded.{due, good-laid, good-recorded, good-limits, good-state}
+use Rattle.invariant.proofs.Payments.{same-grant, same-limits, charged, cost-some, owed-moved}
+use Rattle.invariant.proofs.Moves.{Raised, raised-first, raised-elsewhere, raised-here, raised-stays, raised-recorded}
 
 module _ (q : ℕ) (o : Handle) (t : State) (g : Good t) (there : List·Memᴰ o (objects (t .blocks))) where
   -- a count is raised, the object costs the quota d more, and that is paid

@@ -18,8 +18,8 @@ use Rattle.model.specs.Consistent.{charge-of, serials-differ}
 use Rattle.model.specs.Holds.{count-of}
 use Rattle.model.specs.declared.Handle.{Handle}
 use Rattle.model.proofs.Bools.{and-no, and-both}
-use Rattle.ledger.proofs.Charges.{cost, total-members, total-more}
-use Rattle.ledger.proofs.Recorded.{due, owed, Limits}
+use Rattle.invariant.proofs.Charges.{cost, total-members, total-more}
+use Rattle.invariant.proofs.Recorded.{due, owed, Limits}
 
 -- where at most what remains of one quota has changed
 module _ (q : ℕ) (k r : Accounts) (e : Kept q k r) where

@@ -18,9 +18,9 @@ use Rattle.model.specs.Holds.{count-of}
 use Rattle.model.specs.declared.Handle.{Handle}
 use Rattle.model.proofs.Lists.{total-append}
 use Rattle.model.proofs.Carve.{Added}
-use Rattle.ledger.proofs.Members.{added-cases, differ-cons}
-use Rattle.ledger.proofs.Agreement.{Ordered}
-use Rattle.ledger.proofs.Counts.{record-counted}
+use Rattle.invariant.proofs.Members.{added-cases, differ-cons}
+use Rattle.invariant.proofs.Good.{Ordered}
+use Rattle.invariant.proofs.Counts.{record-counted}
 
 -- a charge by a count
 abbrev pub cost : ℕ → Handle → ℕ

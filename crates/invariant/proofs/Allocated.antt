@@ -23,14 +23,14 @@ use Rattle.model.specs.Calls.{State, allocated}
 use Rattle.model.specs.declared.Handle.{Handle}
 use Rattle.model.proofs.Bools.{fails}
 use Rattle.model.proofs.Carve.{Added}
-use Rattle.ledger.proofs.Agreement.{Ordered, Good}
-use Rattle.ledger.proofs.Counts.{record-counted, take-ordered, take-count}
-use Rattle.ledger.proofs.Charges.{cost, total-members, total-added}
-use Rattle.ledger.proofs.Members.{added-cases, added-old, added-new}
-use Rattle.ledger.proofs.Laid.{Laid, carve-added, carve-laid}
-use Rattle.ledger.proofs.Recorded.{due, owed, Recorded, Limits, good-laid, good-recorded, good-limits, good-state}
-use Rattle.ledger.proofs.Payments.{same-grant, same-limits, charged}
-use Rattle.ledger.proofs.Moves.{raised-first, raised-recorded}
+use Rattle.invariant.proofs.Good.{Ordered, Good}
+use Rattle.invariant.proofs.Counts.{record-counted, take-ordered, take-count}
+use Rattle.invariant.proofs.Charges.{cost, total-members, total-added}
+use Rattle.invariant.proofs.Members.{added-cases, added-old, added-new}
+use Rattle.invariant.proofs.Laid.{Laid, carve-added, carve-laid}
+use Rattle.invariant.proofs.Recorded.{due, owed, Recorded, Limits, good-laid, good-recorded, good-limits, good-state}
+use Rattle.invariant.proofs.Payments.{same-grant, same-limits, charged}
+use Rattle.invariant.proofs.Moves.{raised-first, raised-recorded}
 
 -- a new object that may be made: what allocate's lines have shown
 pub record Room (q : ℕ) (o : Handle) (t : State) : Type 0 where

@@ -24,7 +24,7 @@ use Rattle.model.proofs.Bools.{and-both, implied}
 use Rattle.model.proofs.Lists.{member-all}
 use Rattle.model.proofs.Consistent.{tests-exactly, valid-exactly, blocks-parsed, consistent-exactly, consistent-cut}
 use Rattle.model.proofs.Blocks.{total-is}
-use Rattle.ledger.proofs.Agreement.{proper, Good, Ordered}
+use Rattle.invariant.proofs.Good.{proper, Good, Ordered}
 
 -- as many bytes are written as the blocks have
 pub render-total : (bs : List Block) → length (render bs) ≡ total size bs

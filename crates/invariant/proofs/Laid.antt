@@ -27,7 +27,7 @@ use Rattle.model.proofs.Blocks.{whole-size, Whole}
 use Rattle.model.proofs.Carve.{Carved, Added, carved, cut-all, carved-all, carved-cut, carved-whole, carved-total, carve-objects, place}
 use Rattle.model.proofs.Join.{joined, join-all}
 use Rattle.model.proofs.Settle.{vacated-all, settle-objects, settle-total, settle-whole, settle-cut}
-use Rattle.ledger.proofs.Members.{differ-kept, differ-added}
+use Rattle.invariant.proofs.Members.{differ-kept, differ-added}
 
 -- a block that can be written as far as its serial and its bytes go
 pub storable : Block → Bool

@@ -1,0 +1,16 @@
+pub mod Good
+pub mod Members
+pub mod Sums
+pub mod Counts
+pub mod Charges
+pub mod Heaps
+pub mod Laid
+pub mod Recorded
+pub mod Payments
+pub mod Moves
+pub mod Allocated
+pub mod Claimed
+pub mod Settled
+pub mod Copied
+pub mod Transitions
+pub mod Passed
