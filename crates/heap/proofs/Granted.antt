@@ -29,14 +29,15 @@ use Rattle.model.specs.declared.Refusal.the-variants.{QuotaNumber, ObjectLength
 use Rattle.model.specs.declared.Verdict.{Verdict}
 use Rattle.model.specs.declared.Verdict.the-variants.{Accepted, Refused}
 use Rattle.model.specs.declared.HandleAnswer.the-variants.{Given, Refused as NotGiven}
-use Rattle.model.proofs.CarveBytes.{carve-bytes}
+use Rattle.writer.specs.Writes.{carve-bytes}
+use Rattle.writer.proofs.Guards.{room-test, carves}
 use Rattle.rounding.specs.Rounding.{unit, object-length, alignment}
 use Rattle.finder.specs.declared.Met.{Met}
 use Rattle.finder.specs.declared.Fit.the-variants.{At as Fits, Nowhere}
 use Rattle.finder.specs.Walk.{find-fit}
 use Rattle.heap.specs.declared.HandleResult.{HandleResult}
 use Rattle.heap.specs.Results.{outcome, handle-outcome}
-use Rattle.heap.specs.Room.{Room}
+use Rattle.writer.specs.Carving.{Room, carve-in}
 use Rattle.heap.proofs.Lines.{check-refuses, check-accepts, check-consistent, refused-is, accepted-is, line-refuses, line-passes, line-3-refuses, line-3-passes}
 use Rattle.heap.proofs.Records.{found-some, found-change, nothing-some}
 use Rattle.heap.proofs.Placed.{no-base, the-base, the-room, the-bytes}
@@ -201,9 +202,10 @@ module _ (s : List ℕ) (k : Accounts) (q n : ℕ) (v : Verdict) (told : verdict
                     ∙ accepted-is (number s k q n) s k (leaves (allocated q h (state-of s k)) (given h)) to-end
                     ∙ ap (λ (o : Option ℕ). unless (number s k q n) s k (leaves (allocated q (object-at s k n o) (state-of s k)) (given (object-at s k n o)))) (sym x)
 
-                pub granted : Octets s → (t : List ℕ) (z : ℕ) → z ≡ object-length unit n
-                    → t ≡ carve-bytes (m .at) (m .at + m .size) b z (m .back) (k .«last_serial» + 1) s
+                pub granted : Octets s → (t : List ℕ) (z : ℕ) → z ≡ object-length unit n → t ≡ carve-in m b z (k .«last_serial» + 1) s
                     → r ≡ result-of q z place b k → handle-outcome t r ≡ allocate unit s k q n
                 granted o t z ez w e =
-                    granted-whole o t (w ∙ ap (λ (l : ℕ). carve-bytes (m .at) (m .at + m .size) b l (m .back) (k .«last_serial» + 1) s) ez)
+                    let serial = k .«last_serial» + 1 in
+                    let room = room-test m b (object-length unit n) (the-place s k n v told a m b fit) in
+                    granted-whole o t (w ∙ ap (λ (l : ℕ). carve-in m b l serial s) ez ∙ sym (carves m b (object-length unit n) serial s room))
                     (e ∙ ap (λ (l : ℕ). result-of q l place b k) ez)

@@ -3,11 +3,9 @@ pub mod Records
 pub mod Lookups
 pub mod Claims
 pub mod Cleared
-pub mod Writes
 pub mod Placed
 pub mod Granted
 pub mod Listed
 pub mod Lent
-pub mod Freeing
 pub mod Released
 pub mod ReleaseAnswers

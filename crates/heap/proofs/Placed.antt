@@ -25,7 +25,8 @@ use Rattle.model.proofs.Bools.{and-right, and-no}
 use Rattle.model.proofs.Blocks.{total-is, writable-whole}
 use Rattle.model.proofs.Consistent.{consistent-cut, tests-exactly}
 use Rattle.model.proofs.Carve.{Carved}
-use Rattle.model.proofs.CarveBytes.{carve-bytes, carve-writes}
+use Rattle.writer.specs.Writes.{carve-bytes}
+use Rattle.writer.proofs.CarveBytes.{carve-writes}
 use Rattle.rounding.specs.Rounding.{unit, object-length, alignment}
 use Rattle.rounding.proofs.Rounding.{rounded, alignment-positive, by-row, unit-is}
 use Rattle.finder.specs.declared.Met.{Met}
@@ -33,7 +34,7 @@ use Rattle.finder.specs.declared.Fit.the-variants.{At, Nowhere}
 use Rattle.finder.specs.Walk.{find-fit}
 use Rattle.finder.proofs.Parsed.{total-parsed}
 use Rattle.finder.proofs.Lowest.{Fitting, base-found, base-nowhere}
-use Rattle.heap.specs.Room.{Room}
+use Rattle.writer.specs.Carving.{Room}
 use Rattle.heap.proofs.Cleared.{allowed-long}
 
 -- carving cuts the free block that holds the object, wherever it stands

@@ -33,10 +33,11 @@ use Rattle.finder.specs.Walk.{find-object}
 use Rattle.finder.proofs.Named.{lookup-missing}
 use Rattle.heap.specs.declared.AmountResult.{AmountResult}
 use Rattle.heap.specs.Results.{outcome, amount-outcome}
-use Rattle.heap.specs.Freeing.{free-block}
+use Rattle.writer.specs.Freeing.{free-in}
+use Rattle.writer.proofs.Guards.{inside-test, frees}
 use Rattle.heap.proofs.Lines.{check-refuses, check-accepts, refused-is, line-refuses, line-3-refuses, line-3-passes}
 use Rattle.heap.proofs.Records.{nothing-some}
-use Rattle.heap.proofs.Released.{found-handle, named-passes, record-passes, fewer-claims, still-held, no-longer-held}
+use Rattle.heap.proofs.Released.{found-handle, inside, named-passes, record-passes, fewer-claims, still-held, no-longer-held}
 
 -- an allowed length is at most 32,768
 pub length-small : (n : ℕ) → allowed n ≡ true → n ≤ 32768
@@ -111,7 +112,8 @@ module _ (s : List ℕ) (k : Accounts) (o : Octets s) (ok : consistent s k ≡ t
         let u : held (drop-hold i (refund q (h .length + 8) k) .holds) (h .serial) ≡ true = ap (λ (a : Accounts). held (a .holds) (h .serial)) (sym left) ∙ sym xe ∙ y in
         gives s k₂ (h .length + 8) r re ∙ (rw left (still-held s k o ok h m e q i p z (rw we at l) u))
 
-    pub freed-result : x ≡ false → (s′ : List ℕ) → s′ ≡ free-block m s → amount-outcome s′ r ≡ release s k q h
-    freed-result y s′ se =
+    pub freed-result : x ≡ false → length s ≤ 32768 → (s′ : List ℕ) → s′ ≡ free-in m s → amount-outcome s′ r ≡ release s k q h
+    freed-result y n s′ si =
+        let se = si ∙ sym (frees m s (inside-test m s (inside s k o ok h m e n)) .0) in
         let u : held (drop-hold i (refund q (h .length + 8) k) .holds) (h .serial) ≡ false = ap (λ (a : Accounts). held (a .holds) (h .serial)) (sym left) ∙ sym xe ∙ y in
         gives s′ k₂ (h .length + 8) r re ∙ (rw (se, left) (no-longer-held s k o ok h m e q i p z (rw we at l) u))

@@ -42,10 +42,10 @@ use Rattle.finder.proofs.Parsed.{Stands}
 use Rattle.finder.proofs.Named.{Named, lookup-found}
 use Rattle.accounts.specs.declared.Place.the-variants.{At}
 use Rattle.heap.specs.Results.{outcome}
-use Rattle.heap.specs.Freeing.{Inside, free-block}
+use Rattle.writer.specs.Freeing.{Inside, free-block}
 use Rattle.heap.proofs.Lines.{accepted-is, line-passes}
 use Rattle.heap.proofs.Records.{found-some, found-record, found-change}
-use Rattle.heap.proofs.Freeing.{freed-blocks, freed-inside}
+use Rattle.writer.proofs.Rooms.{freed-blocks, freed-inside}
 
 -- a record in place of one for which the test says the same changes no answer
 pub any-set : (p : Hold → Bool) (hs : List Hold) (i : ℕ) (h : Hold) → p h ≡ p (getD hs i zero-hold) → any p (set hs i h) ≡ any p hs

@@ -1,27 +1,21 @@
 // Allocation: the refusals in their order, then an object is cut out of a free block and its quota pays.
 use crate::HandleResult;
-use crate::writing::put_next;
-use crate::writing::put_object;
 use accounts::Accounts;
 use accounts::Hold;
 use accounts::Place;
 use accounts::QUOTAS;
 use finder::Fit;
-use finder::Met;
-use layout::Header;
 use model::Handle;
 use model::HandleAnswer;
 use model::Refusal;
 use model::Verdict;
 ghost use mathlib.Core.Path.{_≡_};
-ghost use Prim.Native.Nat.{_+_, _≤_};
+ghost use Prim.Native.Nat.{_≤_};
 ghost use Rattle.accounts.specs.Accounts.{with-last-serial, put-hold, charge as charge-to};
 ghost use Rattle.model.specs.declared.HandleAnswer.the-variants.{Given, Refused};
 ghost use Rattle.model.specs.Calls.{allocate as allocate-of, allocate-array};
-ghost use Rattle.model.proofs.CarveBytes.{write-rest, units-after, carve-bytes};
 ghost use Rattle.rounding.specs.Rounding.{unit};
 ghost use Rattle.heap.specs.Results.{handle-outcome};
-ghost use Rattle.heap.specs.Room.{Room};
 
 // A refused call's result.
 fn refused(accounts: Accounts, refusal: Refusal) -> HandleResult
@@ -47,48 +41,6 @@ fn given(accounts: Accounts, base: usize, length: u32, serial: u32) -> HandleRes
         accounts: accounts,
         answer: HandleAnswer::Given(handle),
     }
-}
-
-// The header of `count` free bytes at a place, if there are any.
-fn write_rest(heap: &mut [u8], at: usize, count: usize, back: usize)
-    ensures { λ _. ⌜ now (heap .exit) ≡ write-rest at count back (now (heap .entry)) ⌝ }
-{
-    if 0 < count {
-        let header = Header {
-            size: count / 8,
-            back: back,
-            serial: 0,
-        };
-        layout::write_header(heap, at, header);
-    }
-}
-
-// The units of the block in front of what follows `count` free bytes.
-fn units_after(back: usize, count: usize) -> usize
-    ensures { λ r. ⌜ r ≡ units-after back count ⌝ }
-{
-    if 0 < count {
-        return count / 8;
-    }
-    back
-}
-
-// The writes that cut an object out of a free block.
-fn carve(heap: &mut [u8], block: Met, base: usize, length: usize, serial: u32)
-    requires { ⌜ Room block base length ⌝ }
-    ensures { λ _.
-        ⌜ now (heap .exit) ≡ carve-bytes (block .at) (block .at + block .size) base length (block .back) serial (now (heap .entry)) ⌝ }
-{
-    let at = block.at;
-    let back = block.back;
-    let end = at + block.size;
-    let front = base - 8 - at;
-    let behind = end - (base + length);
-    let own = (length + 8) / 8;
-    write_rest(heap, at, front, back);
-    put_object(heap, base, length, units_after(back, front), serial);
-    write_rest(heap, base + length, behind, own);
-    put_next(heap, end, units_after(own, behind));
 }
 
 // The accounts after a quota has paid for a new object and holds it once.
@@ -140,7 +92,7 @@ fn allocate_wide(heap: &mut [u8], accounts: Accounts, quota: u32, length: u64) -
         return refused(accounts, Refusal::NoSpace);
     };
     let serial = last + 1;
-    carve(heap, block, base, size as usize, serial);
+    writer::carve(heap, block, base, size as usize, serial);
     let next = booked(accounts, quota as u8, charge, place, serial);
     given(next, base, size, serial)
 }

@@ -12,7 +12,6 @@ mod opening;
 mod query;
 mod releasing;
 mod walker;
-mod writing;
 
 pub use allocation::allocate;
 pub use allocation::allocate_array;

@@ -16,8 +16,5 @@ pub mod Consistent
 pub mod Lookup
 pub mod Listing
 pub mod Same
-pub mod CarveBytes
 pub mod SettleBytes
 pub mod FreeAll
-pub mod FreeBytes
-pub mod CopyBytes

@@ -9,7 +9,7 @@ use Rattle.model.specs.declared.HandleAnswer.the-variants.{Given}
 use Rattle.rounding.specs.Rounding.{unit, object-length, alignment}
 use Rattle.rounding.proofs.Rounding.{within-heap}
 use Rattle.finder.specs.Walk.{find-fit}
-use Rattle.heap.specs.Room.{Room}
+use Rattle.writer.specs.Carving.{Room}
 use Rattle.heap.proofs.Granted.{the-place, refused-check, refused-3, refused-zero, refused-long, refused-8, refused-9, refused-10, refused-11, granted}
 use borrow.Author.Needs.{needs}
 use Rattle.heap.proofs.allocation.allocate_wide.Statement.{statement}
@@ -245,11 +245,7 @@ cast-carve : tie.Need-cast-carve
 cast-carve c = search needs
 
 carve-requires : tie.Need-carve-requires
-carve-requires c κs =
-    let l = c .before .before in
-    let r = room l in
-    let z = sized l in
-    record { low = r .low; high = omega (arith, r .high, z); inside = r .inside }
+carve-requires c κs = search needs
 
 cast-booked : tie.Need-cast-booked
 cast-booked c = search needs

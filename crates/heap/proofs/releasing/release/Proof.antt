@@ -15,7 +15,7 @@ use Rattle.model.specs.declared.Refusal.the-variants.{QuotaNumber, NoSuchObject
 use Rattle.finder.specs.Walk.{find-object}
 use Rattle.finder.specs.declared.Lookup.the-variants.{Found}
 use Rattle.heap.proofs.Lines.{check-consistent}
-use Rattle.heap.proofs.Released.{inside, charge-small}
+use Rattle.heap.proofs.Released.{charge-small}
 use Rattle.heap.proofs.ReleaseAnswers.{length-small, by-check, by-quota, by-object, by-record, lines-pass, refuses, fewer-result, held-result, freed-result}
 use borrow.Author.Needs.{needs}
 use Rattle.heap.proofs.releasing.release.Statement.{statement}
@@ -187,10 +187,7 @@ returns-6 c =
     (omega (arith, c .before .before .before .before .before .before .before .if2 .left)) (c .before .before .before .before .before .refund .result) (c .before .before .before .before .drop-hold .result) (c .before .before .before .before .before .refund .ensures) (c .before .before .before .before .drop-hold .ensures) (c .before .before .is-held .result) (c .before .before .is-held .ensures) (c .given-back2 .result) (c .given-back2 .ensures) (c .before .if3 .taken)
 
 free-block-requires : tie.Need-free-block-requires
-free-block-requires c κs =
-    let at = c .before .before .before .before .before .before .before .before .before in
-    let a = at .before .before .before .before .before .before .before .before .before .before .before .before .before .before .before .before .args in
-    inside (a .heap .now) (a .accounts) (octets (at .before .before .before .before .before .before .before .before .before .before .before .before .before .before .before)) (sound at .1) (a .handle) (at .before .before .before .before .before .before .block .given .0 .0) (block-is at) (length-small _ (sound at .0))
+free-block-requires c κs = search needs
 
 given-back-requires-3 : tie.Need-given-back-requires-3
 given-back-requires-3 c κs = search needs
@@ -204,7 +201,7 @@ returns-7 c =
     let a = at .before .before .before .before .before .before .before .before .before .before .before .before .before .before .before .before .args in
     freed-result (a .heap .now) (a .accounts) (octets (at .before .before .before .before .before .before .before .before .before .before .before .before .before .before .before)) (sound at .1) (a .handle) (at .before .before .before .before .before .before .block .given .0 .0) (block-is at) (a .quota) (at .before .before .place .given .0 .0) (place-is at) (passes at)
     (at .hold-at .result) (at .hold-at .ensures)
-    (omega (arith, c .before .before .before .before .before .before .before .before .before .before .before .if2 .left)) (c .before .before .before .before .before .before .before .before .before .refund .result) (c .before .before .before .before .before .before .before .before .drop-hold .result) (c .before .before .before .before .before .before .before .before .before .refund .ensures) (c .before .before .before .before .before .before .before .before .drop-hold .ensures) (c .before .before .before .before .before .before .is-held .result) (c .before .before .before .before .before .before .is-held .ensures) (c .given-back3 .result) (c .given-back3 .ensures) (c .before .before .before .before .before .if3 .left) _ (c .before .before .before .free-block .ensures)
+    (omega (arith, c .before .before .before .before .before .before .before .before .before .before .before .if2 .left)) (c .before .before .before .before .before .before .before .before .before .refund .result) (c .before .before .before .before .before .before .before .before .drop-hold .result) (c .before .before .before .before .before .before .before .before .before .refund .ensures) (c .before .before .before .before .before .before .before .before .drop-hold .ensures) (c .before .before .before .before .before .before .is-held .result) (c .before .before .before .before .before .before .is-held .ensures) (c .given-back3 .result) (c .given-back3 .ensures) (c .before .before .before .before .before .if3 .left) (length-small _ (sound at .0)) _ (c .before .before .before .free-block .ensures .0)
 
 pub release-spec : {M : Type 1} → statement M
 release-spec =

@@ -1,0 +1,41 @@
+-- `writer::freeing::is_inside` meets its contract: each test that fails denies one of the five facts, and the last one decides.
+-- Assumes nothing.
+use mathlib.Core.Path.{ap}
+use native.Mathlib.Omega.{arith}
+use Rattle.writer.specs.declared.freeing.Room.{Room}
+use Rattle.writer.proofs.Guards.{not-inside, inside-left}
+use borrow.Author.Needs.{needs}
+use Rattle.writer.proofs.freeing.is_inside.Statement.{statement}
+use Rattle.writer.proofs.freeing.is_inside.Tie as tie
+
+returns : tie.Need-returns
+returns c = not-inside _ _ (λ i. omega (arith, i .allowed))
+
+returns-2 : tie.Need-returns-2
+returns-2 c = not-inside _ _ (λ i. omega (arith, i .end))
+
+returns-3 : tie.Need-returns-3
+returns-3 c = not-inside _ _ (λ i. omega (arith, i .end))
+
+returns-4 : tie.Need-returns-4
+returns-4 c = not-inside _ _ (λ i. omega (arith, i .header))
+
+returns-5 : tie.Need-returns-5
+returns-5 c = not-inside _ _ (λ i. omega (arith, i .before))
+
+mul-room-at : tie.Need-mul-room-at
+mul-room-at c = search needs
+
+sub-room-at : tie.Need-sub-room-at
+sub-room-at c = search needs
+
+room-at-requires : tie.Need-room-at-requires
+room-at-requires c κs = search needs
+
+returns-6 : tie.Need-returns-6
+returns-6 c = inside-left _ _ (omega arith) (omega arith) (omega arith) (omega arith) _ (ap (λ (x : Room). x .free) (c .before .before .room-at .ensures))
+
+pub is-inside-spec : {M : Type 1} → statement M
+is-inside-spec =
+    tie.close
+    (tie.spec returns returns-2 returns-3 returns-4 returns-5 mul-room-at sub-room-at room-at-requires returns-6)

@@ -1,0 +1,52 @@
+-- `writer::freeing::join` meets its contract: where one of the blocks has no bytes nothing is written, and else its three writes are the definition's.
+-- Assumes nothing.
+use mathlib.Core.Path.{sym}
+use mathlib.Core.Logic.{inl, inr}
+use borrow.Author.Tests.{lt-ltb}
+use Rattle.writer.specs.Writes.{join-bytes}
+use Rattle.writer.proofs.FreeBytes.{join-none}
+use borrow.Author.Needs.{needs}
+use Rattle.writer.proofs.freeing.join.Statement.{statement}
+use Rattle.writer.proofs.freeing.join.Tie as tie
+
+returns : tie.Need-returns
+returns c = sym (join-none _ _ _ _ _ (inl (c .if1 .taken)))
+
+returns-2 : tie.Need-returns-2
+returns-2 c = sym (join-none _ _ _ _ _ (inr (c .if2 .taken)))
+
+sub-size : tie.Need-sub-size
+sub-size c = search needs
+
+add-zero-part : tie.Need-add-zero-part
+add-zero-part c = search needs
+
+zero-part-requires : tie.Need-zero-part-requires
+zero-part-requires c κs = search needs
+
+write-header-requires : tie.Need-write-header-requires
+write-header-requires c κs = search needs
+
+put-next-requires : tie.Need-put-next-requires
+put-next-requires c κs = search needs
+
+same-length : tie.Need-same-length
+same-length c = search needs
+
+returns-3 : tie.Need-returns-3
+unfolding join-bytes
+returns-3 c = rw (lt-ltb _ _ (c .before .before .before .before .before .before .before .before .before .before .before .before .before .if1 .left), lt-ltb _ _ (c .before .before .before .before .before .before .before .before .before .before .before .before .if2 .left)) (cc)
+
+pub join-spec : {M : Type 1} → statement M
+join-spec =
+    tie.close
+    (tie.spec
+    returns
+    returns-2
+    sub-size
+    add-zero-part
+    zero-part-requires
+    write-header-requires
+    put-next-requires
+    same-length
+    returns-3)

@@ -1,0 +1,117 @@
+// Freeing: a live block becomes free and joins its free neighbours.
+use crate::writing::put_next;
+use crate::writing::put_object;
+use finder::Met;
+use layout::Header;
+use layout::Start;
+ghost use mathlib.Core.Path.{_≡_};
+ghost use Prim.Native.Nat.{_^_, _<_};
+ghost use Rattle.writer.specs.Writes.{join-bytes};
+ghost use Rattle.writer.specs.Freeing.{Inside, room-at, free-block, free-end, is-inside, free-in, free-end-in};
+
+// What a header says of a block: its bytes if it is free, else 0, and the units of the block before it.
+struct Room {
+    free: usize,
+    back: usize,
+}
+
+// Two blocks that stand side by side become one free block; nothing is written where one of them has no bytes.
+fn join(heap: &mut [u8], start: usize, mid: usize, stop: usize, back: usize)
+    requires { ⌜ stop < 2 ^ 32 ⌝ }
+    ensures { λ _. ⌜ now (heap .exit) ≡ join-bytes start mid stop back (now (heap .entry)) ⌝ }
+{
+    if mid <= start {
+        return;
+    }
+    if stop <= mid {
+        return;
+    }
+    let size = (stop - start) / 8;
+    layout::zero_part(heap, mid, mid + 8);
+    layout::write_header(
+        heap,
+        start,
+        Header {
+            size: size,
+            back: back,
+            serial: 0,
+        },
+    );
+    put_next(heap, stop, size);
+}
+
+// The room at a place.
+fn room_at(heap: &[u8], at: usize) -> Room
+    ensures { λ r. ⌜ r ≡ room-at at (now (heap .entry)) ⌝ }
+{
+    let Start::Block(header) = layout::start_at(heap, at) else {
+        return Room { free: 0, back: 0 };
+    };
+    if header.serial != 0 {
+        return Room {
+            free: 0,
+            back: header.back,
+        };
+    }
+    Room {
+        free: 8 * header.size,
+        back: header.back,
+    }
+}
+
+// A live block becomes free and joins its free neighbours; the end of the free block that this makes is given. The first block has no other in front
+// of it and meets itself there, which is not free.
+fn make_free(heap: &mut [u8], block: Met) -> usize
+    requires { ⌜ Inside block (now heap) ⌝ }
+    ensures frees { λ _. ⌜ now (heap .exit) ≡ free-block block (now (heap .entry)) ⌝ }
+    ensures ends { λ r. ⌜ r ≡ free-end block (now (heap .entry)) ⌝ }
+{
+    let at = block.at;
+    let size = block.size;
+    let back = block.back;
+    let end = at + size;
+    let front = room_at(heap, at - 8 * back);
+    let behind = room_at(heap, end);
+    let start = at - front.free;
+    let stop = end + behind.free;
+    put_object(heap, at + 8, size - 8, back, 0);
+    join(heap, at, end, stop, back);
+    join(heap, start, at, stop, front.back);
+    stop
+}
+
+// Whether a block and the one in front of it lie in a heap of an allowed length.
+fn is_inside(heap: &[u8], block: Met) -> bool
+    ensures { λ r. ⌜ r ≡ is-inside block (now (heap .entry)) ⌝ }
+{
+    let len = heap.len();
+    if 32768 < len {
+        return false;
+    }
+    if len < block.at {
+        return false;
+    }
+    if len - block.at < block.size {
+        return false;
+    }
+    if block.size < 8 {
+        return false;
+    }
+    if block.at / 8 < block.back {
+        return false;
+    }
+    let front = room_at(heap, block.at - 8 * block.back);
+    front.free <= block.at
+}
+
+// A live block becomes free and joins its free neighbours, and the end of the free block that this makes is given; nothing is written, and 0 is given, where the block does not
+// lie in the heap.
+pub fn free_block(heap: &mut [u8], block: Met) -> usize
+    ensures frees { λ _. ⌜ now (heap .exit) ≡ free-in block (now (heap .entry)) ⌝ }
+    ensures ends { λ r. ⌜ r ≡ free-end-in block (now (heap .entry)) ⌝ }
+{
+    if !is_inside(heap, block) {
+        return 0;
+    }
+    make_free(heap, block)
+}
