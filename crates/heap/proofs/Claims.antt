@@ -31,9 +31,9 @@ use Rattle.model.specs.declared.Verdict.the-variants.{Accepted}
 use Rattle.model.proofs.Lists.{first-none}
 use Rattle.heap.specs.Results.{amount-outcome}
 use Rattle.heap.specs.Claims.{not-claimed, claimed-length, claim-again, claim-in, claim-first}
-use Rattle.heap.proofs.Lines.{refused-is, accepted-is, line-refuses, line-passes}
-use Rattle.heap.proofs.Records.{found-some, found-record, found-change, nothing-some}
-use Rattle.heap.proofs.Lookups.{byte-quota, located, quota-found, record-found, record-missing}
+use Rattle.access.proofs.Lines.{refused-is, accepted-is, line-refuses, line-passes}
+use Rattle.access.proofs.Records.{found-some, found-record, found-change, nothing-some}
+use Rattle.access.proofs.Lookups.{byte-quota, located, quota-found, record-found, record-missing}
 
 -- a line that is given only where a test holds
 only-passes : (c : Bool) (a b : Line) → c ≡ false → first-refusal (only-if c a ∷ only-if c b ∷ []) ≡ 0

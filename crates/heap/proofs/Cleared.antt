@@ -21,8 +21,8 @@ use Rattle.model.specs.Calls.{leaves, fresh, open-heap}
 use Rattle.model.specs.declared.Refusal.the-variants.{HeapLength}
 use Rattle.model.specs.declared.Verdict.the-variants.{Accepted, Refused}
 use Rattle.model.proofs.Bools.{and-left, and-right}
-use Rattle.heap.specs.Results.{outcome}
-use Rattle.heap.proofs.Lines.{refused-is, accepted-is, line-refuses, line-passes}
+use Rattle.access.specs.Results.{outcome}
+use Rattle.access.proofs.Lines.{refused-is, accepted-is, line-refuses, line-passes}
 
 -- a heap of an allowed length has room for a header, and at most 32,768 bytes
 pub allowed-long : (n : ℕ) → allowed n ≡ true → (8 ≤ n) × (n ≤ 32768)

@@ -36,10 +36,11 @@ use Rattle.finder.specs.declared.Met.{Met}
 use Rattle.finder.specs.declared.Fit.the-variants.{At as Fits, Nowhere}
 use Rattle.finder.specs.Walk.{find-fit}
 use Rattle.heap.specs.declared.HandleResult.{HandleResult}
-use Rattle.heap.specs.Results.{outcome, handle-outcome}
+use Rattle.access.specs.Results.{outcome}
+use Rattle.heap.specs.Results.{handle-outcome}
 use Rattle.writer.specs.Carving.{Room, carve-in}
-use Rattle.heap.proofs.Lines.{check-refuses, check-accepts, check-consistent, refused-is, accepted-is, line-refuses, line-passes, line-3-refuses, line-3-passes}
-use Rattle.heap.proofs.Records.{found-some, found-change, nothing-some}
+use Rattle.access.proofs.Lines.{check-refuses, check-accepts, check-consistent, refused-is, accepted-is, line-refuses, line-passes, line-3-refuses, line-3-passes}
+use Rattle.access.proofs.Records.{found-some, found-change, nothing-some}
 use Rattle.heap.proofs.Placed.{no-base, the-base, the-room, the-bytes}
 
 -- all records are used where none is unused

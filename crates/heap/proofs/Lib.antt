@@ -1,11 +1,6 @@
-pub mod Lines
-pub mod Records
-pub mod Lookups
 pub mod Claims
 pub mod Cleared
 pub mod Placed
 pub mod Granted
-pub mod Listed
-pub mod Lent
 pub mod Released
 pub mod ReleaseAnswers

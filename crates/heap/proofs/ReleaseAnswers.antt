@@ -32,11 +32,12 @@ use Rattle.finder.specs.declared.Lookup.the-variants.{Found, Missing}
 use Rattle.finder.specs.Walk.{find-object}
 use Rattle.finder.proofs.Named.{lookup-missing}
 use Rattle.heap.specs.declared.AmountResult.{AmountResult}
-use Rattle.heap.specs.Results.{outcome, amount-outcome}
+use Rattle.access.specs.Results.{outcome}
+use Rattle.heap.specs.Results.{amount-outcome}
 use Rattle.writer.specs.Freeing.{free-in}
 use Rattle.writer.proofs.Guards.{inside-test, frees}
-use Rattle.heap.proofs.Lines.{check-refuses, check-accepts, refused-is, line-refuses, line-3-refuses, line-3-passes}
-use Rattle.heap.proofs.Records.{nothing-some}
+use Rattle.access.proofs.Lines.{check-refuses, check-accepts, refused-is, line-refuses, line-3-refuses, line-3-passes}
+use Rattle.access.proofs.Records.{nothing-some}
 use Rattle.heap.proofs.Released.{found-handle, inside, named-passes, record-passes, fewer-claims, still-held, no-longer-held}
 
 -- an allowed length is at most 32,768

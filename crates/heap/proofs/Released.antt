@@ -41,10 +41,10 @@ use Rattle.finder.specs.Walk.{object-met, find-object}
 use Rattle.finder.proofs.Parsed.{Stands}
 use Rattle.finder.proofs.Named.{Named, lookup-found}
 use Rattle.accounts.specs.declared.Place.the-variants.{At}
-use Rattle.heap.specs.Results.{outcome}
+use Rattle.access.specs.Results.{outcome}
 use Rattle.writer.specs.Freeing.{Inside, free-block}
-use Rattle.heap.proofs.Lines.{accepted-is, line-passes}
-use Rattle.heap.proofs.Records.{found-some, found-record, found-change}
+use Rattle.access.proofs.Lines.{accepted-is, line-passes}
+use Rattle.access.proofs.Records.{found-some, found-record, found-change}
 use Rattle.writer.proofs.Rooms.{freed-blocks, freed-inside}
 
 -- a record in place of one for which the test says the same changes no answer

@@ -1,4 +1,2 @@
 pub mod Results
 pub mod Claims
-pub mod Listing
-pub mod Lending

@@ -1,15 +1,12 @@
 -- What a call's result and the heap at its exit make together: one outcome. No two results make the same one.
 use Prim.Native.Nat.{ℕ}
 use mathlib.Core.List.{List}
-use Rattle.accounts.specs.declared.Accounts.{Accounts}
-use Rattle.model.specs.Answers.{Values, verdict-values, handle-values, amount-values}
+use Rattle.model.specs.Answers.{verdict-values, handle-values, amount-values}
 use Rattle.model.specs.Calls.{Outcome}
+use Rattle.access.specs.Results.{outcome}
 use Rattle.heap.specs.declared.Opened.{Opened}
 use Rattle.heap.specs.declared.HandleResult.{HandleResult}
 use Rattle.heap.specs.declared.AmountResult.{AmountResult}
-
-abbrev pub outcome : List ℕ → Accounts → Values → Outcome
-outcome s k v = record { heap = s; accounts = k; values = v }
 
 abbrev pub opened-outcome : List ℕ → Opened → Outcome
 opened-outcome s r = outcome s (r .accounts) (verdict-values (r .verdict))

@@ -6,29 +6,25 @@ use model::Verdict;
 
 mod allocation;
 mod claiming;
-mod lending;
-mod listing;
 mod opening;
-mod query;
 mod releasing;
-mod walker;
 
+pub use access::Walker;
+pub use access::advance;
+pub use access::can_release;
+pub use access::lend;
+pub use access::list_block;
+pub use access::list_from;
+pub use access::next;
+pub use access::object_range;
+pub use access::remaining;
+pub use access::walk;
+pub use access::write_object;
 pub use allocation::allocate;
 pub use allocation::allocate_array;
 pub use claiming::claim;
-pub use lending::lend;
-pub use lending::write_object;
-pub use listing::list_block;
 pub use opening::open;
-pub use query::can_release;
-pub use query::object_range;
-pub use query::remaining;
 pub use releasing::release;
-pub use walker::Walker;
-pub use walker::advance;
-pub use walker::list_from;
-pub use walker::next;
-pub use walker::walk;
 
 // What open gives: the accounts, all zero where it is refused, and the verdict.
 pub struct Opened {

@@ -11,8 +11,8 @@ use Rattle.model.specs.Refusals.{line-3, line-5, claim-lines}
 use Rattle.model.specs.Calls.{claim}
 use Rattle.model.specs.declared.Refusal.the-variants.{QuotaNumber, NoSuchObject}
 use Rattle.heap.specs.Results.{amount-outcome}
-use Rattle.heap.proofs.Lines.{check-refuses, check-accepts, refused-is, line-3-refuses}
-use Rattle.heap.proofs.Lookups.{located, quota-missing}
+use Rattle.access.proofs.Lines.{check-refuses, check-accepts, refused-is, line-3-refuses}
+use Rattle.access.proofs.Lookups.{located, quota-missing}
 use Rattle.heap.proofs.Claims.{claim-rest, claims-again, claims-anew}
 use Rattle.heap.proofs.claiming.claim.Statement.{statement}
 use Rattle.heap.proofs.claiming.claim.Tie as tie

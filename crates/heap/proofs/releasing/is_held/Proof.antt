@@ -11,7 +11,7 @@ use lib.ListN.{length, getD}
 use Rattle.accounts.specs.Accounts.{HOLDS, zero-hold}
 use Rattle.accounts.proofs.Laws.{first-found, none-nothing}
 use Rattle.model.specs.Consistent.{is-of, held}
-use Rattle.heap.proofs.Records.{found-some, nothing-some}
+use Rattle.access.proofs.Records.{found-some, nothing-some}
 use Rattle.heap.proofs.releasing.is_held.Statement.{statement}
 use Rattle.heap.proofs.releasing.is_held.Tie as tie
 

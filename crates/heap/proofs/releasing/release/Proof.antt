@@ -14,7 +14,7 @@ use Rattle.model.specs.Refusals.{first-refusal, release-lines}
 use Rattle.model.specs.declared.Refusal.the-variants.{QuotaNumber, NoSuchObject, NotHeld}
 use Rattle.finder.specs.Walk.{find-object}
 use Rattle.finder.specs.declared.Lookup.the-variants.{Found}
-use Rattle.heap.proofs.Lines.{check-consistent}
+use Rattle.access.proofs.Lines.{check-consistent}
 use Rattle.heap.proofs.Released.{charge-small}
 use Rattle.heap.proofs.ReleaseAnswers.{length-small, by-check, by-quota, by-object, by-record, lines-pass, refuses, fewer-result, held-result, freed-result}
 use borrow.Author.Needs.{needs}

@@ -1,0 +1,5 @@
+pub mod Lines
+pub mod Records
+pub mod Lookups
+pub mod Listed
+pub mod Lent

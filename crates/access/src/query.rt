@@ -1,0 +1,64 @@
+// The calls that change nothing.
+use accounts::Accounts;
+use accounts::Place;
+use accounts::QUOTAS;
+use finder::Lookup;
+use model::AmountAnswer;
+use model::Handle;
+use model::Range;
+use model::RangeAnswer;
+use model::Refusal;
+use model::Verdict;
+ghost use mathlib.Core.Path.{_≡_};
+ghost use Rattle.model.specs.Answers.{amount-values, range-values, verdict-values};
+ghost use Rattle.model.specs.Calls.{can-release, lend, remaining-of};
+ghost use Rattle.access.specs.Results.{outcome};
+
+// What remains of a quota.
+pub fn remaining(heap: &[u8], accounts: Accounts, quota: u32) -> AmountAnswer
+    ensures { λ r. ⌜ outcome (now (heap .entry)) accounts (amount-values r) ≡ remaining-of (now (heap .entry)) accounts quota ⌝ }
+{
+    if let Verdict::Refused(refusal) = checker::check(heap, accounts) {
+        return AmountAnswer::Refused(refusal);
+    }
+    if QUOTAS <= quota as usize {
+        return AmountAnswer::Refused(Refusal::QuotaNumber);
+    }
+    AmountAnswer::Amount(accounts.remaining(quota))
+}
+
+// Whether a quota can release an object: the refusal that release would give, or none.
+pub fn can_release(heap: &[u8], accounts: Accounts, quota: u32, handle: Handle) -> Verdict
+    ensures { λ r. ⌜ outcome (now (heap .entry)) accounts (verdict-values r) ≡ can-release (now (heap .entry)) accounts quota handle ⌝ }
+{
+    if let Verdict::Refused(refusal) = checker::check(heap, accounts) {
+        return Verdict::Refused(refusal);
+    }
+    if QUOTAS <= quota as usize {
+        return Verdict::Refused(Refusal::QuotaNumber);
+    }
+    let Lookup::Found(block) = finder::find_object(heap, handle) else {
+        return Verdict::Refused(Refusal::NoSuchObject);
+    };
+    let holder = (quota % 256) as u8;
+    let Place::At(_) = accounts.find_hold(block.serial, holder) else {
+        return Verdict::Refused(Refusal::NotHeld);
+    };
+    Verdict::Accepted
+}
+
+// The part of the heap where the object that a handle names has its bytes.
+pub fn object_range(heap: &[u8], accounts: Accounts, handle: Handle) -> RangeAnswer
+    ensures { λ r. ⌜ outcome (now (heap .entry)) accounts (range-values r) ≡ lend (now (heap .entry)) accounts handle ⌝ }
+{
+    if let Verdict::Refused(refusal) = checker::check(heap, accounts) {
+        return RangeAnswer::Refused(refusal);
+    }
+    let Lookup::Found(block) = finder::find_object(heap, handle) else {
+        return RangeAnswer::Refused(Refusal::NoSuchObject);
+    };
+    RangeAnswer::Lent(Range {
+        start: block.at + 8,
+        end: block.at + block.size,
+    })
+}
