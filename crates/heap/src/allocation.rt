@@ -16,6 +16,7 @@ ghost use Rattle.model.specs.declared.HandleAnswer.the-variants.{Given, Refused
 ghost use Rattle.model.specs.Calls.{allocate as allocate-of, allocate-array};
 ghost use Rattle.rounding.specs.Rounding.{unit};
 ghost use Rattle.heap.specs.Results.{handle-outcome};
+ghost use Rattle.heap.specs.Ready.{Ready};
 
 // A refused call's result.
 fn refused(accounts: Accounts, refusal: Refusal) -> HandleResult
@@ -58,6 +59,33 @@ fn booked(accounts: Accounts, quota: u8, charge: u32, place: usize, serial: u32)
     held.with_last_serial(serial)
 }
 
+// Allocation behind the first four lines: the other refusals in their order, then the object is cut out and its quota pays.
+pub(crate) fn grant(heap: &mut [u8], accounts: Accounts, quota: u32, length: u32) -> HandleResult
+    requires { ⌜ Ready (now heap) accounts quota length ⌝ }
+    ensures { λ r. ⌜ handle-outcome (now (heap .exit)) r ≡ allocate-of unit (now (heap .entry)) accounts quota length ⌝ }
+{
+    let size = rounding::object_length(length) as u32;
+    let charge = size + 8;
+    if accounts.remaining(quota) < charge {
+        return refused(accounts, Refusal::QuotaExceeded);
+    }
+    let Place::At(place) = accounts.lowest_unused() else {
+        return refused(accounts, Refusal::HoldsExhausted);
+    };
+    let last = accounts.last_serial;
+    if 4294967295 <= last {
+        return refused(accounts, Refusal::SerialsExhausted);
+    }
+    let alignment = rounding::alignment(length);
+    let Fit::At(block, base) = finder::find_base(heap, alignment, size as usize) else {
+        return refused(accounts, Refusal::NoSpace);
+    };
+    let serial = last + 1;
+    writer::carve(heap, block, base, size as usize, serial);
+    let next = booked(accounts, quota as u8, charge, place, serial);
+    given(next, base, size, serial)
+}
+
 // Allocation for a length of any size.
 fn allocate_wide(heap: &mut [u8], accounts: Accounts, quota: u32, length: u64) -> HandleResult
     ensures { λ r. ⌜ handle-outcome (now (heap .exit)) r ≡ allocate-of unit (now (heap .entry)) accounts quota length ⌝ }
@@ -74,27 +102,7 @@ fn allocate_wide(heap: &mut [u8], accounts: Accounts, quota: u32, length: u64) -
     if 32760 < length {
         return refused(accounts, Refusal::ObjectLength);
     }
-    let asked = length as u32;
-    let size = rounding::object_length(asked) as u32;
-    let charge = size + 8;
-    if accounts.remaining(quota) < charge {
-        return refused(accounts, Refusal::QuotaExceeded);
-    }
-    let Place::At(place) = accounts.lowest_unused() else {
-        return refused(accounts, Refusal::HoldsExhausted);
-    };
-    let last = accounts.last_serial;
-    if 4294967295 <= last {
-        return refused(accounts, Refusal::SerialsExhausted);
-    }
-    let alignment = rounding::alignment(asked);
-    let Fit::At(block, base) = finder::find_base(heap, alignment, size as usize) else {
-        return refused(accounts, Refusal::NoSpace);
-    };
-    let serial = last + 1;
-    writer::carve(heap, block, base, size as usize, serial);
-    let next = booked(accounts, quota as u8, charge, place, serial);
-    given(next, base, size, serial)
+    grant(heap, accounts, quota, length as u32)
 }
 
 // A new object of at least `length` bytes.
