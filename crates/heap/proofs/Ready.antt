@@ -12,8 +12,8 @@ use Rattle.accounts.specs.declared.Accounts.{Accounts}
 use Rattle.accounts.specs.Accounts.{QUOTAS}
 use Rattle.model.specs.Answers.{verdict-values}
 use Rattle.model.specs.Consistent.{allowed, consistent}
-use Rattle.model.specs.Refusals.{Line, first-refusal, line-1, line-2, line-3, line-4, greatest-length}
-use Rattle.model.specs.Calls.{check}
+use Rattle.model.specs.Refusals.{Line, first-refusal, line-1, line-2, line-3, line-4, greatest-length, check-lines}
+use Rattle.model.specs.Calls.{unless, check}
 use Rattle.model.specs.declared.Verdict.{Verdict}
 use Rattle.model.specs.declared.Verdict.the-variants.{Accepted}
 use Rattle.model.proofs.Bools.{or-right}
@@ -30,6 +30,11 @@ checked-passes s k q rest c =
     line-passes 1 (not (allowed (length s))) (line-2 s k ∷ line-3 q ∷ rest) (rw (c .extent))
     ∙ line-passes 2 (not (consistent s k)) (line-3 q ∷ rest) (rw (c .sound))
     ∙ line-3-passes q rest (c .exists)
+
+-- the check accepts it
+pub accepted-check : (s : List ℕ) (k : Accounts) (q : ℕ) → Checked s k q → verdict-values Accepted ≡ check s k .values
+unfolding verdict-values check check-lines unless line-1 line-2 first-refusal
+accepted-check s k q c = rw (c .extent, c .sound)
 
 -- 4: the length
 pub line-4-zero : (n : ℕ) (rest : List Line) → n ≡ 0 → first-refusal (line-4 n ∷ rest) ≡ 4
