@@ -1,4 +1,5 @@
 pub mod Ready
+pub mod Typed
 pub mod Claims
 pub mod Cleared
 pub mod Placed
@@ -6,3 +7,4 @@ pub mod Granted
 pub mod Released
 pub mod ReleaseAnswers
 pub mod Reallocated
+pub mod ReallocateAnswers

@@ -45,7 +45,7 @@ use Rattle.heap.proofs.Ready.{checked-passes, ready-passes}
 use Rattle.heap.proofs.Granted.{from-8}
 
 -- a handle that names an object names it to reallocate too
-whole-named : (h old : Handle) (s : List ℕ) → lookup h s ≡ some old → (lookup-whole h s ≡ some old) × (found (lookup-whole h s) ≡ old)
+pub whole-named : (h old : Handle) (s : List ℕ) → lookup h s ≡ some old → (lookup-whole h s ≡ some old) × (found (lookup-whole h s) ≡ old)
 unfolding found or-else
 whole-named h old s e = rw (lookup-whole-is h s, e) (refl, refl)
 

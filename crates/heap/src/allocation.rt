@@ -12,21 +12,11 @@ use model::Verdict;
 ghost use mathlib.Core.Path.{_≡_};
 ghost use Prim.Native.Nat.{_≤_};
 ghost use Rattle.accounts.specs.Accounts.{with-last-serial, put-hold, charge as charge-to};
-ghost use Rattle.model.specs.declared.HandleAnswer.the-variants.{Given, Refused};
+ghost use Rattle.model.specs.declared.HandleAnswer.the-variants.{Given};
 ghost use Rattle.model.specs.Calls.{allocate as allocate-of, allocate-array};
 ghost use Rattle.rounding.specs.Rounding.{unit};
 ghost use Rattle.heap.specs.Results.{handle-outcome};
 ghost use Rattle.heap.specs.Ready.{Ready};
-
-// A refused call's result.
-fn refused(accounts: Accounts, refusal: Refusal) -> HandleResult
-    ensures { λ r. ⌜ r ≡ record { accounts = accounts; answer = Refused refusal } ⌝ }
-{
-    HandleResult {
-        accounts: accounts,
-        answer: HandleAnswer::Refused(refusal),
-    }
-}
 
 // An accepted call's result.
 fn given(accounts: Accounts, base: usize, length: u32, serial: u32) -> HandleResult
@@ -67,18 +57,18 @@ pub(crate) fn grant(heap: &mut [u8], accounts: Accounts, quota: u32, length: u32
     let size = rounding::object_length(length) as u32;
     let charge = size + 8;
     if accounts.remaining(quota) < charge {
-        return refused(accounts, Refusal::QuotaExceeded);
+        return HandleResult::refused(accounts, Refusal::QuotaExceeded);
     }
     let Place::At(place) = accounts.lowest_unused() else {
-        return refused(accounts, Refusal::HoldsExhausted);
+        return HandleResult::refused(accounts, Refusal::HoldsExhausted);
     };
     let last = accounts.last_serial;
     if 4294967295 <= last {
-        return refused(accounts, Refusal::SerialsExhausted);
+        return HandleResult::refused(accounts, Refusal::SerialsExhausted);
     }
     let alignment = rounding::alignment(length);
     let Fit::At(block, base) = finder::find_base(heap, alignment, size as usize) else {
-        return refused(accounts, Refusal::NoSpace);
+        return HandleResult::refused(accounts, Refusal::NoSpace);
     };
     let serial = last + 1;
     writer::carve(heap, block, base, size as usize, serial);
@@ -91,16 +81,16 @@ fn allocate_wide(heap: &mut [u8], accounts: Accounts, quota: u32, length: u64) -
     ensures { λ r. ⌜ handle-outcome (now (heap .exit)) r ≡ allocate-of unit (now (heap .entry)) accounts quota length ⌝ }
 {
     if let Verdict::Refused(refusal) = checker::check(heap, accounts) {
-        return refused(accounts, refusal);
+        return HandleResult::refused(accounts, refusal);
     }
     if QUOTAS <= quota as usize {
-        return refused(accounts, Refusal::QuotaNumber);
+        return HandleResult::refused(accounts, Refusal::QuotaNumber);
     }
     if length == 0 {
-        return refused(accounts, Refusal::ObjectLength);
+        return HandleResult::refused(accounts, Refusal::ObjectLength);
     }
     if 32760 < length {
-        return refused(accounts, Refusal::ObjectLength);
+        return HandleResult::refused(accounts, Refusal::ObjectLength);
     }
     grant(heap, accounts, quota, length as u32)
 }

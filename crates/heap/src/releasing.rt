@@ -44,16 +44,6 @@ pub(crate) fn is_held(holds: [Hold; HOLDS], serial: u32) -> bool
     false
 }
 
-// A refusal, with the accounts as they were.
-fn refused(accounts: Accounts, refusal: Refusal) -> AmountResult
-    ensures { λ r. ⌜ r ≡ record { accounts = accounts; answer = AmountAnswer.Refused refusal } ⌝ }
-{
-    AmountResult {
-        accounts: accounts,
-        answer: AmountAnswer::Refused(refusal),
-    }
-}
-
 // What is given back, with the accounts after it.
 fn given_back(accounts: Accounts, amount: u32) -> AmountResult
     ensures { λ r. ⌜ r ≡ record { accounts = accounts; answer = AmountAnswer.Amount amount } ⌝ }
@@ -106,10 +96,10 @@ pub(crate) fn give_up(
     ensures { λ r. ⌜ amount-outcome (now (heap .exit)) r ≡ release-of (now (heap .entry)) accounts quota handle ⌝ }
 {
     let Lookup::Found(block) = finder::find_object(heap, handle) else {
-        return refused(accounts, Refusal::NoSuchObject);
+        return AmountResult::refused(accounts, Refusal::NoSuchObject);
     };
     let Place::At(place) = accounts.find_hold(block.serial, quota as u8) else {
-        return refused(accounts, Refusal::NotHeld);
+        return AmountResult::refused(accounts, Refusal::NotHeld);
     };
     drop_claim(heap, accounts, quota, block, place)
 }
@@ -119,10 +109,10 @@ pub fn release(heap: &mut [u8], accounts: Accounts, quota: u32, handle: Handle) 
     ensures { λ r. ⌜ amount-outcome (now (heap .exit)) r ≡ release-of (now (heap .entry)) accounts quota handle ⌝ }
 {
     if let Verdict::Refused(refusal) = checker::check(heap, accounts) {
-        return refused(accounts, refusal);
+        return AmountResult::refused(accounts, refusal);
     }
     if QUOTAS <= quota as usize {
-        return refused(accounts, Refusal::QuotaNumber);
+        return AmountResult::refused(accounts, Refusal::QuotaNumber);
     }
     give_up(heap, accounts, quota, handle)
 }
