@@ -37,7 +37,7 @@ after-two (m when false) (l when true) rest d e = absurd (omega (arith, leb-true
 after-two (m when false) (l when false) rest d e = refl
 
 -- a refusal's number is not 0
-number-some : (r : Refusal) → (n : ℕ) × (refusal-number r ≡ suc n)
+pub number-some : (r : Refusal) → (n : ℕ) × (refusal-number r ≡ suc n)
 number-some r = go (refusal-number r) (refusal-number-is r .1)
   where
     go : (x : ℕ) → 1 ≤ x → (n : ℕ) × (x ≡ suc n)

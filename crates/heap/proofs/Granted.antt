@@ -21,7 +21,7 @@ use Rattle.model.specs.Answers.{refusal-number, given, verdict-values, handle-v
 use Rattle.model.specs.Lists.{all, any, is-none, or-else}
 use Rattle.model.specs.Consistent.{charge-of}
 use Rattle.model.specs.Holds.{take-record}
-use Rattle.model.specs.Refusals.{Line, first-refusal, line-3, line-4, line-8, line-9, line-10, line-11, greatest-length, greatest-serial, base-for, allocate-lines}
+use Rattle.model.specs.Refusals.{Line, first-refusal, line-3, line-4, line-8, line-9, line-10, line-11, greatest-serial, base-for, allocate-lines}
 use Rattle.model.specs.Calls.{unless, check, leaves, state-of, allocated, new-object, allocate}
 use Rattle.model.specs.declared.Handle.{Handle}
 use Rattle.model.specs.declared.Refusal.{Refusal}
@@ -38,9 +38,11 @@ use Rattle.finder.specs.Walk.{find-fit}
 use Rattle.heap.specs.declared.HandleResult.{HandleResult}
 use Rattle.access.specs.Results.{outcome}
 use Rattle.heap.specs.Results.{handle-outcome}
-use Rattle.writer.specs.Carving.{Room, carve-in}
-use Rattle.access.proofs.Lines.{check-refuses, check-accepts, check-consistent, refused-is, accepted-is, line-refuses, line-passes, line-3-refuses, line-3-passes}
+use Rattle.writer.specs.Carving.{carve-in}
+use Rattle.heap.specs.Ready.{Checked, Ready}
+use Rattle.access.proofs.Lines.{check-refuses, check-accepts, refused-is, accepted-is, line-refuses, line-passes, line-3-refuses}
 use Rattle.access.proofs.Records.{found-some, found-change, nothing-some}
+use Rattle.heap.proofs.Ready.{checked-passes, ready-passes}
 use Rattle.heap.proofs.Placed.{no-base, the-base, the-room, the-bytes}
 
 -- all records are used where none is unused
@@ -105,108 +107,93 @@ module _ (s : List ℕ) (k : Accounts) (q n : ℕ) where
       ap (handle-outcome s) e
       ∙ refused-is number s k (leaves (allocated q (new-object unit s k n) (state-of s k)) (given (new-object unit s k n))) f g
 
--- the object's place, where the check accepts
-pub the-place : (s : List ℕ) (k : Accounts) (n : ℕ) (v : Verdict) → verdict-values v ≡ check s k .values → v ≡ Accepted → (m : Met) (b : ℕ)
-    → find-fit (alignment unit n) (object-length unit n) s ≡ Fits m b → Room m b (object-length unit n)
-the-place s k n v told a m b fit = let p = check-consistent s k v told a in the-room s k n (p .1) m b fit (p .0)
-
-module _ (s : List ℕ) (k : Accounts) (q n : ℕ) (v : Verdict) (told : verdict-values v ≡ check s k .values) (r : HandleResult) where
-  pub refused-check : (f : Refusal) → v ≡ Refused f → r ≡ record { accounts = k; answer = NotGiven f } → handle-outcome s r ≡ allocate unit s k q n
+  -- the first four lines
+  pub refused-check : (v : Verdict) → verdict-values v ≡ check s k .values → (f : Refusal) → v ≡ Refused f → (r : HandleResult) → r ≡ record { accounts = k; answer = NotGiven f }
+      → handle-outcome s r ≡ allocate unit s k q n
   unfolding allocate-lines
-  refused-check f a e = refused-by s k q n r f e (check-refuses s k v told (from-3 s k q n) f a)
+  refused-check v told f a r e = refused-by r f e (check-refuses s k v told from-3 f a)
 
-  module _ (a : v ≡ Accepted) where
-    to-3 : number s k q n ≡ first-refusal (from-3 s k q n)
-    unfolding allocate-lines
-    to-3 = check-accepts s k v told (from-3 s k q n) a
+  pub refused-3 : (v : Verdict) → verdict-values v ≡ check s k .values → v ≡ Accepted → QUOTAS ≤ q → (r : HandleResult) → r ≡ record { accounts = k; answer = NotGiven QuotaNumber }
+      → handle-outcome s r ≡ allocate unit s k q n
+  unfolding allocate-lines
+  refused-3 v told a h r e = refused-by r QuotaNumber e (check-accepts s k v told from-3 a ∙ line-3-refuses q from-4 h)
 
-    pub refused-3 : QUOTAS ≤ q → r ≡ record { accounts = k; answer = NotGiven QuotaNumber } → handle-outcome s r ≡ allocate unit s k q n
-    refused-3 h e = refused-by s k q n r QuotaNumber e (to-3 ∙ line-3-refuses q (from-4 s k q n) h)
+  pub refused-4 : Checked s k q → first-refusal from-4 ≡ 4 → (r : HandleResult) → r ≡ record { accounts = k; answer = NotGiven ObjectLength }
+      → handle-outcome s r ≡ allocate unit s k q n
+  unfolding allocate-lines
+  refused-4 c h r e = refused-by r ObjectLength e (checked-passes s k q from-4 c ∙ h)
 
-    module _ (h3 : q < QUOTAS) where
-      to-4 : number s k q n ≡ first-refusal (from-4 s k q n)
-      to-4 = to-3 ∙ line-3-passes q (from-4 s k q n) h3
+-- the others, of a request that is ready
+module _ (s : List ℕ) (k : Accounts) (q n : ℕ) (y : Ready s k q n) (r : HandleResult) where
+  to-8 : number s k q n ≡ first-refusal (from-8 s k q n)
+  unfolding allocate-lines
+  to-8 = ready-passes s k q n (from-8 s k q n) y
 
-      refused-4 : (eqb n 0 || ltb greatest-length n) ≡ true → r ≡ record { accounts = k; answer = NotGiven ObjectLength } → handle-outcome s r ≡ allocate unit s k q n
-      unfolding line-4
-      refused-4 h e = refused-by s k q n r ObjectLength e (to-4 ∙ line-refuses 4 (eqb n 0 || ltb greatest-length n) (from-8 s k q n) h)
+  pub refused-8 : remaining q k < object-length unit n + 8 → r ≡ record { accounts = k; answer = NotGiven QuotaExceeded } → handle-outcome s r ≡ allocate unit s k q n
+  unfolding line-8
+  refused-8 h e =
+      refused-by s k q n r QuotaExceeded e
+      (to-8 ∙ line-refuses 8 (ltb (remaining q k) (object-length unit n + 8)) (from-9 s k q n) (lt-ltb (remaining q k) (object-length unit n + 8) h))
 
-      pub refused-zero : n ≡ 0 → r ≡ record { accounts = k; answer = NotGiven ObjectLength } → handle-outcome s r ≡ allocate unit s k q n
-      refused-zero h e = refused-4 (rw (eq-eqb n 0 h)) e
+  module _ (h8 : object-length unit n + 8 ≤ remaining q k) where
+    to-9 : number s k q n ≡ first-refusal (from-9 s k q n)
+    unfolding line-8
+    to-9 = to-8 ∙ line-passes 8 (ltb (remaining q k) (object-length unit n + 8)) (from-9 s k q n) (le-ltb (remaining q k) (object-length unit n + 8) h8)
 
-      pub refused-long : (n ≡ 0 → ⊥) → greatest-length < n → r ≡ record { accounts = k; answer = NotGiven ObjectLength } → handle-outcome s r ≡ allocate unit s k q n
-      refused-long z h e = refused-4 (rw (ne-eqb n 0 z, lt-ltb greatest-length n h)) e
+    pub refused-9 : lowest-unused k ≡ Nothing → r ≡ record { accounts = k; answer = NotGiven HoldsExhausted } → handle-outcome s r ≡ allocate unit s k q n
+    unfolding line-9 lowest-unused
+    refused-9 h e =
+        refused-by s k q n r HoldsExhausted e
+        (to-9 ∙ line-refuses 9 (all used (k .holds)) (from-10 s k q n) (used-unused (k .holds) ∙ ap not (nothing-some unused (k .holds) 0 h)))
 
-      module _ (some-bytes : n ≡ 0 → ⊥) (h4 : n ≤ greatest-length) where
-        to-8 : number s k q n ≡ first-refusal (from-8 s k q n)
-        unfolding line-4
-        to-8 = to-4 ∙ line-passes 4 (eqb n 0 || ltb greatest-length n) (from-8 s k q n) (rw (ne-eqb n 0 some-bytes, le-ltb greatest-length n h4))
+    module _ (place : ℕ) (h9 : lowest-unused k ≡ At place) where
+      to-10 : number s k q n ≡ first-refusal (from-10 s k q n)
+      unfolding line-9 lowest-unused
+      to-10 = to-9 ∙ line-passes 9 (all used (k .holds)) (from-10 s k q n) (used-unused (k .holds) ∙ ap not (found-some unused (k .holds) place h9))
 
-        pub refused-8 : remaining q k < object-length unit n + 8 → r ≡ record { accounts = k; answer = NotGiven QuotaExceeded } → handle-outcome s r ≡ allocate unit s k q n
-        unfolding line-8
-        refused-8 h e =
-            refused-by s k q n r QuotaExceeded e
-            (to-8 ∙ line-refuses 8 (ltb (remaining q k) (object-length unit n + 8)) (from-9 s k q n) (lt-ltb (remaining q k) (object-length unit n + 8) h))
+      pub refused-10 : k .«last_serial» ≡ greatest-serial → r ≡ record { accounts = k; answer = NotGiven SerialsExhausted } → handle-outcome s r ≡ allocate unit s k q n
+      unfolding line-10
+      refused-10 h e =
+          refused-by s k q n r SerialsExhausted e
+          (to-10 ∙ line-refuses 10 (eqb (k .«last_serial») greatest-serial) (from-11 s k q n) (eq-eqb (k .«last_serial») greatest-serial h))
 
-        module _ (h8 : object-length unit n + 8 ≤ remaining q k) where
-          to-9 : number s k q n ≡ first-refusal (from-9 s k q n)
-          unfolding line-8
-          to-9 = to-8 ∙ line-passes 8 (ltb (remaining q k) (object-length unit n + 8)) (from-9 s k q n) (le-ltb (remaining q k) (object-length unit n + 8) h8)
+      module _ (h10 : k .«last_serial» < greatest-serial) where
+        to-11 : number s k q n ≡ first-refusal (from-11 s k q n)
+        unfolding line-10
+        to-11 = to-10 ∙ line-passes 10 (eqb (k .«last_serial») greatest-serial) (from-11 s k q n) (ne-eqb (k .«last_serial») greatest-serial (λ e. omega arith))
 
-          pub refused-9 : lowest-unused k ≡ Nothing → r ≡ record { accounts = k; answer = NotGiven HoldsExhausted } → handle-outcome s r ≡ allocate unit s k q n
-          unfolding line-9 lowest-unused
-          refused-9 h e =
-              refused-by s k q n r HoldsExhausted e
-              (to-9 ∙ line-refuses 9 (all used (k .holds)) (from-10 s k q n) (used-unused (k .holds) ∙ ap not (nothing-some unused (k .holds) 0 h)))
+        pub refused-11 : find-fit (alignment unit n) (object-length unit n) s ≡ Nowhere → r ≡ record { accounts = k; answer = NotGiven NoSpace }
+            → handle-outcome s r ≡ allocate unit s k q n
+        unfolding line-11 is-none
+        refused-11 h e =
+            refused-by s k q n r NoSpace e
+            (to-11 ∙ line-refuses 11 (is-none (base-for unit s n)) [] (rw (no-base s k n (y .checked .sound) h)))
 
-          module _ (place : ℕ) (h9 : lowest-unused k ≡ At place) where
-            to-10 : number s k q n ≡ first-refusal (from-10 s k q n)
-            unfolding line-9 lowest-unused
-            to-10 = to-9 ∙ line-passes 9 (all used (k .holds)) (from-10 s k q n) (used-unused (k .holds) ∙ ap not (found-some unused (k .holds) place h9))
+        module _ (m : Met) (b : ℕ) (fit : find-fit (alignment unit n) (object-length unit n) s ≡ Fits m b) where
+          to-end : number s k q n ≡ 0
+          unfolding line-11 is-none first-refusal
+          to-end = to-11 ∙ line-passes 11 (is-none (base-for unit s n)) [] (rw (the-base s k n (y .checked .sound) m b fit))
 
-            pub refused-10 : k .«last_serial» ≡ greatest-serial → r ≡ record { accounts = k; answer = NotGiven SerialsExhausted } → handle-outcome s r ≡ allocate unit s k q n
-            unfolding line-10
-            refused-10 h e =
-                refused-by s k q n r SerialsExhausted e
-                (to-10 ∙ line-refuses 10 (eqb (k .«last_serial») greatest-serial) (from-11 s k q n) (eq-eqb (k .«last_serial») greatest-serial h))
+          granted-whole : Octets s → (t : List ℕ)
+              → t ≡ carve-bytes (m .at) (m .at + m .size) b (object-length unit n) (m .back) (k .«last_serial» + 1) s
+              → r ≡ result-of q (object-length unit n) place b k → handle-outcome t r ≡ allocate unit s k q n
+          unfolding allocate handle-values allocated new-object or-else
+          granted-whole o t w e =
+              let ok = y .checked .sound in
+              let serial = k .«last_serial» + 1 in
+              let h : Handle = record { base = b; length = object-length unit n; serial = serial } in
+              let x = the-base s k n ok m b fit in
+              let u = w ∙ the-bytes s k n ok m b fit o serial in
+              let z = booked-is q (object-length unit n) place serial k h9 in
+              ap (handle-outcome t) e
+              ∙ (λ i. outcome (u i) (z i) (given h))
+              ∙ accepted-is (number s k q n) s k (leaves (allocated q h (state-of s k)) (given h)) to-end
+              ∙ ap (λ (o : Option ℕ). unless (number s k q n) s k (leaves (allocated q (object-at s k n o) (state-of s k)) (given (object-at s k n o)))) (sym x)
 
-            module _ (h10 : k .«last_serial» < greatest-serial) where
-              to-11 : number s k q n ≡ first-refusal (from-11 s k q n)
-              unfolding line-10
-              to-11 = to-10 ∙ line-passes 10 (eqb (k .«last_serial») greatest-serial) (from-11 s k q n) (ne-eqb (k .«last_serial») greatest-serial (λ e. omega arith))
-
-              pub refused-11 : find-fit (alignment unit n) (object-length unit n) s ≡ Nowhere → r ≡ record { accounts = k; answer = NotGiven NoSpace }
-                  → handle-outcome s r ≡ allocate unit s k q n
-              unfolding line-11 is-none
-              refused-11 h e =
-                  refused-by s k q n r NoSpace e
-                  (to-11 ∙ line-refuses 11 (is-none (base-for unit s n)) [] (rw (no-base s k n (check-consistent s k v told a .1) h)))
-
-              module _ (m : Met) (b : ℕ) (fit : find-fit (alignment unit n) (object-length unit n) s ≡ Fits m b) where
-                to-end : number s k q n ≡ 0
-                unfolding line-11 is-none first-refusal
-                to-end = to-11 ∙ line-passes 11 (is-none (base-for unit s n)) [] (rw (the-base s k n (check-consistent s k v told a .1) m b fit))
-
-                granted-whole : Octets s → (t : List ℕ)
-                    → t ≡ carve-bytes (m .at) (m .at + m .size) b (object-length unit n) (m .back) (k .«last_serial» + 1) s
-                    → r ≡ result-of q (object-length unit n) place b k → handle-outcome t r ≡ allocate unit s k q n
-                unfolding allocate handle-values allocated new-object or-else
-                granted-whole o t w e =
-                    let ok = check-consistent s k v told a .1 in
-                    let serial = k .«last_serial» + 1 in
-                    let h : Handle = record { base = b; length = object-length unit n; serial = serial } in
-                    let x = the-base s k n ok m b fit in
-                    let y = w ∙ the-bytes s k n ok m b fit o serial in
-                    let z = booked-is q (object-length unit n) place serial k h9 in
-                    ap (handle-outcome t) e
-                    ∙ (λ i. outcome (y i) (z i) (given h))
-                    ∙ accepted-is (number s k q n) s k (leaves (allocated q h (state-of s k)) (given h)) to-end
-                    ∙ ap (λ (o : Option ℕ). unless (number s k q n) s k (leaves (allocated q (object-at s k n o) (state-of s k)) (given (object-at s k n o)))) (sym x)
-
-                pub granted : Octets s → (t : List ℕ) (z : ℕ) → z ≡ object-length unit n → t ≡ carve-in m b z (k .«last_serial» + 1) s
-                    → r ≡ result-of q z place b k → handle-outcome t r ≡ allocate unit s k q n
-                granted o t z ez w e =
-                    let serial = k .«last_serial» + 1 in
-                    let room = room-test m b (object-length unit n) (the-place s k n v told a m b fit) in
-                    granted-whole o t (w ∙ ap (λ (l : ℕ). carve-in m b l serial s) ez ∙ sym (carves m b (object-length unit n) serial s room))
-                    (e ∙ ap (λ (l : ℕ). result-of q l place b k) ez)
+          pub granted : Octets s → (t : List ℕ) (z : ℕ) → z ≡ object-length unit n → t ≡ carve-in m b z (k .«last_serial» + 1) s
+              → r ≡ result-of q z place b k → handle-outcome t r ≡ allocate unit s k q n
+          granted o t z ez w e =
+              let serial = k .«last_serial» + 1 in
+              let room = room-test m b (object-length unit n) (the-room s k n (y .checked .sound) m b fit (y .checked .extent)) in
+              granted-whole o t (w ∙ ap (λ (l : ℕ). carve-in m b l serial s) ez ∙ sym (carves m b (object-length unit n) serial s room))
+              (e ∙ ap (λ (l : ℕ). result-of q l place b k) ez)

@@ -20,20 +20,18 @@ use Rattle.accounts.proofs.Laws.{found-first, set-same, refund-kept}
 use Rattle.layout.specs.Bytes.{Octets}
 use Rattle.layout.specs.Blocks.{Block, size, live, render, AllWritable}
 use Rattle.layout.proofs.Parse.{parse-is}
-use Rattle.model.specs.Lists.{all, any, total, is-none, or-else}
+use Rattle.model.specs.Lists.{all, any, total, or-else}
 use Rattle.model.specs.Answers.{amount-of}
-use Rattle.model.specs.Objects.{object, objects-from, objects, blocks-of, objects-of, lookup, found}
-use Rattle.model.specs.Consistent.{consistent, free-apart, long-enough, well-cut, has-serial, serials-differ, is-of, held, has-record}
+use Rattle.model.specs.Objects.{names, object, objects-from, objects, blocks-of, objects-of, lookup}
+use Rattle.model.specs.Consistent.{consistent, free-apart, long-enough, well-cut, has-serial, serials-differ, is-of, held}
 use Rattle.model.specs.Holds.{count-of, with-count, less-one, lower-count}
 use Rattle.model.specs.Space.{settle}
-use Rattle.model.specs.Refusals.{first-refusal, line-5, line-6, release-lines, Line}
-use Rattle.model.specs.Calls.{given-back, leaves, state-of, released, release}
+use Rattle.model.specs.Calls.{given-back, released}
 use Rattle.model.specs.declared.Handle.{Handle}
 use Rattle.model.proofs.Bools.{and-left, and-right, or-neither, implies, implied}
-use Rattle.model.proofs.Lists.{all-member, member-all, all-append}
+use Rattle.model.proofs.Lists.{first-some, all-member, member-all, all-append}
 use Rattle.model.proofs.Blocks.{objects-live, objects-free, objects-append}
 use Rattle.model.proofs.Consistent.{Tests, tests-exactly, consistent-cut, is-for-exactly}
-use Rattle.model.proofs.Lookup.{lookup-exactly}
 use Rattle.model.proofs.Settle.{stays, stays-objects, settle-same, settle-one}
 use Rattle.finder.specs.declared.Met.{Met}
 use Rattle.finder.specs.declared.Lookup.the-variants.{Found}
@@ -42,9 +40,9 @@ use Rattle.finder.proofs.Parsed.{Stands}
 use Rattle.finder.proofs.Named.{Named, lookup-found}
 use Rattle.accounts.specs.declared.Place.the-variants.{At}
 use Rattle.access.specs.Results.{outcome}
+use Rattle.heap.specs.Releasing.{claim-dropped}
 use Rattle.writer.specs.Freeing.{Inside, free-block}
-use Rattle.access.proofs.Lines.{accepted-is, line-passes}
-use Rattle.access.proofs.Records.{found-some, found-record, found-change}
+use Rattle.access.proofs.Records.{found-record, found-change}
 use Rattle.writer.proofs.Rooms.{freed-blocks, freed-inside}
 
 -- a record in place of one for which the test says the same changes no answer
@@ -170,15 +168,8 @@ module _ (s : List ℕ) (k : Accounts) (o : Octets s) (ok : consistent s k ≡ t
   tests : Tests (blocks-of s) k
   tests = tests-exactly (blocks-of s) k .0 (consistent-cut s k ok .1)
 
-  handle-is : h ≡ object-met m
-  handle-is = lookup-exactly h s (object-met m) .0 (named .named) .0
-
-  pub found-handle : found (lookup h s) ≡ h
-  unfolding found or-else
-  found-handle = rw (named .named) (sym handle-is)
-
-  serial-is : named .stands .block .serial ≡ h .serial
-  serial-is = sym (ap (λ (x : Handle). x .serial) handle-is ∙ named .stands .serial)
+  serial-is : named .stands .block .serial ≡ m .serial
+  serial-is = sym (named .stands .serial)
 
   rendered : (render (blocks-of s) ≡ s) × AllWritable (blocks-of s)
   rendered = parse-is s (blocks-of s) o .0 (consistent-cut s k ok .0)
@@ -192,118 +183,99 @@ module _ (s : List ℕ) (k : Accounts) (o : Octets s) (ok : consistent s k ≡ t
   unfolding well-cut
   all-apart = and-right (all long-enough (blocks-of s)) (free-apart (blocks-of s)) (tests .cut)
 
-  -- the block lies in the heap, so the charge is a small number
+  -- the block lies in the heap
   pub inside : length s ≤ 32768 → Inside m s
   inside l =
       rw (rendered .0) at
       (stands-inside (blocks-of s) (rendered .1) all-apart (tests .differ) m (named .stands) (named .living) (k .holds) (k .holds) all-stay (λ n x. refl) (rw (rendered .0) l))
 
-  pub charge-small : length s ≤ 32768 → h .length + 8 ≤ 32768
-  charge-small l =
-      let i = inside l in
-      let n : h .length ≡ m .size - 8 = ap (λ (x : Handle). x .length) handle-is in
-      omega (arith, i .header, i .end)
-
-  -- the object is there
-  pub named-passes : (rest : List Line) → first-refusal (line-5 (lookup h s) ∷ rest) ≡ first-refusal rest
-  unfolding line-5 is-none
-  named-passes rest = rw (named .named) (line-passes 5 false rest refl)
-
   -- other records that hold what these hold, but perhaps not this object: the very bytes are left, or its block is freed in place
-  module _ (hs : List Hold) (f : (n : ℕ) → eqb n (h .serial) ≡ false → held hs n ≡ held (k .holds) n) where
-    same-bytes : held hs (h .serial) ≡ true → s ≡ render (settle hs (blocks-of s))
+  module _ (hs : List Hold) (f : (n : ℕ) → eqb n (m .serial) ≡ false → held hs n ≡ held (k .holds) n) where
+    same-bytes : held hs (m .serial) ≡ true → s ≡ render (settle hs (blocks-of s))
     same-bytes y =
         sym
         (ap render
         (settled-held (blocks-of s) (rendered .1) all-apart (tests .differ) m (named .stands) (named .living) (k .holds) hs all-stay (λ n x. f n (rw serial-is at x)) (rw serial-is y))
         ∙ rendered .0)
 
-    freed-bytes : held hs (h .serial) ≡ false → free-block m s ≡ render (settle hs (blocks-of s))
+    freed-bytes : held hs (m .serial) ≡ false → free-block m s ≡ render (settle hs (blocks-of s))
     freed-bytes y =
         ap (free-block m) (sym (rendered .0))
         ∙ settled-freed (blocks-of s) (rendered .1) all-apart (tests .differ) m (named .stands) (named .living) (k .holds) hs all-stay (λ n x. f n (rw serial-is at x)) (rw serial-is y)
 
   -- the object is held
-  object-held : held (k .holds) (h .serial) ≡ true
-  unfolding objects-of
-  object-held = all-member (λ (x : Handle). held (k .holds) (x .serial)) (objects (blocks-of s)) (tests .recorded) h (lookup-exactly h s (object-met m) .0 (named .named) .1)
+  object-held : held (k .holds) (m .serial) ≡ true
+  unfolding objects-of lookup
+  object-held =
+      all-member (λ (x : Handle). held (k .holds) (x .serial)) (objects (blocks-of s)) (tests .recorded) (object-met m) (first-some (names h) (objects-of s) (object-met m) (named .named) .0)
 
   -- the quota's record for the object stands at place i
-  module _ (q i : ℕ) (p : find-hold (h .serial) q k ≡ At i) where
-    record-serial : hold-at i k .serial ≡ h .serial
+  module _ (q i : ℕ) (p : find-hold (m .serial) q k ≡ At i) where
+    record-serial : hold-at i k .serial ≡ m .serial
     unfolding find-hold hold-at
-    record-serial = is-for-exactly (h .serial) q (getD (k .holds) i zero-hold) .0 (found-first (is-for (h .serial) q) (k .holds) i p .passes) .1
+    record-serial = is-for-exactly (m .serial) q (getD (k .holds) i zero-hold) .0 (found-first (is-for (m .serial) q) (k .holds) i p .passes) .1
 
-    pub record-passes : (rest : List Line) → first-refusal (line-6 k q (found (lookup h s)) ∷ rest) ≡ first-refusal rest
-    unfolding line-6 has-record find-hold
-    record-passes rest = rw found-handle (line-passes 6 (not (any (is-for (h .serial) q) (k .holds))) rest (rw (found-some (is-for (h .serial) q) (k .holds) i p)))
-
-    lowered : lower-count (h .serial) q (k .holds) ≡ set (k .holds) i (less-one (hold-at i k))
+    lowered : lower-count (m .serial) q (k .holds) ≡ set (k .holds) i (less-one (hold-at i k))
     unfolding lower-count find-hold hold-at
-    lowered = found-change (is-for (h .serial) q) (k .holds) i p less-one
+    lowered = found-change (is-for (m .serial) q) (k .holds) i p less-one
 
-    counted : count-of (h .serial) q (k .holds) ≡ hold-at i k .count
+    counted : count-of (m .serial) q (k .holds) ≡ hold-at i k .count
     unfolding count-of or-else find-hold hold-at
-    counted = ap (λ (x : Option Hold). or-else zero-hold x .count) (found-record (is-for (h .serial) q) (k .holds) i p)
+    counted = ap (λ (x : Option Hold). or-else zero-hold x .count) (found-record (is-for (m .serial) q) (k .holds) i p)
 
-    module _ (z : first-refusal (release-lines s k q h) ≡ 0) where
-      -- what release leaves, where w is what becomes of the record and n is given back
-      outcome-is : (w : Hold) → less-one (hold-at i k) ≡ w → (n : ℕ) → given-back q h k ≡ n → (s′ : List ℕ) → s′ ≡ render (settle (set (k .holds) i w) (blocks-of s))
-          → outcome s′ (with-holds (set (k .holds) i w) (refund q n k)) (amount-of n) ≡ release s k q h
-      unfolding release released
-      outcome-is w we n ne s′ se =
-          let c = found (lookup h s) in
-          let done = leaves (released q c (state-of s k)) (amount-of (given-back q c k)) in
-          let d : outcome s′ (with-holds (set (k .holds) i w) (refund q n k)) (amount-of n) ≡ done = rw (found-handle, lowered, we, ne, ← se) in
-          d ∙ accepted-is (first-refusal (release-lines s k q h)) s k done z
+    -- what is left, where w is what becomes of the record and n is given back
+    dropped-is : (w : Hold) → less-one (hold-at i k) ≡ w → (n : ℕ) → given-back q (object-met m) k ≡ n → (s′ : List ℕ) → s′ ≡ render (settle (set (k .holds) i w) (blocks-of s))
+        → outcome s′ (with-holds (set (k .holds) i w) (refund q n k)) (amount-of n) ≡ claim-dropped s k q (object-met m)
+    unfolding released
+    dropped-is w we n ne s′ se = rw (lowered, we, ne, ← se)
 
-      held-fewer : 1 < hold-at i k .count → (t : ℕ) → held (set (k .holds) i (with-count (hold-at i k .count - 1) (hold-at i k))) t ≡ held (k .holds) t
-      unfolding held hold-at
-      held-fewer l t = any-set (is-of t) (k .holds) i (with-count (hold-at i k .count - 1) (hold-at i k)) (fewer-of (hold-at i k) t l)
+    held-fewer : 1 < hold-at i k .count → (t : ℕ) → held (set (k .holds) i (with-count (hold-at i k .count - 1) (hold-at i k))) t ≡ held (k .holds) t
+    unfolding held hold-at
+    held-fewer l t = any-set (is-of t) (k .holds) i (with-count (hold-at i k .count - 1) (hold-at i k)) (fewer-of (hold-at i k) t l)
 
-      -- a count above 1 goes down by 1
-      pub fewer-claims : 1 < hold-at i k .count → outcome s (put-hold i (with-count (hold-at i k .count - 1) (hold-at i k)) k) (amount-of 0) ≡ release s k q h
-      unfolding put-hold less-one given-back
-      fewer-claims l =
-          let w = with-count (hold-at i k .count - 1) (hold-at i k) in
-          let a = ne-eqb (hold-at i k .count - 1) 0 (λ e. omega arith) in
-          let g = same-bytes (set (k .holds) i w) (λ t x. held-fewer l t) (held-fewer l (h .serial) ∙ object-held) in
-          ap (λ (x : Accounts). outcome s (with-holds (set (k .holds) i w) x) (amount-of 0)) (sym (refund-nothing q k))
-          ∙ outcome-is w (rw a) 0 (rw (counted, a)) s g
+    -- a count above 1 goes down by 1
+    pub fewer-claims : 1 < hold-at i k .count → outcome s (put-hold i (with-count (hold-at i k .count - 1) (hold-at i k)) k) (amount-of 0) ≡ claim-dropped s k q (object-met m)
+    unfolding put-hold less-one given-back
+    fewer-claims l =
+        let w = with-count (hold-at i k .count - 1) (hold-at i k) in
+        let a = ne-eqb (hold-at i k .count - 1) 0 (λ e. omega arith) in
+        let g = same-bytes (set (k .holds) i w) (λ t x. held-fewer l t) (held-fewer l (m .serial) ∙ object-held) in
+        ap (λ (x : Accounts). outcome s (with-holds (set (k .holds) i w) x) (amount-of 0)) (sym (refund-nothing q k))
+        ∙ dropped-is w (rw a) 0 (rw (counted, a)) s g
 
-      -- the last claim leaves the record unused
-      left-holds : (n : ℕ) → drop-hold i (refund q n k) .holds ≡ set (k .holds) i zero-hold
-      unfolding drop-hold put-hold
-      left-holds n = ap (λ (l : List Hold). set l i zero-hold) (refund-kept q n k .same-holds)
+    -- the last claim leaves the record unused
+    left-holds : (n : ℕ) → drop-hold i (refund q n k) .holds ≡ set (k .holds) i zero-hold
+    unfolding drop-hold put-hold
+    left-holds n = ap (λ (l : List Hold). set l i zero-hold) (refund-kept q n k .same-holds)
 
-      left-accounts : (n : ℕ) → drop-hold i (refund q n k) ≡ with-holds (set (k .holds) i zero-hold) (refund q n k)
-      unfolding drop-hold put-hold
-      left-accounts n = ap (λ (l : List Hold). with-holds (set l i zero-hold) (refund q n k)) (refund-kept q n k .same-holds)
+    left-accounts : (n : ℕ) → drop-hold i (refund q n k) ≡ with-holds (set (k .holds) i zero-hold) (refund q n k)
+    unfolding drop-hold put-hold
+    left-accounts n = ap (λ (l : List Hold). with-holds (set l i zero-hold) (refund q n k)) (refund-kept q n k .same-holds)
 
-      held-others : (t : ℕ) → eqb t (h .serial) ≡ false → held (set (k .holds) i zero-hold) t ≡ held (k .holds) t
-      unfolding held hold-at
-      held-others t d =
-          any-set (is-of t) (k .holds) i zero-hold (zero-of t ∙ sym (other-of (hold-at i k) t (rw record-serial d)))
+    held-others : (t : ℕ) → eqb t (m .serial) ≡ false → held (set (k .holds) i zero-hold) t ≡ held (k .holds) t
+    unfolding held hold-at
+    held-others t d =
+        any-set (is-of t) (k .holds) i zero-hold (zero-of t ∙ sym (other-of (hold-at i k) t (rw record-serial d)))
 
-      module _ (l : hold-at i k .count ≤ 1) where
-        last-outcome : (s′ : List ℕ) → s′ ≡ render (settle (set (k .holds) i zero-hold) (blocks-of s))
-            → outcome s′ (drop-hold i (refund q (h .length + 8) k)) (amount-of (h .length + 8)) ≡ release s k q h
-        unfolding less-one given-back
-        last-outcome s′ se =
-            let n = h .length + 8 in
-            let a = eq-eqb (hold-at i k .count - 1) 0 (omega arith) in
-            ap (λ (x : Accounts). outcome s′ x (amount-of n)) (left-accounts n) ∙ outcome-is zero-hold (rw a) n (rw (counted, a)) s′ se
+    module _ (l : hold-at i k .count ≤ 1) where
+      last-outcome : (s′ : List ℕ) → s′ ≡ render (settle (set (k .holds) i zero-hold) (blocks-of s))
+          → outcome s′ (drop-hold i (refund q (m .size - 8 + 8) k)) (amount-of (m .size - 8 + 8)) ≡ claim-dropped s k q (object-met m)
+      unfolding less-one given-back
+      last-outcome s′ se =
+          let n = m .size - 8 + 8 in
+          let a = eq-eqb (hold-at i k .count - 1) 0 (omega arith) in
+          ap (λ (x : Accounts). outcome s′ x (amount-of n)) (left-accounts n) ∙ dropped-is zero-hold (rw a) n (rw (counted, a)) s′ se
 
-        -- while another quota claims the object, no byte changes
-        pub still-held : held (drop-hold i (refund q (h .length + 8) k) .holds) (h .serial) ≡ true
-            → outcome s (drop-hold i (refund q (h .length + 8) k)) (amount-of (h .length + 8)) ≡ release s k q h
-        still-held y =
-            let v : held (set (k .holds) i zero-hold) (h .serial) ≡ true = rw (left-holds (h .length + 8)) at y in
-            last-outcome s (same-bytes (set (k .holds) i zero-hold) held-others v)
+      -- while another quota claims the object, no byte changes
+      pub still-held : held (drop-hold i (refund q (m .size - 8 + 8) k) .holds) (m .serial) ≡ true
+          → outcome s (drop-hold i (refund q (m .size - 8 + 8) k)) (amount-of (m .size - 8 + 8)) ≡ claim-dropped s k q (object-met m)
+      still-held y =
+          let v : held (set (k .holds) i zero-hold) (m .serial) ≡ true = rw (left-holds (m .size - 8 + 8)) at y in
+          last-outcome s (same-bytes (set (k .holds) i zero-hold) held-others v)
 
-        -- an object that no quota claims is freed
-        pub no-longer-held : held (drop-hold i (refund q (h .length + 8) k) .holds) (h .serial) ≡ false
-            → outcome (free-block m s) (drop-hold i (refund q (h .length + 8) k)) (amount-of (h .length + 8)) ≡ release s k q h
-        no-longer-held y =
-            let v : held (set (k .holds) i zero-hold) (h .serial) ≡ false = rw (left-holds (h .length + 8)) at y in
-            last-outcome (free-block m s) (freed-bytes (set (k .holds) i zero-hold) held-others v)
+      -- an object that no quota claims is freed
+      pub no-longer-held : held (drop-hold i (refund q (m .size - 8 + 8) k) .holds) (m .serial) ≡ false
+          → outcome (free-block m s) (drop-hold i (refund q (m .size - 8 + 8) k)) (amount-of (m .size - 8 + 8)) ≡ claim-dropped s k q (object-met m)
+      no-longer-held y =
+          let v : held (set (k .holds) i zero-hold) (m .serial) ≡ false = rw (left-holds (m .size - 8 + 8)) at y in
+          last-outcome (free-block m s) (freed-bytes (set (k .holds) i zero-hold) held-others v)

@@ -1,2 +1,4 @@
 pub mod Results
 pub mod Claims
+pub mod Ready
+pub mod Releasing

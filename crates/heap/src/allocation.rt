@@ -12,20 +12,11 @@ use model::Verdict;
 ghost use mathlib.Core.Path.{_≡_};
 ghost use Prim.Native.Nat.{_≤_};
 ghost use Rattle.accounts.specs.Accounts.{with-last-serial, put-hold, charge as charge-to};
-ghost use Rattle.model.specs.declared.HandleAnswer.the-variants.{Given, Refused};
+ghost use Rattle.model.specs.declared.HandleAnswer.the-variants.{Given};
 ghost use Rattle.model.specs.Calls.{allocate as allocate-of, allocate-array};
 ghost use Rattle.rounding.specs.Rounding.{unit};
 ghost use Rattle.heap.specs.Results.{handle-outcome};
-
-// A refused call's result.
-fn refused(accounts: Accounts, refusal: Refusal) -> HandleResult
-    ensures { λ r. ⌜ r ≡ record { accounts = accounts; answer = Refused refusal } ⌝ }
-{
-    HandleResult {
-        accounts: accounts,
-        answer: HandleAnswer::Refused(refusal),
-    }
-}
+ghost use Rattle.heap.specs.Ready.{Ready};
 
 // An accepted call's result.
 fn given(accounts: Accounts, base: usize, length: u32, serial: u32) -> HandleResult
@@ -58,43 +49,50 @@ fn booked(accounts: Accounts, quota: u8, charge: u32, place: usize, serial: u32)
     held.with_last_serial(serial)
 }
 
-// Allocation for a length of any size.
-fn allocate_wide(heap: &mut [u8], accounts: Accounts, quota: u32, length: u64) -> HandleResult
+// Allocation behind the first four lines: the other refusals in their order, then the object is cut out and its quota pays.
+pub(crate) fn grant(heap: &mut [u8], accounts: Accounts, quota: u32, length: u32) -> HandleResult
+    requires { ⌜ Ready (now heap) accounts quota length ⌝ }
     ensures { λ r. ⌜ handle-outcome (now (heap .exit)) r ≡ allocate-of unit (now (heap .entry)) accounts quota length ⌝ }
 {
-    if let Verdict::Refused(refusal) = checker::check(heap, accounts) {
-        return refused(accounts, refusal);
-    }
-    if QUOTAS <= quota as usize {
-        return refused(accounts, Refusal::QuotaNumber);
-    }
-    if length == 0 {
-        return refused(accounts, Refusal::ObjectLength);
-    }
-    if 32760 < length {
-        return refused(accounts, Refusal::ObjectLength);
-    }
-    let asked = length as u32;
-    let size = rounding::object_length(asked) as u32;
+    let size = rounding::object_length(length) as u32;
     let charge = size + 8;
     if accounts.remaining(quota) < charge {
-        return refused(accounts, Refusal::QuotaExceeded);
+        return HandleResult::refused(accounts, Refusal::QuotaExceeded);
     }
     let Place::At(place) = accounts.lowest_unused() else {
-        return refused(accounts, Refusal::HoldsExhausted);
+        return HandleResult::refused(accounts, Refusal::HoldsExhausted);
     };
     let last = accounts.last_serial;
     if 4294967295 <= last {
-        return refused(accounts, Refusal::SerialsExhausted);
+        return HandleResult::refused(accounts, Refusal::SerialsExhausted);
     }
-    let alignment = rounding::alignment(asked);
+    let alignment = rounding::alignment(length);
     let Fit::At(block, base) = finder::find_base(heap, alignment, size as usize) else {
-        return refused(accounts, Refusal::NoSpace);
+        return HandleResult::refused(accounts, Refusal::NoSpace);
     };
     let serial = last + 1;
     writer::carve(heap, block, base, size as usize, serial);
     let next = booked(accounts, quota as u8, charge, place, serial);
     given(next, base, size, serial)
+}
+
+// Allocation for a length of any size.
+fn allocate_wide(heap: &mut [u8], accounts: Accounts, quota: u32, length: u64) -> HandleResult
+    ensures { λ r. ⌜ handle-outcome (now (heap .exit)) r ≡ allocate-of unit (now (heap .entry)) accounts quota length ⌝ }
+{
+    if let Verdict::Refused(refusal) = checker::check(heap, accounts) {
+        return HandleResult::refused(accounts, refusal);
+    }
+    if QUOTAS <= quota as usize {
+        return HandleResult::refused(accounts, Refusal::QuotaNumber);
+    }
+    if length == 0 {
+        return HandleResult::refused(accounts, Refusal::ObjectLength);
+    }
+    if 32760 < length {
+        return HandleResult::refused(accounts, Refusal::ObjectLength);
+    }
+    grant(heap, accounts, quota, length as u32)
 }
 
 // A new object of at least `length` bytes.

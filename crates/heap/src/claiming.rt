@@ -13,17 +13,7 @@ ghost use mathlib.Core.Path.{_≡_};
 ghost use Prim.Native.Nat.{_≤_};
 ghost use Rattle.model.specs.Calls.{claim as claim-of};
 ghost use Rattle.heap.specs.Results.{amount-outcome};
-ghost use Rattle.heap.specs.Claims.{not-claimed, claim-again, claim-first};
-
-// A refused claim hands back the accounts as they came in.
-fn refused(accounts: Accounts, refusal: Refusal) -> AmountResult
-    ensures { λ r. ⌜ r ≡ not-claimed refusal accounts ⌝ }
-{
-    AmountResult {
-        accounts: accounts,
-        answer: AmountAnswer::Refused(refusal),
-    }
-}
+ghost use Rattle.heap.specs.Claims.{claim-again, claim-first};
 
 // The record at a place counts once more, at no charge.
 fn claim_again(accounts: Accounts, at: usize, length: u32) -> AmountResult
@@ -31,7 +21,7 @@ fn claim_again(accounts: Accounts, at: usize, length: u32) -> AmountResult
 {
     let hold = accounts.hold_at(at);
     if hold.count == 255 {
-        return refused(accounts, Refusal::CountLimit);
+        return AmountResult::refused(accounts, Refusal::CountLimit);
     }
     let raised = Hold {
         serial: hold.serial,
@@ -51,10 +41,10 @@ fn claim_first(accounts: Accounts, quota: u32, hold: Hold, length: u32) -> Amoun
 {
     let charge = length + 8;
     if accounts.remaining(quota) < charge {
-        return refused(accounts, Refusal::QuotaExceeded);
+        return AmountResult::refused(accounts, Refusal::QuotaExceeded);
     }
     let Place::At(at) = accounts.lowest_unused() else {
-        return refused(accounts, Refusal::HoldsExhausted);
+        return AmountResult::refused(accounts, Refusal::HoldsExhausted);
     };
     let paid = accounts.charge(quota, charge);
     AmountResult {
@@ -68,13 +58,13 @@ pub fn claim(heap: &[u8], accounts: Accounts, quota: u32, handle: Handle) -> Amo
     ensures { λ r. ⌜ amount-outcome (now (heap .entry)) r ≡ claim-of (now (heap .entry)) accounts quota handle ⌝ }
 {
     if let Verdict::Refused(refusal) = checker::check(heap, accounts) {
-        return refused(accounts, refusal);
+        return AmountResult::refused(accounts, refusal);
     }
     if QUOTAS <= quota as usize {
-        return refused(accounts, Refusal::QuotaNumber);
+        return AmountResult::refused(accounts, Refusal::QuotaNumber);
     }
     let Lookup::Found(block) = finder::find_object(heap, handle) else {
-        return refused(accounts, Refusal::NoSuchObject);
+        return AmountResult::refused(accounts, Refusal::NoSuchObject);
     };
     let length = (block.size - 8) as u32;
     let serial = block.serial;

@@ -2,11 +2,14 @@
 use accounts::Accounts;
 use model::AmountAnswer;
 use model::HandleAnswer;
+use model::Refusal;
 use model::Verdict;
+ghost use mathlib.Core.Path.{_≡_};
 
 mod allocation;
 mod claiming;
 mod opening;
+mod reallocating;
 mod releasing;
 
 pub use access::Walker;
@@ -24,6 +27,7 @@ pub use allocation::allocate;
 pub use allocation::allocate_array;
 pub use claiming::claim;
 pub use opening::open;
+pub use reallocating::reallocate;
 pub use releasing::release;
 
 // What open gives: the accounts, all zero where it is refused, and the verdict.
@@ -38,8 +42,32 @@ pub struct HandleResult {
     pub answer: HandleAnswer,
 }
 
+impl HandleResult {
+    // A refused call's result: the accounts as they came in, and the refusal.
+    pub(crate) fn refused(accounts: Accounts, refusal: Refusal) -> HandleResult
+        ensures { λ r. ⌜ r ≡ record { accounts = accounts; answer = HandleAnswer.Refused refusal } ⌝ }
+    {
+        HandleResult {
+            accounts: accounts,
+            answer: HandleAnswer::Refused(refusal),
+        }
+    }
+}
+
 // What claim, release and free-all give.
 pub struct AmountResult {
     pub accounts: Accounts,
     pub answer: AmountAnswer,
+}
+
+impl AmountResult {
+    // A refused call's result: the accounts as they came in, and the refusal.
+    pub(crate) fn refused(accounts: Accounts, refusal: Refusal) -> AmountResult
+        ensures { λ r. ⌜ r ≡ record { accounts = accounts; answer = AmountAnswer.Refused refusal } ⌝ }
+    {
+        AmountResult {
+            accounts: accounts,
+            answer: AmountAnswer::Refused(refusal),
+        }
+    }
 }

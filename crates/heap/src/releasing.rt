@@ -6,6 +6,7 @@ use accounts::Hold;
 use accounts::Place;
 use accounts::QUOTAS;
 use finder::Lookup;
+use finder::Met;
 use model::AmountAnswer;
 use model::Handle;
 use model::Refusal;
@@ -13,7 +14,10 @@ use model::Verdict;
 ghost use mathlib.Core.Path.{_≡_};
 ghost use Rattle.model.specs.Calls.{release as release-of};
 ghost use Rattle.model.specs.Consistent.{is-of, held};
+ghost use Rattle.finder.specs.Walk.{object-met};
 ghost use Rattle.heap.specs.Results.{amount-outcome};
+ghost use Rattle.heap.specs.Ready.{Checked, Holding};
+ghost use Rattle.heap.specs.Releasing.{claim-dropped};
 
 // Whether a record is for the object with this serial.
 fn is_of(hold: Hold, serial: u32) -> bool
@@ -40,16 +44,6 @@ pub(crate) fn is_held(holds: [Hold; HOLDS], serial: u32) -> bool
     false
 }
 
-// A refusal, with the accounts as they were.
-fn refused(accounts: Accounts, refusal: Refusal) -> AmountResult
-    ensures { λ r. ⌜ r ≡ record { accounts = accounts; answer = AmountAnswer.Refused refusal } ⌝ }
-{
-    AmountResult {
-        accounts: accounts,
-        answer: AmountAnswer::Refused(refusal),
-    }
-}
-
 // What is given back, with the accounts after it.
 fn given_back(accounts: Accounts, amount: u32) -> AmountResult
     ensures { λ r. ⌜ r ≡ record { accounts = accounts; answer = AmountAnswer.Amount amount } ⌝ }
@@ -60,22 +54,17 @@ fn given_back(accounts: Accounts, amount: u32) -> AmountResult
     }
 }
 
-// One claim of a quota is given up; the last one gives the quota its charge back, and an object that no quota claims is freed.
-pub fn release(heap: &mut [u8], accounts: Accounts, quota: u32, handle: Handle) -> AmountResult
-    ensures { λ r. ⌜ amount-outcome (now (heap .exit)) r ≡ release-of (now (heap .entry)) accounts quota handle ⌝ }
+// One claim of a quota on a block is given up; the last one gives the quota its charge back, and an object that no quota claims is freed.
+fn drop_claim(
+    heap: &mut [u8],
+    accounts: Accounts,
+    quota: u32,
+    block: Met,
+    place: usize,
+) -> AmountResult
+    requires { ⌜ Holding (now heap) accounts quota block place ⌝ }
+    ensures { λ r. ⌜ amount-outcome (now (heap .exit)) r ≡ claim-dropped (now (heap .entry)) accounts quota (object-met block) ⌝ }
 {
-    if let Verdict::Refused(refusal) = checker::check(heap, accounts) {
-        return refused(accounts, refusal);
-    }
-    if QUOTAS <= quota as usize {
-        return refused(accounts, Refusal::QuotaNumber);
-    }
-    let Lookup::Found(block) = finder::find_object(heap, handle) else {
-        return refused(accounts, Refusal::NoSuchObject);
-    };
-    let Place::At(place) = accounts.find_hold(handle.serial, quota as u8) else {
-        return refused(accounts, Refusal::NotHeld);
-    };
     let hold = accounts.hold_at(place);
     if 1 < hold.count {
         let fewer = Hold {
@@ -85,12 +74,45 @@ pub fn release(heap: &mut [u8], accounts: Accounts, quota: u32, handle: Handle) 
         };
         return given_back(accounts.add_hold(place, fewer), 0);
     }
-    let charge = handle.length + 8;
+    let length = (block.size - 8) as u32;
+    let charge = length + 8;
     let left = accounts.refund(quota, charge).drop_hold(place);
     let holds = left.holds;
-    if is_held(holds, handle.serial) {
+    if is_held(holds, block.serial) {
         return given_back(left, charge);
     }
     writer::free_block(heap, block);
     given_back(left, charge)
+}
+
+// Release behind the first three lines: the lookup, the quota's record, and one claim less.
+pub(crate) fn give_up(
+    heap: &mut [u8],
+    accounts: Accounts,
+    quota: u32,
+    handle: Handle,
+) -> AmountResult
+    requires { ⌜ Checked (now heap) accounts quota ⌝ }
+    ensures { λ r. ⌜ amount-outcome (now (heap .exit)) r ≡ release-of (now (heap .entry)) accounts quota handle ⌝ }
+{
+    let Lookup::Found(block) = finder::find_object(heap, handle) else {
+        return AmountResult::refused(accounts, Refusal::NoSuchObject);
+    };
+    let Place::At(place) = accounts.find_hold(block.serial, quota as u8) else {
+        return AmountResult::refused(accounts, Refusal::NotHeld);
+    };
+    drop_claim(heap, accounts, quota, block, place)
+}
+
+// One claim of a quota is given up.
+pub fn release(heap: &mut [u8], accounts: Accounts, quota: u32, handle: Handle) -> AmountResult
+    ensures { λ r. ⌜ amount-outcome (now (heap .exit)) r ≡ release-of (now (heap .entry)) accounts quota handle ⌝ }
+{
+    if let Verdict::Refused(refusal) = checker::check(heap, accounts) {
+        return AmountResult::refused(accounts, refusal);
+    }
+    if QUOTAS <= quota as usize {
+        return AmountResult::refused(accounts, Refusal::QuotaNumber);
+    }
+    give_up(heap, accounts, quota, handle)
 }

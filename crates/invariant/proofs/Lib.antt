@@ -14,3 +14,4 @@ pub mod Settled
 pub mod Copied
 pub mod Transitions
 pub mod Passed
+pub mod Requested

@@ -34,7 +34,8 @@ use Rattle.ledger.proofs.Contents.{contents-stay}
 use Rattle.ledger.proofs.Staying.{carved-live, settled-live, copied-live}
 use Rattle.invariant.proofs.Transitions.{Room, allocated-good, released-good, freed-good, copied-good}
 use Rattle.invariant.proofs.Passed.{Allocatable, allocate-passed, Releasable, release-passed, quota-passed, Reallocatable, reallocate-passed}
-use Rattle.ledger.proofs.Steps.{good, again, room, fresh-serial, there, old-there, still-releasable}
+use Rattle.invariant.proofs.Requested.{still-releasable}
+use Rattle.ledger.proofs.Steps.{good, again, room, fresh-serial, there, old-there}
 
 -- every live block of u but one with a new serial is one of t
 abbrev pub Leaves : ℕ → State → State → Type 0

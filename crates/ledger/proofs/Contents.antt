@@ -12,6 +12,7 @@ use Rattle.layout.proofs.Render.{body-stands}
 use Rattle.model.specs.Objects.{object, objects-from, objects}
 use Rattle.model.specs.Consistent.{serials-differ}
 use Rattle.model.specs.declared.Handle.{Handle}
+use Rattle.model.proofs.Blocks.{Placed, placed}
 use Rattle.model.proofs.Lookup.{same-serial}
 use Rattle.ledger.specs.Contents.{contents}
 
@@ -27,41 +28,6 @@ pub record Block-of (o : Handle) (bs : List Block) : Type 0 where
 at-block : (xs : List Block) (b : Block) (ys : List Block) → contents (object (total-size xs) b) (render (xs ++ (b ∷ ys))) ≡ b .body
 unfolding contents render
 at-block xs b ys = body-stands 0 xs b ys
-
--- where the block of an object stands
-record Placed (at : ℕ) (o : Handle) (bs : List Block) : Type 0 where
-  front : List Block
-  block : Block
-  back : List Block
-  split : bs ≡ front ++ (block ∷ back)
-  alive : live block ≡ true
-  place : o ≡ object (at + total-size front) block
-
-placed-later : (at : ℕ) (b : Block) (bs : List Block) (o : Handle) → Placed (at + size b) o bs → Placed at o (b ∷ bs)
-unfolding total-size
-placed-later at b bs o p =
-    record {
-      front = b ∷ p .front;
-      block = p .block;
-      back = p .back;
-      split = ap (λ (l : List Block). b ∷ l) (p .split);
-      alive = p .alive;
-      place = p .place ∙ ap (λ (n : ℕ). object n (p .block)) (add-assoc at (size b) (total-size (p .front)));
-    }
-
-placed-here : (at : ℕ) (b : Block) (bs : List Block) (o : Handle) → live b ≡ true → o ≡ object at b → Placed at o (b ∷ bs)
-unfolding total-size
-placed-here at b bs o l e = record { front = []; block = b; back = bs; split = refl; alive = l; place = e ∙ ap (λ (n : ℕ). object n b) (sym (add-zero at)) }
-
-placed : (at : ℕ) (bs : List Block) (o : Handle) → List·Memᴰ o (objects-from at bs) → Placed at o bs
-unfolding objects-from
-placed at [] o m = absurd (List·Memᴰ·not-nil m)
-placed at (b ∷ bs) o m = go (live b) refl m (placed (at + size b) bs o)
-  where
-    go : (x : Bool) → live b ≡ x → List·Memᴰ o (cond x (object at b ∷ objects-from (at + size b) bs) (objects-from (at + size b) bs))
-        → (List·Memᴰ o (objects-from (at + size b) bs) → Placed (at + size b) o bs) → Placed at o (b ∷ bs)
-    go true e x ih = ⊎-elim (λ q. placed-here at b bs o e q) (λ y. placed-later at b bs o (ih y)) (List·Memᴰ·cases-cons x)
-    go false e x ih = placed-later at b bs o (ih x)
 
 -- the object of a live block that stands behind others
 object-there : (at : ℕ) (xs : List Block) (b : Block) (ys : List Block) → live b ≡ true → List·Memᴰ (object (at + total-size xs) b) (objects-from at (xs ++ (b ∷ ys)))

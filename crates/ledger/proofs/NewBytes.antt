@@ -38,7 +38,8 @@ use Rattle.invariant.proofs.Members.{added-old, added-new, keep-exactly}
 use Rattle.invariant.proofs.Counts.{held-counted, lower-ordered, lower-counted}
 use Rattle.model.proofs.Settle.{object-held}
 use Rattle.invariant.proofs.Passed.{Allocatable, allocate-passed, Reallocatable, reallocate-passed}
-use Rattle.ledger.proofs.Steps.{good, room, fresh-serial, still-releasable}
+use Rattle.invariant.proofs.Requested.{still-releasable}
+use Rattle.ledger.proofs.Steps.{good, room, fresh-serial}
 use Rattle.ledger.proofs.Bytes.{allocated-live, released-leaves, new-good, allocate-bytes, old, new, made-good, old-here}
 
 module _ (unit : ℕ → ℕ) (units : Units unit) (l : Ledger) (s : List ℕ) (k : Accounts) (a : Agrees l s k) (q n : ℕ) (p : Allocatable unit s k q n) where

@@ -2,45 +2,40 @@
 -- A refused call changes nothing and is not recorded. An accepted one has passed its lines, which give what its change needs; the change keeps a good
 -- state, and the ledger's change matches that of objects and records.
 -- Assumes nothing.
-use Prim.Native.Nat.{ℕ, zero, suc, _*_, _-_, _%_, _<_}
-use native.Mathlib.Nat.{mod-mod-of-dvd, dvd-of-mod-eq-zero}
+use Prim.Native.Nat.{ℕ, zero, suc, _*_, _-_, _<_}
 use native.Mathlib.Omega.{arith}
 use mathlib.Core.Path.{_≡_, refl, ap, sym, _∙_, subst, subst₂}
 use mathlib.Core.List.{List, map, List·Memᴰ}
-use mathlib.Core.Bool.{true, false, cond, _&&_}
+use mathlib.Core.Bool.{true, cond, _&&_}
 use mathlib.Core.Option.{some}
-use lib.ListN.{length}
 use lib.Dec.{eqb}
 use borrow.Author.Tests.{eq-eqb, ne-eqb}
 use Rattle.accounts.specs.declared.Quota.{Quota}
 use Rattle.accounts.specs.declared.Accounts.{Accounts}
 use Rattle.accounts.specs.Accounts.{QUOTAS}
-use Rattle.rounding.specs.Rounding.{Units, object-length, alignment}
-use Rattle.rounding.proofs.Rounding as R
-use Rattle.layout.specs.Blocks.{size, render}
-use Rattle.model.specs.Lists.{total, keep, or-else}
+use Rattle.rounding.specs.Rounding.{Units}
+use Rattle.layout.specs.Blocks.{render}
+use Rattle.model.specs.Lists.{keep, or-else}
 use Rattle.model.specs.Objects.{blocks-of, objects, objects-of, lookup, lookup-whole, found}
 use Rattle.model.specs.Consistent.{charges, has-record}
 use Rattle.model.specs.Holds.{count-of, lower-count, drop-records}
-use Rattle.model.specs.Refusals.{first-refusal, base-for, quota-lines, lend-lines, release-lines, claim-lines, check-lines, allocate-lines, reallocate-lines}
+use Rattle.model.specs.Refusals.{first-refusal, quota-lines, lend-lines, release-lines, claim-lines, check-lines, allocate-lines, reallocate-lines}
 use Rattle.model.specs.Calls.{Outcome, State, unless, state-of, allocated, claimed, released, freed, copied, new-object, allocate, allocate-array, claim, release, free-all, reallocate, lend, remaining-of, can-release, list-block}
 use Rattle.model.specs.Step.{step}
 use Rattle.model.specs.declared.Handle.{Handle}
 use Rattle.model.specs.declared.Call.{Call}
 use Rattle.model.specs.declared.Call.the-variants.{Allocate, AllocateArray, Claim, Release, FreeAll, Reallocate, Lend, Remaining, CanRelease, ListBlock}
 use Rattle.model.proofs.Refusals.{accepted-exactly, by-lines}
-use Rattle.model.proofs.Consistent.{given-exactly}
 use Rattle.model.proofs.Lookup.{lookup-exactly, lookup-whole-is}
-use Rattle.model.proofs.Base.{Lowest, lowest-some}
 use Rattle.model.proofs.Settle.{object-held}
 use Rattle.model.proofs.Frame.{allocated-keeps, claimed-keeps, released-keeps, freed-keeps}
 use Rattle.ledger.specs.Ledger.{Ledger, add-object, add-hold, take-hold, take-all, leave, record-accepted, record-call}
 use Rattle.invariant.proofs.Good.{Ordered, Good}
 use Rattle.ledger.proofs.Agreement.{Matches, Agrees}
-use Rattle.invariant.proofs.Members.{added-old}
-use Rattle.invariant.proofs.Counts.{record-counted, lower-ordered, lower-counted, drop-ordered, drop-count}
+use Rattle.invariant.proofs.Counts.{lower-ordered, lower-counted, drop-ordered, drop-count}
 use Rattle.invariant.proofs.Heaps.{good-heap, heap-good, heap-again, good-ordered}
 use Rattle.invariant.proofs.Transitions.{Room, allocated-good, allocated-objects, allocated-fresh, allocated-counts, claimed-good, claimed-counts, released-good, released-objects, freed-good, freed-objects, copied-good, copied-objects}
+use Rattle.invariant.proofs.Requested.{requested-room, requested-fresh, still-releasable}
 use Rattle.ledger.proofs.Matching.{match-added, match-raised, match-lowered, match-dropped}
 use Rattle.invariant.proofs.Passed.{Allocatable, allocate-passed, Claimable, claim-passed, Releasable, release-passed, quota-passed, Reallocatable, reallocate-passed}
 
@@ -80,40 +75,16 @@ module _ (l : Ledger) (s : List ℕ) (k : Accounts) (a : Agrees l s k) where
   pub again : render (blocks-of s) ≡ s
   again = heap-again s k (a .octets) (a .sound)
 
--- a multiple of a multiple of 8
-eights : (b a : ℕ) → a % 8 ≡ 0 → b % a ≡ 0 → b % 8 ≡ 0
-eights b a e f = sym (mod-mod-of-dvd 8 b (dvd-of-mod-eq-zero 8 e)) ∙ ap (λ (x : ℕ). x % 8) f
-
 module _ (unit : ℕ → ℕ) (units : Units unit) (l : Ledger) (s : List ℕ) (k : Accounts) (a : Agrees l s k) where
   -- the new object of a request that has passed its lines
   module _ (q n : ℕ) (p : Allocatable unit s k q n) where
-    base-lowest : Lowest (length s) (blocks-of s) (alignment unit n) (object-length unit n) (p .base)
-    unfolding base-for
-    base-lowest = lowest-some (length s) (blocks-of s) (alignment unit n) (object-length unit n) (R.alignment-positive unit units n) (p .base) (p .based)
-
     -- it may be made
     pub room : Room q (new-object unit s k n) (state-of s k)
-    unfolding new-object or-else
-    room =
-        let w = base-lowest in
-        let h = good-heap (state-of s k) (good l s k a) in
-        let size-is : total size (blocks-of s) ≡ length s = sym (h .extent) ∙ ap length (again l s k a) in
-        record {
-          exists = p .exists;
-          paid = p .paid;
-          unused = p .unused;
-          next = refl;
-          narrow = p .left (a .serial);
-          long = R.at-least-8 unit units n (p .asked);
-          even = R.rounded unit units n .eights;
-          aligned = rw (p .based) (eights (p .base) (alignment unit n) (R.alignment-eights unit units n) (w .multiple));
-          fits = rw (p .based, size-is) (w .fits);
-        }
+    room = requested-room unit units s k (good l s k a) (again l s k a) q n p
 
     -- no object has its serial yet
     pub fresh-serial : (x : Handle) → List·Memᴰ x (objects (blocks-of s)) → x .serial ≡ new-object unit s k n .serial → ⊥
-    unfolding new-object
-    fresh-serial x m e = let f = given-exactly (k .«last_serial») (objects (blocks-of s)) .0 (good l s k a .tests .given) x m in omega arith
+    fresh-serial = requested-fresh unit units s k (good l s k a) (again l s k a) q n p
 
     allocates : Agrees (add-object q (new-object unit s k n) l) (render (allocated q (new-object unit s k n) (state-of s k) .blocks))
         (allocated q (new-object unit s k n) (state-of s k) .accounts)
@@ -193,27 +164,6 @@ module _ (l : Ledger) (s : List ℕ) (k : Accounts) (a : Agrees l s k) (q : ℕ)
       let t = state-of s k in
       let g = good l s k a in
       agrees-from (take-all q l) (freed q back t) (freed-good q t g x) (freed-keeps q back t .grants ∙ a .grants) (rw (freed-objects q t g x) (freed-matches x))
-
--- a record for an object stays when another object is made
-still-held : (q : ℕ) (old new : Handle) (t : State) (g : Good t) (r : Room q new t) → (old .serial ≡ new .serial → ⊥) → has-record (t .accounts .holds) q (old .serial) ≡ true
-    → has-record (allocated q new t .accounts .holds) q (old .serial) ≡ true
-still-held q old new t g r ne held =
-    let c = record-counted (t .accounts .holds) (good-ordered t g) (old .serial) q .0 held in
-    let e = allocated-counts q new t g r (old .serial) q in
-    let z : eqb (new .serial) (old .serial) ≡ false = ne-eqb (new .serial) (old .serial) (λ p. ne (sym p)) in
-    record-counted (allocated q new t .accounts .holds) (good-ordered (allocated q new t) (allocated-good q new t g r)) (old .serial) q .1 (rw e (rw z c))
-
--- the old object is there and held once the new one is made and has its bytes
-pub still-releasable : (t : State) (g : Good t) (q : ℕ) (old new : Handle) (r : Room q new t) → (old .serial ≡ new .serial → ⊥) → List·Memᴰ old (objects (t .blocks))
-    → has-record (t .accounts .holds) q (old .serial) ≡ true
-    → List·Memᴰ old (objects (copied old new (allocated q new t) .blocks)) × (has-record (copied old new (allocated q new t) .accounts .holds) q (old .serial) ≡ true)
-unfolding copied
-still-releasable t g q old new r ne there held =
-    let t₁ = allocated q new t in
-    let d = allocated-objects q new t g r in (
-      rw (copied-objects old new t₁ (allocated-good q new t g r)) (added-old new (objects (t .blocks)) (objects (t₁ .blocks)) d old there),
-      still-held q old new t g r ne held,
-    )
 
 -- a new object made, the old one's bytes copied to it, and the old one released, in any good state
 reallocate-good : (l : Ledger) (t : State) (g : Good t) → map (λ (x : Quota). x .grant) (t .accounts .quotas) ≡ l .grants → (m : Matches l (objects (t .blocks)) (t .accounts .holds))

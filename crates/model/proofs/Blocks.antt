@@ -1,18 +1,21 @@
--- Laws of lists of blocks that carving and settling share: objects, sizes and free neighbours of a list that is put together from parts.
+-- Laws of lists of blocks that the changes of blocks share: objects, sizes and free neighbours of a list that is put together from parts, and the
+-- block that an object is of.
 -- Each goes along the first part block by block.
 -- Assumes nothing.
-use mathlib.Core.Path.{_≡_, refl}
+use mathlib.Core.Path.{_≡_, refl, ap, sym, _∙_}
 use Prim.Native.Nat.{ℕ, _+_, _%_}
 use native.Mathlib.Nat.{add-zero, add-assoc}
 use native.Mathlib.Omega.{arith}
-use mathlib.Core.List.{List, [], _∷_, _++_}
-use mathlib.Core.Bool.{Bool, true, false, not, _||_, or-false}
+use mathlib.Core.List.{List, [], _∷_, _++_, List·Memᴰ, List·Memᴰ·not-nil, List·Memᴰ·cases-cons}
+use mathlib.Core.Bool.{Bool, true, false, not, cond, _||_, or-false}
+use mathlib.Core.Logic.{⊎-elim}
 use lib.Dec.{eqb}
 use borrow.Author.Tests.{eqb-true, eq-eqb}
 use Rattle.layout.specs.Blocks.{Block, size, live, total-size, AllWritable}
 use Rattle.model.specs.Lists.{all, total}
 use Rattle.model.specs.Objects.{object, objects-from}
 use Rattle.model.specs.Consistent.{starts-free, free-apart}
+use Rattle.model.specs.declared.Handle.{Handle}
 use Rattle.model.proofs.Bools.{and-left, and-right, and-both, or-left}
 
 -- the size is a multiple of 8
@@ -62,6 +65,42 @@ objects-append at (b ∷ bs) ys = go (live b) refl (objects-append (at + size b)
         → objects-from at (b ∷ bs ++ ys) ≡ objects-from at (b ∷ bs) ++ objects-from (at + (size b + total size bs)) ys
     go true e ih = rw (e, ih, add-assoc at (size b) (total size bs))
     go false e ih = rw (e, ih, add-assoc at (size b) (total size bs))
+
+-- where the block of an object stands, where the first block starts at a place
+pub record Placed (at : ℕ) (o : Handle) (bs : List Block) : Type 0 where
+  pub front : List Block
+  pub block : Block
+  pub back : List Block
+  pub split : bs ≡ front ++ (block ∷ back)
+  pub alive : live block ≡ true
+  pub place : o ≡ object (at + total-size front) block
+
+placed-later : (at : ℕ) (b : Block) (bs : List Block) (o : Handle) → Placed (at + size b) o bs → Placed at o (b ∷ bs)
+unfolding total-size
+placed-later at b bs o p =
+    record {
+      front = b ∷ p .front;
+      block = p .block;
+      back = p .back;
+      split = ap (λ (l : List Block). b ∷ l) (p .split);
+      alive = p .alive;
+      place = p .place ∙ ap (λ (n : ℕ). object n (p .block)) (add-assoc at (size b) (total-size (p .front)));
+    }
+
+placed-here : (at : ℕ) (b : Block) (bs : List Block) (o : Handle) → live b ≡ true → o ≡ object at b → Placed at o (b ∷ bs)
+unfolding total-size
+placed-here at b bs o l e = record { front = []; block = b; back = bs; split = refl; alive = l; place = e ∙ ap (λ (n : ℕ). object n b) (sym (add-zero at)) }
+
+-- every object is that of a live block
+pub placed : (at : ℕ) (bs : List Block) (o : Handle) → List·Memᴰ o (objects-from at bs) → Placed at o bs
+unfolding objects-from
+placed at [] o m = absurd (List·Memᴰ·not-nil m)
+placed at (b ∷ bs) o m = go (live b) refl m (placed (at + size b) bs o)
+  where
+    go : (x : Bool) → live b ≡ x → List·Memᴰ o (cond x (object at b ∷ objects-from (at + size b) bs) (objects-from (at + size b) bs))
+        → (List·Memᴰ o (objects-from (at + size b) bs) → Placed (at + size b) o bs) → Placed at o (b ∷ bs)
+    go true e x ih = ⊎-elim (λ q. placed-here at b bs o e q) (λ y. placed-later at b bs o (ih y)) (List·Memᴰ·cases-cons x)
+    go false e x ih = placed-later at b bs o (ih x)
 
 -- where no two free blocks stand side by side, the first block is live or the next one is
 pub apart-head : (b : Block) (bs : List Block) → free-apart (b ∷ bs) ≡ true → (live b || not (starts-free bs)) ≡ true

@@ -5,8 +5,9 @@
 -- Assumes nothing.
 use mathlib.Core.Path.{_≡_, refl, ap, sym, _∙_}
 use Prim.Native.Nat.{ℕ, _+_, _≤_, min}
+use native.Mathlib.Nat.{zero-add}
 use native.Mathlib.Omega.{arith}
-use mathlib.Core.List.{List, [], _∷_, _++_, append-assoc}
+use mathlib.Core.List.{List, [], _∷_, _++_, append-assoc, List·Memᴰ}
 use mathlib.Core.Bool.{Bool, true, false, not, _||_}
 use mathlib.Core.Logic.{_⊎_, inl, inr}
 use lib.ListN.{length, take, drop, length-append, length-take, length-drop, take-append-drop}
@@ -14,18 +15,18 @@ use lib.Seq.{take-all, take-take}
 use lib.Dec.{leb, eqb}
 use borrow.Author.Tests.{le-leb, leb-true, leb-false, eqb-false, eq-eqb, ne-eqb, not-true}
 use Rattle.layout.specs.Bytes.{overwrite, copy-part}
-use Rattle.layout.specs.Blocks.{Block, size, units, live, back-after, header-of, header-bytes, render-from, render}
+use Rattle.layout.specs.Blocks.{Block, size, units, live, total-size, back-after, header-of, header-bytes, render-from, render}
 use Rattle.layout.proofs.Overwrite.{overwrite-at}
 use Rattle.layout.proofs.Fields.{header-length}
 use Rattle.layout.proofs.Parts.{copy-all}
 use Rattle.layout.proofs.Render.{length-render, body-stands}
 use Rattle.model.specs.Lists.{any, total}
-use Rattle.model.specs.Objects.{objects-from}
+use Rattle.model.specs.Objects.{objects-from, objects}
 use Rattle.model.specs.Consistent.{has-serial, serials-differ}
 use Rattle.model.specs.Space.{body-of, copy-into}
 use Rattle.model.specs.declared.Handle.{Handle}
 use Rattle.model.proofs.Bools.{and-left, and-right, or-neither, or-left, or-right}
-use Rattle.model.proofs.Blocks.{total-is, objects-live, objects-free}
+use Rattle.model.proofs.Blocks.{total-is, objects-live, objects-free, Placed, placed}
 use Rattle.model.proofs.Lists.{total-append}
 use Rattle.writer.proofs.CarveBytes.{free-serial}
 use Rattle.writer.proofs.FreeBytes.{render-at, place-length}
@@ -206,3 +207,20 @@ module _ (bs xs : List Block) (b : Block) (ys ws : List Block) (c : Block) (zs :
       let old : render (copy-into (b .serial) (c .body) bs) ≡ overwrite (total size xs + 8) (take (length (b .body)) (c .body)) (render bs) =
       rw to (copy-writes (c .body) xs b ys ex ey) in
       rw body (old ∙ copy-inside)
+
+-- so the copy from one object to another is a copy of as many bytes as the shorter has, from base to base
+module _ (bs : List Block) (differ : serials-differ (objects bs) ≡ true) (old new : Handle) (apart : new .serial ≡ old .serial → ⊥) where
+  copied-placed : Placed 0 old bs → Placed 0 new bs
+      → render (copy-into (new .serial) (body-of (old .serial) bs) bs) ≡ copy-part (old .base) (new .base) (min (new .length) (old .length)) (render bs)
+  unfolding objects
+  copied-placed c b =
+      let x = others-differ 0 (b .front) (b .block) (b .back) (b .alive) (rw (b .split) at differ) in
+      let y = others-differ 0 (c .front) (c .block) (c .back) (c .alive) (rw (c .split) at differ) in
+      let ne : b .block .serial ≡ c .block .serial → ⊥ = λ e. apart (ap (λ (o : Handle). o .serial) (b .place) ∙ e ∙ sym (ap (λ (o : Handle). o .serial) (c .place))) in
+      rw (b .place, c .place, zero-add (total-size (b .front)), zero-add (total-size (c .front)), total-is (b .front), total-is (c .front))
+      (copied-writes bs (b .front) (b .block) (b .back) (c .front) (c .block) (c .back) (b .split) (c .split) ne (x .0) (x .1) (y .0))
+
+  pub copied-bytes : List·Memᴰ old (objects bs) → List·Memᴰ new (objects bs)
+      → render (copy-into (new .serial) (body-of (old .serial) bs) bs) ≡ copy-part (old .base) (new .base) (min (new .length) (old .length)) (render bs)
+  unfolding objects
+  copied-bytes o n = copied-placed (placed 0 bs old o) (placed 0 bs new n)
