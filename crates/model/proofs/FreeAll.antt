@@ -1,16 +1,19 @@
--- Free-all with no record (document 01: "accepted, 0, nothing changes"): of a consistent state the very heap bytes and accounts come back.
+-- Free-all: what it gives back is what the quota has spent, since in a consistent state that is the sum of its charges.
+-- With no record (document 01: "accepted, 0, nothing changes") the very heap bytes and accounts come back:
 -- No record is dropped, so nothing is charged for, every object is held still, and settling and writing the blocks gives what was read.
 -- Assumes nothing.
-use Prim.Native.Nat.{ℕ, _+_, _^_}
+use Prim.Native.Nat.{ℕ, _+_, _^_, _<_}
+use native.Mathlib.Omega.{arith}
 use native.Mathlib.Nat.{add-zero, zero-add}
 use mathlib.Core.Path.{_≡_, refl, ap, sym, _∙_}
 use mathlib.Core.List.{List, [], _∷_}
 use mathlib.Core.Bool.{Bool, true, false, cond, _&&_}
+use lib.ListN.{length}
 use lib.Dec.{ltb}
 use borrow.Author.Tests.{eq-eqb}
 use Rattle.accounts.specs.declared.Hold.{Hold}
 use Rattle.accounts.specs.declared.Accounts.{Accounts}
-use Rattle.accounts.specs.Accounts.{QUOTAS, used, is-for, remaining, set-remaining, refund, with-holds}
+use Rattle.accounts.specs.Accounts.{QUOTAS, used, is-for, remaining, spent, set-remaining, refund, with-holds, record-of}
 use Rattle.accounts.proofs.Laws.{set-same}
 use Rattle.layout.specs.Bytes.{Octets}
 use Rattle.layout.specs.Blocks.{render}
@@ -23,9 +26,14 @@ use Rattle.model.specs.Refusals.{first-refusal, quota-lines}
 use Rattle.model.specs.Calls.{State, leaves, unless, unchanged, state-of, freed, free-all}
 use Rattle.model.specs.declared.Handle.{Handle}
 use Rattle.model.proofs.Bools.{and-right, and-both}
-use Rattle.model.proofs.Consistent.{Tests, tests-exactly, consistent-cut, is-for-exactly}
-use Rattle.model.proofs.Settle.{record-of, stays, stays-objects, drop-none, settle-none}
+use Rattle.model.proofs.Consistent.{Tests, tests-exactly, consistent-cut, consistent-facts, is-for-exactly}
+use Rattle.model.proofs.Settle.{stays, stays-objects, drop-none, settle-none}
 use Rattle.model.proofs.Lists.{none-exactly}
+
+-- in a consistent state the sum of a quota's charges is what it has spent
+pub charges-spent : (s : List ℕ) (k : Accounts) → consistent s k ≡ true → (q : ℕ) → q < length (k .quotas) → charges (k .holds) q (objects-of s) ≡ spent q k
+unfolding spent remaining objects-of
+charges-spent s k c q h = omega (arith, consistent-facts s k c .balance q h)
 
 -- a quota without records is charged for nothing
 none-for : (q : ℕ) (hs : List Hold) → any (record-of q) hs ≡ false → (serial : ℕ) → has-record hs q serial ≡ false
