@@ -4,3 +4,6 @@ pub mod Placed
 pub mod Granted
 pub mod Released
 pub mod ReleaseAnswers
+pub mod Collected
+pub mod Emptied
+pub mod FreedAll

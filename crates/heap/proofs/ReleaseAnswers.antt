@@ -90,7 +90,7 @@ pub refuses : (s : List ℕ) (k : Accounts) (q : ℕ) (h : Handle) (r : AmountRe
 unfolding release amount-values
 refuses s k q h r x e n = ap (amount-outcome s) e ∙ refused-is (first-refusal (release-lines s k q h)) s k _ x n
 
-gives : (s : List ℕ) (k : Accounts) (n : ℕ) (r : AmountResult) → r ≡ record { accounts = k; answer = Amount n } → amount-outcome s r ≡ outcome s k (amount-of n)
+pub gives : (s : List ℕ) (k : Accounts) (n : ℕ) (r : AmountResult) → r ≡ record { accounts = k; answer = Amount n } → amount-outcome s r ≡ outcome s k (amount-of n)
 unfolding amount-values
 gives s k n r e = ap (amount-outcome s) e
 

@@ -6,6 +6,7 @@ use model::Verdict;
 
 mod allocation;
 mod claiming;
+mod freeing;
 mod opening;
 mod releasing;
 
@@ -23,6 +24,7 @@ pub use access::write_object;
 pub use allocation::allocate;
 pub use allocation::allocate_array;
 pub use claiming::claim;
+pub use freeing::free_all;
 pub use opening::open;
 pub use releasing::release;
 

@@ -41,7 +41,7 @@ pub(crate) fn is_held(holds: [Hold; HOLDS], serial: u32) -> bool
 }
 
 // A refusal, with the accounts as they were.
-fn refused(accounts: Accounts, refusal: Refusal) -> AmountResult
+pub(crate) fn refused(accounts: Accounts, refusal: Refusal) -> AmountResult
     ensures { λ r. ⌜ r ≡ record { accounts = accounts; answer = AmountAnswer.Refused refusal } ⌝ }
 {
     AmountResult {
@@ -51,7 +51,7 @@ fn refused(accounts: Accounts, refusal: Refusal) -> AmountResult
 }
 
 // What is given back, with the accounts after it.
-fn given_back(accounts: Accounts, amount: u32) -> AmountResult
+pub(crate) fn given_back(accounts: Accounts, amount: u32) -> AmountResult
     ensures { λ r. ⌜ r ≡ record { accounts = accounts; answer = AmountAnswer.Amount amount } ⌝ }
 {
     AmountResult {

@@ -21,12 +21,12 @@ use Rattle.layout.proofs.Parse.{parse-is}
 use Rattle.model.specs.Lists.{all, any, total}
 use Rattle.model.specs.Answers.{amount-of}
 use Rattle.model.specs.Objects.{blocks-of, objects, objects-of}
-use Rattle.model.specs.Consistent.{consistent, has-record, charged-for, charges, well-cut, long-enough, free-apart}
+use Rattle.model.specs.Consistent.{consistent, has-record, charged-for, charges}
 use Rattle.model.specs.Refusals.{first-refusal, quota-lines}
 use Rattle.model.specs.Calls.{State, leaves, unless, unchanged, state-of, freed, free-all}
 use Rattle.model.specs.declared.Handle.{Handle}
-use Rattle.model.proofs.Bools.{and-right, and-both}
-use Rattle.model.proofs.Consistent.{Tests, tests-exactly, consistent-cut, consistent-facts, is-for-exactly}
+use Rattle.model.proofs.Bools.{and-both}
+use Rattle.model.proofs.Consistent.{Tests, tests-exactly, consistent-cut, consistent-apart, consistent-facts, is-for-exactly}
 use Rattle.model.proofs.Settle.{stays, stays-objects, drop-none, settle-none}
 use Rattle.model.proofs.Lists.{none-exactly}
 
@@ -60,10 +60,6 @@ module _ (s : List ℕ) (k : Accounts) (o : Octets s) (c : consistent s k ≡ tr
   tests : Tests (blocks-of s) k
   tests = tests-exactly (blocks-of s) k .0 (consistent-cut s k c .1)
 
-  apart : free-apart (blocks-of s) ≡ true
-  unfolding well-cut
-  apart = and-right (all long-enough (blocks-of s)) (free-apart (blocks-of s)) (tests .cut)
-
   stay : all (stays (k .holds)) (blocks-of s) ≡ true
   unfolding objects
   stay = sym (stays-objects (k .holds) 0 (blocks-of s)) ∙ tests .recorded
@@ -73,7 +69,7 @@ module _ (s : List ℕ) (k : Accounts) (o : Octets s) (c : consistent s k ≡ tr
   freed-none =
       λ i.
       record {
-        blocks = settle-none q (k .holds) (blocks-of s) none stay apart i;
+        blocks = settle-none q (k .holds) (blocks-of s) none stay (consistent-apart s k c) i;
         accounts = with-holds (drop-none q (k .holds) none i) (refund-none q k i);
       }
 
