@@ -14,7 +14,7 @@ use borrow.Author.Tests.{not-true, not-false}
 use Rattle.accounts.specs.declared.Hold.{Hold}
 use Rattle.accounts.specs.declared.Accounts.{Accounts}
 use Rattle.accounts.specs.Accounts.{HOLDS}
-use Rattle.layout.specs.Blocks.{Block, size, units, live, start-at, parse}
+use Rattle.layout.specs.Blocks.{Block, size, units, live, start-at}
 use Rattle.layout.specs.declared.Header.{Header}
 use Rattle.layout.specs.declared.Start.the-variants.{Block as Starts, Nothing}
 use Rattle.layout.proofs.Starts.{start-found}

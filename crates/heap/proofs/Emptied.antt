@@ -6,10 +6,9 @@ use Prim.Native.Nat.{ℕ, _+_, _*_, _≤_, _<_}
 use native.Mathlib.Omega.{arith}
 use mathlib.Core.Path.{_≡_, refl, ap, sym, _∙_}
 use mathlib.Core.List.{List, [], _∷_, _++_, append-assoc, append-nil}
-use mathlib.Core.Bool.{Bool, true, false, not, cond, _&&_, _||_}
+use mathlib.Core.Bool.{Bool, true, false}
 use lib.ListN.{length, getD, length-replicate}
 use lib.Dec.{eqb, lit<}
-use borrow.Author.Tests.{eqb-true, ne-eqb, not-true, not-false}
 use Rattle.accounts.specs.declared.Hold.{Hold}
 use Rattle.accounts.specs.Accounts.{HOLDS}
 use Rattle.layout.specs.Blocks.{Block, size, units, live, total-size, back-after, header-of, start-at, render, Writable, AllWritable}
@@ -21,7 +20,7 @@ use Rattle.model.specs.Lists.{all, total}
 use Rattle.model.specs.Consistent.{held, free-apart}
 use Rattle.model.specs.Space.{vacate, join-front, settle}
 use Rattle.model.specs.Joining.{append-joined, join-neighbours}
-use Rattle.model.proofs.Bools.{and-left, and-right, and-both, or-neither}
+use Rattle.model.proofs.Bools.{and-both}
 use Rattle.model.proofs.Lists.{all-append}
 use Rattle.model.proofs.Blocks.{total-is}
 use Rattle.model.proofs.Join.{join-elim, appended-all, appended-split, appended-total}
@@ -34,7 +33,7 @@ use Rattle.writer.proofs.FreeBytes.{free-behind, behind-joined}
 use Rattle.writer.proofs.Rooms.{room-behind, freed-blocks, freed-inside}
 use Rattle.writer.proofs.Guards.{inside-test, frees}
 use Rattle.heap.proofs.Collected.{counted-free}
-use Rattle.heap.specs.Emptying.{counted, remains, passed, passed-end, Flagged, Emptying}
+use Rattle.heap.specs.Emptying.{counted, passed, passed-end, Flagged, Emptying}
 
 module _ (hs : List Hold) (kept : List Bool) where
   -- the flags of the blocks behind a free one

@@ -3,7 +3,7 @@
 -- Assumes nothing.
 use Prim.Native.Nat.{ℕ, _≤_, _<_}
 use native.Mathlib.Omega.{arith}
-use mathlib.Core.Path.{_≡_, refl, ap, sym, subst, _∙_}
+use mathlib.Core.Path.{_≡_, ap, sym, _∙_}
 use mathlib.Core.List.{List, [], _∷_}
 use mathlib.Core.Bool.{Bool, true, false}
 use lib.ListN.{length, getD}
@@ -12,7 +12,7 @@ use Rattle.accounts.specs.declared.Accounts.{Accounts}
 use Rattle.accounts.specs.Accounts.{QUOTAS, spent, refund, with-holds, drop-records}
 use Rattle.accounts.proofs.Laws.{Sized, refund-kept}
 use Rattle.layout.specs.Bytes.{Octets}
-use Rattle.layout.specs.Blocks.{render, AllWritable}
+use Rattle.layout.specs.Blocks.{render}
 use Rattle.layout.proofs.Parse.{parse-is}
 use Rattle.model.specs.Answers.{refusal-number, verdict-values, amount-of, amount-values}
 use Rattle.model.specs.Objects.{blocks-of, objects-of}
@@ -33,7 +33,7 @@ use Rattle.access.specs.Results.{outcome}
 use Rattle.access.proofs.Lines.{check-refuses, check-accepts, refused-is, accepted-is, line-3-refuses, line-3-passes}
 use Rattle.heap.specs.declared.AmountResult.{AmountResult}
 use Rattle.heap.specs.Results.{amount-outcome}
-use Rattle.heap.specs.Emptying.{live-serials, Emptying, Emptied}
+use Rattle.heap.specs.Emptying.{live-serials, Emptying, Emptiable, Emptied}
 use Rattle.heap.proofs.ReleaseAnswers.{gives}
 use Rattle.heap.proofs.Collected.{flagged}
 use Rattle.heap.proofs.Emptied.{emptying-start}
@@ -81,18 +81,22 @@ module _ (s : List ℕ) (k : Accounts) (o : Octets s) (short : length s ≤ 3276
         ap (λ (l : List Bool). getD l j false) (ke ∙ ap (λ (hs : List Hold). held-each hs serials) left-holds)
         ∙ each-at (drop-records q (k .holds)) (drop-well q (k .holds) (consistent-well s k ok)) serials j
 
-    -- so the walk may start
-    pub all-emptying : Emptying (drop-records q (k .holds)) (blocks-of s) kept 0 0 s
-    all-emptying =
+    emptying : Emptying (drop-records q (k .holds)) (blocks-of s) kept 0 0 s
+    emptying =
         let cut = consistent-cut s k ok .0 in
         let bytes = parse-is s (blocks-of s) o .0 cut in
-        emptying-start (drop-records q (k .holds)) (blocks-of s) kept s (sym (bytes .0)) (bytes .1) (consistent-apart s k ok) (omega (arith, total-parsed s (blocks-of s) cut))
+        emptying-start (drop-records q (k .holds)) (blocks-of s) kept s (sym (bytes .0)) (bytes .1) (consistent-apart s k ok)
+        (omega (arith, total-parsed s (blocks-of s) cut))
         (flagged (drop-records q (k .holds)) kept serials told s k ok (sized .holds-long) se)
 
-    -- and what it leaves is the definition's
-    pub all-freed : first-refusal (quota-lines s k q) ≡ 0 → (s′ : List ℕ) → Emptied kept s s′ → (r : AmountResult) → r ≡ record { accounts = k₂; answer = Amount back }
-        → amount-outcome s′ r ≡ free-all s k q
+    -- so the walk may start, and what it leaves is the definition's
+    pub all-freed : first-refusal (quota-lines s k q) ≡ 0
+        → Emptiable kept s
+        × ((s′ : List ℕ) → Emptied kept s s′ → (r : AmountResult) → r ≡ record { accounts = k₂; answer = Amount back } → amount-outcome s′ r ≡ free-all s k q)
     unfolding free-all freed
-    all-freed z s′ f r re =
-        let heap : s′ ≡ render (settle (drop-records q (k .holds)) (blocks-of s)) = f (drop-records q (k .holds)) (blocks-of s) all-emptying in
-        gives s′ k₂ back r re ∙ (λ i. outcome (heap i) (left i) (amount-of (paid i))) ∙ accepted-is (first-refusal (quota-lines s k q)) s k _ z
+    all-freed z = ((drop-records q (k .holds), blocks-of s, emptying), leaves-all)
+      where
+        leaves-all : (s′ : List ℕ) → Emptied kept s s′ → (r : AmountResult) → r ≡ record { accounts = k₂; answer = Amount back } → amount-outcome s′ r ≡ free-all s k q
+        leaves-all s′ f r re =
+            let heap : s′ ≡ render (settle (drop-records q (k .holds)) (blocks-of s)) = f (drop-records q (k .holds)) (blocks-of s) emptying in
+            gives s′ k₂ back r re ∙ (λ i. outcome (heap i) (left i) (amount-of (paid i))) ∙ accepted-is (first-refusal (quota-lines s k q)) s k _ z
