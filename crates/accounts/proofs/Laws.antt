@@ -16,7 +16,7 @@ use Rattle.accounts.specs.declared.Hold.{Hold}
 use Rattle.accounts.specs.declared.Accounts.{Accounts}
 use Rattle.accounts.specs.declared.Place.the-variants.{At, Nothing}
 use Rattle.accounts.specs.Accounts.{QUOTAS, HOLDS, zero-quota, zero-hold, zero-accounts, with-remainder, with-holds, with-last-serial, grants, granted, opened}
-use Rattle.accounts.specs.Accounts.{quota-at, remaining, set-remaining, charge, refund, first-from, hold-at, put-hold}
+use Rattle.accounts.specs.Accounts.{quota-at, remaining, spent, set-remaining, charge, refund, first-from, hold-at, put-hold}
 use Rattle.accounts.proofs.Rows
 
 -- the first record that passes a test stands at place i
@@ -144,6 +144,11 @@ module _ (q : ℕ) (k : Accounts) where
         same-others = λ o d. ap (λ (x : Quota). x .remainder) (getD-set-other (k .quotas) q o (with-remainder n (quota-at q k)) zero-quota d);
       }
 
+-- what a quota has spent
+pub spent-out : (q : ℕ) (k : Accounts) → length (k .quotas) ≤ q → spent q k ≡ 0
+unfolding spent
+spent-out q k h = ap (λ (x : Quota). x .grant - remaining q k) (List·getD-eq-default (k .quotas) zero-quota h) ∙ omega arith
+
 -- a payment: the quota is there and a test of the amount passes, or nothing changes
 module _ (q : ℕ) (t : Bool) (paid k : Accounts) where
   pub pays : q < QUOTAS → t ≡ true → cond (ltb q QUOTAS && t) paid k ≡ paid
@@ -235,18 +240,18 @@ pub sized-opened : (gs : List ℕ) → length gs ≡ QUOTAS → Sized (opened gs
 unfolding opened
 sized-opened gs e = record { quotas-long = length-map gs granted ∙ e; holds-long = length-replicate HOLDS zero-hold }
 
--- the quotas before place i hold the grants whole: one more of them, and all
-module _ (gs : List ℕ) (qs : List Quota) (i : ℕ) (done : (j : ℕ) → j < i → getD qs j zero-quota ≡ granted (getD gs j 0)) where
-  pub granted-more : i < length qs → (j : ℕ) → j < i + 1 → getD (set qs i (granted (getD gs i 0))) j zero-quota ≡ granted (getD gs j 0)
-  granted-more h =
-      below-more (λ (j : ℕ). getD (set qs i (granted (getD gs i 0))) j zero-quota ≡ granted (getD gs j 0)) i
-      (λ j l. getD-set-other qs i j (granted (getD gs i 0)) zero-quota (λ e. omega arith) ∙ done j l)
-      (getD-set-same qs i (granted (getD gs i 0)) zero-quota h)
+-- the places before i of a table hold what f gives for those of another: one more of them, and all
+module _ {A B : Type 0} (f : A → B) (d : A) (e : B) (same : f d ≡ e) (xs : List A) (ys : List B) (i : ℕ) (done : (j : ℕ) → j < i → getD ys j e ≡ f (getD xs j d)) where
+  pub mapped-more : i < length ys → (y : B) → y ≡ f (getD xs i d) → (j : ℕ) → j < i + 1 → getD (set ys i y) j e ≡ f (getD xs j d)
+  mapped-more h y q =
+      below-more (λ (j : ℕ). getD (set ys i y) j e ≡ f (getD xs j d)) i
+      (λ j l. getD-set-other ys i j y e (λ p. omega arith) ∙ done j l)
+      (getD-set-same ys i y e h ∙ q)
 
-  pub granted-all : length qs ≡ length gs → length qs ≤ i → qs ≡ map granted gs
-  granted-all e h =
-      ext-getD zero-quota qs (map granted gs) (e ∙ sym (length-map gs granted))
-      (λ j l. done j (omega arith) ∙ sym (List·getD-map granted gs j 0))
+  pub mapped-all : length ys ≡ length xs → length ys ≤ i → ys ≡ map f xs
+  mapped-all n h =
+      ext-getD e ys (map f xs) (n ∙ sym (length-map xs f))
+      (λ j l. done j (omega arith) ∙ sym (List·getD-map f xs j d) ∙ ap (getD (map f xs) j) same)
 
 -- storing a record
 module _ (i : ℕ) (h : Hold) (k : Accounts) where

@@ -7,7 +7,7 @@ use lib.ListN.{replicate}
 use Rattle.accounts.specs.declared.Hold.{Hold}
 use Rattle.accounts.specs.declared.Accounts.{Accounts}
 use Rattle.accounts.specs.declared.Place.the-variants.{At, Nothing}
-use Rattle.accounts.specs.Accounts.{QUOTAS, HOLDS, opened, remaining, set-remaining, charge, refund, used, unused, is-for, first-from, find-hold, lowest-unused, put-hold, drop-hold}
+use Rattle.accounts.specs.Accounts.{QUOTAS, HOLDS, opened, remaining, spent, set-remaining, charge, refund, used, unused, is-for, first-from, find-hold, lowest-unused, put-hold, drop-hold, drop-records}
 
 -- every quota has 5
 unfoldable pub five : Accounts
@@ -30,6 +30,11 @@ pub refund-rows : (map (λ n. remaining 1 (refund 1 n five)) (1 ∷ 4294967290 �
 unfolding five opened remaining set-remaining refund
 refund-rows = (refl, refl)
 
+-- what was charged is spent, nothing where more remains than was granted, and nothing of a quota that is not there
+pub spent-rows : (map (λ n. spent 1 (charge 1 n five)) (0 ∷ 4 ∷ 5 ∷ []) ≡ 0 ∷ 4 ∷ 5 ∷ []) × (spent 1 (refund 1 1 five) ≡ 0) × (spent QUOTAS five ≡ 0)
+unfolding five opened remaining spent set-remaining charge refund
+spent-rows = (refl, refl, refl)
+
 -- each number of a record makes it used
 pub used-rows : map used (record { serial = 0; quota = 0; count = 0 } ∷ record { serial = 1; quota = 0; count = 0 } ∷ record { serial = 0; quota = 1; count = 0 } ∷ record { serial = 0; quota = 0; count = 1 } ∷ []) ≡ false ∷ true ∷ true ∷ true ∷ []
 unfolding used
@@ -39,3 +44,8 @@ used-rows = refl
 pub place-rows : (map (λ s. find-hold s 1 held) (7 ∷ 8 ∷ 0 ∷ []) ≡ At 2 ∷ Nothing ∷ Nothing ∷ []) × (find-hold 7 0 held ≡ Nothing) × (lowest-unused held ≡ At 0) × (drop-hold 2 held ≡ five) × (put-hold HOLDS holder five ≡ five)
 unfolding five holder held opened used unused is-for first-from find-hold lowest-unused put-hold drop-hold
 place-rows = (refl, refl, refl, refl, refl)
+
+-- the records of the quota are dropped, and no others
+pub drop-rows : (drop-records 1 (held .holds) ≡ five .holds) × (drop-records 0 (held .holds) ≡ held .holds)
+unfolding five holder held opened used put-hold drop-records
+drop-rows = (refl, refl)

@@ -58,6 +58,10 @@ quota-at q k = getD (k .quotas) q zero-quota
 unfoldable pub remaining : ℕ → Accounts → ℕ
 remaining q k = quota-at q k .remainder
 
+-- what the quota has spent: the grant less what remains of it
+unfoldable pub spent : ℕ → Accounts → ℕ
+spent q k = quota-at q k .grant - remaining q k
+
 unfoldable pub set-remaining : ℕ → ℕ → Accounts → Accounts
 set-remaining q n k = with-quotas (set (k .quotas) q (with-remainder n (quota-at q k))) k
 
@@ -104,3 +108,14 @@ put-hold i h k = with-holds (set (k .holds) i h) k
 
 unfoldable pub drop-hold : ℕ → Accounts → Accounts
 drop-hold i k = put-hold i zero-hold k
+
+-- h is a record of this quota
+abbrev pub record-of : ℕ → Hold → Bool
+record-of q h = used h && eqb (h .quota) q
+
+-- "drops every record of the quota, whatever its count"
+abbrev pub dropped : ℕ → Hold → Hold
+dropped q h = cond (record-of q h) zero-hold h
+
+unfoldable pub drop-records : ℕ → List Hold → List Hold
+drop-records q hs = map (dropped q) hs

@@ -1,7 +1,7 @@
 // The accounting state of a shared heap: quotas and hold records, a state that goes in by value and comes back changed.
 ghost use mathlib.Core.Path.{_≡_};
-ghost use Rattle.accounts.specs.Accounts.{zero-hold, zero-accounts, used, is-for, opened, remaining, charge, refund, with-last-serial};
-ghost use Rattle.accounts.specs.Accounts.{find-hold, lowest-unused, hold-at, put-hold, drop-hold};
+ghost use Rattle.accounts.specs.Accounts.{zero-hold, zero-accounts, used, is-for, dropped, opened, remaining, spent, charge, refund, with-holds, with-last-serial};
+ghost use Rattle.accounts.specs.Accounts.{find-hold, lowest-unused, hold-at, put-hold, drop-hold, drop-records};
 
 // The number of quotas.
 pub const QUOTAS: usize = 8;
@@ -74,6 +74,18 @@ impl Hold {
         }
         false
     }
+
+    // The record as it is, or zeros where it is one of this quota.
+    fn dropped(self, quota: u8) -> Hold
+        ensures { λ r. ⌜ r ≡ dropped quota self ⌝ }
+    {
+        if self.is_used() {
+            if self.quota == quota {
+                return Hold::zero();
+            }
+        }
+        self
+    }
 }
 
 impl Accounts {
@@ -121,6 +133,21 @@ impl Accounts {
             return self.quotas[q].remainder;
         }
         0
+    }
+
+    // What a quota has spent of its grant; 0 where there is no such quota, or more remains than was granted.
+    pub fn spent(self, quota: u32) -> u32
+        ensures { λ r. ⌜ r ≡ spent quota self ⌝ }
+    {
+        let q = quota as usize;
+        if QUOTAS <= q {
+            return 0;
+        }
+        let entry = self.quotas[q];
+        if entry.grant < entry.remainder {
+            return 0;
+        }
+        entry.grant - entry.remainder
     }
 
     // The quota pays; where there is no such quota, or it has less than that, nothing changes.
@@ -221,5 +248,20 @@ impl Accounts {
         ensures { λ r. ⌜ r ≡ drop-hold at self ⌝ }
     {
         self.add_hold(at, Hold::zero())
+    }
+
+    // Every record of a quota becomes unused.
+    pub fn drop_holds(mut self, quota: u8) -> Accounts
+        ensures { λ r. ⌜ r ≡ with-holds (drop-records quota (self .holds)) self ⌝ }
+    {
+        let mut left = self.holds;
+        let mut i: usize = 0;
+        while i < HOLDS {
+            let hold = self.holds[i];
+            left[i] = hold.dropped(quota);
+            i += 1;
+        }
+        self.holds = left;
+        self
     }
 }

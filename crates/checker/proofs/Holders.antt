@@ -2,24 +2,21 @@
 -- has the serial exactly if the search along its slot's chain ends inside the table, since the chain leads to every key of the serial.
 -- The records of a consistent state are well-formed, and stay so where a quota's are dropped, since a dropped record is all zero.
 -- Assumes nothing.
-use Prim.Native.Nat.{ℕ, suc, _+_, _<_, _≤_}
+use Prim.Native.Nat.{ℕ, suc, _+_, _<_}
 use mathlib.Core.Path.{_≡_, refl, ap, sym, subst, _∙_}
-use mathlib.Core.Bool.{Bool, true, false, cond, _&&_, _||_}
+use mathlib.Core.Bool.{Bool, true, false, cond, _||_}
 use mathlib.Core.List.{List, [], _∷_, map, map-congr-left}
 use mathlib.Core.Logic.{inl, inr}
 use native.Mathlib.Omega.{arith}
-use borrow.Author.Count.{below-more}
 use borrow.Author.Tests.{eq-eqb, ne-eqb, lt-ltb, le-ltb}
-use lib.Dec.{eqb, ltb}
-use lib.ListN.{length, getD, set, replicate, length-map, List·getD-map}
-use lib.Seq.{getD-set-same, getD-set-other, ext-getD}
+use lib.Dec.{ltb}
+use lib.ListN.{length, getD, replicate, List·getD-map}
 use Rattle.accounts.specs.declared.Hold.{Hold}
 use Rattle.accounts.specs.declared.Accounts.{Accounts}
-use Rattle.accounts.specs.Accounts.{HOLDS, zero-hold, used}
+use Rattle.accounts.specs.Accounts.{HOLDS, zero-hold, used, record-of, dropped, drop-records}
 use Rattle.model.specs.Lists.{all, any}
 use Rattle.model.specs.Objects.{blocks-of}
 use Rattle.model.specs.Consistent.{is-of, held, consistent}
-use Rattle.model.specs.Holds.{drop-records}
 use Rattle.model.proofs.Bools.{and-left, and-right, and-both, and-no}
 use Rattle.model.proofs.Consistent.{tests-exactly, consistent-cut}
 use Rattle.checker.specs.Keys.{well-formed, keys-of, for-serial}
@@ -97,22 +94,6 @@ module _ {keys next heads : List ℕ} (g : Chained keys next heads) (n : ℕ) (l
       rw (ne-eqb n 0 live)
       (ap (λ (x : ℕ). ltb x HOLDS) (e ∙ sym whole) ∙ ap (ltb (search (for-serial n) 0 keys)) (omega arith) ∙ any-search (for-serial n) keys 0)
 
--- the answers before place i are those of their serials: one more of them, and all
-module _ (keys serials : List ℕ) (answers : List Bool) (i : ℕ) (done : (j : ℕ) → j < i → getD answers j false ≡ has-key keys (getD serials j 0)) where
-  pub answers-more : i < length answers → (t : Bool) → t ≡ has-key keys (getD serials i 0)
-      → (j : ℕ) → j < i + 1 → getD (set answers i t) j false ≡ has-key keys (getD serials j 0)
-  answers-more h t e =
-      below-more (λ (j : ℕ). getD (set answers i t) j false ≡ has-key keys (getD serials j 0)) i
-      (λ j l. getD-set-other answers i j t false (λ q. omega arith) ∙ done j l)
-      (getD-set-same answers i t false h ∙ e)
-
-  pub answers-all : length answers ≡ length serials → length answers ≤ i → answers ≡ map (has-key keys) serials
-  answers-all e h =
-      ext-getD false answers (map (has-key keys) serials) (e ∙ sym (length-map serials (has-key keys)))
-      (λ j l.
-      done j (omega arith) ∙ sym (List·getD-map (has-key keys) serials j 0)
-      ∙ ap (λ (d : Bool). getD (map (has-key keys) serials) j d) (no-key-zero keys 0 refl))
-
 -- where a record is not well-formed every serial counts as held
 all-true : (ns : List ℕ) → replicate (length ns) true ≡ map (λ n. true) ns
 all-true [] = refl
@@ -152,8 +133,8 @@ pub drop-well : (q : ℕ) (hs : List Hold) → all well-formed hs ≡ true → a
 unfolding drop-records all well-formed used
 drop-well q [] w = refl
 drop-well q (h ∷ hs) w =
-    and-both (well-formed (cond (used h && eqb (h .quota) q) zero-hold h)) (all well-formed (drop-records q hs))
-    (go (used h && eqb (h .quota) q)) (drop-well q hs (and-right (well-formed h) (all well-formed hs) w))
+    and-both (well-formed (dropped q h)) (all well-formed (drop-records q hs))
+    (go (record-of q h)) (drop-well q hs (and-right (well-formed h) (all well-formed hs) w))
   where
     go : (t : Bool) → well-formed (cond t zero-hold h) ≡ true
     go true = refl

@@ -8,3 +8,6 @@ pub mod Released
 pub mod ReleaseAnswers
 pub mod Reallocated
 pub mod ReallocateAnswers
+pub mod Collected
+pub mod Emptied
+pub mod FreedAll

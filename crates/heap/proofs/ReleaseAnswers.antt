@@ -75,7 +75,7 @@ module _ (s : List ℕ) (k : Accounts) (q : ℕ) (h : Handle) where
           ap (claim-dropped s k q) (sym (located s k Accepted told refl h m e .object))
           ∙ accepted-is (first-refusal (release-lines s k q h)) s k _ (release-passes s k Accepted told refl h m e q (c .exists) i (rw (byte-quota q (c .exists)) p))
 
-gives : (s : List ℕ) (k : Accounts) (n : ℕ) (r : AmountResult) → r ≡ record { accounts = k; answer = Amount n } → amount-outcome s r ≡ outcome s k (amount-of n)
+pub gives : (s : List ℕ) (k : Accounts) (n : ℕ) (r : AmountResult) → r ≡ record { accounts = k; answer = Amount n } → amount-outcome s r ≡ outcome s k (amount-of n)
 unfolding amount-values
 gives s k n r e = ap (amount-outcome s) e
 

@@ -23,7 +23,7 @@ use Rattle.layout.proofs.Parse.{parse-is}
 use Rattle.model.specs.Lists.{all, any, total, or-else}
 use Rattle.model.specs.Answers.{amount-of}
 use Rattle.model.specs.Objects.{names, object, objects-from, objects, blocks-of, objects-of, lookup}
-use Rattle.model.specs.Consistent.{consistent, free-apart, long-enough, well-cut, has-serial, serials-differ, is-of, held}
+use Rattle.model.specs.Consistent.{consistent, free-apart, has-serial, serials-differ, is-of, held}
 use Rattle.model.specs.Holds.{count-of, with-count, less-one, lower-count}
 use Rattle.model.specs.Space.{settle}
 use Rattle.model.specs.Calls.{given-back, released}
@@ -31,7 +31,7 @@ use Rattle.model.specs.declared.Handle.{Handle}
 use Rattle.model.proofs.Bools.{and-left, and-right, or-neither, implies, implied}
 use Rattle.model.proofs.Lists.{first-some, all-member, member-all, all-append}
 use Rattle.model.proofs.Blocks.{objects-live, objects-free, objects-append}
-use Rattle.model.proofs.Consistent.{Tests, tests-exactly, consistent-cut, is-for-exactly}
+use Rattle.model.proofs.Consistent.{Tests, tests-exactly, consistent-cut, consistent-apart, is-for-exactly}
 use Rattle.model.proofs.Settle.{stays, stays-objects, settle-same, settle-one}
 use Rattle.finder.specs.declared.Met.{Met}
 use Rattle.finder.specs.declared.Lookup.the-variants.{Found}
@@ -180,8 +180,7 @@ module _ (s : List ℕ) (k : Accounts) (o : Octets s) (ok : consistent s k ≡ t
   all-stay = sym (stays-objects (k .holds) 0 (blocks-of s)) ∙ tests .recorded
 
   all-apart : free-apart (blocks-of s) ≡ true
-  unfolding well-cut
-  all-apart = and-right (all long-enough (blocks-of s)) (free-apart (blocks-of s)) (tests .cut)
+  all-apart = consistent-apart s k ok
 
   -- the block lies in the heap
   pub inside : length s ≤ 32768 → Inside m s

@@ -8,6 +8,7 @@ ghost use mathlib.Core.Path.{_≡_};
 
 mod allocation;
 mod claiming;
+mod freeing;
 mod opening;
 mod reallocating;
 mod releasing;
@@ -26,6 +27,7 @@ pub use access::write_object;
 pub use allocation::allocate;
 pub use allocation::allocate_array;
 pub use claiming::claim;
+pub use freeing::free_all;
 pub use opening::open;
 pub use reallocating::reallocate;
 pub use releasing::release;

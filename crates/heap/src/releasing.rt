@@ -45,7 +45,7 @@ pub(crate) fn is_held(holds: [Hold; HOLDS], serial: u32) -> bool
 }
 
 // What is given back, with the accounts after it.
-fn given_back(accounts: Accounts, amount: u32) -> AmountResult
+pub(crate) fn given_back(accounts: Accounts, amount: u32) -> AmountResult
     ensures { λ r. ⌜ r ≡ record { accounts = accounts; answer = AmountAnswer.Amount amount } ⌝ }
 {
     AmountResult {

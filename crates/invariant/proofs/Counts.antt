@@ -14,15 +14,14 @@ use mathlib.Core.Logic.{_⊎_, inl, inr, _↔_}
 use lib.Dec.{ltb, eqb}
 use borrow.Author.Tests.{leb-true, le-leb, ltb-true, lt-ltb, eqb-true, eq-eqb, eqb-false, ne-eqb, not-true}
 use Rattle.accounts.specs.declared.Hold.{Hold}
-use Rattle.accounts.specs.Accounts.{QUOTAS, zero-hold, used, unused, is-for}
+use Rattle.accounts.specs.Accounts.{QUOTAS, zero-hold, used, unused, is-for, record-of, dropped, drop-records}
 use Rattle.model.specs.Lists.{all, any, total, first, or-else, change-first}
 use Rattle.model.specs.Consistent.{held, has-record}
-use Rattle.model.specs.Holds.{count-of, with-count, take-record, raise-count, less-one, lower-count, drop-records}
+use Rattle.model.specs.Holds.{count-of, with-count, take-record, raise-count, less-one, lower-count}
 use Rattle.model.proofs.Bools.{and-left, and-right, and-both, implies, implied, fails}
 use Rattle.model.proofs.Lists.{all-member, member-any, first-some, first-found, first-none}
 use Rattle.model.proofs.Consistent.{is-for-exactly, held-exactly}
 use Rattle.model.proofs.Lookup.{same-record}
-use Rattle.model.proofs.Settle.{record-of}
 use Rattle.invariant.proofs.Good.{proper, Ordered}
 use Rattle.invariant.proofs.Sums.{Changed, changed, changed-member, changed-total, changed-all, for-same, weight, weight-same, weight-unused, zero-weight, sum-of, times, sum-none, differ-times, times-differ, count-sum}
 
@@ -308,12 +307,8 @@ module _ (hs : List Hold) (r : Ordered hs) (serial q : ℕ) where
         go true e = omega (arith, lower-found .1)
         go false e = omega arith
 
--- what becomes of a record when a quota's are dropped
-abbrev dropped : ℕ → Hold → Hold
-dropped q h = cond (record-of q h) zero-hold h
-
 module _ (q : ℕ) where
-  -- it adds nothing to the sums of that quota, and what it added to those of others
+  -- a record that is left where a quota's are dropped adds nothing to the sums of that quota, and what it added to those of others
   dropped-weight : (v : Hold → ℕ) (t j : ℕ) (h : Hold) → weight v t j (dropped q h) ≡ cond (eqb q j) 0 (weight v t j h)
   dropped-weight v t j h = go (record-of q h) (eqb q j) refl refl
     where

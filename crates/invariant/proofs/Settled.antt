@@ -9,13 +9,13 @@ use mathlib.Core.Bool.{Bool, true, false, cond, _&&_}
 use lib.Dec.{eqb}
 use borrow.Author.Tests.{eqb-true, eqb-false, eq-eqb}
 use Rattle.accounts.specs.declared.Hold.{Hold}
-use Rattle.accounts.specs.Accounts.{QUOTAS, remaining, refund, with-holds}
+use Rattle.accounts.specs.Accounts.{QUOTAS, remaining, refund, with-holds, drop-records}
 use Rattle.accounts.proofs.Laws.{refund-kept}
 use Rattle.model.specs.Lists.{total, keep}
 use Rattle.model.specs.Objects.{objects}
 use Rattle.model.specs.Consistent.{charge-of, charges, has-record}
 use Rattle.model.specs.Space.{settle}
-use Rattle.model.specs.Holds.{count-of, lower-count, drop-records}
+use Rattle.model.specs.Holds.{count-of, lower-count}
 use Rattle.model.specs.Calls.{State, given-back, released, freed}
 use Rattle.model.specs.declared.Handle.{Handle}
 use Rattle.model.proofs.Settle.{object-held, settle-objects}

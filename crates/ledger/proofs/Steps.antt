@@ -12,13 +12,13 @@ use lib.Dec.{eqb}
 use borrow.Author.Tests.{eq-eqb, ne-eqb}
 use Rattle.accounts.specs.declared.Quota.{Quota}
 use Rattle.accounts.specs.declared.Accounts.{Accounts}
-use Rattle.accounts.specs.Accounts.{QUOTAS}
+use Rattle.accounts.specs.Accounts.{QUOTAS, drop-records}
 use Rattle.rounding.specs.Rounding.{Units}
 use Rattle.layout.specs.Blocks.{render}
 use Rattle.model.specs.Lists.{keep, or-else}
 use Rattle.model.specs.Objects.{blocks-of, objects, objects-of, lookup, lookup-whole, found}
 use Rattle.model.specs.Consistent.{charges, has-record}
-use Rattle.model.specs.Holds.{count-of, lower-count, drop-records}
+use Rattle.model.specs.Holds.{count-of, lower-count}
 use Rattle.model.specs.Refusals.{first-refusal, quota-lines, lend-lines, release-lines, claim-lines, check-lines, allocate-lines, reallocate-lines}
 use Rattle.model.specs.Calls.{Outcome, State, unless, state-of, allocated, claimed, released, freed, copied, new-object, allocate, allocate-array, claim, release, free-all, reallocate, lend, remaining-of, can-release, list-block}
 use Rattle.model.specs.Step.{step}

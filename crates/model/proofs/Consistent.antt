@@ -3,16 +3,17 @@
 -- The test is an `and` of seven tests. Each of these goes through a list, or through its pairs, and by induction on the list it passes exactly
 -- if what it tests holds of each member or of each two places.
 -- Assumes nothing.
-use mathlib.Core.Path.{_≡_, refl, ap, sym}
+use mathlib.Core.Path.{_≡_, refl, ap, sym, _∙_}
 use Prim.Native.Nat.{ℕ, zero, suc, _+_, _≤_, _<_, suc-le-suc, zero-le}
+use native.Mathlib.Omega.{arith}
 use native.Mathlib.Nat.{not-suc-le-zero, le-of-suc-le-suc, add-zero, add-suc, suc-add, zero-add}
 use mathlib.Core.List.{List, [], _∷_, _++_, List·Memᴰ}
 use mathlib.Core.Bool.{Bool, true, false, not, _&&_, _||_, false≢true}
 use mathlib.Core.Option.{Option, none, some}
-use mathlib.Core.Logic.{_↔_}
+use mathlib.Core.Logic.{_↔_, ⊎-elim}
 use lib.ListN.{length, getD}
 use lib.Dec.{leb, ltb, eqb}
-use borrow.Author.Tests.{leb-true, le-leb, ltb-true, lt-ltb, eqb-true, eq-eqb}
+use borrow.Author.Tests.{leb-true, le-leb, ltb-true, lt-ltb, eqb-true, eqb-false, eq-eqb, not-true}
 use Rattle.accounts.specs.declared.Quota.{Quota}
 use Rattle.accounts.specs.declared.Hold.{Hold}
 use Rattle.accounts.specs.declared.Accounts.{Accounts}
@@ -23,8 +24,8 @@ use Rattle.model.specs.Answers.{zero-handle}
 use Rattle.model.specs.Objects.{objects, blocks-of}
 use Rattle.model.specs.Consistent.{long-enough, starts-free, free-apart, well-cut, has-serial, serials-differ, serials-given, record-valid, records-differ, is-of, held, charges, balanced-from, consistent-blocks, consistent-parsed, consistent}
 use Rattle.model.specs.declared.Handle.{Handle}
-use Rattle.model.proofs.Bools.{and-left, and-right, and-both, implies, implied}
-use Rattle.model.proofs.Lists.{all-exactly, any-exactly, any-and, unrelated, unrelated-places, places-unrelated}
+use Rattle.model.proofs.Bools.{and-left, and-right, and-both, or-cases, or-left, or-right, implies, implied, fails}
+use Rattle.model.proofs.Lists.{all-member, member-all, none-member, all-exactly, any-exactly, any-and, unrelated, unrelated-places, places-unrelated}
 
 -- the seven tests, in the paragraph's order
 pub record Tests (bs : List Block) (k : Accounts) : Type 0 where
@@ -197,6 +198,40 @@ held-exactly hs serial =
 pub recorded-exactly : (hs : List Hold) (os : List Handle) → (all (λ o. held hs (o .serial)) os ≡ true) ↔ ((o : Handle) → List·Memᴰ o os → Held hs (o .serial))
 recorded-exactly hs = all-exactly (λ o. held hs (o .serial)) _ (λ o. held-exactly hs (o .serial))
 
+-- a record that holds a serial may be taken away, and the others hold every other serial that was held
+other-held : (h : Hold) (hs : List Hold) (n m : ℕ) → is-of n h ≡ true → eqb m n ≡ false → held (h ∷ hs) m ≡ true → held hs m ≡ true
+unfolding held any
+other-held h hs n m t d e =
+    let no : is-of m h ≡ false = fails (is-of m h) (λ u. eqb-false m n d (sym (is-of-exactly m h .0 u .1) ∙ is-of-exactly n h .0 t .1)) in
+    rw no at e
+
+taken-away : (hs : List Hold) (n : ℕ) → held hs n ≡ true
+    → (rest : List Hold) × (length hs ≡ suc (length rest)) × ((m : ℕ) → eqb m n ≡ false → held hs m ≡ true → held rest m ≡ true)
+unfolding held any
+taken-away [] n e = absurd (false≢true e)
+taken-away (h ∷ hs) n e = go (is-of n h) refl (taken-away hs n)
+  where
+    go : (x : Bool) → is-of n h ≡ x → (held hs n ≡ true → (rest : List Hold) × (length hs ≡ suc (length rest)) × ((m : ℕ) → eqb m n ≡ false → held hs m ≡ true → held rest m ≡ true))
+        → (rest : List Hold) × (length (h ∷ hs) ≡ suc (length rest)) × ((m : ℕ) → eqb m n ≡ false → held (h ∷ hs) m ≡ true → held rest m ≡ true)
+    go true t ih = (hs, refl, λ m d u. other-held h hs n m t d u)
+    go false t ih =
+        let r = ih (rw t at e) in
+        (h ∷ r .0, ap suc (r .1), λ m d u. ⊎-elim (λ v. or-left (is-of m h) _ v) (λ v. or-right (is-of m h) _ (r .2 m d v)) (or-cases (is-of m h) (held hs m) u))
+
+-- so there are no more objects than records
+pub objects-few : (os : List Handle) (hs : List Hold) → serials-differ os ≡ true → all (λ o. held hs (o .serial)) os ≡ true → length os ≤ length hs
+unfolding serials-differ all
+objects-few [] hs d a = omega arith
+objects-few (o ∷ os) hs d a =
+    let r = taken-away hs (o .serial) (and-left (held hs (o .serial)) _ a) in
+    let none = not-true (any (has-serial (o .serial)) os) (and-left (not (any (has-serial (o .serial)) os)) _ d) in
+    let ih = objects-few os (r .0) (and-right (not (any (has-serial (o .serial)) os)) _ d)
+    (member-all (λ p. held (r .0) (p .serial)) os
+    (λ p m.
+    (r .2 (p .serial) (fails (eqb (p .serial) (o .serial)) (none-member (has-serial (o .serial)) os none p m))
+    (all-member (λ x. held hs (x .serial)) os (and-right (held hs (o .serial)) _ a) p m)))) in
+    omega (arith, r .1)
+
 -- "For each quota, grant = remainder + the sum"
 abbrev pub Balance : List Handle → List Hold → ℕ → List Quota → Type 0
 Balance os hs q qs = (i : ℕ) → i < length qs → getD qs i zero-quota .grant ≡ getD qs i zero-quota .remainder + charges hs (q + i) os
@@ -266,6 +301,11 @@ consistent-exactly s k = (go (parse s) refl, λ r. rw (r .1) (r .2))
 -- and these are its blocks
 pub consistent-cut : (s : List ℕ) (k : Accounts) → consistent s k ≡ true → (parse s ≡ some (blocks-of s)) × (consistent-blocks (blocks-of s) k ≡ true)
 consistent-cut s k e = let r = consistent-exactly s k .0 e in rw (blocks-parsed s (r .0) (r .1)) (r .1, r .2)
+
+-- no two free ones of them stand side by side
+pub consistent-apart : (s : List ℕ) (k : Accounts) → consistent s k ≡ true → free-apart (blocks-of s) ≡ true
+unfolding well-cut
+consistent-apart s k e = and-right (all long-enough (blocks-of s)) _ (tests-exactly (blocks-of s) k .0 (consistent-cut s k e .1) .cut)
 
 pub consistent-facts : (s : List ℕ) (k : Accounts) → consistent s k ≡ true → Facts (blocks-of s) k
 consistent-facts s k e = facts-exactly (blocks-of s) k .0 (consistent-cut s k e .1)

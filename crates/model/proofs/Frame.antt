@@ -12,9 +12,9 @@ use borrow.Author.Tests.{not-true, eqb-false}
 use Rattle.accounts.specs.declared.Quota.{Quota}
 use Rattle.accounts.specs.declared.Hold.{Hold}
 use Rattle.accounts.specs.declared.Accounts.{Accounts}
-use Rattle.accounts.specs.Accounts.{QUOTAS, zero-quota, zero-hold, with-remainder, quota-at, remaining, set-remaining, charge, refund, with-holds, used, unused, is-for}
+use Rattle.accounts.specs.Accounts.{QUOTAS, zero-quota, zero-hold, with-remainder, quota-at, remaining, set-remaining, charge, refund, with-holds, used, unused, is-for, drop-records}
 use Rattle.model.specs.Lists.{change-first}
-use Rattle.model.specs.Holds.{with-count, take-record, raise-count, less-one, lower-count, drop-records}
+use Rattle.model.specs.Holds.{with-count, take-record, raise-count, less-one, lower-count}
 use Rattle.model.specs.Refusals.{claims-first}
 use Rattle.model.specs.Consistent.{charge-of}
 use Rattle.model.specs.Calls.{State, allocated, claimed, given-back, released, freed, copied}

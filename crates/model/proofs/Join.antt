@@ -3,13 +3,14 @@
 -- Joining two blocks and then a third is joining all three, because the bytes are put together in the same order.
 -- Assumes nothing.
 use mathlib.Core.Path.{_≡_, refl, ap, _∙_}
-use Prim.Native.Nat.{ℕ, _+_, _%_}
+use Prim.Native.Nat.{ℕ, _+_, _%_, _≤_}
 use native.Mathlib.Omega.{arith}
 use mathlib.Core.List.{List, [], _∷_, _++_, append-assoc}
-use mathlib.Core.Bool.{Bool, true, false, not, _&&_, _||_, or-true, false≢true}
+use mathlib.Core.Bool.{Bool, true, false, not, cond, _&&_, _||_, or-true, false≢true}
 use lib.ListN.{replicate, length-append, length-replicate}
+use lib.Dec.{lit<}
 use borrow.Author.Tests.{eqb-true, eq-eqb}
-use Rattle.layout.specs.Blocks.{Block, size, live}
+use Rattle.layout.specs.Blocks.{Block, size, live, Writable, AllWritable}
 use Rattle.model.specs.Lists.{all, total}
 use Rattle.model.specs.Objects.{objects-from}
 use Rattle.model.specs.Consistent.{long-enough, starts-free, free-apart}
@@ -91,6 +92,14 @@ module _ (p : Block → Bool) (f : (b c : Block) → p b ≡ true → p c ≡ tr
   join-all [] a = refl
   join-all (b ∷ bs) a = front-all b (join-free bs) (and-left (p b) (all p bs) a) (join-all bs (and-right (p b) (all p bs) a))
 
+  -- and holds of blocks with others behind them, the last joined to the first of the others
+  pub appended-all : (xs ys : List Block) → all p xs ≡ true → all p ys ≡ true → all p (append-joined xs ys) ≡ true
+  unfolding append-joined all
+  appended-all [] ys a e = e
+  appended-all (x ∷ []) ys a e = front-all x ys (and-left (p x) true a) e
+  appended-all (x ∷ (y ∷ xs)) ys a e =
+      and-both (p x) (all p (append-joined (y ∷ xs) ys)) (and-left (p x) (all p (y ∷ xs)) a) (appended-all (y ∷ xs) ys (and-right (p x) (all p (y ∷ xs)) a) e)
+
 -- every block stays long enough
 pub join-long : (bs : List Block) → all long-enough bs ≡ true → all long-enough (join-free bs) ≡ true
 unfolding long-enough
@@ -102,6 +111,24 @@ unfolding whole-size
 join-whole bs w =
     join-all whole-size
     (λ b c p q. eq-eqb (size (joined b c) % 8) 0 (omega (arith, joined-size b c, eqb-true (size b % 8) 0 p, eqb-true (size c % 8) 0 q))) bs w
+
+front-writable : (b : Block) (cs : List Block) → Writable b → AllWritable cs → size b + total size cs ≤ 32768 → AllWritable (join-front b cs)
+unfolding total
+front-writable b cs w v l =
+    join-elim AllWritable b cs (λ e. (w, v))
+    (λ d ds eb ed e.
+    (let v′ : AllWritable (d ∷ ds) = rw e at v in
+    let l′ : size b + (size d + total size ds) ≤ 32768 = rw e at l in
+    let n = joined-size b d in
+    let j : Writable (joined b d) = record { whole = omega (arith, w .whole, v′ .0 .whole); small = omega arith; narrow = lit< tt } in
+    (j, v′ .1)))
+
+-- blocks that can be written can be written once they are joined, where their sizes add up to at most 32,768
+pub join-writable : (bs : List Block) → AllWritable bs → total size bs ≤ 32768 → AllWritable (join-free bs)
+unfolding join-free total
+join-writable [] w l = tt
+join-writable (b ∷ bs) w l =
+    front-writable b (join-free bs) (w .0) (join-writable bs (w .1) (omega arith)) (omega (arith, join-total bs))
 
 front-apart : (b : Block) (cs : List Block) → free-apart cs ≡ true → free-apart (join-front b cs) ≡ true
 front-apart b cs a =
@@ -155,3 +182,25 @@ join-replaced [] b v ys a = rw (join-same ys (apart-tail b ys a))
 join-replaced (x ∷ []) b v ys a = ap (λ (l : List Block). join-front x (join-front v l)) (join-same ys (apart-tail b ys (apart-tail x (b ∷ ys) a)))
 join-replaced (x ∷ (y ∷ xs)) b v ys a =
     ap (join-front x) (join-replaced (y ∷ xs) b v ys (apart-tail x (y ∷ xs ++ (b ∷ ys)) a)) ∙ appended-apart x y xs (join-front v ys) (xs ++ (b ∷ ys)) a
+
+front-split : (x c : Block) (zs : List Block) → join-front x (c ∷ zs) ≡ join-front x (c ∷ []) ++ zs
+unfolding join-front
+front-split x c zs = go (live x || live c)
+  where
+    go : (t : Bool) → cond t (x ∷ c ∷ zs) (joined x c ∷ zs) ≡ cond t (x ∷ c ∷ []) (joined x c ∷ []) ++ zs
+    go true = refl
+    go false = refl
+
+-- only the first of the blocks behind others is joined to them, so what follows it stands behind both
+pub appended-split : (xs : List Block) (c : Block) (zs : List Block) → append-joined xs (c ∷ zs) ≡ append-joined xs (c ∷ []) ++ zs
+unfolding append-joined
+appended-split [] c zs = refl
+appended-split (x ∷ []) c zs = front-split x c zs
+appended-split (x ∷ (y ∷ xs)) c zs = ap (λ (l : List Block). x ∷ l) (appended-split (y ∷ xs) c zs)
+
+-- their sizes add up to the same
+pub appended-total : (xs ys : List Block) → total size (append-joined xs ys) ≡ total size xs + total size ys
+unfolding append-joined total
+appended-total [] ys = omega arith
+appended-total (x ∷ []) ys = front-total x ys ∙ omega arith
+appended-total (x ∷ (y ∷ xs)) ys = omega (arith, appended-total (y ∷ xs) ys)

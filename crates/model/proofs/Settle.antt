@@ -3,24 +3,25 @@
 -- leave unheld is unheld by fewer of them too, and joining earlier or later gives the same blocks; so settling in steps is settling once.
 -- Assumes nothing.
 use mathlib.Core.Path.{_≡_, refl, ap, sym, _∙_}
-use Prim.Native.Nat.{ℕ, _+_}
+use Prim.Native.Nat.{ℕ, _+_, _≤_}
+use native.Mathlib.Omega.{arith}
 use mathlib.Core.List.{List, [], _∷_, _++_, map}
 use mathlib.Core.Bool.{Bool, true, false, not, cond, _&&_, _||_, true≢false, false≢true}
 use lib.ListN.{length-replicate}
-use lib.Dec.{eqb}
+use lib.Dec.{lit<}
 use Rattle.accounts.specs.declared.Hold.{Hold}
-use Rattle.accounts.specs.Accounts.{used}
-use Rattle.layout.specs.Blocks.{Block, size, live}
+use Rattle.accounts.specs.Accounts.{record-of, drop-records}
+use Rattle.layout.specs.Blocks.{Block, size, live, AllWritable}
 use Rattle.model.specs.Lists.{all, any, total, keep}
 use Rattle.model.specs.Objects.{objects-from, objects}
 use Rattle.model.specs.Consistent.{long-enough, free-apart, well-cut, held}
 use Rattle.model.specs.Space.{vacate, vacate-unheld, join-front, join-free, settle}
-use Rattle.model.specs.Holds.{drop-records}
 use Rattle.model.specs.Joining.{join-neighbours}
 use Rattle.model.specs.declared.Handle.{Handle}
 use Rattle.model.proofs.Bools.{and-left, and-right, and-both, or-neither}
+use Rattle.model.proofs.Lists.{total-append}
 use Rattle.model.proofs.Blocks.{whole-size, Whole, objects-live, objects-free}
-use Rattle.model.proofs.Join.{join-elim, join-objects, join-total, join-long, join-whole, join-apart-all, join-same, join-assoc, join-replaced}
+use Rattle.model.proofs.Join.{join-elim, join-objects, join-total, join-long, join-whole, join-writable, join-apart-all, join-same, join-assoc, join-replaced}
 
 -- a record holds this object
 abbrev pub object-held : List Hold → Handle → Bool
@@ -190,9 +191,44 @@ pub settle-one : (hs : List Hold) (bs xs : List Block) (b : Block) (ys : List Bl
 unfolding settle
 settle-one hs bs xs b ys e a eb eh sx sy = rw (e, vacated-one hs xs b ys eb eh sx sy) (join-replaced xs b (vacate b) ys (rw e at a))
 
--- h is a record of this quota
-abbrev pub record-of : ℕ → Hold → Bool
-record-of q h = used h && eqb (h .quota) q
+-- a block that no record holds may be vacated before the others
+vacated-first : (hs : List Hold) (xs : List Block) (b : Block) (ys : List Block) → live b ≡ true → held hs (b .serial) ≡ false
+    → vacate-unheld hs (xs ++ (vacate b ∷ ys)) ≡ vacate-unheld hs (xs ++ (b ∷ ys))
+unfolding vacate-unheld vacate
+vacated-first hs [] b ys eb eh = rw (eb, eh)
+vacated-first hs (x ∷ xs) b ys eb eh = rw (vacated-first hs xs b ys eb eh)
+
+vacated-writable : (xs : List Block) (b : Block) (ys : List Block) → AllWritable (xs ++ (b ∷ ys)) → AllWritable (xs ++ (vacate b ∷ ys))
+unfolding vacate
+vacated-writable [] b ys w =
+    (record { whole = rw length-replicate (w .0 .whole); small = rw length-replicate (w .0 .small); narrow = lit< tt }, w .1)
+vacated-writable (x ∷ xs) b ys w = (w .0, vacated-writable xs b ys (w .1))
+
+-- a block of a list without free neighbours is freed: it is vacated and joins its free neighbours
+module _ (xs : List Block) (b : Block) (ys : List Block) (a : free-apart (xs ++ (b ∷ ys)) ≡ true) where
+  freed-joined : join-free (xs ++ (vacate b ∷ ys)) ≡ join-neighbours xs (vacate b) ys
+  freed-joined = join-replaced xs b (vacate b) ys a
+
+  -- no two free blocks stand side by side then
+  pub freed-apart : free-apart (join-neighbours xs (vacate b) ys) ≡ true
+  freed-apart = rw (← freed-joined) (join-apart-all (xs ++ (vacate b ∷ ys)))
+
+  -- the sizes add up to the same
+  pub freed-total : total size (join-neighbours xs (vacate b) ys) ≡ total size (xs ++ (b ∷ ys))
+  unfolding total vacate
+  freed-total =
+      rw (← freed-joined, join-total (xs ++ (vacate b ∷ ys)), total-append size xs (vacate b ∷ ys), total-append size xs (b ∷ ys), length-replicate)
+
+  -- the blocks can be written, where their sizes add up to at most 32,768
+  pub freed-writable : AllWritable (xs ++ (b ∷ ys)) → total size (xs ++ (b ∷ ys)) ≤ 32768 → AllWritable (join-neighbours xs (vacate b) ys)
+  freed-writable w l =
+      rw freed-joined at
+      (join-writable (xs ++ (vacate b ∷ ys)) (vacated-writable xs b ys w) (omega (arith, freed-total, ap (total size) freed-joined, join-total (xs ++ (vacate b ∷ ys)))))
+
+  -- and settling goes on as if it were not freed, where no record holds it
+  pub freed-settles : (hs : List Hold) → live b ≡ true → held hs (b .serial) ≡ false → settle hs (join-neighbours xs (vacate b) ys) ≡ settle hs (xs ++ (b ∷ ys))
+  unfolding settle
+  freed-settles hs eb eh = rw (← freed-joined) (join-vacated hs (xs ++ (vacate b ∷ ys)) ∙ ap join-free (vacated-first hs xs b ys eb eh))
 
 -- where the quota has no record, dropping its records changes none
 pub drop-none : (q : ℕ) (hs : List Hold) → any (record-of q) hs ≡ false → drop-records q hs ≡ hs

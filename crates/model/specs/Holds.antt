@@ -1,10 +1,10 @@
--- What the calls do to hold records (document 01, "Allocate" to "Free-all").
+-- What the calls do to hold records (document 01, "Allocate" to "Release"); what free-all does is `drop-records` of `accounts`.
 use Prim.Native.Nat.{ℕ, _+_, _-_}
-use mathlib.Core.List.{List, map}
-use mathlib.Core.Bool.{cond, _&&_}
+use mathlib.Core.List.{List}
+use mathlib.Core.Bool.{cond}
 use lib.Dec.{eqb}
 use Rattle.accounts.specs.declared.Hold.{Hold}
-use Rattle.accounts.specs.Accounts.{zero-hold, used, unused, is-for}
+use Rattle.accounts.specs.Accounts.{zero-hold, unused, is-for}
 use Rattle.model.specs.Lists.{first, change-first, or-else}
 
 -- the count of a quota's record for a serial, 0 where it has none
@@ -28,7 +28,3 @@ less-one h = cond (eqb (h .count - 1) 0) zero-hold (with-count (h .count - 1) h)
 
 unfoldable pub lower-count : ℕ → ℕ → List Hold → List Hold
 lower-count serial q hs = change-first (is-for serial q) less-one hs
-
--- "drops every record of the quota, whatever its count"
-unfoldable pub drop-records : ℕ → List Hold → List Hold
-drop-records q hs = map (λ h. cond (used h && eqb (h .quota) q) zero-hold h) hs

@@ -5,12 +5,13 @@ use Prim.Native.Nat.{ℕ, _≤_, _<_, _-_}
 use native.Mathlib.Omega.{arith}
 use borrow.Author.Needs.{needs}
 use borrow.Author.Count.{below-none}
-use mathlib.Core.Path.{_≡_, sym, _∙_}
+use mathlib.Core.Path.{_≡_, refl, sym, _∙_}
 use mathlib.Core.Bool.{false}
 use lib.ListN.{length, getD, length-set, length-replicate}
 use Rattle.accounts.specs.Accounts.{HOLDS}
 use Rattle.checker.specs.Holders.{has-key}
-use Rattle.checker.proofs.Holders.{answers-more, answers-all}
+use Rattle.accounts.proofs.Laws.{mapped-more, mapped-all}
+use Rattle.checker.proofs.Holders.{no-key-zero}
 use Rattle.checker.proofs.are_held.Statement.{statement}
 use Rattle.checker.proofs.are_held.Tie as tie
 
@@ -52,14 +53,14 @@ loop-again c =
     let a = l .before .args in (
       search needs,
       simp length-set (l .loop .inv .1),
-      answers-more (a .keys .now) (a .t4) (l .loop .answers) (l .loop .i) (l .loop .inv .2) (omega arith) (c .is-held .result) (c .is-held .ensures),
+      mapped-more (has-key (a .keys .now)) 0 false (no-key-zero (a .keys .now) 0 refl) (a .t4) (l .loop .answers) (l .loop .i) (l .loop .inv .2) (omega arith) (c .is-held .result) (c .is-held .ensures),
     )
 
 returns : tie.Need-returns Inv-loop μ-loop
 returns c =
     let l = c .before in
     let a = l .before .args in
-    answers-all (a .keys .now) (a .t4) (l .loop .answers) (l .loop .i) (l .loop .inv .2) (l .loop .inv .1 ∙ sym (long (l .before))) (omega arith)
+    mapped-all (has-key (a .keys .now)) 0 false (no-key-zero (a .keys .now) 0 refl) (a .t4) (l .loop .answers) (l .loop .i) (l .loop .inv .2) (l .loop .inv .1 ∙ sym (long (l .before))) (omega arith)
 
 pub are-held-spec : {M : Type 1} → statement M
 are-held-spec =

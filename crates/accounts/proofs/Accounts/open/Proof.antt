@@ -5,13 +5,13 @@ use Prim.Native.Nat.{ℕ, _≤_, _<_, _-_}
 use native.Mathlib.Omega.{arith}
 use borrow.Author.Needs.{needs}
 use borrow.Author.Count.{below-none}
-use mathlib.Core.Path.{_≡_, sym, ap, _∙_}
+use mathlib.Core.Path.{_≡_, refl, sym, ap, _∙_}
 use mathlib.Core.List.{List}
 use lib.ListN.{length, getD, length-set}
 use Rattle.accounts.specs.declared.Quota.{Quota}
 use Rattle.accounts.specs.declared.Accounts.{Accounts}
 use Rattle.accounts.specs.Accounts.{QUOTAS, zero-quota, zero-accounts, with-quotas, granted, opened}
-use Rattle.accounts.proofs.Laws.{sized-zero, granted-more, granted-all}
+use Rattle.accounts.proofs.Laws.{sized-zero, mapped-more, mapped-all}
 use Rattle.accounts.proofs.Accounts.open.Statement.{statement}
 use Rattle.accounts.proofs.Accounts.open.Tie as tie
 
@@ -51,7 +51,7 @@ loop-again c =
     let at = c .before in (
       search needs,
       simp length-set (at .loop .inv .1),
-      granted-more (at .before .before .before .args .t1) (at .loop .quotas) (at .loop .i) (at .loop .inv .2) (omega arith),
+      mapped-more granted 0 zero-quota refl (at .before .before .before .args .t1) (at .loop .quotas) (at .loop .i) (at .loop .inv .2) (omega arith) _ refl,
     )
 
 returns : tie.Need-returns Inv-loop μ-loop
@@ -62,7 +62,7 @@ returns c =
     let gs = start .args .t1 in
     let given : length gs ≡ QUOTAS = start .good .0 .1 .0 .1 in
     ap (with-quotas (at .loop .quotas)) (at .before .before .zero .ensures)
-    ∙ ap (λ (qs : List Quota). with-quotas qs zero-accounts) (granted-all gs (at .loop .quotas) (at .loop .i) (at .loop .inv .2) (at .loop .inv .1 ∙ sym given) (omega arith))
+    ∙ ap (λ (qs : List Quota). with-quotas qs zero-accounts) (mapped-all granted 0 zero-quota refl gs (at .loop .quotas) (at .loop .i) (at .loop .inv .2) (at .loop .inv .1 ∙ sym given) (omega arith))
 
 pub open-spec : {M : Type 1} → statement M
 open-spec =
