@@ -1,0 +1,112 @@
+-- Release's answers as results: the number of the first line that holds, from what the check, the lookup and the search for the record found; and
+-- the result of each way to the end as what the definition leaves.
+-- Assumes nothing.
+use Prim.Native.Nat.{ℕ, _+_, _-_, _≤_, _<_}
+use mathlib.Core.Path.{_≡_, refl, ap, sym, _∙_}
+use mathlib.Core.List.{List, [], _∷_}
+use mathlib.Core.Bool.{Bool, true, false}
+use lib.ListN.{length}
+use Rattle.accounts.specs.declared.Hold.{Hold}
+use Rattle.accounts.specs.declared.Accounts.{Accounts}
+use Rattle.accounts.specs.declared.Place.the-variants.{At, Nothing}
+use Rattle.accounts.specs.Accounts.{QUOTAS, find-hold, hold-at, put-hold, drop-hold, refund}
+use Rattle.layout.specs.Bytes.{Octets}
+use Rattle.model.specs.Answers.{refusal-number, verdict-values, amount-of, amount-values}
+use Rattle.model.specs.Objects.{lookup, found}
+use Rattle.model.specs.Consistent.{held}
+use Rattle.model.specs.Holds.{with-count}
+use Rattle.model.specs.Refusals.{Line, first-refusal, line-3, line-5, line-6, release-lines}
+use Rattle.model.specs.Calls.{check, release}
+use Rattle.model.specs.declared.Handle.{Handle}
+use Rattle.model.specs.declared.Refusal.{Refusal}
+use Rattle.model.specs.declared.Verdict.{Verdict}
+use Rattle.model.specs.declared.Verdict.the-variants.{Accepted, Refused as NotAccepted}
+use Rattle.model.specs.declared.AmountAnswer.the-variants.{Amount, Refused}
+use Rattle.finder.specs.declared.Met.{Met}
+use Rattle.finder.specs.declared.Lookup.the-variants.{Found, Missing}
+use Rattle.finder.specs.Walk.{object-met, find-object}
+use Rattle.writer.specs.Freeing.{Inside, free-in}
+use Rattle.writer.proofs.Guards.{inside-test, frees}
+use Rattle.access.specs.Results.{outcome}
+use Rattle.access.proofs.Lines.{check-refuses, check-accepts, refused-is, accepted-is, line-3-refuses}
+use Rattle.access.proofs.Lookups.{byte-quota, located, quota-missing, release-refuses, release-passes}
+use Rattle.calls.specs.declared.AmountResult.{AmountResult}
+use Rattle.calls.specs.Results.{amount-outcome}
+use Rattle.calls.specs.Ready.{Checked, Holding}
+use Rattle.calls.specs.Releasing.{claim-dropped}
+use Rattle.calls.proofs.Cleared.{allowed-long}
+use Rattle.calls.proofs.Ready.{accepted-check}
+use Rattle.calls.proofs.Released.{inside, fewer-claims, still-held, no-longer-held}
+
+module _ (s : List ℕ) (k : Accounts) (q : ℕ) (h : Handle) where
+  -- the lines behind the third
+  abbrev from-5 : List Line
+  from-5 = line-5 (lookup h s) ∷ line-6 k q (found (lookup h s)) ∷ []
+
+  -- the first three lines, where the check has answered v
+  pub by-check : (v : Verdict) → verdict-values v ≡ check s k .values → (x : Refusal) → v ≡ NotAccepted x → first-refusal (release-lines s k q h) ≡ refusal-number x
+  unfolding release-lines
+  by-check v told x e = check-refuses s k v told (line-3 q ∷ from-5) x e
+
+  pub by-quota : (v : Verdict) → verdict-values v ≡ check s k .values → v ≡ Accepted → QUOTAS ≤ q → first-refusal (release-lines s k q h) ≡ 3
+  unfolding release-lines
+  by-quota v told a l = check-accepts s k v told (line-3 q ∷ from-5) a ∙ line-3-refuses q from-5 l
+
+  -- a refusal as a result
+  pub refuses : (r : AmountResult) (x : Refusal) → r ≡ record { accounts = k; answer = Refused x } → first-refusal (release-lines s k q h) ≡ refusal-number x
+      → amount-outcome s r ≡ release s k q h
+  unfolding release amount-values
+  refuses r x e n = ap (amount-outcome s) e ∙ refused-is (first-refusal (release-lines s k q h)) s k _ x n
+
+  -- the others, of what was checked: no object, no record, or one claim less
+  module _ (c : Checked s k q) where
+    pub by-object : find-object h s ≡ Missing → first-refusal (release-lines s k q h) ≡ 5
+    unfolding release-lines
+    by-object e = quota-missing s k Accepted (accepted-check s k q c) refl q h (line-6 k q (found (lookup h s)) ∷ []) (c .exists) e
+
+    module _ (m : Met) (e : find-object h s ≡ Found m) where
+      pub by-record : find-hold (m .serial) q k ≡ Nothing → first-refusal (release-lines s k q h) ≡ 6
+      by-record p = release-refuses s k Accepted (accepted-check s k q c) refl h m e q (c .exists) (rw (byte-quota q (c .exists)) p)
+
+      pub dropped : (i : ℕ) → find-hold (m .serial) q k ≡ At i → claim-dropped s k q (object-met m) ≡ release s k q h
+      unfolding release
+      dropped i p =
+          let told = accepted-check s k q c in
+          ap (claim-dropped s k q) (sym (located s k Accepted told refl h m e .object))
+          ∙ accepted-is (first-refusal (release-lines s k q h)) s k _ (release-passes s k Accepted told refl h m e q (c .exists) i (rw (byte-quota q (c .exists)) p))
+
+pub gives : (s : List ℕ) (k : Accounts) (n : ℕ) (r : AmountResult) → r ≡ record { accounts = k; answer = Amount n } → amount-outcome s r ≡ outcome s k (amount-of n)
+unfolding amount-values
+gives s k n r e = ap (amount-outcome s) e
+
+-- the quota's record w for the object of the block m stands at place i
+module _ (s : List ℕ) (k : Accounts) (o : Octets s) (q : ℕ) (m : Met) (i : ℕ) (y : Holding s k q m i) where
+  pub holding-inside : Inside m s
+  holding-inside = inside s k o (y .checked .sound) (y .handle) m (y .named) (allowed-long (length s) (y .checked .extent) .1)
+
+  -- the results of the three ways to the end
+  module _ (w : Hold) (we : w ≡ hold-at i k) where
+    pub fewer-result : 1 < w .count → (k′ : Accounts) → k′ ≡ put-hold i (with-count (w .count - 1) w) k → (r : AmountResult) → r ≡ record { accounts = k′; answer = Amount 0 }
+        → amount-outcome s r ≡ claim-dropped s k q (object-met m)
+    fewer-result l k′ ke r re =
+        let f = fewer-claims s k o (y .checked .sound) (y .handle) m (y .named) q i (y .place) (rw we at l) in
+        gives s k′ 0 r re ∙ (rw (ke, we) f)
+
+    module _ (l : w .count ≤ 1) (k₁ k₂ : Accounts) (e₁ : k₁ ≡ refund q (m .size - 8 + 8) k) (e₂ : k₂ ≡ drop-hold i k₁) (x : Bool) (xe : x ≡ held (k₂ .holds) (m .serial)) (r : AmountResult)
+        (re : r ≡ record { accounts = k₂; answer = Amount (m .size - 8 + 8) }) where
+      left : k₂ ≡ drop-hold i (refund q (m .size - 8 + 8) k)
+      left = e₂ ∙ ap (drop-hold i) e₁
+
+      left-held : (b : Bool) → x ≡ b → held (drop-hold i (refund q (m .size - 8 + 8) k) .holds) (m .serial) ≡ b
+      left-held b v = ap (λ (a : Accounts). held (a .holds) (m .serial)) (sym left) ∙ sym xe ∙ v
+
+      pub held-result : x ≡ true → amount-outcome s r ≡ claim-dropped s k q (object-met m)
+      held-result v =
+          gives s k₂ (m .size - 8 + 8) r re
+          ∙ (rw left (still-held s k o (y .checked .sound) (y .handle) m (y .named) q i (y .place) (rw we at l) (left-held true v)))
+
+      pub freed-result : x ≡ false → (s′ : List ℕ) → s′ ≡ free-in m s → amount-outcome s′ r ≡ claim-dropped s k q (object-met m)
+      freed-result v s′ si =
+          let se = si ∙ sym (frees m s (inside-test m s holding-inside) .0) in
+          gives s′ k₂ (m .size - 8 + 8) r re
+          ∙ (rw (se, left) (no-longer-held s k o (y .checked .sound) (y .handle) m (y .named) q i (y .place) (rw we at l) (left-held false v)))

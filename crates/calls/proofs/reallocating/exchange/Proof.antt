@@ -1,0 +1,233 @@
+-- `calls::exchange` meets its contract: lines 5 and 6 refuse as the lookup and the search for the record say, what `grant` refuses is refused, and
+-- where it gives an object, the copy and the release that follow make up the definition's outcome.
+-- Assumes nothing.
+use Prim.Native.Nat.{ℕ, _+_, _-_, min}
+use native.Mathlib.Omega.{arith}
+use mathlib.Core.Path.{_≡_, ap, sym, _∙_}
+use mathlib.Core.Bool.{true}
+use mathlib.Core.Option.{some}
+use lib.ListN.{length-map}
+use Rattle.layout.specs.Bytes.{Octets, copy-part}
+use Rattle.model.specs.Answers.{handle-values}
+use Rattle.model.specs.Objects.{lookup}
+use Rattle.model.specs.Consistent.{has-record}
+use Rattle.model.specs.declared.Refusal.the-variants.{NoSuchObject, NotHeld}
+use Rattle.finder.specs.declared.Lookup.the-variants.{Found}
+use Rattle.finder.specs.Walk.{object-met, find-object}
+use Rattle.writer.specs.Freeing.{Inside}
+use Rattle.invariant.proofs.Recorded.{Limits}
+use Rattle.calls.proofs.Typed.{grants-narrow}
+use Rattle.calls.proofs.ReleaseAnswers.{holding-inside}
+use Rattle.calls.proofs.ReallocateAnswers.{refuses, by-object, by-record, block-named, block-held}
+use Rattle.calls.proofs.Reallocated.{refused-too, copied-checked, given-too}
+use borrow.Author.Needs.{needs}
+use Rattle.calls.proofs.reallocating.exchange.Statement.{statement}
+use Rattle.calls.proofs.reallocating.exchange.Tie as tie
+
+-- the heap's bytes are bytes, and the accounts are as narrow as their type
+octets : (c : tie.After-slice-known) → Octets (c .before .args .heap .now)
+octets c i = c .slice-known .given i .fits
+
+limits : (c : tie.Start) → Limits (c .args .accounts)
+limits c =
+    let quotas = c .good .1 .0 .1 .1 .0 in
+    record { quotas = simp length-map at (quotas .1 .0 .1); narrow = grants-narrow (c .args .accounts .quotas) (quotas .0) (quotas .1 .1); serial = c .good .1 .0 .1 .1 .1 .0 .1 }
+
+find-object-requires : tie.Need-find-object-requires
+find-object-requires c κs = search needs
+
+enum-known-old : tie.Need-enum-known-old
+enum-known-old c = search needs
+
+enum-told : tie.Need-enum-told
+enum-told c = search needs
+
+refused-requires : tie.Need-refused-requires
+refused-requires c κs = search needs
+
+same-length : tie.Need-same-length
+same-length c = search needs
+
+returns : tie.Need-returns
+returns c =
+    let f = c .before .before .before in
+    let e = f .before .before .before in
+    let a = e .args in
+    refuses (a .heap .now) (a .accounts) (a .quota) (a .handle) (a .length) (c .refused .result) NoSuchObject (c .refused .ensures)
+    (by-object (a .heap .now) (a .accounts) (a .quota) (a .handle) (a .length) (e .pre) (sym (f .find-object .ensures) ∙ c .before .enum-told .given .1))
+
+-- the block that the lookup found
+block-is : (b : tie.After-old) → let a = b .before .before .before .before .before .args in find-object (a .handle) (a .heap .now) ≡ Found (b .old .given .0 .0)
+block-is b = sym (b .before .before .find-object .ensures) ∙ b .old .given .1
+
+cast-find-hold : tie.Need-cast-find-hold
+cast-find-hold c = search needs
+
+find-hold-requires : tie.Need-find-hold-requires
+find-hold-requires c κs = search needs
+
+enum-told-2 : tie.Need-enum-told-2
+enum-told-2 c = search needs
+
+refused-requires-2 : tie.Need-refused-requires-2
+refused-requires-2 c κs = search needs
+
+same-length-2 : tie.Need-same-length-2
+same-length-2 c = search needs
+
+returns-2 : tie.Need-returns-2
+returns-2 c =
+    let p = c .before .before .before in
+    let b = p .before .before in
+    let e = b .before .before .before .before .before in
+    let a = e .args in
+    refuses (a .heap .now) (a .accounts) (a .quota) (a .handle) (a .length) (c .refused2 .result) NotHeld (c .refused2 .ensures)
+    (by-record (a .heap .now) (a .accounts) (a .quota) (a .handle) (a .length) (e .pre) (b .old .given .0 .0) (block-is b) (sym (p .find-hold .ensures) ∙ c .before .enum-told2 .given .1))
+
+enum-told-3 : tie.Need-enum-told-3
+enum-told-3 c = search needs
+
+-- the handle names the block's object, the quota has a record for it, and the block lies in the heap
+named : (c : tie.After-enum-told3) → let b = c .before .before .before .before in let a = b .before .before .before .before .before .args in
+    lookup (a .handle) (a .heap .now) ≡ some (object-met (b .old .given .0 .0))
+named c =
+    let b = c .before .before .before .before in
+    let e = b .before .before .before .before .before in
+    let a = e .args in
+    block-named (a .heap .now) (a .accounts) (a .quota) (a .handle) (a .length) (e .pre) (b .old .given .0 .0) (block-is b)
+
+held : (c : tie.After-enum-told3) → let b = c .before .before .before .before in let a = b .before .before .before .before .before .args in
+    has-record (a .accounts .holds) (a .quota) (b .old .given .0 .0 .serial) ≡ true
+held c =
+    let p = c .before .before in
+    let b = p .before .before in
+    let e = b .before .before .before .before .before in
+    let a = e .args in
+    block-held (a .heap .now) (a .accounts) (a .quota) (a .handle) (a .length) (e .pre) (b .old .given .0 .0) (block-is b) (c .enum-told3 .given .0 .0)
+    (sym (p .find-hold .ensures) ∙ c .enum-told3 .given .1)
+
+lies : (c : tie.After-enum-told3) → let b = c .before .before .before .before in Inside (b .old .given .0 .0) (b .before .before .before .before .before .args .heap .now)
+lies c =
+    let p = c .before .before in
+    let b = p .before .before in
+    let k = b .before .before .before .before in
+    let e = k .before in
+    let a = e .args in
+    holding-inside (a .heap .now) (a .accounts) (octets k) (a .quota) (b .old .given .0 .0) (c .enum-told3 .given .0 .0)
+    (record { checked = e .pre .checked; handle = a .handle; named = block-is b; place = sym (p .find-hold .ensures) ∙ c .enum-told3 .given .1 })
+
+grant-requires : tie.Need-grant-requires
+grant-requires c κs = search needs
+
+enum-known-answer : tie.Need-enum-known-answer
+enum-known-answer c = search needs
+
+enum-told-4 : tie.Need-enum-told-4
+enum-told-4 c = search needs
+
+same-length-3 : tie.Need-same-length-3
+same-length-3 c = search needs
+
+returns-3 : tie.Need-returns-3
+returns-3 c =
+    let g = c .before .before .before .before in
+    let t = g .before .before in
+    let b = t .before .before .before .before in
+    let e = b .before .before .before .before .before in
+    let a = e .args in
+    refused-too (a .heap .now) (a .accounts) (a .quota) (a .handle) (a .length) (e .pre) (object-met (b .old .given .0 .0)) (named t) (held t) (g .grant .last .0) (g .grant .result)
+    (c .enum-told4 .given .0 .0) (c .enum-told4 .given .1) (g .grant .ensures)
+
+cast-shorter : tie.Need-cast-shorter
+cast-shorter c = search needs
+
+sub-shorter : tie.Need-sub-shorter
+sub-shorter c = let i = lies (c .before .before .before .before .before .before .before .before .before) in omega (arith, i .header)
+
+shorter-requires : tie.Need-shorter-requires
+shorter-requires c κs = search needs
+
+add-copy-part : tie.Need-add-copy-part
+add-copy-part c = let i = lies (c .before .before .before .before .before .before .before .before .before .before .before .before) in omega (arith, i .end, i .allowed)
+
+cast-copy-part : tie.Need-cast-copy-part
+cast-copy-part c = search needs
+
+copy-part-requires : tie.Need-copy-part-requires
+copy-part-requires c κs = search needs
+
+-- the copy is of as many bytes as both objects have
+copied : (m : tie.After-copy-part)
+    → let w = m .before .before .before .before .before .before .before .before in
+    let g = w .before .before .before .before in
+    let o = g .before .before .before .before .before .before .old .given .0 .0 in
+    m .copy-part .last .0 ≡ copy-part (o .at + 8) (w .answer .given .0 .0 .base) (min (w .answer .given .0 .0 .length) (o .size - 8)) (g .grant .last .0)
+copied m =
+    let d = m .before .before .before .before in
+    let w = d .before .before .before .before in
+    let g = w .before .before .before .before in
+    let o = g .before .before .before .before .before .before .old .given .0 .0 in
+    m .copy-part .ensures ∙ ap (λ (n : ℕ). copy-part (o .at + 8) (w .answer .given .0 .0 .base) n (g .grant .last .0)) (d .shorter .ensures)
+
+give-up-requires : tie.Need-give-up-requires
+give-up-requires c κs =
+    let m = c .before .before .before in
+    let w = m .before .before .before .before .before .before .before .before in
+    let g = w .before .before .before .before in
+    let t = g .before .before in
+    let b = t .before .before .before .before in
+    let k = b .before .before .before .before in
+    let e = k .before in
+    let a = e .args in
+    copied-checked (a .heap .now) (a .accounts) (a .quota) (a .handle) (a .length) (e .pre) (object-met (b .old .given .0 .0)) (named t) (held t) (octets k) (limits e) (g .grant .last .0) (g .grant .result)
+    (g .grant .ensures) (w .answer .given .0 .0) (w .answer .given .1) (m .copy-part .last .0) (copied m)
+
+same-length-4 : tie.Need-same-length-4
+same-length-4 c = search needs
+
+returns-4 : tie.Need-returns-4
+unfolding handle-values
+returns-4 c =
+    let u = c .before .before .before in
+    let m = u .before .before .before .before in
+    let w = m .before .before .before .before .before .before .before .before in
+    let g = w .before .before .before .before in
+    let t = g .before .before in
+    let b = t .before .before .before .before in
+    let k = b .before .before .before .before in
+    let e = k .before in
+    let a = e .args in
+    given-too (a .heap .now) (a .accounts) (a .quota) (a .handle) (a .length) (e .pre) (object-met (b .old .given .0 .0)) (named t) (held t) (octets k) (limits e) (g .grant .last .0) (g .grant .result)
+    (g .grant .ensures) (w .answer .given .0 .0) (w .answer .given .1) (m .copy-part .last .0) (copied m) (u .give-up .last .0) (u .give-up .result) (u .give-up .ensures)
+
+pub exchange-spec : {M : Type 1} → statement M
+exchange-spec =
+    tie.close
+    (tie.spec
+    find-object-requires
+    enum-known-old
+    enum-told
+    refused-requires
+    same-length
+    returns
+    cast-find-hold
+    find-hold-requires
+    enum-told-2
+    refused-requires-2
+    same-length-2
+    returns-2
+    enum-told-3
+    grant-requires
+    enum-known-answer
+    enum-told-4
+    same-length-3
+    returns-3
+    cast-shorter
+    sub-shorter
+    shorter-requires
+    add-copy-part
+    cast-copy-part
+    copy-part-requires
+    give-up-requires
+    same-length-4
+    returns-4)

@@ -1,0 +1,122 @@
+-- `calls::reallocate` meets its contract: each test is one of the definition's first four lines, in their order, and past them `exchange` gives the
+-- definition's outcome.
+-- Assumes nothing.
+use mathlib.Core.Path.{_≡_}
+use native.Mathlib.Omega.{arith}
+use Rattle.model.specs.declared.Refusal.the-variants.{QuotaNumber, ObjectLength}
+use Rattle.calls.specs.Ready.{Checked}
+use Rattle.calls.proofs.Ready.{checked-is, line-4-zero, line-4-long}
+use Rattle.calls.proofs.ReallocateAnswers.{from-5, refuses, by-check, by-quota, by-length}
+use borrow.Author.Needs.{needs}
+use Rattle.calls.proofs.reallocating.reallocate.Statement.{statement}
+use Rattle.calls.proofs.reallocating.reallocate.Tie as tie
+
+check-requires : tie.Need-check-requires
+check-requires c κs = search needs
+
+enum-known-refusal : tie.Need-enum-known-refusal
+enum-known-refusal c = search needs
+
+refused-requires : tie.Need-refused-requires
+refused-requires c κs = search needs
+
+same-length : tie.Need-same-length
+same-length c = search needs
+
+returns : tie.Need-returns
+returns c =
+    let x = c .before .before in
+    let k = x .before .before in
+    let a = k .before .before .before .args in
+    refuses (a .heap .now) (a .accounts) (a .quota) (a .handle) (a .length) (c .refused .result) (x .refusal .given .0 .0) (c .refused .ensures)
+    (by-check (a .heap .now) (a .accounts) (a .quota) (a .handle) (a .length) (k .check .result) (k .check .ensures) (x .refusal .given .0 .0) (x .refusal .given .1))
+
+enum-told : tie.Need-enum-told
+enum-told c = search needs
+
+refused-requires-2 : tie.Need-refused-requires-2
+refused-requires-2 c κs = search needs
+
+same-length-2 : tie.Need-same-length-2
+same-length-2 c = search needs
+
+returns-2 : tie.Need-returns-2
+returns-2 c =
+    let t = c .before .before in
+    let k = t .before .before in
+    let a = k .before .before .before .args in
+    refuses (a .heap .now) (a .accounts) (a .quota) (a .handle) (a .length) (c .refused2 .result) QuotaNumber (c .refused2 .ensures)
+    (by-quota (a .heap .now) (a .accounts) (a .quota) (a .handle) (a .length) (k .check .result) (k .check .ensures) (t .enum-told .given .1) (c .before .if1 .taken))
+
+-- what is known once the quota's number was tested
+checked : (e : tie.Else1) → let a = e .before .before .before .before .before .before .args in Checked (a .heap .now) (a .accounts) (a .quota)
+checked e =
+    let t = e .before in
+    let k = t .before .before in
+    let a = k .before .before .before .args in
+    checked-is (a .heap .now) (a .accounts) (k .check .result) (k .check .ensures) (t .enum-told .given .1) (a .quota) (e .if1 .left)
+
+refused-requires-3 : tie.Need-refused-requires-3
+refused-requires-3 c κs = search needs
+
+same-length-3 : tie.Need-same-length-3
+same-length-3 c = search needs
+
+returns-3 : tie.Need-returns-3
+returns-3 c =
+    let e = c .before .before in
+    let a = e .before .before .before .before .before .before .args in
+    refuses (a .heap .now) (a .accounts) (a .quota) (a .handle) (a .length) (c .refused3 .result) ObjectLength (c .refused3 .ensures)
+    (by-length (a .heap .now) (a .accounts) (a .quota) (a .handle) (a .length) (checked e)
+    (line-4-zero (a .length) (from-5 (a .heap .now) (a .accounts) (a .quota) (a .handle) (a .length)) (c .before .if2 .taken)))
+
+refused-requires-4 : tie.Need-refused-requires-4
+refused-requires-4 c κs = search needs
+
+same-length-4 : tie.Need-same-length-4
+same-length-4 c = search needs
+
+returns-4 : tie.Need-returns-4
+returns-4 c =
+    let e = c .before .before .before in
+    let a = e .before .before .before .before .before .before .args in
+    refuses (a .heap .now) (a .accounts) (a .quota) (a .handle) (a .length) (c .refused4 .result) ObjectLength (c .refused4 .ensures)
+    (by-length (a .heap .now) (a .accounts) (a .quota) (a .handle) (a .length) (checked e)
+    (line-4-long (a .length) (from-5 (a .heap .now) (a .accounts) (a .quota) (a .handle) (a .length)) (c .before .if3 .taken)))
+
+exchange-requires : tie.Need-exchange-requires
+exchange-requires c κs =
+    let f = c .before .before in
+    let e = f .before in
+    let n = e .before .before .before .before .before .before .args .length in
+    let z : n ≡ 0 → ⊥ = f .if2 .left in
+    record { checked = checked e; some = omega (arith, z); short = c .before .if3 .left }
+
+same-length-5 : tie.Need-same-length-5
+same-length-5 c = search needs
+
+returns-5 : tie.Need-returns-5
+returns-5 c = search needs
+
+pub reallocate-spec : {M : Type 1} → statement M
+reallocate-spec =
+    tie.close
+    (tie.spec
+    check-requires
+    enum-known-refusal
+    refused-requires
+    same-length
+    returns
+    enum-told
+    refused-requires-2
+    same-length-2
+    returns-2
+    refused-requires-3
+    same-length-3
+    returns-3
+    refused-requires-4
+    same-length-4
+    returns-4
+    exchange-requires
+    same-length-5
+    returns-5)

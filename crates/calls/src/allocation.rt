@@ -1,0 +1,116 @@
+// Allocation: the refusals in their order, then an object is cut out of a free block and its quota pays.
+use crate::HandleResult;
+use accounts::Accounts;
+use accounts::Hold;
+use accounts::Place;
+use accounts::QUOTAS;
+use finder::Fit;
+use model::Handle;
+use model::HandleAnswer;
+use model::Refusal;
+use model::Verdict;
+ghost use mathlib.Core.Path.{_≡_};
+ghost use Prim.Native.Nat.{_≤_};
+ghost use Rattle.accounts.specs.Accounts.{with-last-serial, put-hold, charge as charge-to};
+ghost use Rattle.model.specs.declared.HandleAnswer.the-variants.{Given};
+ghost use Rattle.model.specs.Calls.{allocate as allocate-of, allocate-array};
+ghost use Rattle.rounding.specs.Rounding.{unit};
+ghost use Rattle.calls.specs.Results.{handle-outcome};
+ghost use Rattle.calls.specs.Ready.{Ready};
+
+// An accepted call's result.
+fn given(accounts: Accounts, base: usize, length: u32, serial: u32) -> HandleResult
+    requires { ⌜ base ≤ 32768 ⌝ }
+    ensures { λ r. ⌜ r ≡ record { accounts = accounts; answer = Given (record { base = base; length = length; serial = serial }) } ⌝ }
+{
+    let handle = Handle {
+        base: base as u32,
+        length: length,
+        serial: serial,
+    };
+    HandleResult {
+        accounts: accounts,
+        answer: HandleAnswer::Given(handle),
+    }
+}
+
+// The accounts after a quota has paid for a new object and holds it once.
+fn booked(accounts: Accounts, quota: u8, charge: u32, place: usize, serial: u32) -> Accounts
+    ensures { λ r.
+        ⌜ r ≡ with-last-serial serial (put-hold place (record { serial = serial; quota = quota; count = 1 }) (charge-to quota charge accounts)) ⌝ }
+{
+    let hold = Hold {
+        serial: serial,
+        quota: quota,
+        count: 1,
+    };
+    let paid = accounts.charge(quota as u32, charge);
+    let held = paid.add_hold(place, hold);
+    held.with_last_serial(serial)
+}
+
+// Allocation behind the first four lines: the other refusals in their order, then the object is cut out and its quota pays.
+pub(crate) fn grant(heap: &mut [u8], accounts: Accounts, quota: u32, length: u32) -> HandleResult
+    requires { ⌜ Ready (now heap) accounts quota length ⌝ }
+    ensures { λ r. ⌜ handle-outcome (now (heap .exit)) r ≡ allocate-of unit (now (heap .entry)) accounts quota length ⌝ }
+{
+    let size = rounding::object_length(length) as u32;
+    let charge = size + 8;
+    if accounts.remaining(quota) < charge {
+        return HandleResult::refused(accounts, Refusal::QuotaExceeded);
+    }
+    let Place::At(place) = accounts.lowest_unused() else {
+        return HandleResult::refused(accounts, Refusal::HoldsExhausted);
+    };
+    let last = accounts.last_serial;
+    if 4294967295 <= last {
+        return HandleResult::refused(accounts, Refusal::SerialsExhausted);
+    }
+    let alignment = rounding::alignment(length);
+    let Fit::At(block, base) = finder::find_base(heap, alignment, size as usize) else {
+        return HandleResult::refused(accounts, Refusal::NoSpace);
+    };
+    let serial = last + 1;
+    writer::carve(heap, block, base, size as usize, serial);
+    let next = booked(accounts, quota as u8, charge, place, serial);
+    given(next, base, size, serial)
+}
+
+// Allocation for a length of any size.
+fn allocate_wide(heap: &mut [u8], accounts: Accounts, quota: u32, length: u64) -> HandleResult
+    ensures { λ r. ⌜ handle-outcome (now (heap .exit)) r ≡ allocate-of unit (now (heap .entry)) accounts quota length ⌝ }
+{
+    if let Verdict::Refused(refusal) = checker::check(heap, accounts) {
+        return HandleResult::refused(accounts, refusal);
+    }
+    if QUOTAS <= quota as usize {
+        return HandleResult::refused(accounts, Refusal::QuotaNumber);
+    }
+    if length == 0 {
+        return HandleResult::refused(accounts, Refusal::ObjectLength);
+    }
+    if 32760 < length {
+        return HandleResult::refused(accounts, Refusal::ObjectLength);
+    }
+    grant(heap, accounts, quota, length as u32)
+}
+
+// A new object of at least `length` bytes.
+pub fn allocate(heap: &mut [u8], accounts: Accounts, quota: u32, length: u32) -> HandleResult
+    ensures { λ r. ⌜ handle-outcome (now (heap .exit)) r ≡ allocate-of unit (now (heap .entry)) accounts quota length ⌝ }
+{
+    allocate_wide(heap, accounts, quota, length as u64)
+}
+
+// A new object for `count` elements of `size` bytes: as allocate, with the true product.
+pub fn allocate_array(
+    heap: &mut [u8],
+    accounts: Accounts,
+    quota: u32,
+    count: u32,
+    size: u32,
+) -> HandleResult
+    ensures { λ r. ⌜ handle-outcome (now (heap .exit)) r ≡ allocate-array unit (now (heap .entry)) accounts quota count size ⌝ }
+{
+    allocate_wide(heap, accounts, quota, (count as u64) * (size as u64))
+}

@@ -1,0 +1,86 @@
+// Reallocation: a new object while the old one still counts, the old one's bytes in it, and then the old one released once.
+use crate::HandleResult;
+use crate::allocation::grant;
+use crate::releasing::give_up;
+use accounts::Accounts;
+use accounts::Place;
+use accounts::QUOTAS;
+use finder::Lookup;
+use model::Handle;
+use model::HandleAnswer;
+use model::Refusal;
+use model::Verdict;
+ghost use mathlib.Core.Path.{_≡_};
+ghost use Prim.Native.Nat.{min};
+ghost use Rattle.model.specs.Calls.{reallocate as reallocate-of};
+ghost use Rattle.rounding.specs.Rounding.{unit};
+ghost use Rattle.calls.specs.Results.{handle-outcome};
+ghost use Rattle.calls.specs.Ready.{Ready};
+
+// The shorter of two lengths.
+fn shorter(a: usize, b: usize) -> usize
+    ensures { λ r. ⌜ r ≡ min a b ⌝ }
+{
+    if a < b {
+        return a;
+    }
+    b
+}
+
+// Reallocation behind the first four lines: the old object and the quota's record for it, a new object, the bytes that both have room for, and one
+// claim less on the old object, which is looked up again because the block in front of it may be another one now.
+fn exchange(
+    heap: &mut [u8],
+    accounts: Accounts,
+    quota: u32,
+    handle: Handle,
+    length: u32,
+) -> HandleResult
+    requires { ⌜ Ready (now heap) accounts quota length ⌝ }
+    ensures { λ r. ⌜ handle-outcome (now (heap .exit)) r ≡ reallocate-of unit (now (heap .entry)) accounts quota handle length ⌝ }
+{
+    let Lookup::Found(old) = finder::find_object(heap, handle) else {
+        return HandleResult::refused(accounts, Refusal::NoSuchObject);
+    };
+    if let Place::Nothing = accounts.find_hold(old.serial, quota as u8) {
+        return HandleResult::refused(accounts, Refusal::NotHeld);
+    }
+    let granted = grant(heap, accounts, quota, length);
+    let answer = granted.answer;
+    let HandleAnswer::Given(new) = answer else {
+        return granted;
+    };
+    let count = shorter(new.length as usize, old.size - 8);
+    layout::copy_part(heap, old.at + 8, new.base as usize, count);
+    let released = give_up(heap, granted.accounts, quota, handle);
+    let left = released.accounts;
+    HandleResult {
+        accounts: left,
+        answer: HandleAnswer::Given(new),
+    }
+}
+
+// A new object of at least `length` bytes in place of one that the quota holds, with as many of its bytes as both have.
+pub fn reallocate(
+    heap: &mut [u8],
+    accounts: Accounts,
+    quota: u32,
+    handle: Handle,
+    length: u32,
+) -> HandleResult
+    ensures { λ r. ⌜ handle-outcome (now (heap .exit)) r ≡ reallocate-of unit (now (heap .entry)) accounts quota handle length ⌝ }
+{
+    if let Verdict::Refused(refusal) = checker::check(heap, accounts) {
+        return HandleResult::refused(accounts, refusal);
+    }
+    if QUOTAS <= quota as usize {
+        return HandleResult::refused(accounts, Refusal::QuotaNumber);
+    }
+    if length == 0 {
+        return HandleResult::refused(accounts, Refusal::ObjectLength);
+    }
+    if 32760 < length {
+        return HandleResult::refused(accounts, Refusal::ObjectLength);
+    }
+    exchange(heap, accounts, quota, handle, length)
+}

@@ -1,0 +1,118 @@
+// Release: a quota gives up one claim, and the block that no quota holds any more becomes free.
+use crate::AmountResult;
+use accounts::Accounts;
+use accounts::HOLDS;
+use accounts::Hold;
+use accounts::Place;
+use accounts::QUOTAS;
+use finder::Lookup;
+use finder::Met;
+use model::AmountAnswer;
+use model::Handle;
+use model::Refusal;
+use model::Verdict;
+ghost use mathlib.Core.Path.{_≡_};
+ghost use Rattle.model.specs.Calls.{release as release-of};
+ghost use Rattle.model.specs.Consistent.{is-of, held};
+ghost use Rattle.finder.specs.Walk.{object-met};
+ghost use Rattle.calls.specs.Results.{amount-outcome};
+ghost use Rattle.calls.specs.Ready.{Checked, Holding};
+ghost use Rattle.calls.specs.Releasing.{claim-dropped};
+
+// Whether a record is for the object with this serial.
+fn is_of(hold: Hold, serial: u32) -> bool
+    ensures { λ r. ⌜ r ≡ is-of serial hold ⌝ }
+{
+    if hold.is_used() {
+        return hold.serial == serial;
+    }
+    false
+}
+
+// Whether some record is for the object with this serial.
+pub(crate) fn is_held(holds: [Hold; HOLDS], serial: u32) -> bool
+    ensures { λ r. ⌜ r ≡ held holds serial ⌝ }
+{
+    let mut at: usize = 0;
+    while at < HOLDS {
+        let hold = holds[at];
+        if is_of(hold, serial) {
+            return true;
+        }
+        at += 1;
+    }
+    false
+}
+
+// What is given back, with the accounts after it.
+pub(crate) fn given_back(accounts: Accounts, amount: u32) -> AmountResult
+    ensures { λ r. ⌜ r ≡ record { accounts = accounts; answer = AmountAnswer.Amount amount } ⌝ }
+{
+    AmountResult {
+        accounts: accounts,
+        answer: AmountAnswer::Amount(amount),
+    }
+}
+
+// One claim of a quota on a block is given up; the last one gives the quota its charge back, and an object that no quota claims is freed.
+fn drop_claim(
+    heap: &mut [u8],
+    accounts: Accounts,
+    quota: u32,
+    block: Met,
+    place: usize,
+) -> AmountResult
+    requires { ⌜ Holding (now heap) accounts quota block place ⌝ }
+    ensures { λ r. ⌜ amount-outcome (now (heap .exit)) r ≡ claim-dropped (now (heap .entry)) accounts quota (object-met block) ⌝ }
+{
+    let hold = accounts.hold_at(place);
+    if 1 < hold.count {
+        let fewer = Hold {
+            serial: hold.serial,
+            quota: hold.quota,
+            count: hold.count - 1,
+        };
+        return given_back(accounts.add_hold(place, fewer), 0);
+    }
+    let length = (block.size - 8) as u32;
+    let charge = length + 8;
+    let left = accounts.refund(quota, charge).drop_hold(place);
+    let holds = left.holds;
+    if is_held(holds, block.serial) {
+        return given_back(left, charge);
+    }
+    writer::free_block(heap, block);
+    given_back(left, charge)
+}
+
+// Release behind the first three lines: the lookup, the quota's record, and one claim less.
+pub(crate) fn give_up(
+    heap: &mut [u8],
+    accounts: Accounts,
+    quota: u32,
+    handle: Handle,
+) -> AmountResult
+    requires { ⌜ Checked (now heap) accounts quota ⌝ }
+    ensures { λ r. ⌜ amount-outcome (now (heap .exit)) r ≡ release-of (now (heap .entry)) accounts quota handle ⌝ }
+{
+    let Lookup::Found(block) = finder::find_object(heap, handle) else {
+        return AmountResult::refused(accounts, Refusal::NoSuchObject);
+    };
+    let Place::At(place) = accounts.find_hold(block.serial, quota as u8) else {
+        return AmountResult::refused(accounts, Refusal::NotHeld);
+    };
+    drop_claim(heap, accounts, quota, block, place)
+}
+
+// One claim of a quota is given up.
+pub fn release(heap: &mut [u8], accounts: Accounts, quota: u32, handle: Handle) -> AmountResult
+    ensures { λ r. ⌜ amount-outcome (now (heap .exit)) r ≡ release-of (now (heap .entry)) accounts quota handle ⌝ }
+{
+    if let Verdict::Refused(refusal) = checker::check(heap, accounts) {
+        return AmountResult::refused(accounts, refusal);
+    }
+    if QUOTAS <= quota as usize {
+        return AmountResult::refused(accounts, Refusal::QuotaNumber);
+    }
+    give_up(heap, accounts, quota, handle)
+}

@@ -1,0 +1,100 @@
+// A call of a history, given with its arguments, is made by the function of its name.
+use accounts::Accounts;
+use calls::AmountResult;
+use calls::HandleResult;
+use model::Answer;
+use model::Call;
+ghost use mathlib.Core.Path.{_≡_};
+ghost use Rattle.rounding.specs.Rounding.{unit};
+ghost use Rattle.model.specs.Answers.{answer-values};
+ghost use Rattle.model.specs.Step.{step};
+ghost use Rattle.access.specs.Results.{outcome};
+
+// What a call of a history gives: the accounts after it, and its answer.
+pub struct Performed {
+    pub accounts: Accounts,
+    pub answer: Answer,
+}
+
+// A result with a handle.
+fn of_handle(result: HandleResult) -> Performed
+    ensures { λ r. ⌜ r ≡ record { accounts = result .accounts; answer = Answer.Handle (result .answer) } ⌝ }
+{
+    let accounts = result.accounts;
+    let answer = result.answer;
+    Performed {
+        accounts: accounts,
+        answer: Answer::Handle(answer),
+    }
+}
+
+// A result with an amount.
+fn of_amount(result: AmountResult) -> Performed
+    ensures { λ r. ⌜ r ≡ record { accounts = result .accounts; answer = Answer.Amount (result .answer) } ⌝ }
+{
+    let accounts = result.accounts;
+    let answer = result.answer;
+    Performed {
+        accounts: accounts,
+        answer: Answer::Amount(answer),
+    }
+}
+
+// An answer of a call that leaves the accounts as they are.
+fn unchanged(accounts: Accounts, answer: Answer) -> Performed
+    ensures { λ r. ⌜ r ≡ record { accounts = accounts; answer = answer } ⌝ }
+{
+    Performed {
+        accounts: accounts,
+        answer: answer,
+    }
+}
+
+// The call is made, and its answer is given with the accounts after it.
+pub fn perform(heap: &mut [u8], accounts: Accounts, call: Call) -> Performed
+    ensures { λ r. ⌜ outcome (now (heap .exit)) (r .accounts) (answer-values (r .answer)) ≡ step unit call (now (heap .entry)) accounts ⌝ }
+{
+    match call {
+        Call::Allocate { quota, length } => of_handle(calls::allocate(
+            heap,
+            accounts,
+            quota,
+            length,
+        )),
+        Call::AllocateArray { quota, count, size } => {
+            of_handle(calls::allocate_array(heap, accounts, quota, count, size))
+        }
+        Call::Claim { quota, handle } => of_amount(calls::claim(heap, accounts, quota, handle)),
+        Call::Release { quota, handle } => of_amount(calls::release(heap, accounts, quota, handle)),
+        Call::FreeAll { quota } => of_amount(calls::free_all(heap, accounts, quota)),
+        Call::Reallocate {
+            quota,
+            handle,
+            length,
+        } => of_handle(calls::reallocate(heap, accounts, quota, handle, length)),
+        Call::Lend { handle } => {
+            unchanged(
+                accounts,
+                Answer::Range(access::object_range(heap, accounts, handle)),
+            )
+        }
+        Call::Remaining { quota } => {
+            unchanged(
+                accounts,
+                Answer::Amount(access::remaining(heap, accounts, quota)),
+            )
+        }
+        Call::CanRelease { quota, handle } => {
+            unchanged(
+                accounts,
+                Answer::Verdict(access::can_release(heap, accounts, quota, handle)),
+            )
+        }
+        Call::ListBlock { at } => {
+            unchanged(
+                accounts,
+                Answer::Block(access::list_block(heap, accounts, at)),
+            )
+        }
+    }
+}
