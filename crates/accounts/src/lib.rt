@@ -80,7 +80,7 @@ impl Hold {
         ensures { λ r. ⌜ r ≡ dropped quota self ⌝ }
     {
         if self.is_used() {
-            if self.quota == quota {
+            if quota == self.quota {
                 return Hold::zero();
             }
         }

@@ -1,7 +1,7 @@
 -- `accounts::Hold::dropped` meets its contract: the two tests of the definition, in its order.
 -- Assumes nothing.
 use borrow.Author.Needs.{needs}
-use mathlib.Core.Path.{_≡_}
+use mathlib.Core.Path.{_≡_, sym}
 use mathlib.Core.Bool.{true, false}
 use borrow.Author.Tests.{ne-eqb, eq-eqb}
 use Rattle.accounts.specs.Accounts.{used}
@@ -17,12 +17,12 @@ zero-requires c κs = search needs
 returns : tie.Need-returns
 returns c =
     let u : used (c .before .before .before .before .before .args .self) ≡ true = cc in
-    simp (u, eq-eqb _ _ (c .before .if2 .taken)) (c .zero .ensures)
+    simp (u, eq-eqb _ _ (sym (c .before .if2 .taken))) (c .zero .ensures)
 
 returns-2 : tie.Need-returns-2
 returns-2 c =
     let u : used (c .before .before .before .before .args .self) ≡ true = cc in
-    simp (u, ne-eqb _ _ (c .if2 .left))
+    simp (u, ne-eqb _ _ (λ e. c .if2 .left (sym e)))
 
 returns-3 : tie.Need-returns-3
 returns-3 c =
