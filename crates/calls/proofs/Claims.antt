@@ -45,7 +45,7 @@ unfolding only-if
 only-counts c (m when x) (n when y) e = rw e
 
 -- all records are used, or some is unused
-all-used : (hs : List Hold) → all used hs ≡ not (any unused hs)
+pub all-used : (hs : List Hold) → all used hs ≡ not (any unused hs)
 unfolding all any unused
 all-used [] = refl
 all-used (h ∷ hs) = rw (all-used hs) (go (used h) (any unused hs))

@@ -2,11 +2,11 @@
 -- A search that finds an unused record says that not all are used. The change of the first unused record is a change at its place, and paying
 -- changes no record.
 -- Assumes nothing.
-use mathlib.Core.Path.{_≡_, refl, ap, sym, _∙_}
+use mathlib.Core.Path.{_≡_, ap, sym, _∙_}
 use Prim.Native.Nat.{ℕ, _+_, _≤_, _<_}
 use native.Mathlib.Omega.{arith}
 use mathlib.Core.List.{List, [], _∷_}
-use mathlib.Core.Bool.{Bool, true, false, not, _&&_, _||_}
+use mathlib.Core.Bool.{not}
 use mathlib.Core.Option.{Option}
 use lib.ListN.{set}
 use lib.Dec.{eqb, ltb}
@@ -18,7 +18,7 @@ use Rattle.accounts.specs.Accounts.{QUOTAS, used, unused, remaining, charge, wi
 use Rattle.accounts.proofs.Laws.{charge-kept}
 use Rattle.layout.specs.Bytes.{Octets}
 use Rattle.model.specs.Answers.{refusal-number, given, verdict-values, handle-values}
-use Rattle.model.specs.Lists.{all, any, is-none, or-else}
+use Rattle.model.specs.Lists.{all, is-none, or-else}
 use Rattle.model.specs.Consistent.{charge-of}
 use Rattle.model.specs.Holds.{take-record}
 use Rattle.model.specs.Refusals.{Line, first-refusal, line-3, line-4, line-8, line-9, line-10, line-11, greatest-serial, base-for, allocate-lines}
@@ -42,18 +42,9 @@ use Rattle.writer.specs.Carving.{carve-in}
 use Rattle.calls.specs.Ready.{Checked, Ready}
 use Rattle.access.proofs.Lines.{check-refuses, check-accepts, refused-is, accepted-is, line-refuses, line-passes, line-3-refuses}
 use Rattle.access.proofs.Records.{found-some, found-change, nothing-some}
+use Rattle.calls.proofs.Claims.{all-used}
 use Rattle.calls.proofs.Ready.{checked-passes, ready-passes}
 use Rattle.calls.proofs.Placed.{no-base, the-base, the-room, the-bytes}
-
--- all records are used where none is unused
-used-unused : (hs : List Hold) → all used hs ≡ not (any unused hs)
-unfolding all any unused
-used-unused [] = refl
-used-unused (h ∷ hs) = rw (used-unused hs) (both (used h) (any unused hs))
-  where
-    both : (a b : Bool) → (a && not b) ≡ not (not a || b)
-    both true b = refl
-    both false b = refl
 
 -- the accounts after a new object, by the place of the record, and by the definition
 abbrev pub booked-at : ℕ → ℕ → ℕ → ℕ → Accounts → Accounts
@@ -144,12 +135,12 @@ module _ (s : List ℕ) (k : Accounts) (q n : ℕ) (y : Ready s k q n) (r : Hand
     unfolding line-9 lowest-unused
     refused-9 h e =
         refused-by s k q n r HoldsExhausted e
-        (to-9 ∙ line-refuses 9 (all used (k .holds)) (from-10 s k q n) (used-unused (k .holds) ∙ ap not (nothing-some unused (k .holds) 0 h)))
+        (to-9 ∙ line-refuses 9 (all used (k .holds)) (from-10 s k q n) (all-used (k .holds) ∙ ap not (nothing-some unused (k .holds) 0 h)))
 
     module _ (place : ℕ) (h9 : lowest-unused k ≡ At place) where
       to-10 : number s k q n ≡ first-refusal (from-10 s k q n)
       unfolding line-9 lowest-unused
-      to-10 = to-9 ∙ line-passes 9 (all used (k .holds)) (from-10 s k q n) (used-unused (k .holds) ∙ ap not (found-some unused (k .holds) place h9))
+      to-10 = to-9 ∙ line-passes 9 (all used (k .holds)) (from-10 s k q n) (all-used (k .holds) ∙ ap not (found-some unused (k .holds) place h9))
 
       pub refused-10 : k .«last_serial» ≡ greatest-serial → r ≡ record { accounts = k; answer = NotGiven SerialsExhausted } → handle-outcome s r ≡ allocate unit s k q n
       unfolding line-10
