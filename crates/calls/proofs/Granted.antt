@@ -42,7 +42,7 @@ use Rattle.writer.specs.Carving.{carve-in}
 use Rattle.calls.specs.Ready.{Checked, Ready}
 use Rattle.access.proofs.Lines.{check-refuses, check-accepts, refused-is, accepted-is, line-refuses, line-passes, line-3-refuses}
 use Rattle.access.proofs.Records.{found-some, found-change, nothing-some}
-use Rattle.calls.proofs.Claims.{all-used}
+use Rattle.quotas.proofs.Claims.{all-used}
 use Rattle.calls.proofs.Ready.{checked-passes, ready-passes}
 use Rattle.calls.proofs.Placed.{no-base, the-base, the-room, the-bytes}
 

@@ -1,13 +1,8 @@
 pub mod Ready
 pub mod Typed
-pub mod Claims
-pub mod Cleared
 pub mod Placed
 pub mod Granted
 pub mod Released
 pub mod ReleaseAnswers
 pub mod Reallocated
 pub mod ReallocateAnswers
-pub mod Collected
-pub mod Emptied
-pub mod FreedAll

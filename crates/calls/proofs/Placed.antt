@@ -35,7 +35,7 @@ use Rattle.finder.specs.Walk.{find-fit}
 use Rattle.finder.proofs.Parsed.{total-parsed}
 use Rattle.finder.proofs.Lowest.{Fitting, base-found, base-nowhere}
 use Rattle.writer.specs.Carving.{Room}
-use Rattle.calls.proofs.Cleared.{allowed-long}
+use Rattle.quotas.proofs.Cleared.{allowed-long}
 
 -- carving cuts the free block that holds the object, wherever it stands
 carved-at : (base n serial at : ℕ) (xs : List Block) (b : Block) (ys : List Block) → live b ≡ false → at + total size xs + 8 ≤ base → base + n ≤ at + total size xs + size b

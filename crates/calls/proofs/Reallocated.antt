@@ -35,9 +35,10 @@ use Rattle.invariant.proofs.Transitions.{Room, allocated-good, allocated-object
 use Rattle.invariant.proofs.Passed.{Allocatable, allocate-passed}
 use Rattle.invariant.proofs.Requested.{requested-room, requested-fresh, still-releasable}
 use Rattle.calls.specs.declared.HandleResult.{HandleResult}
-use Rattle.calls.specs.declared.AmountResult.{AmountResult}
+use Rattle.quotas.specs.declared.AmountResult.{AmountResult}
 use Rattle.access.specs.Results.{outcome}
-use Rattle.calls.specs.Results.{handle-outcome, amount-outcome}
+use Rattle.quotas.specs.Results.{amount-outcome}
+use Rattle.calls.specs.Results.{handle-outcome}
 use Rattle.calls.specs.Ready.{Checked, Ready}
 use Rattle.access.proofs.Lines.{number-some, accepted-is, line-passes}
 use Rattle.access.proofs.Lookups.{line-5-passes}

@@ -30,11 +30,12 @@ use Rattle.writer.proofs.Guards.{inside-test, frees}
 use Rattle.access.specs.Results.{outcome}
 use Rattle.access.proofs.Lines.{check-refuses, check-accepts, refused-is, accepted-is, line-3-refuses}
 use Rattle.access.proofs.Lookups.{byte-quota, located, quota-missing, release-refuses, release-passes}
-use Rattle.calls.specs.declared.AmountResult.{AmountResult}
-use Rattle.calls.specs.Results.{amount-outcome}
+use Rattle.quotas.specs.declared.AmountResult.{AmountResult}
+use Rattle.quotas.specs.Results.{amount-outcome}
 use Rattle.calls.specs.Ready.{Checked, Holding}
 use Rattle.calls.specs.Releasing.{claim-dropped}
-use Rattle.calls.proofs.Cleared.{allowed-long}
+use Rattle.quotas.proofs.Amounts.{gives}
+use Rattle.quotas.proofs.Cleared.{allowed-long}
 use Rattle.calls.proofs.Ready.{accepted-check}
 use Rattle.calls.proofs.Released.{inside, fewer-claims, still-held, no-longer-held}
 
@@ -74,10 +75,6 @@ module _ (s : List ℕ) (k : Accounts) (q : ℕ) (h : Handle) where
           let told = accepted-check s k q c in
           ap (claim-dropped s k q) (sym (located s k Accepted told refl h m e .object))
           ∙ accepted-is (first-refusal (release-lines s k q h)) s k _ (release-passes s k Accepted told refl h m e q (c .exists) i (rw (byte-quota q (c .exists)) p))
-
-pub gives : (s : List ℕ) (k : Accounts) (n : ℕ) (r : AmountResult) → r ≡ record { accounts = k; answer = Amount n } → amount-outcome s r ≡ outcome s k (amount-of n)
-unfolding amount-values
-gives s k n r e = ap (amount-outcome s) e
 
 -- the quota's record w for the object of the block m stands at place i
 module _ (s : List ℕ) (k : Accounts) (o : Octets s) (q : ℕ) (m : Met) (i : ℕ) (y : Holding s k q m i) where

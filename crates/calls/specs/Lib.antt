@@ -1,5 +1,3 @@
 pub mod Results
-pub mod Claims
 pub mod Ready
 pub mod Releasing
-pub mod Emptying

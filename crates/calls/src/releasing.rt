@@ -1,5 +1,4 @@
 // Release: a quota gives up one claim, and the block that no quota holds any more becomes free.
-use crate::AmountResult;
 use accounts::Accounts;
 use accounts::HOLDS;
 use accounts::Hold;
@@ -7,15 +6,15 @@ use accounts::Place;
 use accounts::QUOTAS;
 use finder::Lookup;
 use finder::Met;
-use model::AmountAnswer;
 use model::Handle;
 use model::Refusal;
 use model::Verdict;
+use quotas::AmountResult;
 ghost use mathlib.Core.Path.{_≡_};
 ghost use Rattle.model.specs.Calls.{release as release-of};
 ghost use Rattle.model.specs.Consistent.{is-of, held};
 ghost use Rattle.finder.specs.Walk.{object-met};
-ghost use Rattle.calls.specs.Results.{amount-outcome};
+ghost use Rattle.quotas.specs.Results.{amount-outcome};
 ghost use Rattle.calls.specs.Ready.{Checked, Holding};
 ghost use Rattle.calls.specs.Releasing.{claim-dropped};
 
@@ -44,16 +43,6 @@ pub(crate) fn is_held(holds: [Hold; HOLDS], serial: u32) -> bool
     false
 }
 
-// What is given back, with the accounts after it.
-pub(crate) fn given_back(accounts: Accounts, amount: u32) -> AmountResult
-    ensures { λ r. ⌜ r ≡ record { accounts = accounts; answer = AmountAnswer.Amount amount } ⌝ }
-{
-    AmountResult {
-        accounts: accounts,
-        answer: AmountAnswer::Amount(amount),
-    }
-}
-
 // One claim of a quota on a block is given up; the last one gives the quota its charge back, and an object that no quota claims is freed.
 fn drop_claim(
     heap: &mut [u8],
@@ -72,17 +61,17 @@ fn drop_claim(
             quota: hold.quota,
             count: hold.count - 1,
         };
-        return given_back(accounts.add_hold(place, fewer), 0);
+        return AmountResult::given(accounts.add_hold(place, fewer), 0);
     }
     let length = (block.size - 8) as u32;
     let charge = length + 8;
     let left = accounts.refund(quota, charge).drop_hold(place);
     let holds = left.holds;
     if is_held(holds, block.serial) {
-        return given_back(left, charge);
+        return AmountResult::given(left, charge);
     }
     writer::free_block(heap, block);
-    given_back(left, charge)
+    AmountResult::given(left, charge)
 }
 
 // Release behind the first three lines: the lookup, the quota's record, and one claim less.

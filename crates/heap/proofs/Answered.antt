@@ -9,9 +9,10 @@ use Rattle.model.specs.Calls.{Outcome}
 use Rattle.model.specs.declared.Answer.{Answer}
 use Rattle.model.specs.declared.Answer.the-variants.{Handle as OfHandle, Amount as OfAmount}
 use Rattle.access.specs.Results.{outcome}
-use Rattle.calls.specs.Results.{handle-outcome, amount-outcome}
+use Rattle.calls.specs.Results.{handle-outcome}
+use Rattle.quotas.specs.Results.{amount-outcome}
 use Rattle.calls.specs.declared.HandleResult.{HandleResult}
-use Rattle.calls.specs.declared.AmountResult.{AmountResult}
+use Rattle.quotas.specs.declared.AmountResult.{AmountResult}
 use Rattle.heap.specs.declared.performing.Performed.{Performed}
 
 abbrev pub performed-outcome : List ℕ → Performed → Outcome

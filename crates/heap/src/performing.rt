@@ -1,9 +1,9 @@
 // A call of a history, given with its arguments, is made by the function of its name.
 use accounts::Accounts;
-use calls::AmountResult;
 use calls::HandleResult;
 use model::Answer;
 use model::Call;
+use quotas::AmountResult;
 ghost use mathlib.Core.Path.{_≡_};
 ghost use Rattle.rounding.specs.Rounding.{unit};
 ghost use Rattle.model.specs.Answers.{answer-values};
@@ -64,9 +64,9 @@ pub fn perform(heap: &mut [u8], accounts: Accounts, call: Call) -> Performed
         Call::AllocateArray { quota, count, size } => {
             of_handle(calls::allocate_array(heap, accounts, quota, count, size))
         }
-        Call::Claim { quota, handle } => of_amount(calls::claim(heap, accounts, quota, handle)),
+        Call::Claim { quota, handle } => of_amount(quotas::claim(heap, accounts, quota, handle)),
         Call::Release { quota, handle } => of_amount(calls::release(heap, accounts, quota, handle)),
-        Call::FreeAll { quota } => of_amount(calls::free_all(heap, accounts, quota)),
+        Call::FreeAll { quota } => of_amount(quotas::free_all(heap, accounts, quota)),
         Call::Reallocate {
             quota,
             handle,

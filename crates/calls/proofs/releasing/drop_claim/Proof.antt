@@ -27,8 +27,8 @@ sub-t13 c = search needs
 add-hold-requires : tie.Need-add-hold-requires
 add-hold-requires c κs = search needs
 
-given-back-requires : tie.Need-given-back-requires
-given-back-requires c κs = search needs
+given-requires : tie.Need-given-requires
+given-requires c κs = search needs
 
 returns : tie.Need-returns
 returns c =
@@ -36,7 +36,7 @@ returns c =
     let k = at .before in
     let a = k .before .args in
     fewer-result (a .heap .now) (a .accounts) (octets k) (a .quota) (a .block) (a .place) (k .before .pre) (at .hold-at .result) (at .hold-at .ensures)
-    (omega (arith, c .before .before .before .if1 .taken)) (c .before .add-hold .result) (c .before .add-hold .ensures) (c .given-back .result) (c .given-back .ensures)
+    (omega (arith, c .before .before .before .if1 .taken)) (c .before .add-hold .result) (c .before .add-hold .ensures) (c .given .result) (c .given .ensures)
 
 sub-length : tie.Need-sub-length
 sub-length c = let i = lies (c .before .before .before .before) in omega (arith, i .header)
@@ -56,8 +56,8 @@ drop-hold-requires c κs = search needs
 is-held-requires : tie.Need-is-held-requires
 is-held-requires c κs = search needs
 
-given-back-requires-2 : tie.Need-given-back-requires-2
-given-back-requires-2 c κs = search needs
+given-requires-2 : tie.Need-given-requires-2
+given-requires-2 c κs = search needs
 
 returns-2 : tie.Need-returns-2
 returns-2 c =
@@ -67,13 +67,13 @@ returns-2 c =
     let a = k .before .args in
     held-result (a .heap .now) (a .accounts) (octets k) (a .quota) (a .block) (a .place) (k .before .pre) (at .hold-at .result) (at .hold-at .ensures)
     (omega (arith, left .before .before .before .if1 .left)) (left .before .refund .result) (left .drop-hold .result) (left .before .refund .ensures) (left .drop-hold .ensures)
-    (c .before .before .is-held .result) (c .before .before .is-held .ensures) (c .given-back2 .result) (c .given-back2 .ensures) (c .before .if2 .taken)
+    (c .before .before .is-held .result) (c .before .before .is-held .ensures) (c .given2 .result) (c .given2 .ensures) (c .before .if2 .taken)
 
 free-block-requires : tie.Need-free-block-requires
 free-block-requires c κs = search needs
 
-given-back-requires-3 : tie.Need-given-back-requires-3
-given-back-requires-3 c κs = search needs
+given-requires-3 : tie.Need-given-requires-3
+given-requires-3 c κs = search needs
 
 same-length : tie.Need-same-length
 same-length c = search needs
@@ -88,7 +88,7 @@ returns-3 c =
     let a = k .before .args in
     freed-result (a .heap .now) (a .accounts) (octets k) (a .quota) (a .block) (a .place) (k .before .pre) (at .hold-at .result) (at .hold-at .ensures)
     (omega (arith, left .before .before .before .if1 .left)) (left .before .refund .result) (left .drop-hold .result) (left .before .refund .ensures) (left .drop-hold .ensures)
-    (t .before .is-held .result) (t .before .is-held .ensures) (c .given-back3 .result) (c .given-back3 .ensures) (t .if2 .left) _ (f .free-block .ensures .0)
+    (t .before .is-held .result) (t .before .is-held .ensures) (c .given3 .result) (c .given3 .ensures) (t .if2 .left) _ (f .free-block .ensures .0)
 
 pub drop-claim-spec : {M : Type 1} → statement M
 drop-claim-spec =
@@ -97,7 +97,7 @@ drop-claim-spec =
     hold-at-requires
     sub-t13
     add-hold-requires
-    given-back-requires
+    given-requires
     returns
     sub-length
     cast-length
@@ -105,9 +105,9 @@ drop-claim-spec =
     refund-requires
     drop-hold-requires
     is-held-requires
-    given-back-requires-2
+    given-requires-2
     returns-2
     free-block-requires
-    given-back-requires-3
+    given-requires-3
     same-length
     returns-3)

@@ -1,0 +1,102 @@
+-- Free-all among records, blocks and accounts. The refund changes no record, so the records that are left are those of the definition, and the flags are
+-- asked for them. The heap is that of its blocks, so the walk may start on it, and leaves the settled blocks. What is given back is what the quota had spent.
+-- Assumes nothing.
+use Prim.Native.Nat.{ℕ, _≤_, _<_}
+use native.Mathlib.Omega.{arith}
+use mathlib.Core.Path.{_≡_, ap, sym, _∙_}
+use mathlib.Core.List.{List, [], _∷_}
+use mathlib.Core.Bool.{Bool, true, false}
+use lib.ListN.{length, getD}
+use Rattle.accounts.specs.declared.Hold.{Hold}
+use Rattle.accounts.specs.declared.Accounts.{Accounts}
+use Rattle.accounts.specs.Accounts.{QUOTAS, spent, refund, with-holds, drop-records}
+use Rattle.accounts.proofs.Laws.{Sized, refund-kept}
+use Rattle.layout.specs.Bytes.{Octets}
+use Rattle.layout.specs.Blocks.{render}
+use Rattle.layout.proofs.Parse.{parse-is}
+use Rattle.model.specs.Answers.{refusal-number, verdict-values, amount-of, amount-values}
+use Rattle.model.specs.Objects.{blocks-of, objects-of}
+use Rattle.model.specs.Consistent.{consistent, held, charges}
+use Rattle.model.specs.Space.{settle}
+use Rattle.model.specs.Refusals.{first-refusal, line-3, quota-lines}
+use Rattle.model.specs.Calls.{check, freed, free-all}
+use Rattle.model.specs.declared.Refusal.{Refusal}
+use Rattle.model.specs.declared.Verdict.{Verdict}
+use Rattle.model.specs.declared.Verdict.the-variants.{Accepted, Refused as NotAccepted}
+use Rattle.model.specs.declared.AmountAnswer.the-variants.{Amount, Refused}
+use Rattle.model.proofs.Consistent.{consistent-cut, consistent-apart}
+use Rattle.model.proofs.FreeAll.{charges-spent}
+use Rattle.checker.specs.Holders.{held-each}
+use Rattle.checker.proofs.Holders.{each-at, consistent-well, drop-well}
+use Rattle.finder.proofs.Parsed.{total-parsed}
+use Rattle.access.specs.Results.{outcome}
+use Rattle.access.proofs.Lines.{check-refuses, check-accepts, refused-is, accepted-is, line-3-refuses, line-3-passes}
+use Rattle.quotas.specs.declared.AmountResult.{AmountResult}
+use Rattle.quotas.specs.Results.{amount-outcome}
+use Rattle.quotas.specs.Emptying.{live-serials, Emptying, Emptiable, Emptied}
+use Rattle.quotas.proofs.Amounts.{gives}
+use Rattle.quotas.proofs.Collected.{flagged}
+use Rattle.quotas.proofs.Emptied.{emptying-start}
+
+-- the lines, where the check has answered v
+module _ (s : List ℕ) (k : Accounts) (q : ℕ) (v : Verdict) (told : verdict-values v ≡ check s k .values) where
+  pub all-by-check : (x : Refusal) → v ≡ NotAccepted x → first-refusal (quota-lines s k q) ≡ refusal-number x
+  unfolding quota-lines
+  all-by-check x e = check-refuses s k v told (line-3 q ∷ []) x e
+
+  pub all-by-quota : v ≡ Accepted → QUOTAS ≤ q → first-refusal (quota-lines s k q) ≡ 3
+  unfolding quota-lines
+  all-by-quota e l = check-accepts s k v told (line-3 q ∷ []) e ∙ line-3-refuses q [] l
+
+  pub all-passes : v ≡ Accepted → q < QUOTAS → first-refusal (quota-lines s k q) ≡ 0
+  unfolding quota-lines first-refusal
+  all-passes e l = check-accepts s k v told (line-3 q ∷ []) e ∙ line-3-passes q [] l
+
+-- a refusal as a result
+pub all-refuses : (s : List ℕ) (k : Accounts) (q : ℕ) (r : AmountResult) (x : Refusal) → r ≡ record { accounts = k; answer = Refused x }
+    → first-refusal (quota-lines s k q) ≡ refusal-number x → amount-outcome s r ≡ free-all s k q
+unfolding free-all amount-values
+all-refuses s k q r x e n = ap (amount-outcome s) e ∙ refused-is (first-refusal (quota-lines s k q)) s k _ x n
+
+-- heap and accounts are consistent, and the records of the quota q are dropped: k₁ are the accounts after the refund, and k₂ those that are left
+module _ (s : List ℕ) (k : Accounts) (o : Octets s) (short : length s ≤ 32768) (ok : consistent s k ≡ true) (sized : Sized k) (q : ℕ) (below : q < QUOTAS) (back : ℕ) (be : back ≡ spent q k)
+    (k₁ k₂ : Accounts) (e₁ : k₁ ≡ refund q back k) (e₂ : k₂ ≡ with-holds (drop-records q (k₁ .holds)) k₁) where
+  -- the records that are left, and the accounts
+  left-holds : k₂ .holds ≡ drop-records q (k .holds)
+  left-holds = ap (λ (x : Accounts). x .holds) e₂ ∙ ap (λ (x : Accounts). drop-records q (x .holds)) e₁ ∙ ap (drop-records q) (refund-kept q back k .same-holds)
+
+  paid : back ≡ charges (k .holds) q (objects-of s)
+  paid = be ∙ sym (charges-spent s k ok q (omega (arith, sized .quotas-long)))
+
+  left : k₂ ≡ with-holds (drop-records q (k .holds)) (refund q (charges (k .holds) q (objects-of s)) k)
+  left =
+      e₂ ∙ ap (λ (x : Accounts). with-holds (drop-records q (x .holds)) x) e₁
+      ∙ ap (λ (hs : List Hold). with-holds (drop-records q hs) (refund q back k)) (refund-kept q back k .same-holds)
+      ∙ ap (λ (n : ℕ). with-holds (drop-records q (k .holds)) (refund q n k)) paid
+
+  -- the flags are asked for the records that are left
+  module _ (serials : List ℕ) (se : serials ≡ live-serials s) (kept : List Bool) (ke : kept ≡ held-each (k₂ .holds) serials) where
+    told : (j : ℕ) → getD kept j false ≡ held (drop-records q (k .holds)) (getD serials j 0)
+    told j =
+        ap (λ (l : List Bool). getD l j false) (ke ∙ ap (λ (hs : List Hold). held-each hs serials) left-holds)
+        ∙ each-at (drop-records q (k .holds)) (drop-well q (k .holds) (consistent-well s k ok)) serials j
+
+    emptying : Emptying (drop-records q (k .holds)) (blocks-of s) kept 0 0 s
+    emptying =
+        let cut = consistent-cut s k ok .0 in
+        let bytes = parse-is s (blocks-of s) o .0 cut in
+        emptying-start (drop-records q (k .holds)) (blocks-of s) kept s (sym (bytes .0)) (bytes .1) (consistent-apart s k ok)
+        (omega (arith, total-parsed s (blocks-of s) cut))
+        (flagged (drop-records q (k .holds)) kept serials told s k ok (sized .holds-long) se)
+
+    -- so the walk may start, and what it leaves is the definition's
+    pub all-freed : first-refusal (quota-lines s k q) ≡ 0
+        → Emptiable kept s
+        × ((s′ : List ℕ) → Emptied kept s s′ → (r : AmountResult) → r ≡ record { accounts = k₂; answer = Amount back } → amount-outcome s′ r ≡ free-all s k q)
+    unfolding free-all freed
+    all-freed z = ((drop-records q (k .holds), blocks-of s, emptying), leaves-all)
+      where
+        leaves-all : (s′ : List ℕ) → Emptied kept s s′ → (r : AmountResult) → r ≡ record { accounts = k₂; answer = Amount back } → amount-outcome s′ r ≡ free-all s k q
+        leaves-all s′ f r re =
+            let heap : s′ ≡ render (settle (drop-records q (k .holds)) (blocks-of s)) = f (drop-records q (k .holds)) (blocks-of s) emptying in
+            gives s′ k₂ back r re ∙ (λ i. outcome (heap i) (left i) (amount-of (paid i))) ∙ accepted-is (first-refusal (quota-lines s k q)) s k _ z

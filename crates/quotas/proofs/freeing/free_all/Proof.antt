@@ -1,0 +1,146 @@
+-- `quotas::free_all` meets its contract. Each refusal is the first line that holds: the check's, and the quota's number. Past them the accounts are those
+-- that the definition leaves, the flags are asked for the records that are left, and the walk leaves the settled blocks (`all-freed`).
+-- Assumes nothing.
+use borrow.Author.Needs.{needs}
+use mathlib.Core.Path.{_≡_}
+use mathlib.Core.List.{List}
+use lib.ListN.{length-map}
+use Prim.Native.Nat.{ℕ}
+use Rattle.accounts.proofs.Laws.{Sized}
+use Rattle.layout.specs.Bytes.{Octets}
+use Rattle.model.specs.Calls.{free-all}
+use Rattle.model.specs.declared.Refusal.the-variants.{QuotaNumber}
+use Rattle.model.specs.declared.AmountAnswer.the-variants.{Amount}
+use Rattle.access.proofs.Lines.{check-consistent}
+use Rattle.quotas.specs.declared.AmountResult.{AmountResult}
+use Rattle.quotas.specs.Results.{amount-outcome}
+use Rattle.quotas.specs.Emptying.{Emptiable, Emptied}
+use Rattle.invariant.proofs.Laid.{allowed-most}
+use Rattle.quotas.proofs.FreedAll.{all-by-check, all-by-quota, all-passes, all-refuses, all-freed}
+use Rattle.quotas.proofs.freeing.free_all.Statement.{statement}
+use Rattle.quotas.proofs.freeing.free_all.Tie as tie
+
+-- the heap's bytes are bytes, and the tables of the accounts have their lengths
+octets : (c : tie.After-slice-known) → Octets (c .before .args .heap .now)
+octets c i = c .slice-known .given i .fits
+
+sized : (c : tie.Start) → Sized (c .args .accounts)
+sized c =
+    record {
+      quotas-long = simp length-map at (c .good .1 .0 .1 .1 .0 .1 .0 .1);
+      holds-long = simp length-map at (c .good .1 .0 .1 .1 .1 .1 .0 .1 .0 .1);
+    }
+
+check-requires : tie.Need-check-requires
+check-requires c κs = search needs
+
+enum-known-refusal : tie.Need-enum-known-refusal
+enum-known-refusal c = search needs
+
+refused-requires : tie.Need-refused-requires
+refused-requires c κs = search needs
+
+same-length : tie.Need-same-length
+same-length c = search needs
+
+returns : tie.Need-returns
+returns c =
+    let a = c .before .before .before .before .before .before .before .args in
+    let k = c .before .before .before .before .check in
+    let x = c .before .before .refusal .given in
+    all-refuses (a .heap .now) (a .accounts) (a .quota) (c .refused .result) (x .0 .0) (c .refused .ensures)
+    (all-by-check (a .heap .now) (a .accounts) (a .quota) (k .result) (k .ensures) (x .0 .0) (x .1))
+
+enum-told : tie.Need-enum-told
+enum-told c = search needs
+
+refused-requires-2 : tie.Need-refused-requires-2
+refused-requires-2 c κs = search needs
+
+same-length-2 : tie.Need-same-length-2
+same-length-2 c = search needs
+
+returns-2 : tie.Need-returns-2
+returns-2 c =
+    let a = c .before .before .before .before .before .before .before .args in
+    let k = c .before .before .before .before .check in
+    all-refuses (a .heap .now) (a .accounts) (a .quota) (c .refused2 .result) QuotaNumber (c .refused2 .ensures)
+    (all-by-quota (a .heap .now) (a .accounts) (a .quota) (k .result) (k .ensures) (c .before .before .enum-told .given .1) (c .before .if1 .taken))
+
+spent-requires : tie.Need-spent-requires
+spent-requires c κs = search needs
+
+refund-requires : tie.Need-refund-requires
+refund-requires c κs = search needs
+
+cast-drop-holds : tie.Need-cast-drop-holds
+cast-drop-holds c = search needs
+
+drop-holds-requires : tie.Need-drop-holds-requires
+drop-holds-requires c κs = search needs
+
+live-serials-requires : tie.Need-live-serials-requires
+live-serials-requires c κs = search needs
+
+held-each-requires : tie.Need-held-each-requires
+held-each-requires c κs = search needs
+
+-- what is known once the flags are there: the walk may start, and what it leaves is the definition's
+abbrev start : tie.After-held-each → tie.Start
+start c = c .before .before .before .before .before .before .before .before .before .before .before .before .before
+
+walked : (c : tie.After-held-each)
+    → Emptiable (c .held-each .result) (start c .args .heap .now)
+    × ((s : List ℕ) → Emptied (c .held-each .result) (start c .args .heap .now) s
+    → (r : AmountResult) → r ≡ record { accounts = c .before .before .before .before .drop-holds .result; answer = Amount (c .before .before .before .before .before .before .spent .result) }
+    → amount-outcome s r ≡ free-all (start c .args .heap .now) (start c .args .accounts) (start c .args .quota))
+walked c =
+    let a = start c .args in
+    let l = c .before .before .before .before in
+    let p = l .before .before in
+    let k = p .before .before .before .before .check in
+    let yes = p .before .before .enum-told .given .1 in
+    let sound = check-consistent (a .heap .now) (a .accounts) (k .result) (k .ensures) yes in
+    let below = p .before .if1 .left in
+    all-freed (a .heap .now) (a .accounts) (octets (p .before .before .before .before .before .before)) (allowed-most _ (sound .0)) (sound .1) (sized (start c)) (a .quota) below (p .spent .result) (p .spent .ensures)
+    (l .before .refund .result) (l .drop-holds .result) (l .before .refund .ensures) (l .drop-holds .ensures)
+    (c .before .live-serials .result) (c .before .live-serials .ensures) (c .held-each .result) (c .held-each .ensures)
+    (all-passes (a .heap .now) (a .accounts) (a .quota) (k .result) (k .ensures) yes below)
+
+free-unkept-requires : tie.Need-free-unkept-requires
+free-unkept-requires c κs = walked (c .before) .0
+
+given-requires : tie.Need-given-requires
+given-requires c κs = search needs
+
+same-length-3 : tie.Need-same-length-3
+same-length-3 c = search needs
+
+returns-3 : tie.Need-returns-3
+returns-3 c =
+    let w = c .before .before .before in
+    walked (w .before .before) .1 _ (w .free-unkept .ensures) (c .given .result) (c .given .ensures)
+
+pub free-all-spec : {M : Type 1} → statement M
+free-all-spec =
+    tie.close
+    (tie.spec
+    check-requires
+    enum-known-refusal
+    refused-requires
+    same-length
+    returns
+    enum-told
+    refused-requires-2
+    same-length-2
+    returns-2
+    spent-requires
+    refund-requires
+    cast-drop-holds
+    drop-holds-requires
+    live-serials-requires
+    held-each-requires
+    free-unkept-requires
+    given-requires
+    same-length-3
+    returns-3)

@@ -1,0 +1,81 @@
+// The call that lets a quota hold an object, or hold it once more.
+use crate::AmountResult;
+use accounts::Accounts;
+use accounts::Hold;
+use accounts::Place;
+use accounts::QUOTAS;
+use finder::Lookup;
+use model::AmountAnswer;
+use model::Handle;
+use model::Refusal;
+use model::Verdict;
+ghost use mathlib.Core.Path.{_≡_};
+ghost use Prim.Native.Nat.{_≤_};
+ghost use Rattle.model.specs.Calls.{claim as claim-of};
+ghost use Rattle.quotas.specs.Results.{amount-outcome};
+ghost use Rattle.quotas.specs.Claims.{claim-again, claim-first};
+
+// The record at a place counts once more, at no charge.
+fn claim_again(accounts: Accounts, at: usize, length: u32) -> AmountResult
+    ensures { λ r. ⌜ r ≡ claim-again at length accounts ⌝ }
+{
+    let hold = accounts.hold_at(at);
+    if hold.count == 255 {
+        return AmountResult::refused(accounts, Refusal::CountLimit);
+    }
+    let raised = Hold {
+        serial: hold.serial,
+        quota: hold.quota,
+        count: hold.count + 1,
+    };
+    AmountResult {
+        accounts: accounts.add_hold(at, raised),
+        answer: AmountAnswer::Amount(length),
+    }
+}
+
+// The quota pays for an object of this length, and the lowest unused record becomes its hold.
+fn claim_first(accounts: Accounts, quota: u32, hold: Hold, length: u32) -> AmountResult
+    requires { ⌜ length ≤ 32760 ⌝ }
+    ensures { λ r. ⌜ r ≡ claim-first quota hold length accounts ⌝ }
+{
+    let charge = length + 8;
+    if accounts.remaining(quota) < charge {
+        return AmountResult::refused(accounts, Refusal::QuotaExceeded);
+    }
+    let Place::At(at) = accounts.lowest_unused() else {
+        return AmountResult::refused(accounts, Refusal::HoldsExhausted);
+    };
+    let paid = accounts.charge(quota, charge);
+    AmountResult {
+        accounts: paid.add_hold(at, hold),
+        answer: AmountAnswer::Amount(length),
+    }
+}
+
+// A quota that has a record for the object raises its count; another pays and takes the lowest unused record. The answer is the object's length.
+pub fn claim(heap: &[u8], accounts: Accounts, quota: u32, handle: Handle) -> AmountResult
+    ensures { λ r. ⌜ amount-outcome (now (heap .entry)) r ≡ claim-of (now (heap .entry)) accounts quota handle ⌝ }
+{
+    if let Verdict::Refused(refusal) = checker::check(heap, accounts) {
+        return AmountResult::refused(accounts, refusal);
+    }
+    if QUOTAS <= quota as usize {
+        return AmountResult::refused(accounts, Refusal::QuotaNumber);
+    }
+    let Lookup::Found(block) = finder::find_object(heap, handle) else {
+        return AmountResult::refused(accounts, Refusal::NoSuchObject);
+    };
+    let length = (block.size - 8) as u32;
+    let serial = block.serial;
+    let holder = (quota % 256) as u8;
+    if let Place::At(at) = accounts.find_hold(serial, holder) {
+        return claim_again(accounts, at, length);
+    }
+    let hold = Hold {
+        serial: serial,
+        quota: holder,
+        count: 1,
+    };
+    claim_first(accounts, quota, hold, length)
+}

@@ -1,0 +1,59 @@
+// Opening a heap: its bytes are cleared, and its accounts begin.
+use crate::Opened;
+use accounts::Accounts;
+use accounts::QUOTAS;
+use layout::Header;
+use model::Refusal;
+use model::Verdict;
+ghost use mathlib.Core.Path.{_≡_};
+ghost use Prim.Native.Nat.{_/_};
+ghost use Rattle.layout.specs.Bytes.{zero-part};
+ghost use Rattle.layout.specs.Blocks.{write-header};
+ghost use Rattle.model.specs.Consistent.{allowed};
+ghost use Rattle.model.specs.Calls.{open-heap};
+ghost use Rattle.quotas.specs.Results.{opened-outcome};
+
+// Whether a heap may have this length.
+fn is_allowed(len: usize) -> bool
+    ensures { λ r. ⌜ r ≡ allowed len ⌝ }
+{
+    if len % 8 != 0 {
+        return false;
+    }
+    if len < 64 {
+        return false;
+    }
+    len <= 32768
+}
+
+// All bytes become zero, then the header of one block that covers the heap is written.
+fn clear(heap: &mut [u8], len: usize)
+    ensures { λ _.
+        ⌜ now (heap .exit) ≡ write-header 0 (record { size = len / 8; back = 0; serial = 0 }) (zero-part 0 len (now (heap .entry))) ⌝ }
+{
+    layout::zero_part(heap, 0, len);
+    let header = Header {
+        size: len / 8,
+        back: 0,
+        serial: 0,
+    };
+    layout::write_header(heap, 0, header);
+}
+
+// One free block covers the heap, and every quota has its grant; or the length is not allowed, and nothing changes.
+pub fn open(heap: &mut [u8], grants: [u32; QUOTAS]) -> Opened
+    ensures { λ r. ⌜ opened-outcome (now (heap .exit)) r ≡ open-heap (now (heap .entry)) grants ⌝ }
+{
+    let len = heap.len();
+    if !is_allowed(len) {
+        return Opened {
+            accounts: Accounts::zero(),
+            verdict: Verdict::Refused(Refusal::HeapLength),
+        };
+    }
+    clear(heap, len);
+    Opened {
+        accounts: Accounts::open(grants),
+        verdict: Verdict::Accepted,
+    }
+}
