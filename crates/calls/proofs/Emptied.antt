@@ -72,10 +72,10 @@ unfolding total-size all
 emptying-start hs bs kept s e w a l f =
     record { front = []; todo = bs; bytes = e; place = refl; writable = w; apart = a; short = l; settled = refl; same = refl; flags = f }
 
--- the walk passes a block and gets on
+-- the walk gets on behind a block, whatever the flag, and passes it by its own flag
 abbrev pub Passing : List Hold → List Block → List Bool → ℕ → ℕ → List ℕ → ℕ → Met → Type 0
 Passing hs bs kept i at s count m =
-    (at < passed-end (getD kept i false) m s) × Emptying hs bs kept (i + count) (passed-end (getD kept i false) m s) (passed (getD kept i false) m s)
+    ((x : Bool) → at < passed-end x m s) × Emptying hs bs kept (i + count) (passed-end (getD kept i false) m s) (passed (getD kept i false) m s)
 
 module _ (hs : List Hold) (bs : List Block) (kept : List Bool) (i at : ℕ) (s : List ℕ) (e : Emptying hs bs kept i at s) where
   -- the heap has at most the greatest length
@@ -130,11 +130,11 @@ module _ (hs : List Hold) (bs : List Block) (kept : List Bool) (i at : ℕ) (s :
           flags = (rw q at (e .flags)) .1;
         }
 
-    -- if no record holds it, it is freed in place
-    module _ (lv : live b ≡ true) (no : held hs (b .serial) ≡ false) where
-      abbrev m : Met
-      m = placed at (back-after 0 (e .front)) b
+    abbrev m : Met
+    m = placed at (back-after 0 (e .front)) b
 
+    -- if it is live, it can be freed in place
+    module _ (lv : live b ≡ true) where
       apart : free-apart (e .front ++ (b ∷ ys)) ≡ true
       apart = rw q at (e .apart)
 
@@ -153,10 +153,10 @@ module _ (hs : List Hold) (bs : List Block) (kept : List Bool) (i at : ℕ) (s :
           sym (freed .1) ∙ ap (λ (x : List ℕ). at + size b + room-at (at + size b) x .free) bytes
           ∙ ap (λ (x : ℕ). at + size b + x) (rw (← e .place) at (room-behind (e .front) b ys writable))
 
-      -- and the free block that it becomes joins those in front
-      frees-on : Emptying hs bs kept (i + counted (b .serial)) (free-end-in m s) (free-in m s)
+      -- and if no record holds it, the free block that it becomes joins those in front
+      frees-on : held hs (b .serial) ≡ false → Emptying hs bs kept (i + counted (b .serial)) (free-end-in m s) (free-in m s)
       unfolding all total Flagged join-neighbours vacate
-      frees-on =
+      frees-on u =
           let j = behind-joined (vacate b) ys refl in
           let front = append-joined (e .front) (j .0 ∷ []) in
           let split : join-neighbours (e .front) (vacate b) ys ≡ front ++ j .1 = ap (append-joined (e .front)) (j .2) ∙ appended-split (e .front) (j .0) (j .1) in
@@ -170,19 +170,30 @@ module _ (hs : List Hold) (bs : List Block) (kept : List Bool) (i at : ℕ) (s :
             apart = rw split at (freed-apart (e .front) b ys apart);
             short = rw (total-is, ← split, freed-total (e .front) b ys apart) short;
             settled = appended-all (stays hs) (λ c d x y. refl) (e .front) (j .0 ∷ []) (e .settled) (rw (j .3));
-            same = (rw split at (freed-settles (e .front) b ys apart hs lv no)) ∙ (rw q at (e .same));
+            same = (rw split at (freed-settles (e .front) b ys apart hs lv u)) ∙ (rw q at (e .same));
             flags = flags-joined hs kept (i + counted (b .serial)) (vacate b) ys (j .0) (j .1) (j .2) ((rw q at (e .flags)) .1);
           }
 
-    -- so the walk passes it
-    passes : Passing hs bs kept i at s (counted (b .serial)) (placed at (back-after 0 (e .front)) b)
+    -- so the walk gets on, whatever the flag
+    gets-on : (x : Bool) → at < passed-end x m s
+    unfolding passed-end
+    gets-on x = go (eqb (b .serial) 0) x refl
+      where
+        go : (f x : Bool) → eqb (b .serial) 0 ≡ f → at < passed-end x m s
+        go true x f = rw f (omega arith)
+        go false true f = rw f (omega arith)
+        go false false f = rw f (omega (arith, ends (rw f)))
+
+    -- and passes it by its own flag
+    passes : Emptying hs bs kept (i + counted (b .serial)) (passed-end (getD kept i false) m s) (passed (getD kept i false) m s)
     unfolding passed passed-end Flagged
     passes = go (eqb (b .serial) 0) (held hs (b .serial)) refl refl
       where
-        go : (x y : Bool) → eqb (b .serial) 0 ≡ x → held hs (b .serial) ≡ y → Passing hs bs kept i at s (counted (b .serial)) (placed at (back-after 0 (e .front)) b)
-        go true y f u = rw f (omega arith, stays-on (rw f))
-        go false true f u = rw (f, (rw q at (e .flags)) .0 (rw f) .1 ∙ u) (omega arith, stays-on (rw (f, u)))
-        go false false f u = rw (f, (rw q at (e .flags)) .0 (rw f) .1 ∙ u) (omega (arith, ends (rw f) u), frees-on (rw f) u)
+        go : (x y : Bool) → eqb (b .serial) 0 ≡ x → held hs (b .serial) ≡ y
+            → Emptying hs bs kept (i + counted (b .serial)) (passed-end (getD kept i false) m s) (passed (getD kept i false) m s)
+        go true y f u = rw f (stays-on (rw f))
+        go false true f u = rw (f, (rw q at (e .flags)) .0 (rw f) .1 ∙ u) (stays-on (rw (f, u)))
+        go false false f u = rw (f, (rw q at (e .flags)) .0 (rw f) .1 ∙ u) (frees-on (rw f) u)
 
   -- where nothing starts at the walk's place, all is done
   pub emptying-ended : start-at at s ≡ Nothing → s ≡ render (settle hs bs)
@@ -193,7 +204,7 @@ module _ (hs : List Hold) (bs : List Block) (kept : List Bool) (i at : ℕ) (s :
       go [] q = done (rw q)
       go (b ∷ ys) q = let z : _≡_ {A = ℕ} 0 1 = cc (starts b ys q) in absurd (omega arith)
 
-  -- the walk passes the block that starts at its place
+  -- the walk passes the block that starts at its place, and gets on
   pub emptying-on : (h : Header) → start-at at s ≡ Starts h → Passing hs bs kept i at s (counted (h .serial)) (headed at h)
   emptying-on h n = go (e .todo) refl
     where
@@ -202,4 +213,4 @@ module _ (hs : List Hold) (bs : List Block) (kept : List Bool) (i at : ℕ) (s :
       go (b ∷ ys) q =
           let p : header-of (back-after 0 (e .front)) b ≡ h = cc (starts b ys q) in
           let w : 8 * units b ≡ size b = all-right Writable (e .front) (b ∷ ys) (writable b ys q) .0 .whole in
-          rw (← p, w) (passes b ys q)
+          rw (← p, w) (gets-on b ys q, passes b ys q)

@@ -1,7 +1,7 @@
 -- `calls::free_unkept` meets its contract. The loop's invariant: whatever records and blocks the flags were told for, the walk came to its place among
 -- them (`Emptying`). Each turn passes a block (`emptying-on`), so what is left of the heap's greatest length falls.
 -- Assumes nothing.
-use Prim.Native.Nat.{ℕ, _+_, _*_, _-_, _≤_}
+use Prim.Native.Nat.{ℕ, _+_, _*_, _-_, _≤_, _<_}
 use native.Mathlib.Omega.{arith}
 use borrow.Author.Needs.{needs}
 use mathlib.Core.Path.{_≡_, refl, sym, _∙_}
@@ -88,7 +88,9 @@ loop-less c =
     let p = l .before .before .pre in
     let w = emptying-short (p .0) (p .1) (l .before .before .args .t2) (l .loop .i) (l .loop .at) (l .loop .heap) (l .loop .inv .1 (p .0) (p .1) (p .2)) in
     let f = fits h in
-    omega (arith, c .before .before .before .pass-block .ensures .1, passing h (p .0) (p .1) (p .2) .0)
+    let r = c .before .before .before .pass-block in
+    let on : l .loop .at < r .result = rw (r .ensures .1) (passing h (p .0) (p .1) (p .2) .0 _) in
+    omega arith
 
 loop-again : tie.Need-loop-again Inv-loop μ-loop
 loop-again c =
