@@ -4,15 +4,17 @@ use accounts::Accounts;
 use accounts::QUOTAS;
 use model::Handle;
 
-mod calls;
+mod changes;
 mod queries;
 mod replies;
 
-pub use calls::lokhazim_allocate;
-pub use calls::lokhazim_allocate_array;
-pub use calls::lokhazim_claim;
-pub use calls::lokhazim_open;
-pub use calls::lokhazim_release;
+pub use changes::lokhazim_allocate;
+pub use changes::lokhazim_allocate_array;
+pub use changes::lokhazim_claim;
+pub use changes::lokhazim_free_all;
+pub use changes::lokhazim_open;
+pub use changes::lokhazim_reallocate;
+pub use changes::lokhazim_release;
 pub use queries::lokhazim_can_release;
 pub use queries::lokhazim_check;
 pub use queries::lokhazim_lend;

@@ -72,5 +72,5 @@ pub extern "C" fn lokhazim_list_block(heap: &[u8], accounts: Accounts, at: usize
 pub extern "C" fn lokhazim_check(heap: &[u8], accounts: Accounts) -> u32
     ensures { λ r. ⌜ outcome (now (heap .entry)) accounts (refused r) ≡ check (now (heap .entry)) accounts ⌝ }
 {
-    number_of(checker::check(heap, accounts))
+    number_of(heap::check(heap, accounts))
 }

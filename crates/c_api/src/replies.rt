@@ -18,7 +18,7 @@ ghost use mathlib.Core.Path.{_≡_};
 ghost use Prim.Native.Nat.{ℕ};
 ghost use mathlib.Core.List.{List};
 ghost use Rattle.model.specs.Answers.{refused, verdict-values, amount-values, range-values, block-values};
-ghost use Rattle.heap.specs.Results.{opened-outcome, handle-outcome, amount-outcome};
+ghost use Rattle.calls.specs.Results.{opened-outcome, handle-outcome, amount-outcome};
 ghost use Rattle.c_api.specs.Replies.{open-reply, handle-reply, amount-reply, amount-numbers, range-numbers, block-numbers, Exact};
 
 // The refusal's number, 0 where there is none.

@@ -2,8 +2,8 @@
 -- Assumes nothing.
 use mathlib.Core.Path.{_∙_}
 use borrow.Author.Needs.{needs}
-use Rattle.c_api.proofs.calls.lokhazim_open.Statement.{statement}
-use Rattle.c_api.proofs.calls.lokhazim_open.Tie as tie
+use Rattle.c_api.proofs.changes.lokhazim_open.Statement.{statement}
+use Rattle.c_api.proofs.changes.lokhazim_open.Tie as tie
 
 open-requires : tie.Need-open-requires
 open-requires c κs = search needs

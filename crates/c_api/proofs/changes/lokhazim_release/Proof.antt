@@ -2,8 +2,8 @@
 -- Assumes nothing.
 use mathlib.Core.Path.{_∙_}
 use borrow.Author.Needs.{needs}
-use Rattle.c_api.proofs.calls.lokhazim_release.Statement.{statement}
-use Rattle.c_api.proofs.calls.lokhazim_release.Tie as tie
+use Rattle.c_api.proofs.changes.lokhazim_release.Statement.{statement}
+use Rattle.c_api.proofs.changes.lokhazim_release.Tie as tie
 
 release-requires : tie.Need-release-requires
 release-requires c κs = search needs

@@ -2,8 +2,8 @@
 -- Assumes nothing.
 use mathlib.Core.Path.{_∙_}
 use borrow.Author.Needs.{needs}
-use Rattle.c_api.proofs.calls.lokhazim_allocate_array.Statement.{statement}
-use Rattle.c_api.proofs.calls.lokhazim_allocate_array.Tie as tie
+use Rattle.c_api.proofs.changes.lokhazim_allocate_array.Statement.{statement}
+use Rattle.c_api.proofs.changes.lokhazim_allocate_array.Tie as tie
 
 allocate-array-requires : tie.Need-allocate-array-requires
 allocate-array-requires c κs = search needs

@@ -10,7 +10,7 @@ use accounts::Accounts;
 use model::Handle;
 ghost use mathlib.Core.Path.{_≡_};
 ghost use Rattle.rounding.specs.Rounding.{unit};
-ghost use Rattle.model.specs.Calls.{open-heap, allocate, allocate-array, claim, release};
+ghost use Rattle.model.specs.Calls.{open-heap, allocate, allocate-array, claim, release, free-all, reallocate};
 ghost use Rattle.c_api.specs.Replies.{open-reply, handle-reply, amount-reply};
 
 // One free block covers the heap, and every quota has its grant.
@@ -73,4 +73,26 @@ pub extern "C" fn lokhazim_release(
     ensures { λ r. ⌜ amount-reply (now (heap .exit)) r ≡ release (now (heap .entry)) accounts quota handle ⌝ }
 {
     reply_of_amount(heap::release(heap, accounts, quota, handle))
+}
+
+// A quota gives up all its holds; the amount is what it gets back.
+#[no_mangle]
+pub extern "C" fn lokhazim_free_all(heap: &mut [u8], accounts: Accounts, quota: u32) -> AmountReply
+    ensures { λ r. ⌜ amount-reply (now (heap .exit)) r ≡ free-all (now (heap .entry)) accounts quota ⌝ }
+{
+    reply_of_amount(heap::free_all(heap, accounts, quota))
+}
+
+// A new object of at least `length` bytes with the old one's first bytes, and the old one is released once.
+#[no_mangle]
+pub extern "C" fn lokhazim_reallocate(
+    heap: &mut [u8],
+    accounts: Accounts,
+    quota: u32,
+    handle: Handle,
+    length: u32,
+) -> HandleReply
+    ensures { λ r. ⌜ handle-reply (now (heap .exit)) r ≡ reallocate unit (now (heap .entry)) accounts quota handle length ⌝ }
+{
+    reply_of_handle(heap::reallocate(heap, accounts, quota, handle, length))
 }

@@ -2,8 +2,8 @@
 -- Assumes nothing.
 use mathlib.Core.Path.{_∙_}
 use borrow.Author.Needs.{needs}
-use Rattle.c_api.proofs.calls.lokhazim_allocate.Statement.{statement}
-use Rattle.c_api.proofs.calls.lokhazim_allocate.Tie as tie
+use Rattle.c_api.proofs.changes.lokhazim_allocate.Statement.{statement}
+use Rattle.c_api.proofs.changes.lokhazim_allocate.Tie as tie
 
 allocate-requires : tie.Need-allocate-requires
 allocate-requires c κs = search needs

@@ -2,8 +2,8 @@
 -- Assumes nothing.
 use mathlib.Core.Path.{_∙_}
 use borrow.Author.Needs.{needs}
-use Rattle.c_api.proofs.calls.lokhazim_claim.Statement.{statement}
-use Rattle.c_api.proofs.calls.lokhazim_claim.Tie as tie
+use Rattle.c_api.proofs.changes.lokhazim_claim.Statement.{statement}
+use Rattle.c_api.proofs.changes.lokhazim_claim.Tie as tie
 
 claim-requires : tie.Need-claim-requires
 claim-requires c κs = search needs
