@@ -1,0 +1,28 @@
+-- `c_api::number_of` meets its contract: 0 for the accepted case, and the number of the refusal else.
+-- Assumes nothing.
+use mathlib.Core.Path.{ap, sym, _∙_}
+use Rattle.model.specs.Answers.{refused, verdict-values}
+use borrow.Author.Needs.{needs}
+use Rattle.c_api.proofs.replies.number_of.Statement.{statement}
+use Rattle.c_api.proofs.replies.number_of.Tie as tie
+
+enum-told : tie.Need-enum-told
+enum-told c = search needs
+
+enum-known-verdict : tie.Need-enum-known-verdict
+enum-known-verdict c = search needs
+
+number-requires : tie.Need-number-requires
+number-requires c κs = search needs
+
+returns : tie.Need-returns
+unfolding verdict-values
+returns c = sym (ap verdict-values (c .enum-told .given .1))
+
+returns-2 : tie.Need-returns-2
+unfolding verdict-values
+returns-2 c = ap refused (c .number .ensures) ∙ sym (ap verdict-values (c .before .before .verdict .given .1))
+
+pub number-of-spec : {M : Type 1} → statement M
+number-of-spec =
+    tie.close (tie.spec enum-told enum-known-verdict number-requires returns returns-2)

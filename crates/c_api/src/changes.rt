@@ -1,0 +1,98 @@
+// The calls that change the heap or its accounts, each the call of `heap` and its answer as numbers.
+use crate::AmountReply;
+use crate::Grants;
+use crate::HandleReply;
+use crate::OpenReply;
+use crate::replies::reply_of_amount;
+use crate::replies::reply_of_handle;
+use crate::replies::reply_of_opened;
+use accounts::Accounts;
+use model::Handle;
+ghost use mathlib.Core.Path.{_≡_};
+ghost use Rattle.rounding.specs.Rounding.{unit};
+ghost use Rattle.model.specs.Calls.{open-heap, allocate, allocate-array, claim, release, free-all, reallocate};
+ghost use Rattle.c_api.specs.Replies.{open-reply, handle-reply, amount-reply};
+
+// One free block covers the heap, and every quota has its grant.
+#[no_mangle]
+pub extern "C" fn lokhazim_open(heap: &mut [u8], grants: Grants) -> OpenReply
+    ensures { λ r. ⌜ open-reply (now (heap .exit)) r ≡ open-heap (now (heap .entry)) (grants .values) ⌝ }
+{
+    let values = grants.values;
+    reply_of_opened(heap::open(heap, values))
+}
+
+// A new object of at least `length` bytes.
+#[no_mangle]
+pub extern "C" fn lokhazim_allocate(
+    heap: &mut [u8],
+    accounts: Accounts,
+    quota: u32,
+    length: u32,
+) -> HandleReply
+    ensures { λ r. ⌜ handle-reply (now (heap .exit)) r ≡ allocate unit (now (heap .entry)) accounts quota length ⌝ }
+{
+    reply_of_handle(heap::allocate(heap, accounts, quota, length))
+}
+
+// A new object for `count` elements of `size` bytes.
+#[no_mangle]
+pub extern "C" fn lokhazim_allocate_array(
+    heap: &mut [u8],
+    accounts: Accounts,
+    quota: u32,
+    count: u32,
+    size: u32,
+) -> HandleReply
+    ensures { λ r. ⌜ handle-reply (now (heap .exit)) r ≡ allocate-array unit (now (heap .entry)) accounts quota count size ⌝ }
+{
+    reply_of_handle(heap::allocate_array(heap, accounts, quota, count, size))
+}
+
+// A quota holds an object, or holds it once more; the amount is the object's length.
+#[no_mangle]
+pub extern "C" fn lokhazim_claim(
+    heap: &[u8],
+    accounts: Accounts,
+    quota: u32,
+    handle: Handle,
+) -> AmountReply
+    ensures { λ r. ⌜ amount-reply (now (heap .entry)) r ≡ claim (now (heap .entry)) accounts quota handle ⌝ }
+{
+    reply_of_amount(heap::claim(heap, accounts, quota, handle))
+}
+
+// A quota gives up one hold; the amount is what it gets back.
+#[no_mangle]
+pub extern "C" fn lokhazim_release(
+    heap: &mut [u8],
+    accounts: Accounts,
+    quota: u32,
+    handle: Handle,
+) -> AmountReply
+    ensures { λ r. ⌜ amount-reply (now (heap .exit)) r ≡ release (now (heap .entry)) accounts quota handle ⌝ }
+{
+    reply_of_amount(heap::release(heap, accounts, quota, handle))
+}
+
+// A quota gives up all its holds; the amount is what it gets back.
+#[no_mangle]
+pub extern "C" fn lokhazim_free_all(heap: &mut [u8], accounts: Accounts, quota: u32) -> AmountReply
+    ensures { λ r. ⌜ amount-reply (now (heap .exit)) r ≡ free-all (now (heap .entry)) accounts quota ⌝ }
+{
+    reply_of_amount(heap::free_all(heap, accounts, quota))
+}
+
+// A new object of at least `length` bytes with the old one's first bytes, and the old one is released once.
+#[no_mangle]
+pub extern "C" fn lokhazim_reallocate(
+    heap: &mut [u8],
+    accounts: Accounts,
+    quota: u32,
+    handle: Handle,
+    length: u32,
+) -> HandleReply
+    ensures { λ r. ⌜ handle-reply (now (heap .exit)) r ≡ reallocate unit (now (heap .entry)) accounts quota handle length ⌝ }
+{
+    reply_of_handle(heap::reallocate(heap, accounts, quota, handle, length))
+}

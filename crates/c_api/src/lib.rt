@@ -1,0 +1,77 @@
+// The calls for programs in C and Rust, under plain names. A reply holds numbers alone: the refusal's number, 0 where the call is accepted, and what is answered, else zeros.
+// No call asks anything of its caller but that the heap's pointer and length are those of memory that is its own.
+use accounts::Accounts;
+use accounts::QUOTAS;
+use model::Handle;
+
+mod changes;
+mod queries;
+mod replies;
+
+pub use changes::lokhazim_allocate;
+pub use changes::lokhazim_allocate_array;
+pub use changes::lokhazim_claim;
+pub use changes::lokhazim_free_all;
+pub use changes::lokhazim_open;
+pub use changes::lokhazim_reallocate;
+pub use changes::lokhazim_release;
+pub use queries::lokhazim_can_release;
+pub use queries::lokhazim_check;
+pub use queries::lokhazim_lend;
+pub use queries::lokhazim_list_block;
+pub use queries::lokhazim_remaining;
+pub use queries::lokhazim_write;
+
+// What each quota is granted: an array goes by value only inside a struct.
+#[repr(C)]
+pub struct Grants {
+    pub values: [u32; QUOTAS],
+}
+
+// What open gives: the accounts, all zero where it is refused.
+#[repr(C)]
+pub struct OpenReply {
+    pub accounts: Accounts,
+    pub refusal: u32,
+}
+
+// What allocate, allocate array and reallocate give.
+#[repr(C)]
+pub struct HandleReply {
+    pub accounts: Accounts,
+    pub refusal: u32,
+    pub handle: Handle,
+}
+
+// What claim, release and free-all give.
+#[repr(C)]
+pub struct AmountReply {
+    pub accounts: Accounts,
+    pub refusal: u32,
+    pub amount: u32,
+}
+
+// What remaining gives.
+#[repr(C)]
+pub struct Amount {
+    pub refusal: u32,
+    pub amount: u32,
+}
+
+// What lend gives: where in the heap the object's bytes lie.
+#[repr(C)]
+pub struct RangeReply {
+    pub refusal: u32,
+    pub start: usize,
+    pub end: usize,
+}
+
+// What a step of the listing gives: found is 1 where a block is given, else 0.
+#[repr(C)]
+pub struct BlockReply {
+    pub refusal: u32,
+    pub found: u32,
+    pub offset: usize,
+    pub size: usize,
+    pub serial: u32,
+}
