@@ -366,7 +366,7 @@ static inline enum lokhazim_refusal lokhazim_heap_free_all(
     return (enum lokhazim_refusal)reply.refusal;
 }
 
-/* Makes *moved of at least `bytes` bytes, with the old object's bytes as far as they fit, then drops one hold on that. */
+/* Makes *moved with the old object's bytes, as far as `bytes` go, then drops one hold on the old object. */
 static inline enum lokhazim_refusal lokhazim_heap_reallocate(
     uint8_t *heap, size_t length, struct lokhazim_accounts *accounts, uint32_t quota,
     struct lokhazim_handle handle, uint32_t bytes, struct lokhazim_handle *moved)
@@ -416,7 +416,7 @@ static inline enum lokhazim_refusal lokhazim_heap_can_release(
     return (enum lokhazim_refusal)lokhazim_can_release(heap, length, *accounts, quota, handle);
 }
 
-/* Tells which block starts at offset `at`. The next starts at block->offset + block->size; behind the last, found is 0. */
+/* Tells which block starts at offset `at`; the next starts at its offset + size, and behind the last found is 0. */
 static inline enum lokhazim_refusal lokhazim_heap_list_block(
     const uint8_t *heap, size_t length, const struct lokhazim_accounts *accounts, size_t at,
     struct lokhazim_block_reply *block)

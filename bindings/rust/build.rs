@@ -5,7 +5,7 @@ use std::env;
 use std::path::{Path, PathBuf};
 
 /// Tells cargo where the library is. Where it is missing, the crate says so itself when it is
-/// built; lints need no library.
+/// built; lints and documentation need no library.
 fn main() {
     let library = folder().join("liblokhazim.a");
     println!("cargo:rerun-if-env-changed=LOKHAZIM_LIB_DIR");

@@ -234,7 +234,7 @@ static void numbers_in_order(void)
     CHECK(refund == 80 && accounts.quotas[3].remainder == 500);
     ACCEPTED(lokhazim_heap_allocate(HEAP, &accounts, 3, 8, &given));
     ACCEPTED(lokhazim_heap_release(HEAP, &accounts, 3, given, &refund));
-    CHECK(refund == 16);
+    CHECK(refund == 16 && accounts.quotas[3].remainder == 500);
 }
 
 int main(void)
