@@ -59,11 +59,14 @@ pending != "" { add_callee(pending); pending = "" }
 /\tj[a-z]+ .*<[^+>]+>$/ && $NF != "<" current ">" { pending = substr($NF, 2, length($NF) - 2) }
 /\t(call|jmp) +\*/ { stop("a call through a pointer") }
 /\tpush/ { frame[current] += 8; next }
+# A small negative number: taken off, it gives stack back; added, or to align by, it takes stack.
+/\tsub +\$0xfffffffffffff[0-9a-f]+,%rsp$/ { next }
+/\t(add|and) +\$0xfffffffffffff[0-9a-f]+,%rsp$/ { frame[current] += 4096 - hex(substr($0, length($0) - 7, 3)); next }
 /\tsub +\$0x[0-9a-f]+,%rsp$/ { frame[current] += number($0); next }
-/\tand +\$0xfffffffffffff[0-9a-f]+,%rsp$/ { frame[current] += 4096 - hex(substr($0, length($0) - 7, 3)); next }
 /\t(add +\$0x[0-9a-f]+|lea +-0x[0-9a-f]+\(%rbp\)|mov +%rbp),%rsp$/ { next }
 /,%rsp$/ && !/\t(cmp|test)/ { stop("'" $0 "'") }
-/-0x[0-9a-f]+\(%rsp\)/ {
+# What a function that calls nothing keeps below the stack pointer.
+/-0x[0-9a-f]+\(%rsp/ {
     match($0, /-0x[0-9a-f]+\(%rsp/)
     depth = number(substr($0, RSTART, RLENGTH))
     if (depth > below_pointer[current]) below_pointer[current] = depth
