@@ -1,0 +1,66 @@
+//! The listing of a heap's blocks.
+
+use core::iter::FusedIterator;
+
+use crate::heap::Heap;
+use crate::refusal::Refusal;
+
+/// A block of the heap: a header of 8 bytes and what stands behind it.
+#[derive(Clone, Copy, Debug, PartialEq, Eq, Hash)]
+pub struct Block {
+    /// The offset of the header.
+    pub offset: usize,
+    /// The size in bytes, with the header.
+    pub size: usize,
+    /// The serial of the object in it, 0 if the block is free.
+    pub serial: u32,
+}
+
+impl Block {
+    /// Whether the block is free.
+    ///
+    /// ```
+    /// # let mut memory = [0; 128];
+    /// let heap = lokhazim::Heap::open(&mut memory, [100; 8])?;
+    /// assert!(heap.block_at(0)?.unwrap().is_free());
+    /// # Ok::<(), lokhazim::Refusal>(())
+    /// ```
+    pub const fn is_free(&self) -> bool {
+        self.serial == 0
+    }
+}
+
+/// The blocks of a heap in order; [`Heap::blocks`] gives it.
+///
+/// Each step checks the whole heap, as every call does. It ends behind the last block, and behind
+/// a refusal.
+#[derive(Debug)]
+pub struct Blocks<'h> {
+    heap: &'h Heap<'h>,
+    next: Option<usize>,
+}
+
+impl<'h> Blocks<'h> {
+    /// The blocks from offset 0 on.
+    pub(crate) fn new(heap: &'h Heap<'_>) -> Blocks<'h> {
+        Blocks {
+            heap,
+            next: Some(0),
+        }
+    }
+}
+
+impl Iterator for Blocks<'_> {
+    type Item = Result<Block, Refusal>;
+
+    fn next(&mut self) -> Option<Self::Item> {
+        let block = self.heap.block_at(self.next?).transpose();
+        self.next = match &block {
+            Some(Ok(block)) => Some(block.offset + block.size),
+            _ => None,
+        };
+        block
+    }
+}
+
+impl FusedIterator for Blocks<'_> {}

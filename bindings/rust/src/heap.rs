@@ -1,0 +1,266 @@
+//! The heap with its accounts, and the calls that change them.
+
+use core::fmt;
+
+use crate::layout::{Accounts, AmountReply, Grants, Handle, HandleReply, QUOTAS};
+use crate::raw;
+use crate::refusal::{verdict, Refusal};
+
+/// A heap that parts of a program share, each with its own quota.
+///
+/// It owns the lent bytes together with their accounts, so that one can't be used with another's.
+/// A quota is named by its number, from 0; calls refuse other numbers. Every call checks the whole
+/// heap first, so any of them can give [`Refusal::Inconsistent`]; it is proved that none does
+/// unless something outside of this type has written to the bytes.
+///
+/// The bytes belong to the heap as long as it lives:
+///
+/// ```compile_fail,E0506
+/// let mut memory = [0; 128];
+/// let heap = lokhazim::Heap::open(&mut memory, [0; 8])?;
+/// memory[0] = 1;
+/// heap.check()?;
+/// # Ok::<(), lokhazim::Refusal>(())
+/// ```
+pub struct Heap<'a> {
+    pub(crate) bytes: &'a mut [u8],
+    pub(crate) accounts: Accounts,
+}
+
+impl<'a> Heap<'a> {
+    /// Clears the bytes and gives each quota its grant.
+    ///
+    /// The bytes are a multiple of 8 from 64 to 32,768. Put them into [`Aligned`](crate::Aligned)
+    /// where the addresses of objects have to be aligned.
+    ///
+    /// # Errors
+    ///
+    /// [`Refusal::HeapLength`]; the bytes are as they were.
+    ///
+    /// ```
+    /// use lokhazim::{Heap, Refusal};
+    ///
+    /// let mut memory = [7; 65];
+    /// assert!(Heap::open(&mut memory[..64], [100; 8]).is_ok());
+    /// assert_eq!(Heap::open(&mut memory, [100; 8]).unwrap_err(), Refusal::HeapLength);
+    /// ```
+    pub fn open(bytes: &'a mut [u8], grants: [u32; QUOTAS]) -> Result<Heap<'a>, Refusal> {
+        let reply = raw::open(bytes, Grants { values: grants });
+        verdict(reply.refusal)?;
+        Ok(Heap {
+            bytes,
+            accounts: reply.accounts,
+        })
+    }
+
+    /// Takes up a heap that was opened before, here or in C, with the accounts that belong to it.
+    ///
+    /// # Errors
+    ///
+    /// [`Refusal::HeapLength`] or [`Refusal::Inconsistent`]; the bytes are as they were.
+    ///
+    /// ```
+    /// use lokhazim::{Heap, Refusal};
+    ///
+    /// let mut memory = [0; 128];
+    /// let mut heap = Heap::open(&mut memory, [100; 8])?;
+    /// let handle = heap.allocate(0, 10)?;
+    /// let (bytes, accounts) = heap.into_parts();
+    ///
+    /// let mut other = [0; 128];
+    /// let mixed_up = Heap::from_parts(&mut other, accounts.clone());
+    /// assert_eq!(mixed_up.unwrap_err(), Refusal::Inconsistent);
+    ///
+    /// let heap = Heap::from_parts(bytes, accounts)?;
+    /// assert_eq!(heap.lend(handle)?.len(), 16);
+    /// # Ok::<(), Refusal>(())
+    /// ```
+    pub fn from_parts(bytes: &'a mut [u8], accounts: Accounts) -> Result<Heap<'a>, Refusal> {
+        verdict(raw::check(bytes, &accounts))?;
+        Ok(Heap { bytes, accounts })
+    }
+
+    /// Gives the bytes back, with the accounts that belong to them.
+    pub fn into_parts(self) -> (&'a mut [u8], Accounts) {
+        (self.bytes, self.accounts)
+    }
+
+    /// The accounts: each quota's grant and remainder, the last serial and the hold records.
+    ///
+    /// ```
+    /// # let mut memory = [0; 128];
+    /// let mut heap = lokhazim::Heap::open(&mut memory, [100; 8])?;
+    /// heap.allocate(3, 10)?;
+    /// assert_eq!(heap.accounts().quotas[3].remainder, 76);
+    /// assert_eq!(heap.accounts().holds[0].quota, 3);
+    /// # Ok::<(), lokhazim::Refusal>(())
+    /// ```
+    pub fn accounts(&self) -> &Accounts {
+        &self.accounts
+    }
+
+    /// Makes an object of at least `length` bytes, all zero, that the quota holds once.
+    ///
+    /// The length is rounded up to a multiple of 8, from 8,192 on of 16, from 16,384 on of 32, and
+    /// the base is a multiple of the same. The quota pays the rounded length plus 8.
+    ///
+    /// # Errors
+    ///
+    /// Refusals 3, 4 and 8 to 11.
+    ///
+    /// ```
+    /// use lokhazim::{Heap, Refusal};
+    ///
+    /// # let mut memory = [0; 128];
+    /// let mut heap = Heap::open(&mut memory, [100, 0, 0, 0, 0, 0, 0, 0])?;
+    /// let handle = heap.allocate(0, 10)?;
+    /// assert_eq!((handle.base, handle.length), (8, 16));
+    /// assert_eq!(heap.allocate(0, 68), Err(Refusal::QuotaExceeded));
+    /// assert_eq!(heap.remaining(0)?, 76);
+    /// # Ok::<(), Refusal>(())
+    /// ```
+    pub fn allocate(&mut self, quota: u32, length: u32) -> Result<Handle, Refusal> {
+        let reply = raw::allocate(self.bytes, &self.accounts, quota, length);
+        self.take_handle(reply)
+    }
+
+    /// Makes an object for `count` elements of `size` bytes; their product is never cut to 32 bits.
+    ///
+    /// # Errors
+    ///
+    /// Refusals 3, 4 and 8 to 11.
+    ///
+    /// ```
+    /// use lokhazim::{Heap, Refusal};
+    ///
+    /// # let mut memory = [0; 128];
+    /// let mut heap = Heap::open(&mut memory, [100; 8])?;
+    /// assert_eq!(heap.allocate_array(0, 5, 12)?.length, 64);
+    /// assert_eq!(heap.allocate_array(0, 65_536, 65_536), Err(Refusal::ObjectLength));
+    /// # Ok::<(), Refusal>(())
+    /// ```
+    pub fn allocate_array(&mut self, quota: u32, count: u32, size: u32) -> Result<Handle, Refusal> {
+        let reply = raw::allocate_array(self.bytes, &self.accounts, quota, count, size);
+        self.take_handle(reply)
+    }
+
+    /// Lets the quota hold the object, or hold it once more; gives the object's length.
+    ///
+    /// The first hold costs the quota the object's length plus 8, a further one nothing. The object
+    /// stays until every quota has dropped every hold on it.
+    ///
+    /// # Errors
+    ///
+    /// Refusals 3, 5, 7, 8 and 9.
+    ///
+    /// ```
+    /// # let mut memory = [0; 128];
+    /// let mut heap = lokhazim::Heap::open(&mut memory, [100; 8])?;
+    /// let handle = heap.allocate(0, 10)?;
+    /// assert_eq!(heap.claim(1, handle)?, 16);
+    /// heap.release(0, handle)?;
+    /// assert!(heap.lend(handle).is_ok());
+    /// # Ok::<(), lokhazim::Refusal>(())
+    /// ```
+    pub fn claim(&mut self, quota: u32, handle: Handle) -> Result<u32, Refusal> {
+        let reply = raw::claim(self.bytes, &self.accounts, quota, handle);
+        self.take_amount(reply)
+    }
+
+    /// Drops one hold of the quota; gives what the quota gets back, 0 while it still holds the
+    /// object.
+    ///
+    /// An object that nobody holds any more is cleared and its bytes are free.
+    ///
+    /// # Errors
+    ///
+    /// Refusals 3, 5 and 6.
+    ///
+    /// ```
+    /// use lokhazim::{Heap, Refusal};
+    ///
+    /// # let mut memory = [0; 128];
+    /// let mut heap = Heap::open(&mut memory, [100; 8])?;
+    /// let handle = heap.allocate(0, 10)?;
+    /// assert_eq!(heap.release(1, handle), Err(Refusal::NotHeld));
+    /// assert_eq!(heap.release(0, handle)?, 24);
+    /// assert_eq!(heap.release(0, handle), Err(Refusal::NoSuchObject));
+    /// # Ok::<(), Refusal>(())
+    /// ```
+    pub fn release(&mut self, quota: u32, handle: Handle) -> Result<u32, Refusal> {
+        let reply = raw::release(self.bytes, &self.accounts, quota, handle);
+        self.take_amount(reply)
+    }
+
+    /// Drops every hold of the quota; gives what the quota gets back.
+    ///
+    /// # Errors
+    ///
+    /// Refusal 3.
+    ///
+    /// ```
+    /// # let mut memory = [0; 128];
+    /// let mut heap = lokhazim::Heap::open(&mut memory, [100; 8])?;
+    /// heap.allocate(0, 10)?;
+    /// heap.allocate(0, 20)?;
+    /// assert_eq!(heap.free_all(0)?, 24 + 32);
+    /// assert_eq!(heap.remaining(0)?, 100);
+    /// # Ok::<(), lokhazim::Refusal>(())
+    /// ```
+    pub fn free_all(&mut self, quota: u32) -> Result<u32, Refusal> {
+        let reply = raw::free_all(self.bytes, &self.accounts, quota);
+        self.take_amount(reply)
+    }
+
+    /// Makes an object of another length with the old one's bytes, as far as they fit, then drops
+    /// one hold on the old one.
+    ///
+    /// Both objects count at once, so quota and heap need room for both. The old object stays if
+    /// anything else still holds it.
+    ///
+    /// # Errors
+    ///
+    /// Refusals 3 to 6 and 8 to 11; the old object is as it was.
+    ///
+    /// ```
+    /// # let mut memory = [0; 128];
+    /// let mut heap = lokhazim::Heap::open(&mut memory, [100; 8])?;
+    /// let handle = heap.allocate(0, 8)?;
+    /// heap.lend_mut(handle)?.copy_from_slice(b"pressure");
+    /// let longer = heap.reallocate(0, handle, 16)?;
+    /// assert_eq!(heap.lend(longer)?, b"pressure\0\0\0\0\0\0\0\0");
+    /// assert!(heap.lend(handle).is_err());
+    /// # Ok::<(), lokhazim::Refusal>(())
+    /// ```
+    pub fn reallocate(
+        &mut self,
+        quota: u32,
+        handle: Handle,
+        length: u32,
+    ) -> Result<Handle, Refusal> {
+        let reply = raw::reallocate(self.bytes, &self.accounts, quota, handle, length);
+        self.take_handle(reply)
+    }
+
+    /// Takes over the accounts of a reply, which are those from before where it is a refusal.
+    fn take_handle(&mut self, reply: HandleReply) -> Result<Handle, Refusal> {
+        self.accounts = reply.accounts;
+        verdict(reply.refusal).map(|()| reply.handle)
+    }
+
+    /// The same for a reply with an amount.
+    fn take_amount(&mut self, reply: AmountReply) -> Result<u32, Refusal> {
+        self.accounts = reply.accounts;
+        verdict(reply.refusal).map(|()| reply.amount)
+    }
+}
+
+impl fmt::Debug for Heap<'_> {
+    /// Shows the number of bytes and the accounts.
+    fn fmt(&self, f: &mut fmt::Formatter<'_>) -> fmt::Result {
+        f.debug_struct("Heap")
+            .field("length", &self.bytes.len())
+            .field("accounts", &self.accounts)
+            .finish()
+    }
+}

@@ -1,0 +1,156 @@
+//! The structs that cross the boundary, field by field as the library has them.
+//!
+//! `include/lokhazim.h` has the same structs for C, and the same numbers in its assertions.
+
+use core::mem::{offset_of, size_of};
+
+/// The number of quotas; they are numbered from 0.
+pub const QUOTAS: usize = 8;
+
+/// The number of hold records.
+pub const HOLDS: usize = 128;
+
+/// What a quota was granted at the opening, and what remains of it.
+#[derive(Clone, Copy, Debug, Default, PartialEq, Eq, Hash)]
+#[repr(C)]
+pub struct Quota {
+    /// What the quota was granted.
+    pub grant: u32,
+    /// What remains of the grant.
+    pub remainder: u32,
+}
+
+/// A hold record: how often a quota holds an object. An unused record is all zero.
+#[derive(Clone, Copy, Debug, Default, PartialEq, Eq, Hash)]
+#[repr(C)]
+pub struct Hold {
+    /// The object's serial.
+    pub serial: u32,
+    /// The quota's number.
+    pub quota: u8,
+    /// How often the quota holds the object, 1 to 255.
+    pub count: u8,
+}
+
+/// The accounts of a heap: its quotas, the last serial given and the hold records.
+#[derive(Clone, Debug, PartialEq, Eq, Hash)]
+#[repr(C)]
+pub struct Accounts {
+    /// The quotas, by number.
+    pub quotas: [Quota; QUOTAS],
+    /// The serial that was given last, 0 before the first.
+    pub last_serial: u32,
+    /// The hold records.
+    pub holds: [Hold; HOLDS],
+}
+
+/// Names an object by its place in the heap, its length and its serial.
+///
+/// A handle can be copied and handed on freely. It names the object as long as any quota holds
+/// it; afterwards, or if a number in it is changed, it names nothing, and calls refuse it.
+#[derive(Clone, Copy, Debug, PartialEq, Eq, Hash)]
+#[repr(C)]
+pub struct Handle {
+    /// The offset of the object's first byte in the heap.
+    pub base: u32,
+    /// The object's length in bytes.
+    pub length: u32,
+    /// The object's serial.
+    pub serial: u32,
+}
+
+/// What each quota is granted.
+#[derive(Clone, Copy)]
+#[repr(C)]
+pub struct Grants {
+    /// The grants, by the quota's number.
+    pub values: [u32; QUOTAS],
+}
+
+/// The reply of open.
+#[repr(C)]
+pub struct OpenReply {
+    /// The new accounts, all zero where the call is refused.
+    pub accounts: Accounts,
+    /// The refusal's number, 0 where there is none; so in every reply.
+    pub refusal: u32,
+}
+
+/// The reply of allocate, allocate array and reallocate.
+#[repr(C)]
+pub struct HandleReply {
+    /// The accounts after the call.
+    pub accounts: Accounts,
+    /// The refusal's number.
+    pub refusal: u32,
+    /// The new object.
+    pub handle: Handle,
+}
+
+/// The reply of claim, release and free-all.
+#[repr(C)]
+pub struct AmountReply {
+    /// The accounts after the call.
+    pub accounts: Accounts,
+    /// The refusal's number.
+    pub refusal: u32,
+    /// The number that the call answers.
+    pub amount: u32,
+}
+
+/// The reply of remaining.
+#[repr(C)]
+pub struct Amount {
+    /// The refusal's number.
+    pub refusal: u32,
+    /// What remains.
+    pub amount: u32,
+}
+
+/// The reply of lend.
+#[repr(C)]
+pub struct RangeReply {
+    /// The refusal's number.
+    pub refusal: u32,
+    /// The offset of the object's first byte.
+    pub start: usize,
+    /// The offset behind its last byte.
+    pub end: usize,
+}
+
+/// The reply of a step of the listing.
+#[repr(C)]
+pub struct BlockReply {
+    /// The refusal's number.
+    pub refusal: u32,
+    /// 1 where a block is given, else 0.
+    pub found: u32,
+    /// The block's offset.
+    pub offset: usize,
+    /// Its size in bytes.
+    pub size: usize,
+    /// Its serial, 0 for a free block.
+    pub serial: u32,
+}
+
+/// Holds a struct to its size and to the offset of each field, when the crate is compiled.
+macro_rules! lies {
+    ($type:ty, $size:literal: $($field:ident at $offset:literal),+) => {
+        const _: () = {
+            assert!(size_of::<$type>() == $size);
+            $(assert!(offset_of!($type, $field) == $offset);)+
+        };
+    };
+}
+
+lies!(Quota, 8: grant at 0, remainder at 4);
+lies!(Hold, 8: serial at 0, quota at 4, count at 5);
+lies!(Accounts, 1092: quotas at 0, last_serial at 64, holds at 68);
+lies!(Handle, 12: base at 0, length at 4, serial at 8);
+lies!(Grants, 32: values at 0);
+lies!(OpenReply, 1096: accounts at 0, refusal at 1092);
+lies!(HandleReply, 1108: accounts at 0, refusal at 1092, handle at 1096);
+lies!(AmountReply, 1100: accounts at 0, refusal at 1092, amount at 1096);
+lies!(Amount, 8: refusal at 0, amount at 4);
+lies!(RangeReply, 24: refusal at 0, start at 8, end at 16);
+lies!(BlockReply, 32: refusal at 0, found at 4, offset at 8, size at 16, serial at 24);

@@ -1,0 +1,94 @@
+//! A heap that parts of a program share without trusting each other, over the proved library
+//! `liblokhazim.a`.
+//!
+//! Each part has a quota, each object costs its length plus 8, and a part may hold an object that
+//! another made. Every call checks the whole heap and its accounts, and answers, or gives one of
+//! eleven refusals and changes nothing. That is proved of the library on any bytes and any numbers;
+//! this crate adds types that keep the bytes and their accounts together, and no rule of its own.
+//!
+//! The story of `examples/valve.c`: a logger that has nearly spent its quota is refused, a radio
+//! keeps a buffer alive by a claim, and the valve's close command still finds room.
+//!
+//! ```
+//! use lokhazim::{Aligned, Heap, Refusal};
+//!
+//! const VALVE: u32 = 0;
+//! const LOGGER: u32 = 1;
+//! const RADIO: u32 = 2;
+//!
+//! let mut memory = Aligned([0; 256]);
+//! let mut heap = Heap::open(&mut memory.0, [48, 120, 64, 0, 0, 0, 0, 0])?;
+//!
+//! let buffer = heap.allocate(LOGGER, 40)?;
+//! heap.lend_mut(buffer)?[..8].copy_from_slice(b"pressure");
+//! heap.allocate(LOGGER, 40)?;
+//! assert_eq!(heap.remaining(LOGGER)?, 24);
+//!
+//! // 32 bytes cost 40. Nothing wraps: 24 are left as before.
+//! assert_eq!(heap.allocate(LOGGER, 32), Err(Refusal::QuotaExceeded));
+//! assert_eq!(heap.remaining(LOGGER)?, 24);
+//!
+//! heap.claim(RADIO, buffer)?;
+//! heap.release(LOGGER, buffer)?;
+//! assert_eq!(&heap.lend(buffer)?[..8], b"pressure");
+//!
+//! let close = heap.allocate(VALVE, 32)?;
+//! assert_eq!(close.base, 104);
+//!
+//! heap.release(RADIO, buffer)?;
+//! assert_eq!(heap.lend(buffer), Err(Refusal::NoSuchObject));
+//! # Ok::<(), Refusal>(())
+//! ```
+//!
+//! `make lib` writes the library to `build/lib/`, where this crate looks for it; the variable
+//! `LOKHAZIM_LIB_DIR` names another folder. The crate needs no operating system and no memory of
+//! its own.
+
+#![no_std]
+#![deny(missing_docs)]
+#![deny(unsafe_code)]
+
+#[cfg(all(library_missing, not(clippy), not(doc)))]
+compile_error!(
+    "liblokhazim.a is missing: run 'make lib' in the repository, or name its folder in LOKHAZIM_LIB_DIR, then build again"
+);
+
+mod blocks;
+mod heap;
+mod layout;
+mod queries;
+#[allow(unsafe_code)]
+mod raw;
+mod refusal;
+
+pub use blocks::{Block, Blocks};
+pub use heap::Heap;
+pub use layout::{Accounts, Handle, Hold, Quota, HOLDS, QUOTAS};
+pub use refusal::Refusal;
+
+/// The length of the shortest heap; a heap's length is a multiple of 8.
+pub const HEAP_MIN: usize = 64;
+
+/// The length of the longest heap.
+pub const HEAP_MAX: usize = 32_768;
+
+/// The most bytes that can be asked for.
+pub const REQUEST_MAX: u32 = 32_760;
+
+/// Bytes that begin at an address which is a multiple of 32.
+///
+/// An object's base is a multiple of 8, 16 or 32, by its length, counted from the heap's first
+/// byte. In a heap of aligned bytes the address of the object is one too.
+///
+/// ```
+/// use lokhazim::{Aligned, Heap};
+///
+/// let mut memory = Aligned([0; 32_768]);
+/// let mut heap = Heap::open(&mut memory.0, [40_000; 8])?;
+/// let handle = heap.allocate(0, 20_000)?;
+/// assert!(heap.lend(handle)?.as_ptr().addr().is_multiple_of(32));
+/// # Ok::<(), lokhazim::Refusal>(())
+/// ```
+#[derive(Clone, Copy, Debug)]
+#[repr(C, align(32))]
+pub struct Aligned<const N: usize>(pub [u8; N]);

@@ -1,0 +1,169 @@
+//! The calls that leave blocks and accounts as they are.
+
+use crate::blocks::{Block, Blocks};
+use crate::heap::Heap;
+use crate::layout::Handle;
+use crate::raw;
+use crate::refusal::{verdict, Refusal};
+
+impl Heap<'_> {
+    /// Lends the object's bytes to be read.
+    ///
+    /// # Errors
+    ///
+    /// Refusal 5.
+    ///
+    /// ```
+    /// # let mut memory = [0; 128];
+    /// let mut heap = lokhazim::Heap::open(&mut memory, [100; 8])?;
+    /// let handle = heap.allocate(0, 10)?;
+    /// assert_eq!(heap.lend(handle)?, [0; 16]);
+    /// # Ok::<(), lokhazim::Refusal>(())
+    /// ```
+    pub fn lend(&self, handle: Handle) -> Result<&[u8], Refusal> {
+        let range = raw::lend(self.bytes, &self.accounts, handle);
+        verdict(range.refusal)?;
+        Ok(&self.bytes[range.start..range.end])
+    }
+
+    /// Lends the object's bytes to be read and written. No other call is possible meanwhile:
+    ///
+    /// ```compile_fail,E0499
+    /// # let mut memory = [0; 128];
+    /// let mut heap = lokhazim::Heap::open(&mut memory, [100; 8])?;
+    /// let handle = heap.allocate(0, 10)?;
+    /// let object = heap.lend_mut(handle)?;
+    /// heap.release(0, handle)?;
+    /// object[0] = 1;
+    /// # Ok::<(), lokhazim::Refusal>(())
+    /// ```
+    ///
+    /// # Errors
+    ///
+    /// Refusal 5.
+    ///
+    /// ```
+    /// # let mut memory = [0; 128];
+    /// let mut heap = lokhazim::Heap::open(&mut memory, [100; 8])?;
+    /// let handle = heap.allocate(0, 10)?;
+    /// heap.lend_mut(handle)?.fill(7);
+    /// assert_eq!(heap.lend(handle)?, [7; 16]);
+    /// # Ok::<(), lokhazim::Refusal>(())
+    /// ```
+    pub fn lend_mut(&mut self, handle: Handle) -> Result<&mut [u8], Refusal> {
+        let range = raw::lend(self.bytes, &self.accounts, handle);
+        verdict(range.refusal)?;
+        Ok(&mut self.bytes[range.start..range.end])
+    }
+
+    /// Writes one byte of the object, `at` bytes behind its base; writes nothing at its end or
+    /// behind it.
+    ///
+    /// # Errors
+    ///
+    /// Refusal 5.
+    ///
+    /// ```
+    /// # let mut memory = [0; 128];
+    /// let mut heap = lokhazim::Heap::open(&mut memory, [100; 8])?;
+    /// let handle = heap.allocate(0, 8)?;
+    /// heap.write(handle, 1, 255)?;
+    /// heap.write(handle, 8, 255)?;
+    /// assert_eq!(heap.lend(handle)?, [0, 255, 0, 0, 0, 0, 0, 0]);
+    /// # Ok::<(), lokhazim::Refusal>(())
+    /// ```
+    pub fn write(&mut self, handle: Handle, at: u32, byte: u8) -> Result<(), Refusal> {
+        verdict(raw::write(self.bytes, &self.accounts, handle, at, byte))
+    }
+
+    /// What remains of the quota.
+    ///
+    /// # Errors
+    ///
+    /// Refusal 3.
+    ///
+    /// ```
+    /// # let mut memory = [0; 128];
+    /// let heap = lokhazim::Heap::open(&mut memory, [100; 8])?;
+    /// assert_eq!(heap.remaining(7)?, 100);
+    /// assert!(heap.remaining(8).is_err());
+    /// # Ok::<(), lokhazim::Refusal>(())
+    /// ```
+    pub fn remaining(&self, quota: u32) -> Result<u32, Refusal> {
+        let reply = raw::remaining(self.bytes, &self.accounts, quota);
+        verdict(reply.refusal).map(|()| reply.amount)
+    }
+
+    /// Whether release would be accepted.
+    ///
+    /// # Errors
+    ///
+    /// The refusal that release would give.
+    ///
+    /// ```
+    /// use lokhazim::{Heap, Refusal};
+    ///
+    /// # let mut memory = [0; 128];
+    /// let mut heap = Heap::open(&mut memory, [100; 8])?;
+    /// let handle = heap.allocate(0, 10)?;
+    /// assert_eq!(heap.can_release(0, handle), Ok(()));
+    /// assert_eq!(heap.can_release(1, handle), Err(Refusal::NotHeld));
+    /// # Ok::<(), Refusal>(())
+    /// ```
+    pub fn can_release(&self, quota: u32, handle: Handle) -> Result<(), Refusal> {
+        verdict(raw::can_release(self.bytes, &self.accounts, quota, handle))
+    }
+
+    /// The block that starts at an offset, if one does.
+    ///
+    /// # Errors
+    ///
+    /// None but [`Refusal::Inconsistent`].
+    ///
+    /// ```
+    /// # let mut memory = [0; 128];
+    /// let heap = lokhazim::Heap::open(&mut memory, [100; 8])?;
+    /// assert_eq!(heap.block_at(0)?.unwrap().size, 128);
+    /// assert_eq!(heap.block_at(8)?, None);
+    /// # Ok::<(), lokhazim::Refusal>(())
+    /// ```
+    pub fn block_at(&self, offset: usize) -> Result<Option<Block>, Refusal> {
+        let reply = raw::list_block(self.bytes, &self.accounts, offset);
+        verdict(reply.refusal)?;
+        Ok((reply.found != 0).then_some(Block {
+            offset: reply.offset,
+            size: reply.size,
+            serial: reply.serial,
+        }))
+    }
+
+    /// The blocks from the heap's first byte to its last, live and free.
+    ///
+    /// ```
+    /// # let mut memory = [0; 128];
+    /// let mut heap = lokhazim::Heap::open(&mut memory, [100; 8])?;
+    /// heap.allocate(0, 10)?;
+    /// let sizes: Result<Vec<usize>, _> = heap.blocks().map(|block| Ok(block?.size)).collect();
+    /// assert_eq!(sizes?, [24, 104]);
+    /// # Ok::<(), lokhazim::Refusal>(())
+    /// ```
+    pub fn blocks(&self) -> Blocks<'_> {
+        Blocks::new(self)
+    }
+
+    /// Checks bytes and accounts as every call does first.
+    ///
+    /// # Errors
+    ///
+    /// None but [`Refusal::Inconsistent`].
+    ///
+    /// ```
+    /// # let mut memory = [0; 128];
+    /// let heap = lokhazim::Heap::open(&mut memory, [100; 8])?;
+    /// assert_eq!(heap.check(), Ok(()));
+    /// # Ok::<(), lokhazim::Refusal>(())
+    /// ```
+    pub fn check(&self) -> Result<(), Refusal> {
+        verdict(raw::check(self.bytes, &self.accounts))
+    }
+}

@@ -1,0 +1,125 @@
+//! The library's functions, each behind a safe one. All `unsafe` code of the crate is here.
+//!
+//! The library keeps no pointer and has no memory of its own. It reads and writes only the heap's
+//! bytes, is proved to do so inside `length`, and takes any bytes, accounts and numbers. So a call
+//! is safe exactly if pointer and length are those of memory that is borrowed for the call, which
+//! a slice is. The memory of a `&[u8]` is not written.
+
+use crate::layout::{
+    Accounts, Amount, AmountReply, BlockReply, Grants, Handle, HandleReply, OpenReply, RangeReply,
+};
+
+extern "C" {
+    fn lokhazim_open(heap: *mut u8, length: usize, grants: Grants) -> OpenReply;
+    fn lokhazim_allocate(
+        heap: *mut u8,
+        length: usize,
+        accounts: Accounts,
+        quota: u32,
+        bytes: u32,
+    ) -> HandleReply;
+    fn lokhazim_allocate_array(
+        heap: *mut u8,
+        length: usize,
+        accounts: Accounts,
+        quota: u32,
+        count: u32,
+        size: u32,
+    ) -> HandleReply;
+    fn lokhazim_claim(
+        heap: *const u8,
+        length: usize,
+        accounts: Accounts,
+        quota: u32,
+        handle: Handle,
+    ) -> AmountReply;
+    fn lokhazim_release(
+        heap: *mut u8,
+        length: usize,
+        accounts: Accounts,
+        quota: u32,
+        handle: Handle,
+    ) -> AmountReply;
+    fn lokhazim_free_all(
+        heap: *mut u8,
+        length: usize,
+        accounts: Accounts,
+        quota: u32,
+    ) -> AmountReply;
+    fn lokhazim_reallocate(
+        heap: *mut u8,
+        length: usize,
+        accounts: Accounts,
+        quota: u32,
+        handle: Handle,
+        bytes: u32,
+    ) -> HandleReply;
+    fn lokhazim_lend(
+        heap: *const u8,
+        length: usize,
+        accounts: Accounts,
+        handle: Handle,
+    ) -> RangeReply;
+    fn lokhazim_write(
+        heap: *mut u8,
+        length: usize,
+        accounts: Accounts,
+        handle: Handle,
+        at: u32,
+        byte: u8,
+    ) -> u32;
+    fn lokhazim_remaining(heap: *const u8, length: usize, accounts: Accounts, quota: u32)
+        -> Amount;
+    fn lokhazim_can_release(
+        heap: *const u8,
+        length: usize,
+        accounts: Accounts,
+        quota: u32,
+        handle: Handle,
+    ) -> u32;
+    fn lokhazim_list_block(
+        heap: *const u8,
+        length: usize,
+        accounts: Accounts,
+        at: usize,
+    ) -> BlockReply;
+    fn lokhazim_check(heap: *const u8, length: usize, accounts: Accounts) -> u32;
+}
+
+/// Makes a safe function of one of the library's: the slice becomes its pointer and its length,
+/// and the accounts are copied.
+macro_rules! safe {
+    (mut $name:ident = $raw:ident($($arg:ident: $type:ty),*) -> $reply:ty) => {
+        pub fn $name(heap: &mut [u8], accounts: &Accounts $(, $arg: $type)*) -> $reply {
+            // SAFETY: pointer and length are those of a slice that is borrowed for the call.
+            unsafe { $raw(heap.as_mut_ptr(), heap.len(), accounts.clone() $(, $arg)*) }
+        }
+    };
+    (ref $name:ident = $raw:ident($($arg:ident: $type:ty),*) -> $reply:ty) => {
+        pub fn $name(heap: &[u8], accounts: &Accounts $(, $arg: $type)*) -> $reply {
+            // SAFETY: pointer and length are those of a slice that is borrowed for the call.
+            unsafe { $raw(heap.as_ptr(), heap.len(), accounts.clone() $(, $arg)*) }
+        }
+    };
+}
+
+pub fn open(heap: &mut [u8], grants: Grants) -> OpenReply {
+    // SAFETY: pointer and length are those of a slice that is borrowed for the call.
+    unsafe { lokhazim_open(heap.as_mut_ptr(), heap.len(), grants) }
+}
+
+safe!(mut allocate = lokhazim_allocate(quota: u32, bytes: u32) -> HandleReply);
+safe!(mut allocate_array = lokhazim_allocate_array(quota: u32, count: u32, size: u32) -> HandleReply);
+safe!(ref claim = lokhazim_claim(quota: u32, handle: Handle) -> AmountReply);
+safe!(mut release = lokhazim_release(quota: u32, handle: Handle) -> AmountReply);
+safe!(mut free_all = lokhazim_free_all(quota: u32) -> AmountReply);
+safe!(mut reallocate = lokhazim_reallocate(quota: u32, handle: Handle, bytes: u32) -> HandleReply);
+safe!(ref lend = lokhazim_lend(handle: Handle) -> RangeReply);
+safe!(mut write = lokhazim_write(handle: Handle, at: u32, byte: u8) -> u32);
+safe!(ref remaining = lokhazim_remaining(quota: u32) -> Amount);
+safe!(ref can_release = lokhazim_can_release(quota: u32, handle: Handle) -> u32);
+safe!(ref list_block = lokhazim_list_block(at: usize) -> BlockReply);
+safe!(ref check = lokhazim_check() -> u32);
+
+#[cfg(test)]
+mod tests;

@@ -1,0 +1,77 @@
+//! Every field of the accounts goes through the library and back, as Rust sets it.
+
+use super::*;
+use crate::layout::{Hold, Quota, HOLDS, QUOTAS};
+
+const INCONSISTENT: u32 = 2;
+
+/// Accounts in which no two fields of one width are the same; no heap agrees with them.
+fn distinct() -> Accounts {
+    let mark = |n: usize| (n as u32 + 1).wrapping_mul(0x9E37_79B1);
+    Accounts {
+        quotas: core::array::from_fn(|i| Quota {
+            grant: mark(2 * i),
+            remainder: mark(2 * i + 1),
+        }),
+        last_serial: mark(2 * QUOTAS),
+        holds: core::array::from_fn(|i| Hold {
+            serial: mark(2 * QUOTAS + 1 + i),
+            quota: 2 * i as u8,
+            count: 2 * i as u8 + 1,
+        }),
+    }
+}
+
+#[test]
+fn each_call_hands_back_every_field_that_it_refuses() {
+    let mut heap = [0; 64];
+    let accounts = distinct();
+    assert_eq!(accounts.holds[HOLDS - 1].count, 255);
+    let handle = Handle {
+        base: 8,
+        length: 16,
+        serial: 1,
+    };
+    let handles = [
+        allocate(&mut heap, &accounts, 0, 8),
+        allocate_array(&mut heap, &accounts, 0, 2, 4),
+        reallocate(&mut heap, &accounts, 0, handle, 8),
+    ];
+    for reply in handles {
+        assert_eq!(
+            (reply.refusal, reply.accounts),
+            (INCONSISTENT, accounts.clone())
+        );
+        assert_eq!(
+            reply.handle,
+            Handle {
+                base: 0,
+                length: 0,
+                serial: 0
+            }
+        );
+    }
+    let amounts = [
+        claim(&heap, &accounts, 0, handle),
+        release(&mut heap, &accounts, 0, handle),
+        free_all(&mut heap, &accounts, 0),
+    ];
+    for reply in amounts {
+        assert_eq!(
+            (reply.refusal, reply.accounts),
+            (INCONSISTENT, accounts.clone())
+        );
+        assert_eq!(reply.amount, 0);
+    }
+}
+
+#[test]
+fn each_grant_reaches_its_quota() {
+    let values = core::array::from_fn(|i| (i as u32 + 1).wrapping_mul(0x9E37_79B1));
+    let reply = open(&mut [7; 64], Grants { values });
+    assert_eq!(reply.refusal, 0);
+    assert_eq!(reply.accounts.quotas.map(|quota| quota.grant), values);
+    assert_eq!(reply.accounts.quotas.map(|quota| quota.remainder), values);
+    assert_eq!(reply.accounts.last_serial, 0);
+    assert_eq!(reply.accounts.holds, [Hold::default(); HOLDS]);
+}

@@ -1,0 +1,251 @@
+/*
+ * Every field through the library and back: C sets distinct numbers and reads them again, and the
+ * library notices a change of any single one.
+ */
+#include "lokhazim.h"
+
+#include <stdio.h>
+#include <stdlib.h>
+#include <string.h>
+
+#define CHECK(fact)                                                           \
+    do {                                                                      \
+        if (!(fact)) {                                                        \
+            fprintf(stderr, "FAILED: line %d: %s\n", __LINE__, #fact);        \
+            exit(EXIT_FAILURE);                                               \
+        }                                                                     \
+    } while (0)
+
+#define ACCEPTED(call) CHECK((call) == LOKHAZIM_ACCEPTED)
+#define REFUSED(refusal, call) CHECK((call) == LOKHAZIM_##refusal)
+
+static _Alignas(LOKHAZIM_ALIGNMENT) uint8_t heap[LOKHAZIM_HEAP_MAX];
+#define HEAP heap, sizeof heap
+static struct lokhazim_accounts accounts;
+
+static struct lokhazim_handle handles[LOKHAZIM_HOLDS];
+
+static int same(const struct lokhazim_accounts *a, const struct lokhazim_accounts *b)
+{
+    int equal = a->last_serial == b->last_serial;
+    for (int i = 0; i < LOKHAZIM_QUOTAS; i++) {
+        equal &= a->quotas[i].grant == b->quotas[i].grant;
+        equal &= a->quotas[i].remainder == b->quotas[i].remainder;
+    }
+    for (int i = 0; i < LOKHAZIM_HOLDS; i++) {
+        equal &= a->holds[i].serial == b->holds[i].serial;
+        equal &= a->holds[i].quota == b->holds[i].quota;
+        equal &= a->holds[i].count == b->holds[i].count;
+    }
+    return equal;
+}
+
+/* Accounts in which no two fields of one width are the same; no heap agrees with them. */
+static struct lokhazim_accounts distinct(void)
+{
+    struct lokhazim_accounts it;
+    uint32_t n = 0;
+    for (int i = 0; i < LOKHAZIM_QUOTAS; i++) {
+        it.quotas[i].grant = ++n * 0x9E3779B1u;
+        it.quotas[i].remainder = ++n * 0x9E3779B1u;
+    }
+    it.last_serial = ++n * 0x9E3779B1u;
+    for (int i = 0; i < LOKHAZIM_HOLDS; i++) {
+        it.holds[i].serial = ++n * 0x9E3779B1u;
+        it.holds[i].quota = (uint8_t)(2 * i);
+        it.holds[i].count = (uint8_t)(2 * i + 1);
+    }
+    return it;
+}
+
+/* Each grant reaches its quota. */
+static void grants_come_back(void)
+{
+    struct lokhazim_grants grants;
+    for (uint32_t i = 0; i < LOKHAZIM_QUOTAS; i++) {
+        grants.values[i] = 100000 + 1000 * i;
+    }
+    ACCEPTED(lokhazim_heap_open(HEAP, &accounts, grants));
+    for (int i = 0; i < LOKHAZIM_QUOTAS; i++) {
+        CHECK(accounts.quotas[i].grant == grants.values[i]);
+        CHECK(accounts.quotas[i].remainder == grants.values[i]);
+    }
+    CHECK(accounts.last_serial == 0);
+    CHECK(accounts.holds[0].count == 0 && accounts.holds[LOKHAZIM_HOLDS - 1].count == 0);
+}
+
+/* Each call that hands the accounts back hands back every field of a state that it refuses. */
+static void accounts_come_back(void)
+{
+    const struct lokhazim_accounts before = distinct();
+    struct lokhazim_accounts after = before;
+    struct lokhazim_handle handle = { 8, 16, 1 };
+    struct lokhazim_handle given = { 1, 2, 3 };
+    uint32_t amount = 4;
+    REFUSED(INCONSISTENT, lokhazim_heap_allocate(HEAP, &after, 0, 8, &given));
+    CHECK(same(&before, &after) && given.base == 0 && given.length == 0 && given.serial == 0);
+    REFUSED(INCONSISTENT, lokhazim_heap_allocate_array(HEAP, &after, 0, 2, 4, &given));
+    CHECK(same(&before, &after));
+    REFUSED(INCONSISTENT, lokhazim_heap_claim(HEAP, &after, 0, handle, &amount));
+    CHECK(same(&before, &after) && amount == 0);
+    REFUSED(INCONSISTENT, lokhazim_heap_release(HEAP, &after, 0, handle, NULL));
+    CHECK(same(&before, &after));
+    REFUSED(INCONSISTENT, lokhazim_heap_free_all(HEAP, &after, 0, NULL));
+    CHECK(same(&before, &after));
+    REFUSED(INCONSISTENT, lokhazim_heap_reallocate(HEAP, &after, 0, handle, 8, &given));
+    CHECK(same(&before, &after));
+    REFUSED(HEAP_LENGTH, lokhazim_heap_open(heap, 65, &after, (struct lokhazim_grants){ { 1 } }));
+    CHECK(same(&(struct lokhazim_accounts){ .last_serial = 0 }, &after));
+}
+
+/* The object of record i has a length and a count of its own. */
+static uint32_t length_of(uint32_t i)
+{
+    return 8 + 8 * (i % 32);
+}
+
+static uint32_t count_of(uint32_t i)
+{
+    return 1 + i % 5;
+}
+
+/* Fills every record, by calls. */
+static void fill(void)
+{
+    for (uint32_t i = 0; i < LOKHAZIM_HOLDS; i++) {
+        const uint32_t quota = i % LOKHAZIM_QUOTAS;
+        uint32_t bytes = 0;
+        ACCEPTED(lokhazim_heap_allocate(HEAP, &accounts, quota, length_of(i), &handles[i]));
+        for (uint32_t n = 1; n < count_of(i); n++) {
+            ACCEPTED(lokhazim_heap_claim(HEAP, &accounts, quota, handles[i], &bytes));
+            CHECK(bytes == length_of(i));
+        }
+    }
+}
+
+/* What the calls have left in each field is what C reads there. */
+static void fields_are_read(void)
+{
+    uint32_t spent[LOKHAZIM_QUOTAS] = { 0 };
+    for (uint32_t i = 0; i < LOKHAZIM_HOLDS; i++) {
+        CHECK(accounts.holds[i].serial == i + 1);
+        CHECK(accounts.holds[i].quota == i % LOKHAZIM_QUOTAS);
+        CHECK(accounts.holds[i].count == count_of(i));
+        spent[i % LOKHAZIM_QUOTAS] += length_of(i) + LOKHAZIM_HEADER;
+    }
+    for (uint32_t i = 0; i < LOKHAZIM_QUOTAS; i++) {
+        uint32_t remainder = 0;
+        CHECK(accounts.quotas[i].grant == 100000 + 1000 * i);
+        CHECK(accounts.quotas[i].remainder == accounts.quotas[i].grant - spent[i]);
+        ACCEPTED(lokhazim_heap_remaining(HEAP, &accounts, i, &remainder));
+        CHECK(remainder == accounts.quotas[i].remainder);
+    }
+    CHECK(accounts.last_serial == LOKHAZIM_HOLDS);
+}
+
+static enum lokhazim_refusal check(void)
+{
+    return lokhazim_heap_check(HEAP, &accounts);
+}
+
+/* Changes one field, which has to be refused, and changes it back. */
+#define NOTICED(field, number)                           \
+    do {                                                 \
+        const struct lokhazim_accounts kept = accounts;  \
+        CHECK(check() == LOKHAZIM_ACCEPTED);             \
+        (field) = number;                                \
+        CHECK(check() == LOKHAZIM_INCONSISTENT);         \
+        accounts = kept;                                 \
+    } while (0)
+
+/* The library reads each field of the accounts where C has set it. */
+static void fields_are_noticed(void)
+{
+    for (int i = 0; i < LOKHAZIM_QUOTAS; i++) {
+        NOTICED(accounts.quotas[i].grant, accounts.quotas[i].grant + 1);
+        NOTICED(accounts.quotas[i].remainder, accounts.quotas[i].remainder + 1);
+    }
+    NOTICED(accounts.last_serial, LOKHAZIM_HOLDS - 1);
+    for (uint32_t i = 0; i < LOKHAZIM_HOLDS; i++) {
+        NOTICED(accounts.holds[i].serial, LOKHAZIM_HOLDS + 1);
+        NOTICED(accounts.holds[i].quota, LOKHAZIM_QUOTAS);
+        NOTICED(accounts.holds[i].count, 0);
+    }
+}
+
+/* The library reads each field of a handle. */
+static void handle_is_noticed(struct lokhazim_handle right)
+{
+    struct lokhazim_handle wrong[3] = { right, right, right };
+    uint8_t *object = NULL;
+    ACCEPTED(lokhazim_heap_lend(HEAP, &accounts, right, &object));
+    CHECK(object == heap + right.base);
+    wrong[0].base += 8;
+    wrong[1].length += 8;
+    wrong[2].serial += 1;
+    for (int n = 0; n < 3; n++) {
+        REFUSED(NO_SUCH_OBJECT, lokhazim_heap_lend(HEAP, &accounts, wrong[n], &object));
+        CHECK(object == NULL);
+    }
+}
+
+/* C reads each field of the replies about the object of record i, whose block starts at a place. */
+static size_t replies_are_read(uint32_t i, size_t at)
+{
+    struct lokhazim_block_reply block;
+    const struct lokhazim_range_reply range = lokhazim_lend(HEAP, accounts, handles[i]);
+    CHECK(handles[i].base == at + LOKHAZIM_HEADER && handles[i].length == length_of(i));
+    CHECK(handles[i].serial == i + 1);
+    CHECK(range.refusal == 0 && range.start == handles[i].base);
+    CHECK(range.end == handles[i].base + handles[i].length);
+    ACCEPTED(lokhazim_heap_list_block(HEAP, &accounts, at, &block));
+    CHECK(block.found == 1 && block.offset == at && block.serial == i + 1);
+    CHECK(block.size == length_of(i) + LOKHAZIM_HEADER);
+    return at + block.size;
+}
+
+static void handles_and_replies(void)
+{
+    size_t at = 0;
+    for (uint32_t i = 0; i < LOKHAZIM_HOLDS; i++) {
+        handle_is_noticed(handles[i]);
+        at = replies_are_read(i, at);
+    }
+}
+
+/* The arguments that go by number reach the library in their order. */
+static void numbers_in_order(void)
+{
+    struct lokhazim_handle given;
+    struct lokhazim_handle moved;
+    uint32_t refund = 0;
+    ACCEPTED(lokhazim_heap_open(HEAP, &accounts, (struct lokhazim_grants){ { 0, 0, 0, 500 } }));
+    ACCEPTED(lokhazim_heap_allocate_array(HEAP, &accounts, 3, 5, 12, &given));
+    CHECK(given.base == 8 && given.length == 64 && given.serial == 1);
+    ACCEPTED(lokhazim_heap_write(HEAP, &accounts, given, 63, 255));
+    ACCEPTED(lokhazim_heap_write(HEAP, &accounts, given, 64, 254));
+    CHECK(heap[8 + 63] == 255 && heap[8 + 64] != 254);
+    ACCEPTED(lokhazim_heap_reallocate(HEAP, &accounts, 3, given, 70, &moved));
+    CHECK(moved.base == 80 && moved.length == 72 && moved.serial == 2);
+    CHECK(heap[80 + 63] == 255 && heap[8 + 63] == 0);
+    REFUSED(NOT_HELD, lokhazim_heap_can_release(HEAP, &accounts, 2, moved));
+    ACCEPTED(lokhazim_heap_can_release(HEAP, &accounts, 3, moved));
+    ACCEPTED(lokhazim_heap_free_all(HEAP, &accounts, 3, &refund));
+    CHECK(refund == 80 && accounts.quotas[3].remainder == 500);
+    ACCEPTED(lokhazim_heap_allocate(HEAP, &accounts, 3, 8, &given));
+    ACCEPTED(lokhazim_heap_release(HEAP, &accounts, 3, given, &refund));
+    CHECK(refund == 16 && accounts.quotas[3].remainder == 500);
+}
+
+int main(void)
+{
+    grants_come_back();
+    accounts_come_back();
+    grants_come_back();
+    fill();
+    fields_are_read();
+    fields_are_noticed();
+    handles_and_replies();
+    numbers_in_order();
+    return EXIT_SUCCESS;
+}

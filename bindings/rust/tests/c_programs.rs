@@ -1,0 +1,23 @@
+//! The C programs: the example tells its story, and every field goes through the library and back.
+
+#[allow(dead_code)]
+mod support;
+
+use support::{compile, repository, run};
+
+#[test]
+fn the_valve_example_tells_its_story() {
+    let told = run(&compile("examples/valve.c", "-O2"), &[], b"");
+    let story = std::fs::read(repository("examples/valve.out")).expect("the story is there");
+    assert_eq!(
+        String::from_utf8_lossy(&told),
+        String::from_utf8_lossy(&story)
+    );
+}
+
+#[test]
+fn every_field_goes_through_the_library_from_c() {
+    for level in ["-O0", "-O2"] {
+        run(&compile("bindings/rust/tests/c/library.c", level), &[], b"");
+    }
+}

@@ -1,0 +1,71 @@
+//! The refusals and the constants, held to those of the C header.
+
+#[allow(dead_code)]
+mod support;
+
+use std::error::Error;
+
+use lokhazim::{Refusal, HEAP_MAX, HEAP_MIN, HOLDS, QUOTAS, REQUEST_MAX};
+
+/// The header's text.
+fn header() -> String {
+    std::fs::read_to_string(support::repository("include/lokhazim.h")).expect("the header is there")
+}
+
+/// A name such as `NoSpace` as the header writes it, `NO_SPACE`.
+fn in_capitals(name: &str) -> String {
+    let mut capitals = String::new();
+    for letter in name.chars() {
+        if letter.is_uppercase() && !capitals.is_empty() {
+            capitals.push('_');
+        }
+        capitals.push(letter.to_ascii_uppercase());
+    }
+    capitals
+}
+
+#[test]
+fn the_header_has_the_same_refusals() {
+    let header = header();
+    for refusal in Refusal::ALL {
+        let name = in_capitals(&format!("{refusal:?}"));
+        let line = format!("    LOKHAZIM_{name} = {}", refusal.number());
+        assert!(header.contains(&line), "the header lacks the line '{line}'");
+    }
+}
+
+#[test]
+fn the_header_has_the_same_constants() {
+    let header = header();
+    for (name, value) in [
+        ("QUOTAS", QUOTAS),
+        ("HOLDS", HOLDS),
+        ("HEAP_MIN", HEAP_MIN),
+        ("HEAP_MAX", HEAP_MAX),
+        ("REQUEST_MAX", REQUEST_MAX as usize),
+        ("ALIGNMENT", align_of::<lokhazim::Aligned<64>>()),
+    ] {
+        let line = format!("#define LOKHAZIM_{name} {value}\n");
+        assert!(header.contains(&line), "the header lacks the line '{line}'");
+    }
+}
+
+#[test]
+fn numbers_run_from_1_to_11_and_back() {
+    for (place, refusal) in Refusal::ALL.into_iter().enumerate() {
+        assert_eq!(refusal.number() as usize, place + 1);
+        assert_eq!(Refusal::from_number(refusal.number()), Some(refusal));
+    }
+    assert_eq!(Refusal::from_number(0), None);
+    assert_eq!(Refusal::from_number(12), None);
+}
+
+#[test]
+fn each_text_names_the_number_and_says_what_to_do() {
+    for refusal in Refusal::ALL {
+        let error: &dyn Error = &refusal;
+        let text = error.to_string();
+        assert!(text.starts_with(&format!("refusal {}: ", refusal.number())));
+        assert!(text.contains("; "), "'{text}' does not say what to do");
+    }
+}

@@ -1,0 +1,138 @@
+/*
+ * The parts of a valve controller share one heap and don't trust each other.
+ *
+ * The logger has nearly spent its quota and asks for more than is left. Once, in
+ * such a controller, the charge was subtracted first and looked at afterwards:
+ * what was left wrapped to billions, the logger took the whole heap, and the
+ * valve could not close. Here the request is refused and the valve closes.
+ *
+ * After 'make lib':
+ *     cc -std=c11 -Iinclude examples/valve.c build/lib/liblokhazim.a -o build/valve && build/valve
+ */
+#include "lokhazim.h"
+
+#include <inttypes.h>
+#include <stdio.h>
+#include <stdlib.h>
+#include <string.h>
+
+/* The parts, each by the number of its quota. */
+enum part { VALVE = 0, LOGGER = 1, RADIO = 2 };
+
+static const char reading[] = "pressure 7 bar";
+
+static _Alignas(LOKHAZIM_ALIGNMENT) uint8_t heap[256];
+static struct lokhazim_accounts accounts;
+
+/* Stops the program where a call does not end as the story has it. */
+static void expect(enum lokhazim_refusal refusal, enum lokhazim_refusal expected)
+{
+    if (refusal != expected) {
+        fprintf(stderr, "FAILED: refusal %d, but this story has %d here.\n", (int)refusal, (int)expected);
+        exit(EXIT_FAILURE);
+    }
+}
+
+/* What remains of a part's quota. */
+static uint32_t remaining(enum part part)
+{
+    uint32_t remainder;
+    expect(lokhazim_heap_remaining(heap, sizeof heap, &accounts, part, &remainder), LOKHAZIM_ACCEPTED);
+    return remainder;
+}
+
+/* A new object of a part. */
+static struct lokhazim_handle make(enum part part, uint32_t bytes)
+{
+    struct lokhazim_handle handle;
+    expect(lokhazim_heap_allocate(heap, sizeof heap, &accounts, part, bytes, &handle), LOKHAZIM_ACCEPTED);
+    return handle;
+}
+
+/* The bytes of an object. */
+static uint8_t *bytes_of(struct lokhazim_handle handle)
+{
+    uint8_t *object;
+    expect(lokhazim_heap_lend(heap, sizeof heap, &accounts, handle, &object), LOKHAZIM_ACCEPTED);
+    return object;
+}
+
+/* Drops a part's hold, and says what the part gets back. */
+static uint32_t release(enum part part, struct lokhazim_handle handle)
+{
+    uint32_t refund;
+    expect(lokhazim_heap_release(heap, sizeof heap, &accounts, part, handle, &refund), LOKHAZIM_ACCEPTED);
+    return refund;
+}
+
+/* Each part gets its quota: 48, 120 and 64, and nothing for the other five. */
+static void open_heap(void)
+{
+    const struct lokhazim_grants grants = { { 48, 120, 64 } };
+    expect(lokhazim_heap_open(heap, sizeof heap, &accounts, grants), LOKHAZIM_ACCEPTED);
+    printf("The heap is open: 48 for the valve, 120 for the logger, 64 for the radio.\n");
+}
+
+/* The logger fills two buffers, and has nearly spent its quota. */
+static struct lokhazim_handle log_readings(void)
+{
+    const struct lokhazim_handle first = make(LOGGER, 40);
+    memcpy(bytes_of(first), reading, sizeof reading);
+    make(LOGGER, 40);
+    printf("The logger made two buffers of 40 bytes; %" PRIu32 " of its quota remain.\n", remaining(LOGGER));
+    return first;
+}
+
+/* The logger asks for more than is left: refusal 8, and nothing has changed. */
+static void ask_for_too_much(void)
+{
+    const uint32_t before = remaining(LOGGER);
+    const uint32_t charge = 32 + LOKHAZIM_HEADER;
+    struct lokhazim_handle none;
+    const enum lokhazim_refusal refusal =
+        lokhazim_heap_allocate(heap, sizeof heap, &accounts, LOGGER, 32, &none);
+    expect(refusal, LOKHAZIM_QUOTA_EXCEEDED);
+    printf("It asks for 32 bytes more, which cost %" PRIu32 ": refusal %d.\n", charge, (int)refusal);
+    printf("  Subtracted unseen, %" PRIu32 " would be left; %" PRIu32 " are.\n", before - charge, remaining(LOGGER));
+}
+
+/* The radio claims the logger's buffer, which therefore stays when the logger releases it. */
+static void hand_over(struct lokhazim_handle buffer)
+{
+    uint32_t bytes;
+    expect(lokhazim_heap_claim(heap, sizeof heap, &accounts, RADIO, buffer, &bytes), LOKHAZIM_ACCEPTED);
+    printf("The radio claims the logger's %" PRIu32 " bytes; %" PRIu32 " of its quota remain.\n",
+           bytes, remaining(RADIO));
+    printf("The logger releases them and gets %" PRIu32 " back.\n", release(LOGGER, buffer));
+    printf("  The radio still reads \"%s\".\n", (const char *)bytes_of(buffer));
+}
+
+/* The valve's close command finds room, whatever the others do. */
+static void close_valve(void)
+{
+    const struct lokhazim_handle command = make(VALVE, 32);
+    memcpy(bytes_of(command), "close", sizeof "close");
+    printf("The valve's close command lies at offset %" PRIu32 "; %" PRIu32 " of its quota remain.\n",
+           command.base, remaining(VALVE));
+}
+
+/* The last hold is dropped: the bytes are cleared, and the handle names nothing any more. */
+static void drop_last_hold(struct lokhazim_handle buffer)
+{
+    uint8_t *object;
+    printf("The radio releases its claim and gets %" PRIu32 " back.\n", release(RADIO, buffer));
+    expect(lokhazim_heap_lend(heap, sizeof heap, &accounts, buffer, &object), LOKHAZIM_NO_SUCH_OBJECT);
+    printf("  The handle is of no use now: refusal %d.\n", (int)LOKHAZIM_NO_SUCH_OBJECT);
+}
+
+int main(void)
+{
+    open_heap();
+    const struct lokhazim_handle buffer = log_readings();
+    ask_for_too_much();
+    hand_over(buffer);
+    close_valve();
+    drop_last_hold(buffer);
+    expect(lokhazim_heap_check(heap, sizeof heap, &accounts), LOKHAZIM_ACCEPTED);
+    return EXIT_SUCCESS;
+}

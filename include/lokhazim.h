@@ -1,0 +1,439 @@
+/*
+ * Lokhazim: a heap that parts of a firmware share without trusting each other.
+ *
+ * Each part has a quota. An object costs its length plus LOKHAZIM_HEADER, and a
+ * part may hold an object that another part made. Every call checks the whole
+ * heap and its accounts for itself, on any bytes and any numbers: it answers, or
+ * it gives one of eleven refusals and changes nothing.
+ *
+ * Use the functions lokhazim_heap_... at the end of this file. They take the
+ * accounts by pointer and call the library's own functions, lokhazim_..., which
+ * take the accounts by value and hand them back in a reply.
+ *
+ * What the library can't check is the caller's duty:
+ *   - `heap` points to `length` bytes that nobody else uses during the call, and
+ *     accounts and answers lie outside of them. `heap` is not a null pointer.
+ *   - The heap begins at an address that is a multiple of LOKHAZIM_ALIGNMENT:
+ *         static _Alignas(LOKHAZIM_ALIGNMENT) uint8_t heap[4096];
+ *     An object's base is a multiple of 8, 16 or 32, by its length, counted from
+ *     the heap's first byte; only in an aligned heap is its address one too.
+ *
+ * It needs C11 and x86-64, and memcpy, memmove and memset from the C library.
+ */
+#ifndef LOKHAZIM_H
+#define LOKHAZIM_H
+
+#include <assert.h>
+#include <stddef.h>
+#include <stdint.h>
+
+#ifdef __cplusplus
+extern "C" {
+#endif
+
+/* ---- Numbers ---- */
+
+/* The number of quotas; they are numbered from 0. */
+#define LOKHAZIM_QUOTAS 8
+
+/* The number of hold records. */
+#define LOKHAZIM_HOLDS 128
+
+/* What an object costs beyond its length: the bytes of its block's header. */
+#define LOKHAZIM_HEADER 8
+
+/* The address of a heap is a multiple of this. */
+#define LOKHAZIM_ALIGNMENT 32
+
+/* The shortest and the longest heap; a heap's length is a multiple of 8. */
+#define LOKHAZIM_HEAP_MIN 64
+#define LOKHAZIM_HEAP_MAX 32768
+
+/* The most bytes that can be asked for. */
+#define LOKHAZIM_REQUEST_MAX 32760
+
+/* Why a call is refused. The numbers are also the order in which calls check. */
+enum lokhazim_refusal {
+    /* Not refused. */
+    LOKHAZIM_ACCEPTED = 0,
+    /* The heap's length is not allowed. */
+    LOKHAZIM_HEAP_LENGTH = 1,
+    /* Heap and accounts don't agree: something else has written to them. */
+    LOKHAZIM_INCONSISTENT = 2,
+    /* There is no quota of this number. */
+    LOKHAZIM_QUOTA_NUMBER = 3,
+    /* The length, or count times size, is 0 or above LOKHAZIM_REQUEST_MAX. */
+    LOKHAZIM_OBJECT_LENGTH = 4,
+    /* The handle names no live object. */
+    LOKHAZIM_NO_SUCH_OBJECT = 5,
+    /* This quota doesn't hold the object. */
+    LOKHAZIM_NOT_HELD = 6,
+    /* This quota holds the object 255 times, which is the most. */
+    LOKHAZIM_COUNT_LIMIT = 7,
+    /* The charge is above what remains of the quota. */
+    LOKHAZIM_QUOTA_EXCEEDED = 8,
+    /* All hold records are used. */
+    LOKHAZIM_HOLDS_EXHAUSTED = 9,
+    /* Every serial was given: the heap has to be opened anew. */
+    LOKHAZIM_SERIALS_EXHAUSTED = 10,
+    /* No free run of bytes is long enough. */
+    LOKHAZIM_NO_SPACE = 11
+};
+
+/* ---- The accounts and a handle ---- */
+
+/* What a quota was granted at the opening, and what remains of it. */
+struct lokhazim_quota {
+    uint32_t grant;
+    uint32_t remainder;
+};
+
+/* How often a quota holds the object with this serial; unused if all zero. */
+struct lokhazim_hold {
+    uint32_t serial;
+    uint8_t quota;
+    uint8_t count;
+};
+
+/*
+ * The accounts of a heap: to be kept with it, and changed by the calls alone.
+ * A hold has two bytes of padding, so compare accounts field by field.
+ */
+struct lokhazim_accounts {
+    struct lokhazim_quota quotas[LOKHAZIM_QUOTAS];
+    uint32_t last_serial;
+    struct lokhazim_hold holds[LOKHAZIM_HOLDS];
+};
+
+/*
+ * An object: the offset of its first byte in the heap, its length and serial.
+ * It can be copied and handed on freely; it names the object as long as any
+ * quota holds it, and afterwards nothing.
+ */
+struct lokhazim_handle {
+    uint32_t base;
+    uint32_t length;
+    uint32_t serial;
+};
+
+/* What each quota is granted. */
+struct lokhazim_grants {
+    uint32_t values[LOKHAZIM_QUOTAS];
+};
+
+/* ---- Replies; where a call is refused, everything but accounts and refusal is 0 ---- */
+
+/* The reply of open. */
+struct lokhazim_open_reply {
+    struct lokhazim_accounts accounts;
+    uint32_t refusal;
+};
+
+/* The reply of allocate, allocate_array and reallocate. */
+struct lokhazim_handle_reply {
+    struct lokhazim_accounts accounts;
+    uint32_t refusal;
+    struct lokhazim_handle handle;
+};
+
+/* The reply of claim, release and free_all. */
+struct lokhazim_amount_reply {
+    struct lokhazim_accounts accounts;
+    uint32_t refusal;
+    uint32_t amount;
+};
+
+/* The reply of remaining. */
+struct lokhazim_amount {
+    uint32_t refusal;
+    uint32_t amount;
+};
+
+/* The reply of lend: the object's bytes are those from start up to end. */
+struct lokhazim_range_reply {
+    uint32_t refusal;
+    size_t start;
+    size_t end;
+};
+
+/* The reply of list_block: found is 1 where a block is given; serial 0 is a free block. */
+struct lokhazim_block_reply {
+    uint32_t refusal;
+    uint32_t found;
+    size_t offset;
+    size_t size;
+    uint32_t serial;
+};
+
+/* ---- The structs lie in memory as the library has them ---- */
+
+#define LOKHAZIM_SIZE(type, bytes) \
+    static_assert(sizeof(struct type) == (bytes), "the size of struct " #type " is not " #bytes)
+#define LOKHAZIM_OFFSET(type, field, bytes) \
+    static_assert(offsetof(struct type, field) == (bytes), "struct " #type ": the offset of " #field " is not " #bytes)
+
+static_assert(sizeof(size_t) == 8, "the library is for machines with 64-bit addresses");
+
+LOKHAZIM_SIZE(lokhazim_quota, 8);
+LOKHAZIM_OFFSET(lokhazim_quota, grant, 0);
+LOKHAZIM_OFFSET(lokhazim_quota, remainder, 4);
+
+LOKHAZIM_SIZE(lokhazim_hold, 8);
+LOKHAZIM_OFFSET(lokhazim_hold, serial, 0);
+LOKHAZIM_OFFSET(lokhazim_hold, quota, 4);
+LOKHAZIM_OFFSET(lokhazim_hold, count, 5);
+
+LOKHAZIM_SIZE(lokhazim_accounts, 1092);
+LOKHAZIM_OFFSET(lokhazim_accounts, quotas, 0);
+LOKHAZIM_OFFSET(lokhazim_accounts, last_serial, 64);
+LOKHAZIM_OFFSET(lokhazim_accounts, holds, 68);
+
+LOKHAZIM_SIZE(lokhazim_handle, 12);
+LOKHAZIM_OFFSET(lokhazim_handle, base, 0);
+LOKHAZIM_OFFSET(lokhazim_handle, length, 4);
+LOKHAZIM_OFFSET(lokhazim_handle, serial, 8);
+
+LOKHAZIM_SIZE(lokhazim_grants, 32);
+LOKHAZIM_OFFSET(lokhazim_grants, values, 0);
+
+LOKHAZIM_SIZE(lokhazim_open_reply, 1096);
+LOKHAZIM_OFFSET(lokhazim_open_reply, accounts, 0);
+LOKHAZIM_OFFSET(lokhazim_open_reply, refusal, 1092);
+
+LOKHAZIM_SIZE(lokhazim_handle_reply, 1108);
+LOKHAZIM_OFFSET(lokhazim_handle_reply, accounts, 0);
+LOKHAZIM_OFFSET(lokhazim_handle_reply, refusal, 1092);
+LOKHAZIM_OFFSET(lokhazim_handle_reply, handle, 1096);
+
+LOKHAZIM_SIZE(lokhazim_amount_reply, 1100);
+LOKHAZIM_OFFSET(lokhazim_amount_reply, accounts, 0);
+LOKHAZIM_OFFSET(lokhazim_amount_reply, refusal, 1092);
+LOKHAZIM_OFFSET(lokhazim_amount_reply, amount, 1096);
+
+LOKHAZIM_SIZE(lokhazim_amount, 8);
+LOKHAZIM_OFFSET(lokhazim_amount, refusal, 0);
+LOKHAZIM_OFFSET(lokhazim_amount, amount, 4);
+
+LOKHAZIM_SIZE(lokhazim_range_reply, 24);
+LOKHAZIM_OFFSET(lokhazim_range_reply, refusal, 0);
+LOKHAZIM_OFFSET(lokhazim_range_reply, start, 8);
+LOKHAZIM_OFFSET(lokhazim_range_reply, end, 16);
+
+LOKHAZIM_SIZE(lokhazim_block_reply, 32);
+LOKHAZIM_OFFSET(lokhazim_block_reply, refusal, 0);
+LOKHAZIM_OFFSET(lokhazim_block_reply, found, 4);
+LOKHAZIM_OFFSET(lokhazim_block_reply, offset, 8);
+LOKHAZIM_OFFSET(lokhazim_block_reply, size, 16);
+LOKHAZIM_OFFSET(lokhazim_block_reply, serial, 24);
+
+#undef LOKHAZIM_SIZE
+#undef LOKHAZIM_OFFSET
+
+/* ---- The library's functions: accounts by value ---- */
+
+/* Clears the heap and gives each quota its grant. */
+struct lokhazim_open_reply lokhazim_open(
+    uint8_t *heap, size_t length, struct lokhazim_grants grants);
+
+/* Makes an object of at least `bytes` bytes, all zero, that the quota holds once. */
+struct lokhazim_handle_reply lokhazim_allocate(
+    uint8_t *heap, size_t length, struct lokhazim_accounts accounts, uint32_t quota, uint32_t bytes);
+
+/* Makes an object for `count` elements of `size` bytes; their product is never cut to 32 bits. */
+struct lokhazim_handle_reply lokhazim_allocate_array(
+    uint8_t *heap, size_t length, struct lokhazim_accounts accounts, uint32_t quota,
+    uint32_t count, uint32_t size);
+
+/* Lets the quota hold the object, or hold it once more; the amount is the object's length. */
+struct lokhazim_amount_reply lokhazim_claim(
+    const uint8_t *heap, size_t length, struct lokhazim_accounts accounts, uint32_t quota,
+    struct lokhazim_handle handle);
+
+/* Drops one hold of the quota; the amount is what the quota gets back. */
+struct lokhazim_amount_reply lokhazim_release(
+    uint8_t *heap, size_t length, struct lokhazim_accounts accounts, uint32_t quota,
+    struct lokhazim_handle handle);
+
+/* Drops every hold of the quota; the amount is what the quota gets back. */
+struct lokhazim_amount_reply lokhazim_free_all(
+    uint8_t *heap, size_t length, struct lokhazim_accounts accounts, uint32_t quota);
+
+/* Makes an object of another length with the old one's bytes, then drops one hold on the old one. */
+struct lokhazim_handle_reply lokhazim_reallocate(
+    uint8_t *heap, size_t length, struct lokhazim_accounts accounts, uint32_t quota,
+    struct lokhazim_handle handle, uint32_t bytes);
+
+/* Tells where in the heap the object's bytes lie. */
+struct lokhazim_range_reply lokhazim_lend(
+    const uint8_t *heap, size_t length, struct lokhazim_accounts accounts, struct lokhazim_handle handle);
+
+/* Writes one byte of the object, `at` bytes behind its base; writes nothing at its end or behind. Gives the refusal. */
+uint32_t lokhazim_write(
+    uint8_t *heap, size_t length, struct lokhazim_accounts accounts, struct lokhazim_handle handle,
+    uint32_t at, uint8_t byte);
+
+/* Tells what remains of the quota. */
+struct lokhazim_amount lokhazim_remaining(
+    const uint8_t *heap, size_t length, struct lokhazim_accounts accounts, uint32_t quota);
+
+/* Gives the refusal that release would give. */
+uint32_t lokhazim_can_release(
+    const uint8_t *heap, size_t length, struct lokhazim_accounts accounts, uint32_t quota,
+    struct lokhazim_handle handle);
+
+/* Tells which block starts at offset `at`, if one does. */
+struct lokhazim_block_reply lokhazim_list_block(
+    const uint8_t *heap, size_t length, struct lokhazim_accounts accounts, size_t at);
+
+/* Checks heap and accounts as every call does first, and gives refusal 1 or 2 or none. */
+uint32_t lokhazim_check(
+    const uint8_t *heap, size_t length, struct lokhazim_accounts accounts);
+
+/* ---- The same calls with the accounts by pointer ----
+ *
+ * Each gives its refusal. `accounts` is read, and written where it is not const.
+ * The last pointers take the answer, which is zero where the call is refused;
+ * a pointer to a number may be null if the number isn't wanted.
+ */
+
+/* Clears the heap and gives each quota its grant; where that is refused, the accounts become all zero. */
+static inline enum lokhazim_refusal lokhazim_heap_open(
+    uint8_t *heap, size_t length, struct lokhazim_accounts *accounts, struct lokhazim_grants grants)
+{
+    const struct lokhazim_open_reply reply = lokhazim_open(heap, length, grants);
+    *accounts = reply.accounts;
+    return (enum lokhazim_refusal)reply.refusal;
+}
+
+/* Makes an object of at least `bytes` bytes, all zero, that the quota holds once. */
+static inline enum lokhazim_refusal lokhazim_heap_allocate(
+    uint8_t *heap, size_t length, struct lokhazim_accounts *accounts, uint32_t quota,
+    uint32_t bytes, struct lokhazim_handle *handle)
+{
+    const struct lokhazim_handle_reply reply = lokhazim_allocate(heap, length, *accounts, quota, bytes);
+    *accounts = reply.accounts;
+    *handle = reply.handle;
+    return (enum lokhazim_refusal)reply.refusal;
+}
+
+/* Makes an object for `count` elements of `size` bytes; their product is never cut to 32 bits. */
+static inline enum lokhazim_refusal lokhazim_heap_allocate_array(
+    uint8_t *heap, size_t length, struct lokhazim_accounts *accounts, uint32_t quota,
+    uint32_t count, uint32_t size, struct lokhazim_handle *handle)
+{
+    const struct lokhazim_handle_reply reply =
+        lokhazim_allocate_array(heap, length, *accounts, quota, count, size);
+    *accounts = reply.accounts;
+    *handle = reply.handle;
+    return (enum lokhazim_refusal)reply.refusal;
+}
+
+/* Lets the quota hold the object, or hold it once more; *bytes becomes the object's length. */
+static inline enum lokhazim_refusal lokhazim_heap_claim(
+    const uint8_t *heap, size_t length, struct lokhazim_accounts *accounts, uint32_t quota,
+    struct lokhazim_handle handle, uint32_t *bytes)
+{
+    const struct lokhazim_amount_reply reply = lokhazim_claim(heap, length, *accounts, quota, handle);
+    *accounts = reply.accounts;
+    if (bytes) {
+        *bytes = reply.amount;
+    }
+    return (enum lokhazim_refusal)reply.refusal;
+}
+
+/* Drops one hold of the quota; *refund becomes what the quota gets back, 0 while it still holds the object. */
+static inline enum lokhazim_refusal lokhazim_heap_release(
+    uint8_t *heap, size_t length, struct lokhazim_accounts *accounts, uint32_t quota,
+    struct lokhazim_handle handle, uint32_t *refund)
+{
+    const struct lokhazim_amount_reply reply = lokhazim_release(heap, length, *accounts, quota, handle);
+    *accounts = reply.accounts;
+    if (refund) {
+        *refund = reply.amount;
+    }
+    return (enum lokhazim_refusal)reply.refusal;
+}
+
+/* Drops every hold of the quota; *refund becomes what the quota gets back. */
+static inline enum lokhazim_refusal lokhazim_heap_free_all(
+    uint8_t *heap, size_t length, struct lokhazim_accounts *accounts, uint32_t quota, uint32_t *refund)
+{
+    const struct lokhazim_amount_reply reply = lokhazim_free_all(heap, length, *accounts, quota);
+    *accounts = reply.accounts;
+    if (refund) {
+        *refund = reply.amount;
+    }
+    return (enum lokhazim_refusal)reply.refusal;
+}
+
+/* Makes *moved with the old object's bytes, as far as `bytes` go, then drops one hold on the old object. */
+static inline enum lokhazim_refusal lokhazim_heap_reallocate(
+    uint8_t *heap, size_t length, struct lokhazim_accounts *accounts, uint32_t quota,
+    struct lokhazim_handle handle, uint32_t bytes, struct lokhazim_handle *moved)
+{
+    const struct lokhazim_handle_reply reply =
+        lokhazim_reallocate(heap, length, *accounts, quota, handle, bytes);
+    *accounts = reply.accounts;
+    *moved = reply.handle;
+    return (enum lokhazim_refusal)reply.refusal;
+}
+
+/* Lends the object's bytes: handle.length bytes at *object, until the object is freed; a null pointer where refused. */
+static inline enum lokhazim_refusal lokhazim_heap_lend(
+    uint8_t *heap, size_t length, const struct lokhazim_accounts *accounts,
+    struct lokhazim_handle handle, uint8_t **object)
+{
+    const struct lokhazim_range_reply reply = lokhazim_lend(heap, length, *accounts, handle);
+    *object = reply.refusal == LOKHAZIM_ACCEPTED ? heap + reply.start : NULL;
+    return (enum lokhazim_refusal)reply.refusal;
+}
+
+/* Writes one byte of the object, `at` bytes behind its base; writes nothing at its end or behind. */
+static inline enum lokhazim_refusal lokhazim_heap_write(
+    uint8_t *heap, size_t length, const struct lokhazim_accounts *accounts,
+    struct lokhazim_handle handle, uint32_t at, uint8_t byte)
+{
+    return (enum lokhazim_refusal)lokhazim_write(heap, length, *accounts, handle, at, byte);
+}
+
+/* Tells what remains of the quota. */
+static inline enum lokhazim_refusal lokhazim_heap_remaining(
+    const uint8_t *heap, size_t length, const struct lokhazim_accounts *accounts, uint32_t quota,
+    uint32_t *remainder)
+{
+    const struct lokhazim_amount reply = lokhazim_remaining(heap, length, *accounts, quota);
+    if (remainder) {
+        *remainder = reply.amount;
+    }
+    return (enum lokhazim_refusal)reply.refusal;
+}
+
+/* Gives the refusal that release would give, and changes nothing. */
+static inline enum lokhazim_refusal lokhazim_heap_can_release(
+    const uint8_t *heap, size_t length, const struct lokhazim_accounts *accounts, uint32_t quota,
+    struct lokhazim_handle handle)
+{
+    return (enum lokhazim_refusal)lokhazim_can_release(heap, length, *accounts, quota, handle);
+}
+
+/* Tells which block starts at offset `at`; the next starts at its offset + size, and behind the last found is 0. */
+static inline enum lokhazim_refusal lokhazim_heap_list_block(
+    const uint8_t *heap, size_t length, const struct lokhazim_accounts *accounts, size_t at,
+    struct lokhazim_block_reply *block)
+{
+    *block = lokhazim_list_block(heap, length, *accounts, at);
+    return (enum lokhazim_refusal)block->refusal;
+}
+
+/* Checks heap and accounts as every call does first, and gives refusal 1 or 2 or none. */
+static inline enum lokhazim_refusal lokhazim_heap_check(
+    const uint8_t *heap, size_t length, const struct lokhazim_accounts *accounts)
+{
+    return (enum lokhazim_refusal)lokhazim_check(heap, length, *accounts);
+}
+
+#ifdef __cplusplus
+}
+#endif
+
+#endif
