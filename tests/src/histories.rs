@@ -1,0 +1,197 @@
+//! Undamaged histories: lists of calls from an opening or from a sound state, with the caller's
+//! writes between them, compared call by call and checked against the ledger.
+
+use lokhazim_reference::{Accounts, Handle};
+
+use crate::calls::Pair;
+use crate::choice::{choose, grants, Habits, Weights, GROWING, MIXED, SHARING, SHRINKING};
+use crate::compare::{call_failure, Failure};
+use crate::cut::blocks;
+use crate::forged::View;
+use crate::ledger::Ledger;
+use crate::seed::Seed;
+use crate::sentences::{wrong, Step};
+use crate::state::{Answer, Call, State};
+use crate::states::{heap_length, look_alike, sound};
+
+/// How a history begins.
+#[derive(Clone, Copy, Debug, PartialEq, Eq)]
+pub enum Beginning {
+    /// By an accepted opening of a heap of any bytes.
+    Opening,
+    /// By a sound state that was made directly.
+    SoundState,
+}
+
+/// A history as far as it has come.
+struct History<'a> {
+    pair: &'a mut Pair,
+    state: State,
+    ledger: Ledger,
+    given_out: Vec<Handle>,
+}
+
+/// Runs the n-th history of a seed with so many calls.
+pub fn run(
+    pair: &mut Pair,
+    beginning: Beginning,
+    seed: u64,
+    n: u64,
+    calls: u32,
+) -> Result<(), Failure> {
+    let part = match beginning {
+        Beginning::Opening => "history",
+        Beginning::SoundState => "sound-state",
+    };
+    pair.begin(part, seed, n);
+    let mut numbers = Seed::of_case(seed, n);
+    let mut history = begin(pair, beginning, &mut numbers)?;
+    let mut habits = habits(&mut numbers, history.state.heap.len() as u32);
+    for _ in 0..calls {
+        let answer = history.step(&mut numbers, &habits)?;
+        match answer.refusal {
+            8 | 9 | 11 if numbers.percent(40) => habits.weights = SHRINKING,
+            _ if history.ledger.objects.is_empty() => habits.weights = GROWING,
+            _ if numbers.percent(6) => habits.weights = mood(&mut numbers),
+            _ => {}
+        }
+        match numbers.below(400) {
+            0..=7 => history.write_look_alikes(&mut numbers),
+            8..=13 => history.list_and_ask()?,
+            14 => history.claim_to_the_end(&mut numbers)?,
+            _ => {}
+        }
+    }
+    Ok(())
+}
+
+/// Begins a history.
+fn begin<'a>(
+    pair: &'a mut Pair,
+    beginning: Beginning,
+    seed: &mut Seed,
+) -> Result<History<'a>, Failure> {
+    let mut state = match beginning {
+        Beginning::SoundState => sound(seed),
+        Beginning::Opening => State {
+            heap: vec![0; heap_length(seed) as usize],
+            accounts: Accounts::default(),
+        },
+    };
+    if beginning == Beginning::Opening {
+        state.heap.fill_with(|| seed.byte());
+        pair.call(&mut state, Call::Open(grants(seed)))?;
+    }
+    let ledger = Ledger::read_off(&state);
+    Ok(History {
+        pair,
+        state,
+        ledger,
+        given_out: Vec::new(),
+    })
+}
+
+/// Chooses the habits of a history.
+fn habits(seed: &mut Seed, heap_length: u32) -> Habits {
+    Habits {
+        weights: GROWING,
+        quotas: seed.pick(&[1, 2, 3, 8]),
+        wild: seed.pick(&[3, 10, 25]),
+        longest: seed.pick(&[8, 24, 64, heap_length / 8, heap_length / 3]),
+    }
+}
+
+/// Chooses which calls are made for a while. Few histories open again.
+fn mood(seed: &mut Seed) -> Weights {
+    let mut weights = seed.pick(&[GROWING, GROWING, SHRINKING, SHARING, MIXED]);
+    if seed.percent(95) {
+        weights[0] = 0;
+    }
+    weights
+}
+
+impl History<'_> {
+    /// Makes one chosen call.
+    fn step(&mut self, seed: &mut Seed, habits: &Habits) -> Result<Answer, Failure> {
+        let view = View::new(&self.state.heap, &self.given_out);
+        let call = choose(seed, habits, &view, &self.state.accounts);
+        self.call(call)
+    }
+
+    /// Makes a call, records it in the ledger and checks every sentence.
+    fn call(&mut self, call: Call) -> Result<Answer, Failure> {
+        let (before, ledger_before) = (self.state.clone(), self.ledger.clone());
+        let answer = self.pair.call(&mut self.state, call)?;
+        self.ledger.record(call, &answer);
+        let wrong = wrong(&Step {
+            call,
+            answer: &answer,
+            ledger_before: &ledger_before,
+            ledger: &self.ledger,
+            before: &before,
+            after: &self.state,
+        });
+        if !wrong.is_empty() {
+            return Err(call_failure(&self.pair.origin, &before, call, &wrong));
+        }
+        let makes = matches!(
+            call,
+            Call::Allocate(..) | Call::Array(..) | Call::Reallocate(..)
+        );
+        if makes && answer.is_accepted() {
+            self.given_out.push(answer.handle());
+        }
+        Ok(answer)
+    }
+
+    /// Writes bytes that look like headers into an object, as a caller does through lend.
+    fn write_look_alikes(&mut self, seed: &mut Seed) {
+        let objects: Vec<Handle> = self.ledger.objects.iter().map(|o| o.handle).collect();
+        let Some(object) = seed.any_of(&objects) else {
+            return;
+        };
+        let start = object.base as usize;
+        let part = &mut self.state.heap[start..start + object.length as usize];
+        for (place, bytes) in part.chunks_exact_mut(8).enumerate() {
+            let size = object.length + 8;
+            bytes.copy_from_slice(&look_alike(seed, size, object.serial, place as u32));
+        }
+    }
+
+    /// Walks the whole listing, and asks every quota what remains.
+    fn list_and_ask(&mut self) -> Result<(), Failure> {
+        for quota in 0..8 {
+            self.call(Call::Remaining(quota))?;
+        }
+        let wanted = blocks(&self.state.heap);
+        let mut at = 0;
+        for block in wanted.iter().map(Some).chain([None]) {
+            let call = Call::List(at);
+            let answer = self.call(call)?;
+            let numbers = block.map(|b| [1, b.offset, b.size, b.serial].map(u64::from));
+            if answer != Answer::accepted(&numbers.unwrap_or_default()) {
+                let wrong = ["broken: the listing gives the blocks in order".to_owned()];
+                return Err(call_failure(&self.pair.origin, &self.state, call, &wrong));
+            }
+            at += answer.numbers[2] as usize;
+        }
+        Ok(())
+    }
+
+    /// Claims an object a few times, or until its count is 255 and the claim is refused.
+    fn claim_to_the_end(&mut self, seed: &mut Seed) -> Result<(), Failure> {
+        let records = self.ledger.records();
+        let Some((serial, quota, _)) = seed.any_of(&records) else {
+            return Ok(());
+        };
+        let mut objects = self.ledger.objects.iter().map(|o| o.handle);
+        let object = objects.find(|handle| handle.serial == serial);
+        let claims = seed.pick(&[20, 256]);
+        for handle in object.into_iter().cycle().take(claims) {
+            if !self.call(Call::Claim(quota as u32, handle))?.is_accepted() {
+                break;
+            }
+        }
+        Ok(())
+    }
+}
