@@ -1,13 +1,24 @@
-# make run    prove every crate, and print what is proved so far
-# make test   prove everything from nothing, try every must-fail edit, run every test
+# make run       prove every crate, and print what is proved so far
+# make test      prove everything from nothing, try every must-fail edit, run every test
+# make fuzz      compare the proved code with the reference from a fresh seed: SECONDS=600 SEED=..
+# make sanitize  compare calls under valgrind: SECONDS=600 SEED=..
 
-.PHONY: run test clean
+SECONDS := 60
+SEED :=
+
+.PHONY: run test fuzz sanitize clean
 
 run:
 	@scripts/run
 
 test:
 	@scripts/test
+
+fuzz:
+	@scripts/fuzz $(SECONDS) $(SEED)
+
+sanitize:
+	@scripts/sanitize $(SECONDS) $(SEED)
 
 clean:
 	rm -rf target build

@@ -111,7 +111,7 @@ pub fn call_failure(origin: &str, before: &State, call: Call, wrong: &[String]) 
     for line in wrong {
         text.push_str(&format!("# {line}\n"));
     }
-    text.push_str("# Run it again with: scripts/again FILE\n");
+    text.push_str("# Make it again with: build/cargo/debug/fuzz again FILE\n");
     text.push_str(&write_case(before, call));
     let name: String = origin
         .chars()

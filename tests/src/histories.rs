@@ -1,13 +1,14 @@
 //! Undamaged histories: lists of calls from an opening or from a sound state, with the caller's
 //! writes between them, compared call by call and checked against the ledger.
 
-use lokhazim_reference::{Accounts, Handle};
+use lokhazim_reference::{Accounts, Handle, HOLDS, QUOTAS};
 
 use crate::calls::Pair;
 use crate::choice::{choose, grants, Habits, Weights, GROWING, MIXED, SHARING, SHRINKING};
 use crate::compare::{call_failure, Failure};
 use crate::cut::blocks;
 use crate::forged::View;
+use crate::judge::broken;
 use crate::ledger::Ledger;
 use crate::seed::Seed;
 use crate::sentences::{wrong, Step};
@@ -19,6 +20,8 @@ use crate::states::{heap_length, look_alike, sound};
 pub enum Beginning {
     /// By an accepted opening of a heap of any bytes.
     Opening,
+    /// By an accepted opening, many small objects, and claims until no record is unused.
+    Crowd,
     /// By a sound state that was made directly.
     SoundState,
 }
@@ -41,12 +44,18 @@ pub fn run(
 ) -> Result<(), Failure> {
     let part = match beginning {
         Beginning::Opening => "history",
+        Beginning::Crowd => "crowd",
         Beginning::SoundState => "sound-state",
     };
     pair.begin(part, seed, n);
     let mut numbers = Seed::of_case(seed, n);
     let mut history = begin(pair, beginning, &mut numbers)?;
     let mut habits = habits(&mut numbers, history.state.heap.len() as u32);
+    match beginning {
+        Beginning::Opening => {}
+        Beginning::Crowd => history.crowd(&mut numbers)?,
+        Beginning::SoundState => habits.weights = mood(&mut numbers),
+    }
     for _ in 0..calls {
         let answer = history.step(&mut numbers, &habits)?;
         match answer.refusal {
@@ -59,10 +68,26 @@ pub fn run(
             0..=7 => history.write_look_alikes(&mut numbers),
             8..=13 => history.list_and_ask()?,
             14 => history.claim_to_the_end(&mut numbers)?,
+            15..=17 => history.fill_records(&mut numbers)?,
             _ => {}
         }
     }
     Ok(())
+}
+
+/// Makes one call on a state, and checks the sentences about the ledger if the state is sound.
+pub fn once(pair: &mut Pair, state: State, call: Call) -> Result<Answer, Failure> {
+    if !broken(&state).is_empty() {
+        return pair.call(&mut state.clone(), call);
+    }
+    let ledger = Ledger::read_off(&state);
+    let mut history = History {
+        pair,
+        state,
+        ledger,
+        given_out: Vec::new(),
+    };
+    history.call(call)
 }
 
 /// Begins a history.
@@ -71,16 +96,18 @@ fn begin<'a>(
     beginning: Beginning,
     seed: &mut Seed,
 ) -> Result<History<'a>, Failure> {
-    let mut state = match beginning {
-        Beginning::SoundState => sound(seed),
-        Beginning::Opening => State {
-            heap: vec![0; heap_length(seed) as usize],
-            accounts: Accounts::default(),
-        },
+    let (length, grants) = match beginning {
+        Beginning::Crowd => (8 * seed.between(200, 500), [1_000_000; QUOTAS]),
+        _ => (heap_length(seed), grants(seed)),
     };
-    if beginning == Beginning::Opening {
-        state.heap.fill_with(|| seed.byte());
-        pair.call(&mut state, Call::Open(grants(seed)))?;
+    let mut state = State {
+        heap: vec![0; length as usize],
+        accounts: Accounts::default(),
+    };
+    state.heap.fill_with(|| seed.byte());
+    match beginning {
+        Beginning::SoundState => state = sound(seed),
+        _ => pair.call(&mut state, Call::Open(grants)).map(|_| ())?,
     }
     let ledger = Ledger::read_off(&state);
     Ok(History {
@@ -97,7 +124,7 @@ fn habits(seed: &mut Seed, heap_length: u32) -> Habits {
         weights: GROWING,
         quotas: seed.pick(&[1, 2, 3, 8]),
         wild: seed.pick(&[3, 10, 25]),
-        longest: seed.pick(&[8, 24, 64, heap_length / 8, heap_length / 3]),
+        longest: seed.pick(&[8, 24, 64, heap_length / 16, heap_length / 5]),
     }
 }
 
@@ -160,7 +187,7 @@ impl History<'_> {
 
     /// Walks the whole listing, and asks every quota what remains.
     fn list_and_ask(&mut self) -> Result<(), Failure> {
-        for quota in 0..8 {
+        for quota in 0..QUOTAS as u32 {
             self.call(Call::Remaining(quota))?;
         }
         let wanted = blocks(&self.state.heap);
@@ -189,6 +216,34 @@ impl History<'_> {
         let claims = seed.pick(&[20, 256]);
         for handle in object.into_iter().cycle().take(claims) {
             if !self.call(Call::Claim(quota as u32, handle))?.is_accepted() {
+                break;
+            }
+        }
+        Ok(())
+    }
+    /// Makes many small objects and uses up the records.
+    fn crowd(&mut self, seed: &mut Seed) -> Result<(), Failure> {
+        for _ in 0..seed.pick(&[17, 20, 60, 120]) {
+            self.call(Call::Allocate(
+                seed.below(QUOTAS as u32),
+                seed.between(1, 16),
+            ))?;
+        }
+        self.fill_records(seed)
+    }
+
+    /// Claims objects for every quota until no record is unused, where there are objects enough.
+    fn fill_records(&mut self, seed: &mut Seed) -> Result<(), Failure> {
+        let objects = self.ledger.objects.iter().map(|object| object.handle);
+        let mut pairs: Vec<(u32, Handle)> = objects
+            .flat_map(|object| (0..QUOTAS as u32).map(move |quota| (quota, object)))
+            .collect();
+        if pairs.len() <= HOLDS {
+            return Ok(());
+        }
+        seed.shuffle(&mut pairs);
+        for (quota, object) in pairs {
+            if self.call(Call::Claim(quota, object))?.refusal == 9 {
                 break;
             }
         }

@@ -50,7 +50,7 @@ impl Programs {
         save(&format!("script-{name}.proved"), &proved.stdout)?;
         save(&format!("script-{name}.reference"), &reference.stdout)?;
         Err(Failure(format!(
-            "script {name}: {}. The input is saved in {}, the two outputs beside it as .proved and .reference",
+            "script {name}: {}. The input is saved in {}, the two outputs stand beside it as .proved and .reference",
             difference(&proved, &reference),
             script.display()
         )))

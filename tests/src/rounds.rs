@@ -33,7 +33,13 @@ pub fn script(
 
 /// Compares calls of every part for the n-th case of a seed: about a thousand.
 pub fn calls(pair: &mut Pair, seed: u64, n: u64) -> Result<(), Failure> {
-    histories::run(pair, Beginning::Opening, seed, n, 250)?;
+    let crowded = n.is_multiple_of(8);
+    let beginning = if crowded {
+        Beginning::Crowd
+    } else {
+        Beginning::Opening
+    };
+    histories::run(pair, beginning, seed, n, 250)?;
     for turn in 0..4 {
         histories::run(pair, Beginning::SoundState, seed, 4 * n + turn, 40)?;
         unsound::noise(pair, seed, 4 * n + turn)?;

@@ -165,7 +165,7 @@ fn serials(seed: &mut Seed, count: usize) -> Vec<u32> {
         given.insert(match way {
             0 => next,
             1 => next << shift,
-            2 => u32::MAX - next + 1,
+            2 => u32::MAX - next - shift % 8,
             3 => base.wrapping_add(next).max(1),
             _ => seed.word().max(1),
         });

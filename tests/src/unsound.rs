@@ -60,7 +60,7 @@ fn every_call(pair: &mut Pair, seed: &mut Seed, state: &State) -> Result<(), Fai
 }
 
 /// Makes the check's call and holds it to the sentences of "Sound", judged one by one.
-fn check_is_the_judges(pair: &mut Pair, state: &State) -> Result<(), Failure> {
+pub fn check_is_the_judges(pair: &mut Pair, state: &State) -> Result<(), Failure> {
     let answer = pair.call(&mut state.clone(), Call::Check)?;
     let length = state.heap.len();
     let wanted = match broken(state).as_slice() {

@@ -22,8 +22,8 @@ const TOGETHER: u64 = 20_000;
 const NOISE: u64 = 30_000;
 const LENGTHS: u64 = 10_000;
 
-/// How many states each kind of damage is done to.
-const DAMAGED: u64 = 100;
+/// How many states each kind of damage is at least done to.
+const DAMAGED: u64 = 75;
 
 /// Compares cases until so many calls were made, and gives what was compared.
 fn compare(
@@ -51,9 +51,9 @@ fn reached(tally: &Tally, numbers: &[usize], least: u64) {
     }
 }
 
-/// Checks that every call was accepted at least so often.
+/// Checks that every call but open was accepted at least so often.
 fn all_accepted(tally: &Tally, least: u64) {
-    for (name, row) in Call::NAMES.iter().zip(&tally.calls) {
+    for (name, row) in Call::NAMES.iter().zip(&tally.calls).skip(1) {
         assert!(row[0] >= least, "too few accepted calls of {name}");
     }
 }
@@ -61,7 +61,13 @@ fn all_accepted(tally: &Tally, least: u64) {
 /// Compares undamaged histories from an opening and checks what they reach.
 fn histories_from(first: u64) {
     let tally = compare(HISTORIES, first, |pair, n| {
-        histories::run(pair, Beginning::Opening, SEED, n, 250)
+        let crowded = n.is_multiple_of(8);
+        let beginning = if crowded {
+            Beginning::Crowd
+        } else {
+            Beginning::Opening
+        };
+        histories::run(pair, beginning, SEED, n, 250)
     });
     reached(&tally, &[3, 4, 6, 7, 9], 20);
     reached(&tally, &[5, 8, 11], 500);
@@ -120,11 +126,7 @@ fn each_sentence_of_sound_broken_alone() {
     });
     for damage in &DAMAGES {
         let states = tally.cases.get(damage.name).copied().unwrap_or(0);
-        assert!(
-            states >= DAMAGED * 3 / 4,
-            "{}: {states} states",
-            damage.name
-        );
+        assert!(states >= DAMAGED, "{}: {states} states", damage.name);
     }
     let refused: u64 = tally.refused(2);
     assert_eq!(
@@ -155,7 +157,7 @@ fn any_bytes_and_any_numbers() {
 fn heaps_of_any_length() {
     let tally = compare(LENGTHS, 0, |pair, n| unsound::lengths(pair, SEED, n));
     reached(&tally, &[1], 3_000);
-    assert!(tally.refused(0) >= 1_000);
+    assert!(tally.refused(0) >= 500);
 }
 
 #[test]

@@ -1,7 +1,7 @@
 //! Compares the proved code with the reference from a fresh seed for a given time.
 //!
 //! `fuzz SECONDS [SEED]` compares scripts and calls, `fuzz sanitize SECONDS [SEED]` compares calls
-//! alone with heaps that a memory checker can watch, `fuzz again FILE` makes a saved call again.
+//! alone with heaps that a memory checker can watch, `fuzz again FILE` makes a saved case again.
 
 use std::env;
 use std::fs;
@@ -11,14 +11,16 @@ use std::time::{Duration, Instant, SystemTime, UNIX_EPOCH};
 use lokhazim_tests::calls::Pair;
 use lokhazim_tests::case::read_case;
 use lokhazim_tests::compare::Failure;
-use lokhazim_tests::programs::Programs;
+use lokhazim_tests::histories;
+use lokhazim_tests::programs::{Feed, Programs};
 use lokhazim_tests::rounds;
 use lokhazim_tests::themes::THEMES;
+use lokhazim_tests::unsound;
 
 /// How often progress is printed.
 const PROGRESS: Duration = Duration::from_secs(5);
 
-/// What is wrong with the arguments.
+/// What the arguments may be.
 const USAGE: &str =
     "say 'fuzz SECONDS [SEED]', 'fuzz sanitize SECONDS [SEED]' or 'fuzz again FILE'";
 
@@ -56,7 +58,7 @@ fn timed(words: &[&str], run: fn(Clock, u64) -> Result<(), Failure>) -> Result<(
 fn fresh_seed() -> u64 {
     let since = SystemTime::now().duration_since(UNIX_EPOCH);
     let nanos = since.map_or(0, |time| time.as_nanos() as u64);
-    (nanos ^ u64::from(std::process::id()) << 40) % 1_000_000_000_000
+    (nanos ^ (u64::from(std::process::id()) << 40)) % 1_000_000_000_000
 }
 
 /// The time that a run has, and when it last said how far it is.
@@ -96,14 +98,18 @@ fn fuzz(mut clock: Clock, seed: u64) -> Result<(), Failure> {
     let mut round = 0;
     while clock.goes_on(&pair) {
         for theme in &THEMES {
-            rounds::script(&programs, &mut pair.tally, theme, seed, round)?;
+            // There are many kinds of malformed lines, and one of them at a time.
+            let scripts = if theme.name == "malformed" { 8 } else { 1 };
+            for n in scripts * round..scripts * (round + 1) {
+                rounds::script(&programs, &mut pair.tally, theme, seed, n)?;
+            }
         }
         for turn in 0..4 {
             rounds::calls(&mut pair, seed, 4 * round + turn)?;
         }
         round += 1;
     }
-    println!("no difference. {}", pair.tally);
+    println!("No difference. {}", pair.tally);
     Ok(())
 }
 
@@ -115,21 +121,28 @@ fn sanitize(mut clock: Clock, seed: u64) -> Result<(), Failure> {
         rounds::calls(&mut pair, seed, round)?;
         round += 1;
     }
-    println!("no difference. {}", pair.tally);
+    println!("No difference. {}", pair.tally);
     Ok(())
 }
 
-/// Makes a saved call again.
+/// Makes a saved case again: a script if the file's name ends in `.in`, else a call.
 fn again(file: &str) -> Result<(), Failure> {
-    let text = fs::read_to_string(file)
-        .map_err(|error| Failure(format!("{file} could not be read: {error}")))?;
-    let (mut state, call) =
+    let bytes =
+        fs::read(file).map_err(|error| Failure(format!("{file} could not be read: {error}")))?;
+    if file.ends_with(".in") {
+        let output = Programs::find()?.compare("again", &bytes, Feed::Whole)?;
+        println!("No difference. {}", String::from_utf8_lossy(&output));
+        return Ok(());
+    }
+    let text = String::from_utf8_lossy(&bytes);
+    let (state, call) =
         read_case(&text).ok_or_else(|| Failure(format!("{file} is no saved call")))?;
     let mut pair = Pair::new();
     pair.begin("again", 0, 0);
-    let answer = pair.call(&mut state, call)?;
+    unsound::check_is_the_judges(&mut pair, &state)?;
+    let answer = histories::once(&mut pair, state, call)?;
     println!(
-        "no difference: '{call}' gives refusal {}, numbers {:?}",
+        "No difference. '{call}' gives refusal {}, numbers {:?}",
         answer.refusal, answer.numbers
     );
     Ok(())
