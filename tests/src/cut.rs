@@ -84,6 +84,18 @@ pub fn put(heap: &mut [u8], offset: u32, bytes: [u8; 8]) {
     heap[start..start + 8].copy_from_slice(&bytes);
 }
 
+/// Tells whether a handle names no live object although the eight bytes before its base look like
+/// the header of one.
+pub fn looks_alive(heap: &[u8], handle: Handle) -> bool {
+    let start = (handle.base as usize).wrapping_sub(8);
+    let Some(bytes) = start.checked_add(8).and_then(|end| heap.get(start..end)) else {
+        return false;
+    };
+    let (size, serial) = (number(bytes, 0, 2) * 8, number(bytes, 4, 4));
+    let alike = serial != 0 && serial == handle.serial && size == handle.length.wrapping_add(8);
+    alike && !live_handles(heap).contains(&handle)
+}
+
 /// On which sides blocks that became free were joined, over one call.
 #[derive(Clone, Copy, Debug, Default, PartialEq, Eq)]
 pub struct Joins {

@@ -48,11 +48,11 @@ pub fn live_handle(seed: &mut Seed, view: &View) -> Handle {
 
 /// Gives a handle that most likely names no live object.
 pub fn forged_handle(seed: &mut Seed, view: &View) -> Handle {
-    match seed.below(6) {
+    match seed.below(8) {
         0 => seed.any_of(view.old).unwrap_or_default(),
         1 => handle_of_free_block(seed, view),
-        2 => handle_to_look_alike(seed, view),
-        3 => Handle {
+        2..=4 => handle_to_look_alike(seed, view),
+        5 => Handle {
             base: seed.odd_word(),
             length: seed.odd_word(),
             serial: seed.odd_word(),
@@ -68,19 +68,32 @@ fn handle_of_free_block(seed: &mut Seed, view: &View) -> Handle {
     seed.any_of(&free).map(handle_of).unwrap_or_default()
 }
 
-/// Reads eight bytes inside an object as a header and gives the handle that it would have.
+/// Reads eight bytes inside an object as a header and gives the handle that it would have. A few
+/// places are tried until one looks like a live block.
 fn handle_to_look_alike(seed: &mut Seed, view: &View) -> Handle {
-    let Some(object) = seed.any_of(&view.live) else {
+    let mut handle = Handle::default();
+    for _ in 0..8 {
+        let Some(object) = seed.any_of(&view.live) else {
+            break;
+        };
+        let at = object.base + 8 * seed.below((object.length / 8).max(1));
+        handle = handle_at(view.heap, at);
+        if handle.serial != 0 && handle.length >= 8 {
+            break;
+        }
+    }
+    handle
+}
+
+/// Reads the eight bytes at an offset as a header and gives its object's handle.
+fn handle_at(heap: &[u8], at: u32) -> Handle {
+    let start = at as usize;
+    let Some(bytes) = heap.get(start..start + 8) else {
         return Handle::default();
-    };
-    let inside = 8 * seed.below((object.length / 8).max(1));
-    let start = (object.base + inside) as usize;
-    let Some(bytes) = view.heap.get(start..start + 8) else {
-        return object;
     };
     let units = u16::from_le_bytes([bytes[0], bytes[1]]);
     Handle {
-        base: object.base + inside + 8,
+        base: at + 8,
         length: (8 * u32::from(units)).saturating_sub(8),
         serial: u32::from_le_bytes([bytes[4], bytes[5], bytes[6], bytes[7]]),
     }

@@ -64,13 +64,7 @@ pub fn run(
             _ if numbers.percent(6) => habits.weights = mood(&mut numbers),
             _ => {}
         }
-        match numbers.below(400) {
-            0..=7 => history.write_look_alikes(&mut numbers),
-            8..=13 => history.list_and_ask()?,
-            14 => history.claim_to_the_end(&mut numbers)?,
-            15..=17 => history.fill_records(&mut numbers)?,
-            _ => {}
-        }
+        history.now_and_then(&mut numbers)?;
     }
     Ok(())
 }
@@ -169,6 +163,18 @@ impl History<'_> {
             self.given_out.push(answer.handle());
         }
         Ok(answer)
+    }
+
+    /// Does now and then what a single call does not.
+    fn now_and_then(&mut self, seed: &mut Seed) -> Result<(), Failure> {
+        match seed.below(400) {
+            0..=11 => self.write_look_alikes(seed),
+            12..=17 => self.list_and_ask()?,
+            18 => self.claim_to_the_end(seed)?,
+            19..=21 => self.fill_records(seed)?,
+            _ => {}
+        }
+        Ok(())
     }
 
     /// Writes bytes that look like headers into an object, as a caller does through lend.

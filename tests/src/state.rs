@@ -95,6 +95,15 @@ impl Call {
         }
     }
 
+    /// Gives the handle that the call names, if it has one.
+    pub fn handle(self) -> Option<Handle> {
+        match self {
+            Call::Claim(_, h) | Call::Release(_, h) | Call::CanRelease(_, h) => Some(h),
+            Call::Reallocate(_, h, _) | Call::Lend(h) | Call::Write(h, ..) => Some(h),
+            _ => None,
+        }
+    }
+
     /// Gives the call's numbers in the order in which they are written.
     pub fn numbers(self) -> Vec<u64> {
         let with = |first: &[u32], h: Handle, last: &[u32]| {

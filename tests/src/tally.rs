@@ -3,7 +3,7 @@
 use std::collections::BTreeMap;
 use std::fmt;
 
-use crate::cut::joins;
+use crate::cut::{joins, looks_alive};
 use crate::state::{Answer, Call, State};
 
 /// The counts of one run.
@@ -27,7 +27,9 @@ pub struct Tally {
     pub full_counts: u64,
     /// Calls on accounts without an unused record.
     pub full_tables: u64,
-    /// Cases by a name of their own: kinds of damage, of malformed lines.
+    /// Calls whose handle names no object although the bytes before its base look like its header.
+    pub look_alikes: u64,
+    /// Cases by a name of their own: the kinds of damage.
     pub cases: BTreeMap<&'static str, u64>,
 }
 
@@ -39,6 +41,8 @@ impl Tally {
         let holds = &before.accounts.holds;
         self.full_counts += u64::from(holds.iter().any(|hold| hold.count == 255));
         self.full_tables += u64::from(holds.iter().all(|hold| hold.is_used()));
+        let forged = call.handle().is_some_and(|h| looks_alive(&before.heap, h));
+        self.look_alikes += u64::from(forged);
         let frees = matches!(
             call,
             Call::Release(..) | Call::FreeAll(_) | Call::Reallocate(..)
@@ -72,26 +76,6 @@ impl Tally {
     /// Counts a case under its name.
     pub fn count_case(&mut self, name: &'static str) {
         *self.cases.entry(name).or_default() += 1;
-    }
-
-    /// Adds another tally.
-    pub fn add(&mut self, other: &Tally) {
-        for (row, more) in self.calls.iter_mut().zip(&other.calls) {
-            row.iter_mut().zip(more).for_each(|(sum, n)| *sum += n);
-        }
-        self.scripts += other.scripts;
-        for (name, n) in &other.lines {
-            *self.lines.entry(name.clone()).or_default() += n;
-        }
-        for (name, n) in &other.cases {
-            *self.cases.entry(name).or_default() += n;
-        }
-        self.joined_front += other.joined_front;
-        self.joined_behind += other.joined_behind;
-        self.joined_both += other.joined_both;
-        self.joined_neither += other.joined_neither;
-        self.full_counts += other.full_counts;
-        self.full_tables += other.full_tables;
     }
 
     /// Gives the number of calls.
@@ -155,8 +139,8 @@ impl fmt::Display for Tally {
         )?;
         write!(
             f,
-            "  calls with a count of 255: {}, with a full hold table: {}",
-            self.full_counts, self.full_tables
+            "  calls with a count of 255: {}, with a full hold table: {}, with a handle to bytes that look like a header: {}",
+            self.full_counts, self.full_tables, self.look_alikes
         )
     }
 }

@@ -290,40 +290,44 @@ fn longest_input(seed: &mut Seed) -> Vec<u8> {
     text
 }
 
-/// Opens with lengths and grants on both sides of their limits; a refused open ends the script
-/// whatever stands behind it.
+/// Heap lengths on both sides of their limits.
+const LENGTHS: [u32; 12] = [
+    0,
+    8,
+    56,
+    63,
+    64,
+    65,
+    72,
+    32_760,
+    32_768,
+    32_769,
+    32_776,
+    4_294_967_295,
+];
+
+/// What may stand behind a refused open, which ends a script whatever follows.
+const BEHIND: [&str; 7] = [
+    "",
+    "alloc 0 1\n",
+    "open 64\n",
+    "alloc 0 1",
+    "\n",
+    " \n",
+    "x",
+];
+
+/// Opens with lengths and grants on both sides of their limits.
 fn openings(seed: &mut Seed) -> Vec<u8> {
     let length = match seed.below(4) {
-        0 => seed.pick(&[
-            0,
-            8,
-            56,
-            63,
-            64,
-            65,
-            72,
-            32_760,
-            32_768,
-            32_769,
-            32_776,
-            u32::MAX,
-        ]),
+        0 => seed.pick(&LENGTHS),
         1 => seed.odd_word(),
         2 => seed.between(48, 80),
         _ => heap_length(seed),
     };
     let grants = grants(seed);
     if !length.is_multiple_of(8) || !(64..=32_768).contains(&length) {
-        let behind = seed.pick(&[
-            "",
-            "alloc 0 1\n",
-            "open 64\n",
-            "alloc 0 1",
-            "\n",
-            " \n",
-            "x",
-        ]);
-        return (open_line(length, grants) + behind).into_bytes();
+        return (open_line(length, grants) + seed.pick(&BEHIND)).into_bytes();
     }
     let mut script = Script::open(length, grants);
     let habits = habits(seed, length);

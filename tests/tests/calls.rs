@@ -83,7 +83,7 @@ fn histories_from(first: u64) {
             .min(tally.joined_both)
             >= 200
     );
-    assert!(tally.full_counts >= 500 && tally.full_tables >= 100);
+    assert!(tally.full_counts >= 500 && tally.full_tables >= 100 && tally.look_alikes >= 50);
 }
 
 #[test]
@@ -115,7 +115,7 @@ fn sound_states_that_no_replay_reaches_and_the_ledger() {
             .min(tally.joined_both)
             >= 200
     );
-    assert!(tally.full_counts >= 5_000 && tally.full_tables >= 1_000);
+    assert!(tally.full_counts >= 5_000 && tally.full_tables >= 1_000 && tally.look_alikes >= 500);
 }
 
 #[test]

@@ -55,23 +55,24 @@ const PARTS: [Part; 13] = [
     ),
 ];
 
-/// Compares every script of a theme and checks what was printed.
-fn compare_theme(name: &str) {
+/// Compares every script of a theme, checks what was printed, and gives all of it.
+fn compare_theme(name: &str) -> String {
     let programs = Programs::find().unwrap_or_else(|failure| panic!("{failure}"));
     let mut themes = THEMES.iter();
     let theme = themes.find(|theme| theme.name == name).expect("a theme");
     let mut parts = PARTS.iter();
     let (_, count, least) = parts.find(|part| part.0 == name).expect("a part");
-    let mut tally = Tally::default();
+    let (mut tally, mut printed) = (Tally::default(), Vec::new());
     for n in 0..*count {
         let compared = rounds::script(&programs, &mut tally, theme, SEED, n);
-        compared.unwrap_or_else(|failure| panic!("{failure}"));
+        printed.extend(compared.unwrap_or_else(|failure| panic!("{failure}")));
     }
     println!("{name}: {tally}");
     assert_eq!(tally.scripts, *count);
     for (text, n) in least.iter() {
         assert!(tally.lines_of(text) >= *n, "too few lines '{text}'");
     }
+    String::from_utf8_lossy(&printed).into_owned()
 }
 
 /// Makes one test of each theme.
@@ -96,7 +97,6 @@ themes! {
     counts_up_to_255 "full-counts"
     full_hold_tables "full-records"
     stale_and_forged_handles "forged-handles"
-    both_sides_of_every_row_of_the_rounding_table "rounding-edges"
     array_overflow "array-products"
     the_longest_input "longest-input"
     heap_lengths_and_grants "openings"
@@ -106,10 +106,30 @@ themes! {
 }
 
 #[test]
+fn both_sides_of_every_row_of_the_rounding_table() {
+    let printed = compare_theme("rounding-edges");
+    let answered = |base: u32, length: u32| {
+        let mut lines = printed.lines().filter(|line| line.starts_with("ok "));
+        lines.any(|line| line.starts_with(&format!("ok {base} {length} ")))
+    };
+    // The lowest base and the object's length for requests at the edges of each row.
+    for length in [8, 16, 24, 8_176, 8_184, 8_192] {
+        assert!(answered(8, length), "unit 8, length {length}");
+    }
+    for length in [8_192, 8_208, 8_224, 16_368, 16_384] {
+        assert!(answered(16, length), "unit 16, length {length}");
+    }
+    for length in [16_384, 16_416, 32_736] {
+        assert!(answered(32, length), "unit 32, length {length}");
+    }
+}
+
+#[test]
 fn there_are_at_least_2000_scripts_and_every_theme_is_tested() {
     let generated: u64 = PARTS.iter().map(|part| part.1).sum();
     assert!(generated + MALFORMED * KINDS.len() as u64 >= 2_000);
-    let tested = |name: &str| TESTED.contains(&name) || name == "malformed";
+    let of_their_own = ["rounding-edges", "malformed"];
+    let tested = |name: &str| TESTED.contains(&name) || of_their_own.contains(&name);
     assert!(THEMES.iter().all(|theme| tested(theme.name)));
 }
 
