@@ -1,9 +1,14 @@
-# make run    prove every crate, and print what is proved so far
-# make test   prove everything from nothing, try every must-fail edit, run every test
-# make lib    prove the exported calls, and write build/lib/liblokhazim.a with its header
+# make run       prove every crate, and print what is proved so far
+# make test      prove everything from nothing, try every must-fail edit, run every test
+# make lib       prove the exported calls, and write build/lib/liblokhazim.a with its header
 # make figures   print the library's code size, the stack that calls need, and the bytes of accounts
+# make fuzz      compare the proved code with the reference from a fresh seed: SECONDS=600 SEED=..
+# make sanitize  compare calls under valgrind: SECONDS=600 SEED=..
 
-.PHONY: run test lib figures clean
+SECONDS := 60
+SEED :=
+
+.PHONY: run test lib figures fuzz sanitize clean
 
 run:
 	@scripts/run
@@ -16,6 +21,12 @@ lib:
 
 figures:
 	@scripts/figures
+
+fuzz:
+	@scripts/fuzz $(SECONDS) $(SEED)
+
+sanitize:
+	@scripts/sanitize $(SECONDS) $(SEED)
 
 clean:
 	rm -rf target build

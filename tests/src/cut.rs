@@ -1,0 +1,134 @@
+//! A heap's bytes read as blocks and blocks written as bytes, by the harness's own code.
+
+use lokhazim_reference::{Block, Handle};
+
+use crate::state::State;
+
+/// A block as its header states it, and the size that it states for the block before.
+#[derive(Clone, Copy, Debug, PartialEq, Eq)]
+pub struct Stated {
+    /// The block.
+    pub block: Block,
+    /// The stated size of the block before, in bytes.
+    pub back_size: u32,
+}
+
+/// What a walk over stated sizes met, and whether it ended at the heap's end.
+pub struct Walk {
+    /// The blocks in order.
+    pub blocks: Vec<Stated>,
+    /// Whether the last block ends at the heap's end.
+    pub complete: bool,
+}
+
+/// Reads so many bytes from an offset as a little-endian number.
+fn number(heap: &[u8], offset: usize, bytes: usize) -> u32 {
+    let digits = heap[offset..offset + bytes].iter().rev();
+    digits.fold(0, |value, byte| value << 8 | u32::from(*byte))
+}
+
+/// Walks by the stated sizes for as long as they lead to a header inside the heap.
+pub fn walk(heap: &[u8]) -> Walk {
+    let mut blocks = Vec::new();
+    let mut at = 0;
+    while at + 8 <= heap.len() {
+        let size = number(heap, at, 2) * 8;
+        if size == 0 {
+            break;
+        }
+        let block = Block {
+            offset: at as u32,
+            size,
+            serial: number(heap, at + 4, 4),
+        };
+        let back_size = number(heap, at + 2, 2) * 8;
+        blocks.push(Stated { block, back_size });
+        at += size as usize;
+    }
+    let complete = at == heap.len();
+    Walk { blocks, complete }
+}
+
+/// Gives the blocks that a walk meets.
+pub fn blocks(heap: &[u8]) -> Vec<Block> {
+    let met = walk(heap).blocks;
+    met.into_iter().map(|stated| stated.block).collect()
+}
+
+/// Gives the handle of a live block's object.
+pub fn handle_of(block: Block) -> Handle {
+    Handle {
+        base: block.offset + 8,
+        length: block.size.saturating_sub(8),
+        serial: block.serial,
+    }
+}
+
+/// Gives the handles of the live blocks that a walk meets.
+pub fn live_handles(heap: &[u8]) -> Vec<Handle> {
+    let live = blocks(heap).into_iter().filter(|block| block.serial != 0);
+    live.map(handle_of).collect()
+}
+
+/// Gives the eight bytes of a header; the sizes are in bytes.
+pub fn header(size: u32, back_size: u32, serial: u32) -> [u8; 8] {
+    let [a, b, ..] = (size / 8).to_le_bytes();
+    let [c, d, ..] = (back_size / 8).to_le_bytes();
+    let [e, f, g, h] = serial.to_le_bytes();
+    [a, b, c, d, e, f, g, h]
+}
+
+/// Writes eight bytes at an offset.
+pub fn put(heap: &mut [u8], offset: u32, bytes: [u8; 8]) {
+    let start = offset as usize;
+    heap[start..start + 8].copy_from_slice(&bytes);
+}
+
+/// Tells whether a handle names no live object although the eight bytes before its base look like
+/// the header of one.
+pub fn looks_alive(heap: &[u8], handle: Handle) -> bool {
+    let start = (handle.base as usize).wrapping_sub(8);
+    let Some(bytes) = start.checked_add(8).and_then(|end| heap.get(start..end)) else {
+        return false;
+    };
+    let (size, serial) = (number(bytes, 0, 2) * 8, number(bytes, 4, 4));
+    let alike = serial != 0 && serial == handle.serial && size == handle.length.wrapping_add(8);
+    alike && !live_handles(heap).contains(&handle)
+}
+
+/// On which sides blocks that became free were joined, over one call.
+#[derive(Clone, Copy, Debug, Default, PartialEq, Eq)]
+pub struct Joins {
+    /// A freed block joined the free block in front of it alone.
+    pub front: u64,
+    /// A freed block joined the free block behind it alone.
+    pub behind: u64,
+    /// A freed block joined free blocks on both sides.
+    pub both: u64,
+    /// A freed block had live neighbours, or none.
+    pub neither: u64,
+}
+
+/// Gives the joins of a call that took the first state to the second.
+pub fn joins(before: &State, after: &State) -> Joins {
+    let live = live_handles(&after.heap);
+    let old = blocks(&before.heap);
+    let free = |place: Option<usize>| {
+        place
+            .and_then(|p| old.get(p))
+            .is_some_and(|b| b.serial == 0)
+    };
+    let mut joins = Joins::default();
+    for (place, block) in old.iter().enumerate() {
+        if block.serial == 0 || live.contains(&handle_of(*block)) {
+            continue;
+        }
+        match (free(place.checked_sub(1)), free(Some(place + 1))) {
+            (true, true) => joins.both += 1,
+            (true, false) => joins.front += 1,
+            (false, true) => joins.behind += 1,
+            (false, false) => joins.neither += 1,
+        }
+    }
+    joins
+}

@@ -1,0 +1,140 @@
+//! Damage to a plan, before its grants are worked out and its bytes written: the sums stay true.
+
+use lokhazim_reference::{Hold, QUOTAS};
+
+use crate::seed::Seed;
+use crate::states::{Piece, Plan};
+
+/// Cuts a live block down to its header and gives the rest to a free block behind it.
+pub(super) fn short_live_block(plan: &mut Plan, seed: &mut Seed) -> Option<()> {
+    let place = seed.any_of(&plan.live())?;
+    let rest = plan.pieces[place].size - 8;
+    plan.pieces[place].size = 8;
+    let behind = plan.pieces.get_mut(place + 1);
+    if let Some(free) = behind.filter(|piece| piece.serial == 0) {
+        free.size += rest;
+        return Some(());
+    }
+    let free = Piece {
+        size: rest,
+        serial: 0,
+    };
+    plan.pieces.insert(place + 1, free);
+    Some(())
+}
+
+/// Splits a free block in two.
+pub(super) fn two_free_blocks(plan: &mut Plan, seed: &mut Seed) -> Option<()> {
+    let places: Vec<usize> = (0..plan.pieces.len())
+        .filter(|p| plan.pieces[*p].serial == 0 && plan.pieces[*p].size >= 16)
+        .collect();
+    let place = seed.any_of(&places)?;
+    let units = plan.pieces[place].size / 8;
+    let first = 8 * seed.between(1, units - 1);
+    let rest = Piece {
+        size: 8 * units - first,
+        serial: 0,
+    };
+    plan.pieces[place].size = first;
+    plan.pieces.insert(place + 1, rest);
+    Some(())
+}
+
+/// Gives a live block the serial of another, and drops the records of its own.
+pub(super) fn serial_twice(plan: &mut Plan, seed: &mut Seed) -> Option<()> {
+    let mut live = plan.live();
+    seed.shuffle(&mut live);
+    let (first, second) = (*live.first()?, *live.get(1)?);
+    let gone = plan.pieces[second].serial;
+    plan.pieces[second].serial = plan.pieces[first].serial;
+    drop_records(plan, gone);
+    Some(())
+}
+
+/// Lowers the last serial below the highest live one.
+pub(super) fn serial_above_last(plan: &mut Plan, seed: &mut Seed) -> Option<()> {
+    let highest = plan.pieces.iter().map(|piece| piece.serial).max()?;
+    plan.last_serial = highest.checked_sub(1)? - seed.below(highest.min(3));
+    Some(())
+}
+
+/// Adds a record at any unused place.
+pub(super) fn add_record(
+    plan: &mut Plan,
+    seed: &mut Seed,
+    serial: u32,
+    quota: u8,
+    count: u8,
+) -> Option<()> {
+    let place = seed.any_of(&plan.record_places(false))?;
+    plan.records[place] = Hold {
+        serial,
+        quota,
+        count,
+    };
+    Some(())
+}
+
+/// Adds a record of a serial that no live block has.
+pub(super) fn record_of_no_object(plan: &mut Plan, seed: &mut Seed) -> Option<()> {
+    let near = plan.pieces[seed.place(plan.pieces.len())]
+        .serial
+        .wrapping_add(1);
+    let serial = seed.pick(&[near, plan.last_serial, u32::MAX, 1, seed.clone().word()]);
+    let live = plan.pieces.iter().any(|piece| piece.serial == serial);
+    let quota = seed.below(QUOTAS as u32) as u8;
+    (!live).then(|| add_record(plan, seed, serial, quota, 1))?
+}
+
+/// Adds a record of a live serial with a quota above 7.
+pub(super) fn further_high_quota(plan: &mut Plan, seed: &mut Seed) -> Option<()> {
+    let place = seed.any_of(&plan.live())?;
+    let quota = seed.pick(&[8, 9, 15, 16, 64, 128, 255]);
+    let serial = plan.pieces[place].serial;
+    add_record(plan, seed, serial, quota, 1)
+}
+
+/// Changes one used record; the change is handed a number with a bit above 7.
+pub(super) fn change_record(
+    plan: &mut Plan,
+    seed: &mut Seed,
+    change: fn(&mut Hold, u8),
+) -> Option<()> {
+    let place = seed.any_of(&plan.record_places(true))?;
+    let high = 8 << seed.below(5);
+    change(&mut plan.records[place], high);
+    Some(())
+}
+
+/// Adds a second record of a serial and quota.
+pub(super) fn record_twice(plan: &mut Plan, seed: &mut Seed, other_count: bool) -> Option<()> {
+    let place = seed.any_of(&plan.record_places(true))?;
+    let Hold {
+        serial,
+        quota,
+        count,
+    } = plan.records[place];
+    let count = if other_count { count % 255 + 1 } else { count };
+    add_record(plan, seed, serial, quota, count)
+}
+
+/// Clears every record of a serial.
+fn drop_records(plan: &mut Plan, serial: u32) {
+    for record in plan.records.iter_mut().filter(|h| h.serial == serial) {
+        *record = Hold::UNUSED;
+    }
+}
+
+/// Clears every record of one object.
+pub(super) fn object_without_record(plan: &mut Plan, seed: &mut Seed) -> Option<()> {
+    let place = seed.any_of(&plan.live())?;
+    drop_records(plan, plan.pieces[place].serial);
+    Some(())
+}
+
+/// Clears every record, where there is an object.
+pub(super) fn no_record_at_all(plan: &mut Plan, _: &mut Seed) -> Option<()> {
+    plan.live().first()?;
+    plan.records.fill(Hold::UNUSED);
+    Some(())
+}

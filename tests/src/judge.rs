@@ -1,0 +1,119 @@
+//! The paragraph "Sound" of document 01, judged sentence by sentence with plain loops.
+
+use lokhazim_reference::{Block, Hold, QUOTAS};
+
+use crate::cut::{walk, Stated};
+use crate::state::State;
+
+/// The sentences of the paragraph, in its order.
+#[derive(Clone, Copy, Debug, PartialEq, Eq, PartialOrd, Ord)]
+pub enum Sentence {
+    /// The heap is cut as above, every size and back size true, the last block ending at H.
+    Cut,
+    /// Live serials differ from each other and are at most the last serial.
+    Serials,
+    /// Every used record has a live object's serial, a quota below 8 and a count of at least 1.
+    Records,
+    /// No two used records have the same serial and quota.
+    Twice,
+    /// Every live object has a record.
+    Held,
+    /// Each grant is the remainder and the charges, in whole numbers.
+    Sums,
+}
+
+/// Every sentence.
+pub const SENTENCES: [Sentence; 6] = [
+    Sentence::Cut,
+    Sentence::Serials,
+    Sentence::Records,
+    Sentence::Twice,
+    Sentence::Held,
+    Sentence::Sums,
+];
+
+/// Gives the sentences that a state of an allowed heap length breaks. Where the sizes do not lead
+/// to the heap's end, the others speak of nothing and only the first is given.
+pub fn broken(state: &State) -> Vec<Sentence> {
+    let walk = walk(&state.heap);
+    if !walk.complete {
+        return vec![Sentence::Cut];
+    }
+    let live: Vec<Block> = walk.blocks.iter().map(|stated| stated.block).collect();
+    let live: Vec<Block> = live.into_iter().filter(|block| block.serial != 0).collect();
+    let used = used_records(state);
+    let holds = |sentence: &Sentence| match sentence {
+        Sentence::Cut => is_cut(&walk.blocks),
+        Sentence::Serials => serials_hold(&live, state.accounts.last_serial),
+        Sentence::Records => used.iter().all(|hold| record_holds(&live, hold)),
+        Sentence::Twice => no_record_twice(&used),
+        Sentence::Held => live
+            .iter()
+            .all(|b| used.iter().any(|h| h.serial == b.serial)),
+        Sentence::Sums => sums_hold(state, &live, &used),
+    };
+    let broken = SENTENCES.into_iter().filter(|sentence| !holds(sentence));
+    broken.collect()
+}
+
+/// Gives the used records: those that are not all zero.
+fn used_records(state: &State) -> Vec<Hold> {
+    let holds = state.accounts.holds.iter().copied();
+    holds
+        .filter(|h| h.serial != 0 || h.quota != 0 || h.count != 0)
+        .collect()
+}
+
+/// Judges back sizes, least sizes and neighbours.
+fn is_cut(blocks: &[Stated]) -> bool {
+    let mut before = Block {
+        offset: 0,
+        size: 0,
+        serial: 1,
+    };
+    for stated in blocks {
+        let Stated { block, back_size } = *stated;
+        let too_short = block.serial != 0 && block.size < 16;
+        let two_free = block.serial == 0 && before.serial == 0;
+        if back_size != before.size || too_short || two_free {
+            return false;
+        }
+        before = block;
+    }
+    true
+}
+
+/// Judges the live serials.
+fn serials_hold(live: &[Block], last_serial: u32) -> bool {
+    live.iter().enumerate().all(|(place, block)| {
+        let again = live[..place].iter().any(|b| b.serial == block.serial);
+        !again && block.serial <= last_serial
+    })
+}
+
+/// Judges one used record.
+fn record_holds(live: &[Block], hold: &Hold) -> bool {
+    let names_live = live.iter().any(|block| block.serial == hold.serial);
+    names_live && usize::from(hold.quota) < QUOTAS && hold.count >= 1
+}
+
+/// Judges whether no two used records agree in serial and quota.
+fn no_record_twice(used: &[Hold]) -> bool {
+    used.iter().enumerate().all(|(place, hold)| {
+        let same = |h: &Hold| h.serial == hold.serial && h.quota == hold.quota;
+        !used[..place].iter().any(same)
+    })
+}
+
+/// Judges the sum of each quota.
+fn sums_hold(state: &State, live: &[Block], used: &[Hold]) -> bool {
+    let quotas = state.accounts.quotas.iter().enumerate();
+    quotas.into_iter().all(|(number, quota)| {
+        let has = |block: &&Block| {
+            let its = |h: &Hold| h.serial == block.serial && usize::from(h.quota) == number;
+            used.iter().any(its)
+        };
+        let charges: u64 = live.iter().filter(has).map(|b| u64::from(b.size)).sum();
+        u64::from(quota.grant) == u64::from(quota.remainder) + charges
+    })
+}

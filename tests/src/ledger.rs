@@ -1,0 +1,249 @@
+//! Document 01's ledger: it is fed the arguments and the answer of each call, and nothing of heap
+//! or accounts.
+
+use lokhazim_reference::{Handle, HOLDS, QUOTAS};
+
+use crate::cut::live_handles;
+use crate::state::{Answer, Call, State};
+
+/// An object of the ledger with each quota's holds on it.
+#[derive(Clone, Debug, PartialEq, Eq)]
+pub struct Object {
+    /// Base, length and serial.
+    pub handle: Handle,
+    /// The holds of each quota.
+    pub holds: [u32; QUOTAS],
+}
+
+impl Object {
+    /// The place of the object's block in the heap.
+    pub fn block(&self) -> std::ops::Range<usize> {
+        let end = self.handle.base + self.handle.length;
+        self.handle.base as usize - 8..end as usize
+    }
+
+    /// What a quota with holds on the object has paid.
+    pub fn charge(&self) -> u32 {
+        self.handle.length + 8
+    }
+}
+
+/// The ledger: the grants as opened and the objects. Heap length and last serial belong to what
+/// the caller handed in and was answered.
+#[derive(Clone, Debug)]
+pub struct Ledger {
+    /// The length of the heap.
+    pub heap_length: u32,
+    /// The grants as opened.
+    pub grants: [u32; QUOTAS],
+    /// The last serial that was answered.
+    pub last_serial: u32,
+    /// The objects.
+    pub objects: Vec<Object>,
+}
+
+/// A request as rounded: the unit and the object's length.
+#[derive(Clone, Copy, Debug, PartialEq, Eq)]
+pub struct Request {
+    /// The unit of base and length.
+    pub unit: u32,
+    /// The object's length.
+    pub length: u32,
+}
+
+/// Rounds a request by document 01's table; none for what refusal 4 is given for.
+pub fn request(bytes: u64) -> Option<Request> {
+    let unit = match bytes {
+        0 | 32_761.. => return None,
+        1..8_192 => 8,
+        8_192..16_384 => 16,
+        16_384..=32_760 => 32,
+    };
+    let length = (bytes as u32).div_ceil(unit) * unit;
+    Some(Request { unit, length })
+}
+
+impl Ledger {
+    /// The ledger after an accepted opening.
+    pub fn opened(heap_length: u32, grants: [u32; QUOTAS]) -> Ledger {
+        Ledger {
+            heap_length,
+            grants,
+            last_serial: 0,
+            objects: Vec::new(),
+        }
+    }
+
+    /// The ledger of a sound state that no list of calls led to: its grants as opened, its live
+    /// objects, and its records' counts as the holds so far.
+    pub fn read_off(state: &State) -> Ledger {
+        let accounts = &state.accounts;
+        let objects = live_handles(&state.heap).into_iter().map(|handle| {
+            let mut holds = [0; QUOTAS];
+            for hold in accounts.holds.iter().filter(|h| h.serial == handle.serial) {
+                holds[usize::from(hold.quota)] = u32::from(hold.count);
+            }
+            Object { handle, holds }
+        });
+        Ledger {
+            heap_length: state.heap.len() as u32,
+            grants: accounts.quotas.map(|quota| quota.grant),
+            last_serial: accounts.last_serial,
+            objects: objects.collect(),
+        }
+    }
+
+    /// Records a call with its answer.
+    pub fn record(&mut self, call: Call, answer: &Answer) {
+        if !answer.is_accepted() {
+            return;
+        }
+        match call {
+            Call::Open(grants) => *self = Ledger::opened(self.heap_length, grants),
+            Call::Allocate(q, _) | Call::Array(q, ..) => self.add(q, answer.handle()),
+            Call::Claim(q, h) => self.change(h.serial, q, |holds| holds + 1),
+            Call::Release(q, h) => self.change(h.serial, q, |holds| holds - 1),
+            Call::FreeAll(q) => {
+                let all = self.objects.iter_mut();
+                all.for_each(|object| object.holds[q as usize] = 0);
+            }
+            Call::Reallocate(q, old, _) => {
+                self.add(q, answer.handle());
+                self.change(old.serial, q, |holds| holds - 1);
+            }
+            _ => {}
+        }
+        let held = |object: &Object| object.holds.iter().any(|holds| *holds > 0);
+        self.objects.retain(held);
+    }
+
+    /// Adds the answered handle with one hold of the quota.
+    fn add(&mut self, quota: u32, handle: Handle) {
+        let mut holds = [0; QUOTAS];
+        holds[quota as usize] = 1;
+        self.objects.push(Object { handle, holds });
+        self.last_serial = handle.serial;
+    }
+
+    /// Changes a quota's holds on the object with this serial.
+    fn change(&mut self, serial: u32, quota: u32, change: impl Fn(u32) -> u32) {
+        for object in &mut self.objects {
+            if object.handle.serial == serial {
+                let holds = &mut object.holds[quota as usize];
+                *holds = change(*holds);
+            }
+        }
+    }
+
+    /// Gives the grant less the charges of the objects that the quota has holds on.
+    pub fn remainder(&self, quota: usize) -> i64 {
+        let held = self.objects.iter().filter(|object| object.holds[quota] > 0);
+        let charges: i64 = held.map(|object| i64::from(object.charge())).sum();
+        i64::from(self.grants[quota]) - charges
+    }
+
+    /// Gives serial, quota and count of each hold above 0, in order.
+    pub fn records(&self) -> Vec<(u32, usize, u32)> {
+        let mut records = Vec::new();
+        for object in &self.objects {
+            for (quota, count) in object.holds.iter().enumerate().filter(|(_, n)| **n > 0) {
+                records.push((object.handle.serial, quota, *count));
+            }
+        }
+        records.sort_unstable();
+        records
+    }
+
+    /// Finds the object that has all three numbers of the handle.
+    pub fn named(&self, handle: Handle) -> Option<&Object> {
+        self.objects.iter().find(|object| object.handle == handle)
+    }
+
+    /// Gives the base of the lowest suitable run of a request: every multiple of the unit is
+    /// tried, and the bytes of live blocks in its run are counted.
+    pub fn lowest_run(&self, request: Request) -> Option<u32> {
+        let mut taken = vec![0; self.heap_length as usize];
+        for object in &self.objects {
+            taken[object.block()].fill(1);
+        }
+        let mut taken_before = vec![0];
+        for byte in taken {
+            taken_before.push(taken_before[taken_before.len() - 1] + byte);
+        }
+        let bases = (0..=self.heap_length).step_by(request.unit as usize);
+        let mut inside = bases.filter(|b| *b >= 8 && b + request.length <= self.heap_length);
+        inside.find(|b| {
+            let (start, end) = (*b as usize - 8, (*b + request.length) as usize);
+            taken_before[start] == taken_before[end]
+        })
+    }
+
+    /// Gives the first line but 1, 2 and 11 of the table of refusals that holds for a call, or 0.
+    pub fn refusal_before_space(&self, call: Call) -> u32 {
+        let quota = match call {
+            Call::Allocate(q, _) | Call::Array(q, ..) | Call::Claim(q, _) => q,
+            Call::Release(q, _) | Call::FreeAll(q) | Call::Reallocate(q, ..) => q,
+            Call::Remaining(q) | Call::CanRelease(q, _) => q,
+            _ => 0,
+        };
+        if quota as usize >= QUOTAS {
+            return 3;
+        }
+        match call {
+            Call::Allocate(q, n) => self.request_refusal(q, u64::from(n), None),
+            Call::Array(q, n, s) => self.request_refusal(q, u64::from(n) * u64::from(s), None),
+            Call::Reallocate(q, h, n) => self.request_refusal(q, u64::from(n), Some(h)),
+            Call::Claim(q, h) => self.claim_refusal(q, h),
+            Call::Release(q, h) | Call::CanRelease(q, h) => self.release_refusal(q, h),
+            Call::Lend(h) | Call::Write(h, ..) if self.named(h).is_none() => 5,
+            _ => 0,
+        }
+    }
+
+    /// Lines 4 to 10 for a request.
+    fn request_refusal(&self, quota: u32, bytes: u64, old: Option<Handle>) -> u32 {
+        let Some(request) = request(bytes) else {
+            return 4;
+        };
+        let old_refusal = old.map_or(0, |old| self.release_refusal(quota, old));
+        if old_refusal != 0 {
+            return old_refusal;
+        }
+        match self.charge_refusal(quota, request.length + 8) {
+            0 if self.last_serial == u32::MAX => 10,
+            refusal => refusal,
+        }
+    }
+
+    /// Lines 5 and 6.
+    fn release_refusal(&self, quota: u32, handle: Handle) -> u32 {
+        match self.named(handle) {
+            None => 5,
+            Some(object) if object.holds[quota as usize] == 0 => 6,
+            Some(_) => 0,
+        }
+    }
+
+    /// Lines 8 and 9.
+    fn charge_refusal(&self, quota: u32, charge: u32) -> u32 {
+        if i64::from(charge) > self.remainder(quota as usize) {
+            return 8;
+        }
+        match self.records().len() {
+            HOLDS.. => 9,
+            _ => 0,
+        }
+    }
+
+    /// Lines 5 to 9 for a claim.
+    fn claim_refusal(&self, quota: u32, handle: Handle) -> u32 {
+        match self.named(handle) {
+            None => 5,
+            Some(object) => match object.holds[quota as usize] {
+                0 => self.charge_refusal(quota, object.charge()),
+                255.. => 7,
+                _ => 0,
+            },
+        }
+    }
+}

@@ -1,0 +1,54 @@
+//! Rounds of comparisons that the gate's tests and the fuzz program share.
+
+use crate::calls::Pair;
+use crate::compare::Failure;
+use crate::damage::DAMAGES;
+use crate::histories::{self, Beginning};
+use crate::programs::{Feed, Programs};
+use crate::seed::Seed;
+use crate::tally::Tally;
+use crate::themes::Theme;
+use crate::unsound;
+
+/// Compares the n-th script of a theme and a seed.
+pub fn script(
+    programs: &Programs,
+    tally: &mut Tally,
+    theme: &Theme,
+    seed: u64,
+    n: u64,
+) -> Result<Vec<u8>, Failure> {
+    let mut numbers = Seed::of_case(seed, n);
+    let input = (theme.make)(&mut numbers);
+    let feed = match numbers.below(8) {
+        0 => Feed::Pieces(numbers.between(100, 5_000) as usize),
+        1 if input.len() < 3_000 => Feed::Pieces(numbers.between(1, 7) as usize),
+        _ => Feed::Whole,
+    };
+    let name = format!("{}-seed-{seed}-case-{n}", theme.name);
+    let output = programs.compare(&name, &input, feed)?;
+    tally.count_script(&output);
+    Ok(output)
+}
+
+/// Compares calls of every part for the n-th case of a seed: about a thousand.
+pub fn calls(pair: &mut Pair, seed: u64, n: u64) -> Result<(), Failure> {
+    let crowded = n.is_multiple_of(8);
+    let beginning = if crowded {
+        Beginning::Crowd
+    } else {
+        Beginning::Opening
+    };
+    histories::run(pair, beginning, seed, n, 250)?;
+    for turn in 0..4 {
+        histories::run(pair, Beginning::SoundState, seed, 4 * n + turn, 40)?;
+        unsound::noise(pair, seed, 4 * n + turn)?;
+        unsound::together(pair, seed, 4 * n + turn)?;
+    }
+    unsound::lengths(pair, seed, n)?;
+    for turn in 0..8 {
+        let place = (8 * n + turn) as usize % DAMAGES.len();
+        unsound::alone(pair, &DAMAGES[place], seed, 8 * n + turn)?;
+    }
+    Ok(())
+}

@@ -1,0 +1,223 @@
+//! The sentences about the ledger, each checked after a call of an undamaged history.
+
+use lokhazim_reference::{Handle, QUOTAS};
+
+use crate::cut::{blocks, live_handles};
+use crate::judge::broken;
+use crate::ledger::{request, Ledger, Object};
+use crate::state::{Answer, Call, State};
+
+/// A call of a history: the ledger, heap and accounts before it and after it.
+pub struct Step<'a> {
+    /// The call.
+    pub call: Call,
+    /// What it answered.
+    pub answer: &'a Answer,
+    /// The ledger before the call.
+    pub ledger_before: &'a Ledger,
+    /// The ledger after the call.
+    pub ledger: &'a Ledger,
+    /// Heap and accounts before the call.
+    pub before: &'a State,
+    /// Heap and accounts after the call.
+    pub after: &'a State,
+}
+
+/// Gives what is wrong with a call and the state that it left; nothing if every sentence holds.
+pub fn wrong(step: &Step) -> Vec<String> {
+    let checks: [(&str, bool); 11] = [
+        ("heap and accounts are sound", broken(step.after).is_empty()),
+        (
+            "live objects are the ledger's",
+            objects_are_the_ledgers(step),
+        ),
+        (
+            "used records are the ledger's holds",
+            records_are_the_holds(step),
+        ),
+        ("grants are the ledger's", grants_are_the_ledgers(step)),
+        ("remainders are grants less charges", remainders_hold(step)),
+        (
+            "no object shares a byte with another or a header",
+            bytes_have_one_owner(step),
+        ),
+        ("objects stay at their place", objects_stay(step)),
+        (
+            "refusals are given as the table says",
+            refusal_is_the_tables(step),
+        ),
+        (
+            "space is refused exactly without a suitable run",
+            space_holds(step),
+        ),
+        ("answers follow from the ledger", answer_holds(step)),
+        (
+            "objects keep their bytes, new ones are zero or copied",
+            contents_hold(step),
+        ),
+    ];
+    let broken = checks.into_iter().filter(|(_, holds)| !holds);
+    broken.map(|(name, _)| format!("broken: {name}")).collect()
+}
+
+/// Gives the handles of a ledger's objects in order of their bases.
+fn ledger_handles(ledger: &Ledger) -> Vec<Handle> {
+    let mut handles: Vec<Handle> = ledger.objects.iter().map(|o| o.handle).collect();
+    handles.sort_unstable_by_key(|handle| handle.base);
+    handles
+}
+
+/// The objects of live blocks are exactly the ledger's, in base, length and serial.
+fn objects_are_the_ledgers(step: &Step) -> bool {
+    live_handles(&step.after.heap) == ledger_handles(step.ledger)
+}
+
+/// The used records are exactly the holds above 0, by serial, quota and count.
+fn records_are_the_holds(step: &Step) -> bool {
+    let used = step.after.accounts.holds.iter().filter(|h| h.is_used());
+    let mut records: Vec<(u32, usize, u32)> = used
+        .map(|h| (h.serial, usize::from(h.quota), u32::from(h.count)))
+        .collect();
+    records.sort_unstable();
+    records == step.ledger.records()
+}
+
+/// The accounts' grants are the ledger's, and the last serial is the last one answered.
+fn grants_are_the_ledgers(step: &Step) -> bool {
+    let accounts = &step.after.accounts;
+    let grants = accounts.quotas.map(|quota| quota.grant);
+    grants == step.ledger.grants && accounts.last_serial == step.ledger.last_serial
+}
+
+/// A remainder is the grant less the charges, in whole numbers.
+fn remainders_hold(step: &Step) -> bool {
+    let quotas = &step.after.accounts.quotas;
+    let remainders = quotas.map(|quota| i64::from(quota.remainder));
+    (0..QUOTAS).all(|number| remainders[number] == step.ledger.remainder(number))
+}
+
+/// Every object lies in the heap and shares no byte with another object or with a header.
+fn bytes_have_one_owner(step: &Step) -> bool {
+    let mut owners = vec![0_u32; step.after.heap.len()];
+    let headers = blocks(&step.after.heap).into_iter();
+    let headers = headers.map(|block| (block.offset as usize, 8));
+    let objects = step.ledger.objects.iter().map(|object| object.handle);
+    let objects = objects.map(|h| (h.base as usize, h.length as usize));
+    for (start, length) in headers.chain(objects) {
+        match owners.get_mut(start..start + length) {
+            Some(bytes) => bytes.iter_mut().for_each(|owner| *owner += 1),
+            None => return false,
+        }
+    }
+    owners.iter().all(|owner| *owner <= 1)
+}
+
+/// An object that the ledger had before and still has is at the same base with the same length.
+fn objects_stay(step: &Step) -> bool {
+    if matches!(step.call, Call::Open(_)) {
+        return true;
+    }
+    let old = &step.ledger_before.objects;
+    old.iter().all(|object| {
+        let serial = object.handle.serial;
+        let mut now = step.ledger.objects.iter().map(|o| o.handle);
+        now.find(|handle| handle.serial == serial)
+            .is_none_or(|handle| handle == object.handle)
+    })
+}
+
+/// A refusal is given exactly when its line holds and no earlier one; only line 11 is left to
+/// the sentence about space.
+fn refusal_is_the_tables(step: &Step) -> bool {
+    match step.ledger_before.refusal_before_space(step.call) {
+        0 => matches!(step.answer.refusal, 0 | 11),
+        number => step.answer.refusal == number,
+    }
+}
+
+/// A request that passes every other check is refused by 11 exactly if no suitable run exists,
+/// and else gets the lowest.
+fn space_holds(step: &Step) -> bool {
+    let bytes = match step.call {
+        Call::Allocate(_, n) | Call::Reallocate(_, _, n) => u64::from(n),
+        Call::Array(_, n, s) => u64::from(n) * u64::from(s),
+        _ => return step.answer.refusal != 11,
+    };
+    if step.ledger_before.refusal_before_space(step.call) != 0 {
+        return true;
+    }
+    let Some(request) = request(bytes) else {
+        return false;
+    };
+    match step.ledger_before.lowest_run(request) {
+        None => step.answer.refusal == 11,
+        Some(base) => {
+            let wanted = Handle {
+                base,
+                length: request.length,
+                serial: step.ledger_before.last_serial + 1,
+            };
+            step.answer.is_accepted() && step.answer.handle() == wanted
+        }
+    }
+}
+
+/// The numbers that a call on holds answers follow from the ledger.
+fn answer_holds(step: &Step) -> bool {
+    if !step.answer.is_accepted() {
+        return step.answer.numbers == [0; 4];
+    }
+    let given_back = |quota: u32| {
+        let number = quota as usize;
+        step.ledger.remainder(number) - step.ledger_before.remainder(number)
+    };
+    let first = step.answer.numbers[0] as i64;
+    match step.call {
+        Call::Claim(_, h) => first == i64::from(h.length),
+        Call::Release(q, _) | Call::FreeAll(q) => first == given_back(q),
+        Call::Remaining(q) => first == step.ledger.remainder(q as usize),
+        Call::Lend(h) => {
+            let end = u64::from(h.base) + u64::from(h.length);
+            step.answer.numbers == [u64::from(h.base), end, 0, 0]
+        }
+        _ => true,
+    }
+}
+
+/// Gives an object's bytes in a heap.
+fn bytes_of(heap: &[u8], handle: Handle) -> &[u8] {
+    let start = handle.base as usize;
+    heap.get(start..start + handle.length as usize)
+        .unwrap_or_default()
+}
+
+/// Gives the bytes that an object has to have after the call.
+fn wanted_bytes(step: &Step, object: &Object) -> Vec<u8> {
+    let handle = object.handle;
+    let stayed = step.ledger_before.named(handle).is_some();
+    let mut bytes = match stayed {
+        true => bytes_of(&step.before.heap, handle).to_vec(),
+        false => vec![0; handle.length as usize],
+    };
+    match step.call {
+        Call::Reallocate(_, old, _) if !stayed => {
+            let old = bytes_of(&step.before.heap, old);
+            let shorter = old.len().min(bytes.len());
+            bytes[..shorter].copy_from_slice(&old[..shorter]);
+        }
+        Call::Write(h, at, byte) if h == handle && at < handle.length => {
+            bytes[at as usize] = byte;
+        }
+        _ => {}
+    }
+    bytes
+}
+
+/// An object that stays keeps its bytes but for a write to it; a new one is all zero, or has the
+/// old one's bytes and then zeros.
+fn contents_hold(step: &Step) -> bool {
+    step.ledger
+        .objects
+        .iter()
+        .all(|object| bytes_of(&step.after.heap, object.handle) == wanted_bytes(step, object))
+}

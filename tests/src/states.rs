@@ -1,0 +1,259 @@
+//! Sound states that are made directly, most of which no list of calls reaches: any cut, serials
+//! in any order, records at any place, any bytes in free blocks and objects.
+
+use std::collections::BTreeSet;
+
+use lokhazim_reference::{Accounts, Hold, Quota, HOLDS, QUOTAS};
+
+use crate::cut::{header, put};
+use crate::seed::Seed;
+use crate::state::State;
+
+/// A block of a plan: its size in bytes, and its serial or 0.
+#[derive(Clone, Copy, Debug, PartialEq, Eq)]
+pub struct Piece {
+    /// The size in bytes, header included.
+    pub size: u32,
+    /// The serial, 0 for a free block.
+    pub serial: u32,
+}
+
+/// A state before it is written as bytes. Its grants follow from what it has.
+#[derive(Clone, Debug)]
+pub struct Plan {
+    /// The blocks in order.
+    pub pieces: Vec<Piece>,
+    /// The hold records by place.
+    pub records: [Hold; HOLDS],
+    /// The remainder of each quota, before it is cut down to what the grant leaves room for.
+    pub remainders: [u32; QUOTAS],
+    /// The last serial.
+    pub last_serial: u32,
+}
+
+/// Gives an allowed heap length, most often a short one.
+pub fn heap_length(seed: &mut Seed) -> u32 {
+    match seed.below(20) {
+        0 => 64,
+        1..=9 => 8 * seed.between(8, 40),
+        10..=14 => 8 * seed.between(40, 160),
+        15..=17 => 8 * seed.between(160, 700),
+        18 => seed.pick(&[16_384, 24_576, 32_760, 32_768]),
+        _ => 8 * seed.between(8, 4_096),
+    }
+}
+
+impl Plan {
+    /// Makes a sound plan for a heap of this length.
+    pub fn new(seed: &mut Seed, length: u32) -> Plan {
+        let mut pieces = cut(seed, length);
+        let live = pieces.iter().filter(|piece| piece.serial != 0).count();
+        let mut serials = serials(seed, live).into_iter();
+        for piece in pieces.iter_mut().filter(|piece| piece.serial != 0) {
+            piece.serial = serials.next().unwrap_or(1);
+        }
+        let records = records(seed, &pieces);
+        let highest = pieces.iter().map(|piece| piece.serial).max().unwrap_or(0);
+        let last_serial = match seed.below(12) {
+            0 => u32::MAX,
+            1 => highest.max(u32::MAX - seed.below(4)),
+            2 => highest.saturating_add(seed.below(1_000)),
+            3 => highest.max(seed.word()),
+            _ => highest,
+        };
+        Plan {
+            pieces,
+            records,
+            remainders: std::array::from_fn(|_| remainder(seed)),
+            last_serial,
+        }
+    }
+
+    /// Gives the charges of the objects that the quota has a record for.
+    pub fn charges(&self, quota: usize) -> u32 {
+        let has = |piece: &&Piece| {
+            let its = |h: &Hold| h.serial == piece.serial && usize::from(h.quota) == quota;
+            piece.serial != 0 && self.records.iter().any(its)
+        };
+        self.pieces.iter().filter(has).map(|piece| piece.size).sum()
+    }
+
+    /// Gives the places of the live pieces.
+    pub fn live(&self) -> Vec<usize> {
+        let places = 0..self.pieces.len();
+        places.filter(|p| self.pieces[*p].serial != 0).collect()
+    }
+
+    /// Gives the places of the used records, or of the unused ones.
+    pub fn record_places(&self, used: bool) -> Vec<usize> {
+        let places = 0..HOLDS;
+        places
+            .filter(|p| self.records[*p].is_used() == used)
+            .collect()
+    }
+
+    /// Writes the plan as a heap and accounts. Grants are remainder and charges.
+    pub fn render(&self, seed: &mut Seed) -> State {
+        let length: u32 = self.pieces.iter().map(|piece| piece.size).sum();
+        let mut heap = vec![0; length as usize];
+        let (mut offset, mut back_size) = (0, 0);
+        for Piece { size, serial } in self.pieces.iter().copied() {
+            put(&mut heap, offset, header(size, back_size, serial));
+            let (start, end) = (offset as usize + 8, (offset + size) as usize);
+            fill_body(seed, &mut heap[start..end], size, serial);
+            offset += size;
+            back_size = size;
+        }
+        let quotas = std::array::from_fn(|number| {
+            let charges = self.charges(number);
+            let remainder = self.remainders[number].min(u32::MAX - charges);
+            let grant = remainder + charges;
+            Quota { grant, remainder }
+        });
+        let accounts = Accounts {
+            quotas,
+            last_serial: self.last_serial,
+            holds: self.records,
+        };
+        State { heap, accounts }
+    }
+}
+
+/// Makes a sound state.
+pub fn sound(seed: &mut Seed) -> State {
+    let length = heap_length(seed);
+    Plan::new(seed, length).render(seed)
+}
+
+/// Cuts a heap into pieces; a live one has serial 1 until serials are given out.
+fn cut(seed: &mut Seed, length: u32) -> Vec<Piece> {
+    let crowd = seed.pick(&[3, 12, 40, HOLDS]);
+    let longest = seed.pick(&[2, 4, 12, 60, 600, 2_400]);
+    let share = seed.pick(&[30, 60, 90, 100]);
+    let mut pieces: Vec<Piece> = Vec::new();
+    let (mut left, mut live) = (length / 8, 0);
+    while left > 0 {
+        let after_free = pieces.last().is_some_and(|piece| piece.serial == 0);
+        let wanted = live < crowd && left >= 2 && (after_free || seed.percent(share));
+        let size = match wanted {
+            true => left.min(2 + seed.below(longest)),
+            false if live >= crowd => left,
+            false => left.min(1 + seed.below(longest)),
+        };
+        match pieces.last_mut() {
+            Some(before) if !wanted && after_free => before.size += 8 * size,
+            _ => pieces.push(Piece {
+                size: 8 * size,
+                serial: u32::from(wanted),
+            }),
+        }
+        live += usize::from(wanted);
+        left -= size;
+    }
+    pieces
+}
+
+/// Gives so many serials that differ: in a row, a power of two apart, near the top, or any.
+fn serials(seed: &mut Seed, count: usize) -> Vec<u32> {
+    let shift = seed.below(25);
+    let base = seed.word() >> seed.below(32);
+    let way = seed.below(5);
+    let mut given = BTreeSet::new();
+    let mut next = 0_u32;
+    while given.len() < count {
+        next += 1;
+        given.insert(match way {
+            0 => next,
+            1 => next << shift,
+            2 => u32::MAX - next - shift % 8,
+            3 => base.wrapping_add(next).max(1),
+            _ => seed.word().max(1),
+        });
+    }
+    let mut given: Vec<u32> = given.into_iter().collect();
+    if seed.percent(70) {
+        seed.shuffle(&mut given);
+    }
+    given
+}
+
+/// Gives each object at least one record, some of them many, at any places of the table.
+fn records(seed: &mut Seed, pieces: &[Piece]) -> [Hold; HOLDS] {
+    let live: Vec<u32> = pieces.iter().map(|piece| piece.serial).collect();
+    let live: Vec<u32> = live.into_iter().filter(|serial| *serial != 0).collect();
+    let mut pairs: Vec<(u32, u8)> = Vec::new();
+    let mut further: Vec<(u32, u8)> = Vec::new();
+    for serial in &live {
+        let first = seed.place(QUOTAS);
+        pairs.push((*serial, first as u8));
+        let others = (0..QUOTAS).filter(|quota| *quota != first);
+        further.extend(others.map(|quota| (*serial, quota as u8)));
+    }
+    seed.shuffle(&mut further);
+    let room = HOLDS - pairs.len();
+    let extra = match seed.below(4) {
+        0 => 0,
+        1 => room,
+        2 => room.saturating_sub(1),
+        _ => seed.place(room + 1),
+    };
+    pairs.extend(further.into_iter().take(extra));
+    place_records(seed, &pairs)
+}
+
+/// Puts records of these serials and quotas into the table, packed or at any places.
+fn place_records(seed: &mut Seed, pairs: &[(u32, u8)]) -> [Hold; HOLDS] {
+    let mut places: Vec<usize> = (0..HOLDS).collect();
+    if seed.percent(60) {
+        seed.shuffle(&mut places);
+    }
+    let mut records = [Hold::UNUSED; HOLDS];
+    for ((serial, quota), place) in pairs.iter().zip(places) {
+        let count = match seed.below(10) {
+            0..=4 => 1,
+            5 => 2,
+            6 => 254,
+            7 => 255,
+            _ => seed.between(1, 255) as u8,
+        };
+        records[place] = Hold {
+            serial: *serial,
+            quota: *quota,
+            count,
+        };
+    }
+    records
+}
+
+/// Gives a remainder: none, a little, enough, the greatest, or any.
+fn remainder(seed: &mut Seed) -> u32 {
+    match seed.below(10) {
+        0 => 0,
+        1 => 8 * seed.below(64),
+        2 => u32::MAX,
+        3 => seed.odd_word(),
+        _ => seed.between(1_000, 100_000),
+    }
+}
+
+/// Fills the bytes behind a header: zeros, any bytes, or bytes that look like headers.
+fn fill_body(seed: &mut Seed, body: &mut [u8], size: u32, serial: u32) {
+    match seed.below(4) {
+        0 => {}
+        1 => body.fill_with(|| seed.byte()),
+        _ => {
+            for (place, part) in body.chunks_exact_mut(8).enumerate() {
+                part.copy_from_slice(&look_alike(seed, size, serial, place as u32));
+            }
+        }
+    }
+}
+
+/// Gives eight bytes that look like the header of a block inside another.
+pub fn look_alike(seed: &mut Seed, size: u32, serial: u32, place: u32) -> [u8; 8] {
+    let rest = size.saturating_sub(8 * (place + 1));
+    let size = seed.pick(&[8, 16, 24, size, rest]);
+    let back_size = seed.pick(&[0, 8, 8 * (place + 1), size]);
+    let serial = seed.pick(&[0, serial, serial.wrapping_add(1), 1, u32::MAX]);
+    header(size, back_size, serial)
+}

@@ -1,0 +1,146 @@
+//! What was compared: how many scripts, lines and calls, and how they were answered.
+
+use std::collections::BTreeMap;
+use std::fmt;
+
+use crate::cut::{joins, looks_alive};
+use crate::state::{Answer, Call, State};
+
+/// The counts of one run.
+#[derive(Clone, Debug, Default)]
+pub struct Tally {
+    /// The calls by kind and by refusal, 0 where accepted.
+    pub calls: [[u64; 12]; 13],
+    /// The scripts.
+    pub scripts: u64,
+    /// The lines of all answers to scripts, by their text: `ok`, `no 1` and so on, `bad`, or the list.
+    pub lines: BTreeMap<String, u64>,
+    /// Freed blocks that joined a free block in front alone.
+    pub joined_front: u64,
+    /// Freed blocks that joined a free block behind alone.
+    pub joined_behind: u64,
+    /// Freed blocks that joined free blocks on both sides.
+    pub joined_both: u64,
+    /// Freed blocks with no free neighbour.
+    pub joined_neither: u64,
+    /// Calls on accounts with a count of 255.
+    pub full_counts: u64,
+    /// Calls on accounts without an unused record.
+    pub full_tables: u64,
+    /// Calls whose handle names no object although the bytes before its base look like its header.
+    pub look_alikes: u64,
+    /// Cases by a name of their own: the kinds of damage.
+    pub cases: BTreeMap<&'static str, u64>,
+}
+
+impl Tally {
+    /// Counts a call that both answered alike.
+    pub fn count_call(&mut self, call: Call, before: &State, after: &State, answer: &Answer) {
+        let refusal = (answer.refusal as usize).min(11);
+        self.calls[call.kind()][refusal] += 1;
+        let holds = &before.accounts.holds;
+        self.full_counts += u64::from(holds.iter().any(|hold| hold.count == 255));
+        self.full_tables += u64::from(holds.iter().all(|hold| hold.is_used()));
+        let forged = call.handle().is_some_and(|h| looks_alive(&before.heap, h));
+        self.look_alikes += u64::from(forged);
+        let frees = matches!(
+            call,
+            Call::Release(..) | Call::FreeAll(_) | Call::Reallocate(..)
+        );
+        if frees && answer.is_accepted() {
+            let joins = joins(before, after);
+            self.joined_front += joins.front;
+            self.joined_behind += joins.behind;
+            self.joined_both += joins.both;
+            self.joined_neither += joins.neither;
+        }
+    }
+
+    /// Counts a script and the lines of its answer.
+    pub fn count_script(&mut self, output: &[u8]) {
+        self.scripts += 1;
+        for line in output
+            .split(|byte| *byte == b'\n')
+            .filter(|l| !l.is_empty())
+        {
+            let text = String::from_utf8_lossy(line);
+            let kind = match text.split(' ').next() {
+                Some("ok") => "ok",
+                Some("no" | "bad") => &text,
+                _ => "listed",
+            };
+            *self.lines.entry(kind.to_owned()).or_default() += 1;
+        }
+    }
+
+    /// Counts a case under its name.
+    pub fn count_case(&mut self, name: &'static str) {
+        *self.cases.entry(name).or_default() += 1;
+    }
+
+    /// Gives the number of calls.
+    pub fn all_calls(&self) -> u64 {
+        self.calls.iter().flatten().sum()
+    }
+
+    /// Gives the number of calls with this refusal, 0 for accepted ones.
+    pub fn refused(&self, number: usize) -> u64 {
+        self.calls.iter().map(|row| row[number]).sum()
+    }
+
+    /// Gives the number of lines answered to scripts.
+    pub fn all_lines(&self) -> u64 {
+        self.lines.values().sum()
+    }
+
+    /// Gives the number of lines with this text.
+    pub fn lines_of(&self, text: &str) -> u64 {
+        self.lines.get(text).copied().unwrap_or(0)
+    }
+}
+
+/// Writes a part of a whole as a number and a share.
+fn share(part: u64, whole: u64) -> String {
+    let percent = 100.0 * part as f64 / whole.max(1) as f64;
+    format!("{part} ({percent:.1} %)")
+}
+
+impl fmt::Display for Tally {
+    /// Writes what was compared and how it was answered.
+    fn fmt(&self, f: &mut fmt::Formatter<'_>) -> fmt::Result {
+        let (calls, lines) = (self.all_calls(), self.all_lines());
+        writeln!(
+            f,
+            "scripts {}, lines answered {lines}, calls {calls}",
+            self.scripts
+        )?;
+        for (text, n) in &self.lines {
+            writeln!(f, "  lines '{text}': {}", share(*n, lines))?;
+        }
+        if calls == 0 {
+            return Ok(());
+        }
+        writeln!(f, "  calls accepted: {}", share(self.refused(0), calls))?;
+        for number in 1..=11 {
+            writeln!(
+                f,
+                "  calls refused by {number}: {}",
+                share(self.refused(number), calls)
+            )?;
+        }
+        for (name, row) in Call::NAMES.iter().zip(&self.calls) {
+            let all: u64 = row.iter().sum();
+            writeln!(f, "  {name}: {all}, accepted {}", share(row[0], all))?;
+        }
+        writeln!(
+            f,
+            "  freed blocks that joined in front {}, behind {}, on both sides {}, on neither {}",
+            self.joined_front, self.joined_behind, self.joined_both, self.joined_neither
+        )?;
+        write!(
+            f,
+            "  calls with a count of 255: {}, with a full hold table: {}, with a handle to bytes that look like a header: {}",
+            self.full_counts, self.full_tables, self.look_alikes
+        )
+    }
+}

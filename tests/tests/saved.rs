@@ -1,0 +1,54 @@
+//! What the harness makes and saves: states are as they claim, and a saved call is read as it was.
+
+use lokhazim_tests::case::{read_case, write_case};
+use lokhazim_tests::choice::{one_of_each, Habits, MIXED};
+use lokhazim_tests::cut::blocks;
+use lokhazim_tests::forged::View;
+use lokhazim_tests::judge::broken;
+use lokhazim_tests::seed::Seed;
+use lokhazim_tests::state::Call;
+use lokhazim_tests::states::sound;
+
+#[test]
+fn a_state_that_is_made_sound_breaks_no_sentence() {
+    for n in 0..2_000 {
+        let state = sound(&mut Seed::of_case(1, n));
+        assert_eq!(broken(&state), [], "state {n}");
+        assert!(
+            state.clone().perform(Call::Check).is_accepted(),
+            "state {n}"
+        );
+    }
+}
+
+#[test]
+fn states_that_are_made_sound_differ_widely() {
+    let states: Vec<_> = (0..500).map(|n| sound(&mut Seed::of_case(2, n))).collect();
+    let count =
+        |of: fn(&lokhazim_tests::state::State) -> bool| states.iter().filter(|s| of(s)).count();
+    assert!(count(|s| s.heap.len() == 64) >= 5);
+    assert!(count(|s| s.heap.len() >= 16_384) >= 10);
+    assert!(count(|s| s.accounts.last_serial == u32::MAX) >= 20);
+    assert!(count(|s| s.accounts.holds.iter().all(|hold| hold.is_used())) >= 10);
+    assert!(count(|s| blocks(&s.heap).iter().all(|block| block.serial != 0)) >= 20);
+    assert!(count(|s| blocks(&s.heap).len() >= 40) >= 20);
+}
+
+#[test]
+fn a_saved_call_is_read_as_it_was() {
+    let habits = Habits {
+        weights: MIXED,
+        quotas: 8,
+        wild: 50,
+        longest: 100,
+    };
+    for n in 0..100 {
+        let mut seed = Seed::of_case(3, n);
+        let state = sound(&mut seed);
+        let view = View::new(&state.heap, &[]);
+        for call in one_of_each(&mut seed, &habits, &view, &state.accounts) {
+            let text = write_case(&state, call);
+            assert_eq!(read_case(&text), Some((state.clone(), call)), "{call}");
+        }
+    }
+}

@@ -1,0 +1,167 @@
+//! Each sentence about the ledger notices what it is for: a right step, and then one thing wrong.
+
+use lokhazim_reference::{Accounts, Handle};
+use lokhazim_tests::ledger::Ledger;
+use lokhazim_tests::sentences::{wrong, Step};
+use lokhazim_tests::state::{Answer, Call, State};
+
+/// A call with everything before and after it, to be changed.
+#[derive(Clone)]
+struct Recorded {
+    call: Call,
+    answer: Answer,
+    ledger_before: Ledger,
+    ledger: Ledger,
+    before: State,
+    after: State,
+}
+
+impl Recorded {
+    /// Makes a call by the reference and records it.
+    fn new(before: &State, call: Call) -> Recorded {
+        let ledger_before = Ledger::read_off(before);
+        let (mut after, mut ledger) = (before.clone(), ledger_before.clone());
+        let answer = after.perform(call);
+        ledger.record(call, &answer);
+        Recorded {
+            call,
+            answer,
+            ledger_before,
+            ledger,
+            before: before.clone(),
+            after,
+        }
+    }
+
+    /// Gives the sentences that are broken.
+    fn wrong(&self) -> Vec<String> {
+        wrong(&Step {
+            call: self.call,
+            answer: &self.answer,
+            ledger_before: &self.ledger_before,
+            ledger: &self.ledger,
+            before: &self.before,
+            after: &self.after,
+        })
+    }
+
+    /// Checks that a change breaks the sentence with this name.
+    fn breaks(&self, sentence: &str, change: impl FnOnce(&mut Recorded)) {
+        let mut changed = self.clone();
+        change(&mut changed);
+        let wrong = changed.wrong();
+        let named = wrong.iter().any(|line| line.contains(sentence));
+        assert!(named, "{sentence}: {wrong:?}");
+    }
+}
+
+/// Gives a heap of 256 bytes with an object of two quotas, a gap and another object.
+fn begin() -> State {
+    let mut state = State {
+        heap: vec![0; 256],
+        accounts: Accounts::default(),
+    };
+    let calls = [
+        Call::Open([1_000; 8]),
+        Call::Allocate(0, 16),
+        Call::Allocate(1, 24),
+        Call::Allocate(2, 40),
+        Call::Claim(1, first()),
+        Call::Write(first(), 3, 7),
+        Call::FreeAll(1),
+        Call::Claim(1, first()),
+    ];
+    for call in calls {
+        assert!(state.perform(call).is_accepted(), "{call}");
+    }
+    state
+}
+
+/// The first object.
+fn first() -> Handle {
+    Handle {
+        base: 8,
+        length: 16,
+        serial: 1,
+    }
+}
+
+#[test]
+fn right_steps_break_nothing() {
+    let calls = [
+        Call::Open([5; 8]),
+        Call::Allocate(3, 20),
+        Call::Array(3, 5, 5),
+        Call::Allocate(3, 200),
+        Call::Claim(4, first()),
+        Call::Release(0, first()),
+        Call::FreeAll(2),
+        Call::Reallocate(0, first(), 48),
+        Call::Lend(first()),
+        Call::Write(first(), 15, 9),
+        Call::Remaining(0),
+        Call::CanRelease(5, first()),
+        Call::List(24),
+        Call::Check,
+    ];
+    for call in calls {
+        assert_eq!(Recorded::new(&begin(), call).wrong(), [""; 0], "{call}");
+    }
+}
+
+#[test]
+fn a_wrong_state_is_noticed() {
+    let step = Recorded::new(&begin(), Call::Claim(4, first()));
+    step.breaks("accounts are sound", |s| s.after.heap[26] ^= 1);
+    step.breaks("live objects", |s| s.after.heap[4] = 9);
+    step.breaks("used records", |s| s.after.accounts.holds[0].count += 1);
+    step.breaks("grants are", |s| s.after.accounts.quotas[7].grant += 1);
+    step.breaks("grants are", |s| s.after.accounts.last_serial += 1);
+    step.breaks("remainders", |s| s.after.accounts.quotas[4].remainder += 24);
+    step.breaks("keep their bytes", |s| s.after.heap[11] = 0);
+}
+
+#[test]
+fn a_wrong_ledger_is_noticed() {
+    let step = Recorded::new(&begin(), Call::Allocate(4, 8));
+    step.breaks("shares a byte", |s| s.ledger.objects[0].handle.length = 24);
+    step.breaks("shares a byte", |s| s.ledger.objects[0].handle.base = 4);
+    step.breaks("stay at their place", |s| {
+        s.ledger.objects[0].handle.base = 16
+    });
+}
+
+#[test]
+fn a_wrong_answer_is_noticed() {
+    let claim = Recorded::new(&begin(), Call::Claim(4, first()));
+    claim.breaks("answers follow", |s| s.answer.numbers[0] += 8);
+    claim.breaks("as the table says", |s| s.answer = Answer::refused(8));
+    let refused = Recorded::new(&begin(), Call::Release(5, first()));
+    refused.breaks("as the table says", |s| s.answer = Answer::refused(5));
+    refused.breaks("answers follow", |s| s.answer.numbers[0] = 24);
+    let release = Recorded::new(&begin(), Call::Release(0, first()));
+    release.breaks("answers follow", |s| s.answer.numbers[0] = 0);
+}
+
+#[test]
+fn a_wrong_word_about_space_is_noticed() {
+    let step = Recorded::new(&begin(), Call::Allocate(4, 8));
+    step.breaks("suitable run", |s| s.answer = Answer::refused(11));
+    step.breaks("suitable run", |s| s.answer.numbers[0] += 8);
+    let full = Recorded::new(&begin(), Call::Allocate(4, 200));
+    assert_eq!(full.answer, Answer::refused(11));
+    full.breaks("suitable run", |s| {
+        s.answer = Answer::accepted(&[112, 200, 4])
+    });
+}
+
+#[test]
+fn wrong_bytes_of_a_new_object_are_noticed() {
+    let allocate = Recorded::new(&begin(), Call::Allocate(4, 8));
+    let base = allocate.answer.handle().base as usize;
+    allocate.breaks("keep their bytes", |s| s.after.heap[base] = 1);
+    let reallocate = Recorded::new(&begin(), Call::Reallocate(0, first(), 48));
+    let base = reallocate.answer.handle().base as usize;
+    reallocate.breaks("keep their bytes", |s| s.after.heap[base + 3] = 0);
+    reallocate.breaks("keep their bytes", |s| s.after.heap[base + 20] = 1);
+}
