@@ -1,10 +1,8 @@
--- What the numbers of a reply mean: the values of `model` for each reply, and with the heap at exit the outcome. A number of a reply that a call does
--- not have is zero or none among the values.
+-- What the numbers of a reply mean: the values of `model`, and with the heap at exit the outcome. Values that a reply has no number for are zero or none.
 use Prim.Native.Nat.{ℕ, zero, suc}
 use mathlib.Core.Path.{_≡_}
 use mathlib.Core.List.{List}
 use mathlib.Core.Option.{Option, none, some}
-use Rattle.model.specs.declared.Handle.{Handle}
 use Rattle.model.specs.declared.ListedBlock.{ListedBlock}
 use Rattle.model.specs.Answers.{Values, zero-handle, zero-range, refused}
 use Rattle.model.specs.Calls.{Outcome}
@@ -25,14 +23,13 @@ abbrev pub handle-reply : List ℕ → HandleReply → Outcome
 handle-reply s r =
     outcome s (r .accounts) (record { refusal = r .refusal; handle = r .handle; amount = 0; range = zero-range; block = none })
 
--- claim, release and free-all
-abbrev pub amount-reply : List ℕ → AmountReply → Outcome
-amount-reply s r =
-    outcome s (r .accounts) (record { refusal = r .refusal; handle = zero-handle; amount = r .amount; range = zero-range; block = none })
-
 -- remaining
 abbrev pub amount-numbers : Amount → Values
 amount-numbers r = record { refusal = r .refusal; handle = zero-handle; amount = r .amount; range = zero-range; block = none }
+
+-- claim, release and free-all
+abbrev pub amount-reply : List ℕ → AmountReply → Outcome
+amount-reply s r = outcome s (r .accounts) (amount-numbers (record { refusal = r .refusal; amount = r .amount }))
 
 -- lend
 abbrev pub range-numbers : RangeReply → Values
