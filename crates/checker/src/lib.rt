@@ -337,8 +337,8 @@ pub fn held_each(holds: [Hold; HOLDS], serials: [u32; HOLDS]) -> [bool; HOLDS]
     let mut keys = [0usize; HOLDS];
     let mut next = [end; HOLDS];
     let mut heads = [end; HOLDS];
-    let used = index(holds, &mut keys, &mut next, &mut heads);
-    if HOLDS < used {
+    let count = index(holds, &mut keys, &mut next, &mut heads);
+    if HOLDS < count {
         return [true; HOLDS];
     }
     are_held(&keys, &next, &heads, serials)
