@@ -4,7 +4,7 @@
 //! passed by value; a lent heap is a pointer and a length.
 
 use lokhazim_bench::engine::{refused, Buffer, Engine};
-use lokhazim_bench::plan::GRANT;
+use lokhazim_bench::plan::{GRANT, HEAP_BYTES};
 use lokhazim_reference::{Handle, HOLDS, QUOTAS};
 
 /// A quota as it crosses the boundary.
@@ -149,11 +149,9 @@ impl Proved {
     /// Opens a heap.
     pub fn open() -> Proved {
         let mut buffer = Buffer::new();
-        let grants = CGrants {
-            values: [GRANT; QUOTAS],
-        };
-        let heap = &mut buffer.0;
-        let reply = unsafe { lokhazim_open(heap.as_mut_ptr(), heap.len(), grants) };
+        let values = [GRANT; QUOTAS];
+        let start = buffer.0.as_mut_ptr();
+        let reply = unsafe { lokhazim_open(start, HEAP_BYTES, CGrants { values }) };
         accept("open", reply.refusal);
         Proved {
             buffer,
@@ -161,12 +159,17 @@ impl Proved {
         }
     }
 
+    /// Gives where the heap starts.
+    #[inline(always)]
+    fn start(&mut self) -> *mut u8 {
+        self.buffer.0.as_mut_ptr()
+    }
+
     /// Releases a hold and gives what the quota gets back.
     #[inline(always)]
     fn release(&mut self, quota: u32, handle: Handle) -> u32 {
-        let (heap, accounts) = (&mut self.buffer.0, self.accounts);
-        let (start, length) = (heap.as_mut_ptr(), heap.len());
-        let reply = unsafe { lokhazim_release(start, length, accounts, quota, handle.into()) };
+        let (start, handle) = (self.start(), handle.into());
+        let reply = unsafe { lokhazim_release(start, HEAP_BYTES, self.accounts, quota, handle) };
         self.accounts = reply.accounts;
         accept("release", reply.refusal);
         reply.amount
@@ -176,9 +179,8 @@ impl Proved {
 impl Engine for Proved {
     #[inline(never)]
     fn call_allocate(&mut self, quota: u32, length: u32) -> Handle {
-        let (heap, accounts) = (&mut self.buffer.0, self.accounts);
-        let (start, heap_length) = (heap.as_mut_ptr(), heap.len());
-        let reply = unsafe { lokhazim_allocate(start, heap_length, accounts, quota, length) };
+        let start = self.start();
+        let reply = unsafe { lokhazim_allocate(start, HEAP_BYTES, self.accounts, quota, length) };
         self.accounts = reply.accounts;
         accept("allocate", reply.refusal);
         reply.handle.into()
@@ -191,9 +193,8 @@ impl Engine for Proved {
 
     #[inline(never)]
     fn call_claim(&mut self, quota: u32, handle: Handle) {
-        let (heap, accounts) = (&self.buffer.0, self.accounts);
-        let (start, length) = (heap.as_ptr(), heap.len());
-        let reply = unsafe { lokhazim_claim(start, length, accounts, quota, handle.into()) };
+        let (start, handle) = (self.start(), handle.into());
+        let reply = unsafe { lokhazim_claim(start, HEAP_BYTES, self.accounts, quota, handle) };
         self.accounts = reply.accounts;
         accept("claim", reply.refusal);
     }
@@ -205,8 +206,8 @@ impl Engine for Proved {
 
     #[inline(never)]
     fn call_reallocate(&mut self, quota: u32, handle: Handle, length: u32) -> Handle {
-        let (heap, accounts, handle) = (&mut self.buffer.0, self.accounts, handle.into());
-        let (start, bytes) = (heap.as_mut_ptr(), heap.len());
+        let (start, bytes, handle) = (self.start(), HEAP_BYTES, handle.into());
+        let accounts = self.accounts;
         let reply = unsafe { lokhazim_reallocate(start, bytes, accounts, quota, handle, length) };
         self.accounts = reply.accounts;
         accept("reallocate", reply.refusal);
