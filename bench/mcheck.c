@@ -1,7 +1,8 @@
 /* The peer: glibc's malloc under mcheck_pedantic, which checks its whole heap at every call. It reads a
- * plan (bench/src/plan.rs), and for each further byte of input runs one round of it and prints the
- * nanoseconds per call. It is run with libc_malloc_debug.so.0 preloaded. Nothing but the plan's objects
- * is allocated, so that the checks meet no other block. */
+ * plan (bench/src/plan.rs) and prints what the clock costs; for each further byte of input it runs one
+ * round and prints, in a line for each kind of call, the nanoseconds of every call. It is run with
+ * libc_malloc_debug.so.0 preloaded. Nothing but the plan's objects is allocated, so that the checks meet
+ * no other block. */
 
 #include <mcheck.h>
 #include <stdint.h>
@@ -18,6 +19,7 @@ struct step {
 
 static struct step steps[MAX_STEPS];
 static void *objects[MAX_LIVE];
+static uint64_t times[CALLS][MAX_STEPS];
 static unsigned live, rounds, steps_of_round;
 
 /* Stops with a sentence that says what is wrong. */
@@ -81,48 +83,56 @@ static double clock_cost(void)
     return lowest;
 }
 
-/* One step, as in bench/src/rounds.rs. */
-static inline void run_step(struct step step, uint64_t sums[CALLS])
+/* A step of a round, as in bench/src/rounds.rs. */
+static inline void run_step(struct step step, unsigned place)
 {
     unsigned last = live - 1;
     uint64_t start = now();
     void *object = call_allocate(step.length);
-    sums[ALLOCATE] += now() - start;
+    times[ALLOCATE][place] = now() - start;
     objects[last] = object;
 
     start = now();
     call_claim();
-    sums[CLAIM] += now() - start;
+    times[CLAIM][place] = now() - start;
 
     object = objects[step.released];
     objects[step.released] = objects[last];
     start = now();
     call_release(object);
-    sums[RELEASE] += now() - start;
+    times[RELEASE][place] = now() - start;
 
     object = objects[step.moved];
     start = now();
     object = call_reallocate(object, step.new_length);
-    sums[REALLOCATE] += now() - start;
+    times[REALLOCATE][place] = now() - start;
     objects[step.moved] = object;
 }
 
-static inline void run_steps(unsigned round, uint64_t sums[CALLS])
+static inline void run_steps(unsigned round)
 {
     for (unsigned i = 0; i < steps_of_round; i++)
-        run_step(steps[round * steps_of_round + i], sums);
+        run_step(steps[round * steps_of_round + i], i);
 }
 
 /* A round whose instructions are counted; the counts look for this name. */
-__attribute__((noinline)) static void measured_round(unsigned round, uint64_t sums[CALLS])
+__attribute__((noinline)) static void measured_round(unsigned round)
 {
-    run_steps(round, sums);
+    run_steps(round);
 }
 
 /* The first round. */
-__attribute__((noinline)) static void warm_up(uint64_t sums[CALLS])
+__attribute__((noinline)) static void warm_up(void)
 {
-    run_steps(0, sums);
+    run_steps(0);
+}
+
+static void print_times(void)
+{
+    for (int call = 0; call < CALLS; call++)
+        for (unsigned i = 0; i < steps_of_round; i++)
+            printf("%llu%c", (unsigned long long)times[call][i], i + 1 < steps_of_round ? ' ' : '\n');
+    fflush(stdout);
 }
 
 /* The next number of the plan, at most a bound. */
@@ -150,6 +160,7 @@ static void read_plan(void)
         steps[i].moved = number(live - 2);
         steps[i].new_length = number(65536);
     }
+    getchar(); /* the line feed behind the last number */
 }
 
 /* Says what a new object's bytes are. */
@@ -177,17 +188,14 @@ int main(void)
     setvbuf(stdout, out, _IOFBF, sizeof out);
     say_filling();
     read_plan();
-    double clock = clock_cost();
+    printf("%.1f\n", clock_cost());
+    fflush(stdout);
     for (unsigned round = 0; round < rounds && getchar() != EOF; round++) {
-        uint64_t sums[CALLS] = {0};
         if (round == 0)
-            warm_up(sums);
+            warm_up();
         else
-            measured_round(round, sums);
-        for (int call = 0; call < CALLS; call++)
-            printf("%.1f ", (double)sums[call] / steps_of_round - clock);
-        printf("\n");
-        fflush(stdout);
+            measured_round(round);
+        print_times();
     }
     return 0;
 }

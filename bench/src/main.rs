@@ -70,7 +70,8 @@ fn explain(peer: Option<&Peer>) -> Result<(), String> {
     println!("The same operations by three programs, all built for release.");
     println!("- The heap has {HEAP_BYTES} bytes, requests have 1 to {LONGEST}, the seed is fixed. 'live' is the number of live objects at a call's fullest moment.");
     println!("- A step is allocate, claim, release, reallocate; {ROUNDS} rounds of {STEPS} steps after one for warming up, the programs in turn.");
-    println!("- Each call is timed by itself, and what the clock costs is taken off. The release that takes a claim back is not timed.");
+    println!("- Each call is timed by itself, and what the clock costs is taken off. The slowest tenth of a round's calls is left out, since the system may have");
+    println!("  interrupted them. The release that takes a claim back is not timed.");
     println!("- proved: the library of c_api. A call takes the accounts, {ACCOUNTS_BYTES} bytes, by value and gives them back, which is timed. An object's bytes are {proved}.");
     println!("- reference: the second program, in Rust. It changes the accounts in place. An object's bytes are {reference}.");
     match peer {

@@ -3,10 +3,10 @@
 use std::io::{BufRead, BufReader, Write};
 use std::path::PathBuf;
 use std::process::{Child, ChildStdin, ChildStdout, Command, Stdio};
+use std::str::FromStr;
 
-use crate::figures::CALLS;
 use crate::plan::Plan;
-use crate::rounds::{Round, Runner};
+use crate::rounds::{per_call, Round, Runner, Times};
 
 /// Where the peer's program is, and the library that it is run with.
 #[derive(Clone, Debug)]
@@ -23,6 +23,7 @@ pub struct PeerRuns {
     orders: ChildStdin,
     answers: BufReader<ChildStdout>,
     filling: String,
+    clock: f64,
 }
 
 impl Peer {
@@ -41,9 +42,11 @@ impl Peer {
             orders,
             answers: BufReader::new(answers),
             filling: String::new(),
+            clock: 0.0,
         };
         runs.filling = runs.line()?;
         runs.order(plan.text().as_bytes())?;
+        runs.clock = numbers(&runs.line()?)?[0];
         Ok(runs)
     }
 
@@ -99,12 +102,16 @@ impl Runner for PeerRuns {
 
     fn next_round(&mut self) -> Result<Round, String> {
         self.order(b"\n")?;
-        let line = self.line()?;
-        let numbers: Vec<f64> = line
-            .split(' ')
-            .filter_map(|word| word.parse().ok())
-            .collect();
-        <[f64; CALLS]>::try_from(numbers)
-            .map_err(|_| format!("bench/mcheck.c printed '{line}' and not {CALLS} numbers"))
+        let mut times: Times = Default::default();
+        for times in &mut times {
+            *times = numbers(&self.line()?)?;
+        }
+        Ok(per_call(times, self.clock))
     }
+}
+
+/// Reads a line of at least one number.
+fn numbers<N: FromStr>(line: &str) -> Result<Vec<N>, String> {
+    let numbers: Result<Vec<N>, N::Err> = line.split(' ').map(str::parse).collect();
+    numbers.map_err(|_| format!("bench/mcheck.c printed '{line}', and not numbers alone"))
 }

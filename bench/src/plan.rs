@@ -69,14 +69,14 @@ impl Plan {
     /// first lengths, then five numbers for each step.
     pub fn text(&self) -> String {
         let steps = self.rounds[0].len();
-        let mut text = format!("{} {} {}", self.live, self.rounds.len(), steps);
+        let mut text = format!("{} {} {}\n", self.live, self.rounds.len(), steps);
         for length in &self.first {
-            let _ = write!(text, "\n{length}");
+            let _ = writeln!(text, "{length}");
         }
         for step in self.rounds.iter().flatten() {
             let (length, new_length) = (step.length, step.new_length);
             let (claimed, released, moved) = (step.claimed, step.released, step.moved);
-            let _ = write!(text, "\n{length} {claimed} {released} {moved} {new_length}");
+            let _ = writeln!(text, "{length} {claimed} {released} {moved} {new_length}");
         }
         text
     }

@@ -1,7 +1,7 @@
 //! The rounds of a plan on a heap in this process, each call timed by itself.
 
 use std::hint::black_box;
-use std::time::{Duration, Instant};
+use std::time::Instant;
 
 use lokhazim_reference::Handle;
 
@@ -11,6 +11,19 @@ use crate::plan::{first_quota, Plan, Step};
 
 /// Nanoseconds per call in one round.
 pub type Round = [f64; CALLS];
+
+/// The nanoseconds of each single call of a round, by the kind of call.
+pub type Times = [Vec<u64>; CALLS];
+
+/// Gives a round's nanoseconds per call from the times of its calls and what the clock adds to each:
+/// the average without the slowest tenth, where the system may have interrupted the program.
+pub fn per_call(times: Times, clock: f64) -> Round {
+    times.map(|mut times| {
+        times.sort_unstable();
+        let kept = &times[..times.len() - times.len() / 10];
+        kept.iter().sum::<u64>() as f64 / kept.len() as f64 - clock
+    })
+}
 
 /// Something that runs the rounds of a plan one after the other.
 pub trait Runner {
@@ -80,67 +93,58 @@ impl<E: Engine> Runner for Runs<'_, E> {
     fn next_round(&mut self) -> Result<Round, String> {
         let steps = &self.plan.rounds[self.next];
         self.next += 1;
-        let sums = measured_round(&mut self.engine, &mut self.objects, steps);
-        let calls = steps.len() as f64;
-        Ok(sums.map(|sum| sum.as_nanos() as f64 / calls - self.clock))
+        let times = measured_round(&mut self.engine, &mut self.objects, steps);
+        Ok(per_call(times, self.clock))
     }
 }
 
 /// Runs a round whose instructions are counted; the counts look for this name.
 #[inline(never)]
-fn measured_round(
-    engine: &mut impl Engine,
-    objects: &mut Vec<Object>,
-    steps: &[Step],
-) -> [Duration; CALLS] {
+fn measured_round(engine: &mut impl Engine, objects: &mut Vec<Object>, steps: &[Step]) -> Times {
     run_steps(engine, objects, steps)
 }
 
-/// Runs steps, and gives the time that each kind of call took in all.
+/// Runs steps, and gives the time that each call took.
 #[inline(always)]
-fn run_steps(
-    engine: &mut impl Engine,
-    objects: &mut Vec<Object>,
-    steps: &[Step],
-) -> [Duration; CALLS] {
-    let mut sums = [Duration::ZERO; CALLS];
+fn run_steps(engine: &mut impl Engine, objects: &mut Vec<Object>, steps: &[Step]) -> Times {
+    let mut times: Times = Call::ALL.map(|_| Vec::with_capacity(steps.len()));
     for step in steps {
         let quota = step.quota;
         let (time, handle) = timed(|| engine.call_allocate(quota, step.length));
-        sums[Call::Allocate as usize] += time;
+        times[Call::Allocate as usize].push(time);
         objects.push(Object { quota, handle });
 
         let Object { quota, handle } = objects[step.claimed];
         let (time, ()) = timed(|| engine.call_claim(quota, handle));
-        sums[Call::Claim as usize] += time;
+        times[Call::Claim as usize].push(time);
         engine.drop_claim(quota, handle);
 
         let Object { quota, handle } = objects.swap_remove(step.released);
         let (time, _) = timed(|| engine.call_release(quota, handle));
-        sums[Call::Release as usize] += time;
+        times[Call::Release as usize].push(time);
 
         let Object { quota, handle } = objects[step.moved];
         let (time, handle) = timed(|| engine.call_reallocate(quota, handle, step.new_length));
-        sums[Call::Reallocate as usize] += time;
+        times[Call::Reallocate as usize].push(time);
         objects[step.moved].handle = handle;
     }
-    sums
+    times
 }
 
-/// Times one call.
+/// Times one call, in nanoseconds.
 #[inline(always)]
-fn timed<A>(call: impl FnOnce() -> A) -> (Duration, A) {
+fn timed<A>(call: impl FnOnce() -> A) -> (u64, A) {
     let start = Instant::now();
     let answer = call();
-    (start.elapsed(), answer)
+    (start.elapsed().as_nanos() as u64, answer)
 }
 
 /// Measures what the timing itself adds to a call, in nanoseconds: the lowest of several averages.
 fn clock_cost() -> f64 {
     const TIMES: u32 = 2_000;
     let average = |_| {
-        let sum: Duration = (0..TIMES).map(|i| timed(|| black_box(i)).0).sum();
-        sum.as_nanos() as f64 / f64::from(TIMES)
+        let sum: u64 = (0..TIMES).map(|i| timed(|| black_box(i)).0).sum();
+        sum as f64 / f64::from(TIMES)
     };
     (0..9).map(average).fold(f64::INFINITY, f64::min)
 }
@@ -150,6 +154,12 @@ mod tests {
     use super::*;
     use crate::engine::Reference;
     use crate::plan::LIVE_COUNTS;
+
+    #[test]
+    fn the_slowest_tenth_is_left_out() {
+        let times = Call::ALL.map(|_| vec![30, 9_000, 10, 20, 20, 20, 20, 20, 20, 20]);
+        assert_eq!(per_call(times, 5.0), [15.0; CALLS]);
+    }
 
     #[test]
     fn no_call_of_a_plan_is_refused() {
