@@ -78,9 +78,9 @@ fn explain(peer: Option<&Peer>) -> Result<(), String> {
         Some(peer) => {
             let bytes = peer.filling()?;
             println!("- mcheck_pedantic: glibc's malloc, free and realloc with a check of its whole heap at each call. It keeps no quotas and no holds; against claim stands");
-            println!("  mcheck_check_all(), its check alone; realloc may stay in place. An object's bytes are {bytes}.");
+            println!("  mcheck_check_all(), its check alone; realloc may stay in place. An object's bytes are {bytes}, and with another byte at free.");
         }
-        None => println!("- mcheck_pedantic: not measured, see above."),
+        None => println!("- mcheck_pedantic: not measured."),
     }
     println!();
     Ok(())

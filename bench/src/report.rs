@@ -27,14 +27,12 @@ impl<F: Figure> Report<F> {
     /// Writes the table with the ratios.
     pub fn table(&self) -> String {
         let mut text = format!("{}\n", self.title);
-        let heads =
-            ["proved", "reference", "mcheck_pedantic"].map(|head| format!("{head:>WIDTH$}"));
         let _ = writeln!(
             text,
             "{:<11}{:>4}{}{:>18}{:>15}",
             "call",
             "live",
-            heads.concat(),
+            heads(),
             "proved/reference",
             "proved/mcheck"
         );
@@ -63,7 +61,11 @@ impl<F: Figure> Report<F> {
 
     /// Writes how often the figure at 8 live objects goes into the one at 128.
     pub fn growth(&self) -> String {
-        let mut text = "Growth from 8 to 128 live objects\n".to_string();
+        let mut text = format!(
+            "Growth from 8 to 128 live objects\n{:<15}{}\n",
+            "call",
+            heads()
+        );
         for call in Call::ALL {
             let name = call.name();
             let proved = growth(&self.proved, call);
@@ -87,6 +89,13 @@ impl<F: Figure> Report<F> {
         let peer = self.peer.as_ref()?;
         Some(ratio(&self.proved, peer, call, place))
     }
+}
+
+/// Writes the heads of the programs' columns.
+fn heads() -> String {
+    ["proved", "reference", "mcheck_pedantic"]
+        .map(|head| format!("{head:>WIDTH$}"))
+        .concat()
 }
 
 /// Gives the ratio of two programs at a call and a number of live objects.
