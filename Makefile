@@ -2,13 +2,14 @@
 # make test      prove everything from nothing, try every must-fail edit, run every test
 # make lib       prove the exported calls, and write build/lib/liblokhazim.a with its header
 # make figures   print the library's code size, the stack that calls need, and the bytes of accounts
+# make bench     time the proved calls, the reference and glibc under mcheck_pedantic
 # make fuzz      compare the proved code with the reference from a fresh seed: SECONDS=600 SEED=..
 # make sanitize  compare calls under valgrind: SECONDS=600 SEED=..
 
 SECONDS := 60
 SEED :=
 
-.PHONY: run test lib figures fuzz sanitize clean
+.PHONY: run test lib figures bench fuzz sanitize clean
 
 run:
 	@scripts/run
@@ -21,6 +22,9 @@ lib:
 
 figures:
 	@scripts/figures
+
+bench:
+	@scripts/bench
 
 fuzz:
 	@scripts/fuzz $(SECONDS) $(SEED)

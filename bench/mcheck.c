@@ -1,0 +1,201 @@
+/* The peer: glibc's malloc under mcheck_pedantic, which checks its whole heap at every call. It reads a
+ * plan (bench/src/plan.rs) and prints what the clock costs; for each further byte of input it runs one
+ * round and prints, in a line for each kind of call, the nanoseconds of every call. It is run with
+ * libc_malloc_debug.so.0 preloaded. Nothing but the plan's objects is allocated, so that the checks meet
+ * no other block. */
+
+#include <mcheck.h>
+#include <stdint.h>
+#include <stdio.h>
+#include <stdlib.h>
+#include <time.h>
+
+enum { MAX_LIVE = 128, MAX_STEPS = 100000, CALLS = 4 };
+enum call { ALLOCATE, RELEASE, CLAIM, REALLOCATE };
+
+struct step {
+    unsigned length, claimed, released, moved, new_length;
+};
+
+static struct step steps[MAX_STEPS];
+static void *objects[MAX_LIVE];
+static uint64_t times[CALLS][MAX_STEPS];
+static unsigned live, rounds, steps_of_round;
+
+/* Stops with a sentence that says what is wrong. */
+static void fail(const char *why)
+{
+    fprintf(stderr, "FAILED: %s\n", why);
+    exit(1);
+}
+
+/* The calls, each under the name that the instruction counts look for. */
+
+__attribute__((noinline)) static void *call_allocate(size_t length)
+{
+    void *object = malloc(length);
+    if (object == NULL)
+        fail("malloc gave no memory");
+    return object;
+}
+
+__attribute__((noinline)) static void call_release(void *object)
+{
+    free(object);
+}
+
+/* glibc has no claims: its check of the whole heap stands against one. */
+__attribute__((noinline)) static void call_claim(void)
+{
+    mcheck_check_all();
+}
+
+__attribute__((noinline)) static void *call_reallocate(void *object, size_t length)
+{
+    void *moved = realloc(object, length);
+    if (moved == NULL)
+        fail("realloc gave no memory");
+    return moved;
+}
+
+static uint64_t now(void)
+{
+    struct timespec time;
+    clock_gettime(CLOCK_MONOTONIC, &time);
+    return (uint64_t)time.tv_sec * 1000000000u + (uint64_t)time.tv_nsec;
+}
+
+/* What the timing itself adds to a call: the lowest of several averages. */
+static double clock_cost(void)
+{
+    enum { TIMES = 2000 };
+    double lowest = 1e9;
+    for (int turn = 0; turn < 9; turn++) {
+        uint64_t sum = 0;
+        for (int i = 0; i < TIMES; i++) {
+            uint64_t start = now();
+            sum += now() - start;
+        }
+        double average = (double)sum / TIMES;
+        if (average < lowest)
+            lowest = average;
+    }
+    return lowest;
+}
+
+/* A step of a round, as in bench/src/rounds.rs. */
+static inline void run_step(struct step step, unsigned place)
+{
+    unsigned last = live - 1;
+    uint64_t start = now();
+    void *object = call_allocate(step.length);
+    times[ALLOCATE][place] = now() - start;
+    objects[last] = object;
+
+    start = now();
+    call_claim();
+    times[CLAIM][place] = now() - start;
+
+    object = objects[step.released];
+    objects[step.released] = objects[last];
+    start = now();
+    call_release(object);
+    times[RELEASE][place] = now() - start;
+
+    object = objects[step.moved];
+    start = now();
+    object = call_reallocate(object, step.new_length);
+    times[REALLOCATE][place] = now() - start;
+    objects[step.moved] = object;
+}
+
+static inline void run_steps(unsigned round)
+{
+    for (unsigned i = 0; i < steps_of_round; i++)
+        run_step(steps[round * steps_of_round + i], i);
+}
+
+/* A round whose instructions are counted; the counts look for this name. */
+__attribute__((noinline)) static void measured_round(unsigned round)
+{
+    run_steps(round);
+}
+
+/* The first round. */
+__attribute__((noinline)) static void warm_up(void)
+{
+    run_steps(0);
+}
+
+static void print_times(void)
+{
+    for (int call = 0; call < CALLS; call++)
+        for (unsigned i = 0; i < steps_of_round; i++)
+            printf("%llu%c", (unsigned long long)times[call][i], i + 1 < steps_of_round ? ' ' : '\n');
+    fflush(stdout);
+}
+
+/* The next number of the plan, at most a bound. */
+static unsigned number(unsigned bound)
+{
+    unsigned value;
+    if (scanf("%u", &value) != 1 || value > bound)
+        fail("the plan has a number that is missing or too large. bench/src/plan.rs writes it");
+    return value;
+}
+
+static void read_plan(void)
+{
+    live = number(MAX_LIVE);
+    rounds = number(MAX_STEPS);
+    steps_of_round = number(MAX_STEPS);
+    if (live < 2 || (uint64_t)rounds * steps_of_round > MAX_STEPS)
+        fail("the plan has too many steps. Raise MAX_STEPS in bench/mcheck.c");
+    for (unsigned i = 0; i + 1 < live; i++)
+        objects[i] = call_allocate(number(65536));
+    for (unsigned i = 0; i < rounds * steps_of_round; i++) {
+        steps[i].length = number(65536);
+        steps[i].claimed = number(live - 1);
+        steps[i].released = number(live - 1);
+        steps[i].moved = number(live - 2);
+        steps[i].new_length = number(65536);
+    }
+    getchar(); /* the line feed behind the last number */
+}
+
+/* Says what a new object's bytes are. */
+static void say_filling(void)
+{
+    enum { LENGTH = 64 };
+    volatile unsigned char *bytes = call_allocate(LENGTH);
+    int same = 1;
+    for (int i = 1; i < LENGTH; i++)
+        same = same && bytes[i] == bytes[0];
+    if (same)
+        printf("filled with 0x%02X at malloc\n", bytes[0]);
+    else
+        printf("neither cleared nor filled at malloc\n");
+    call_release((void *)bytes);
+    fflush(stdout);
+}
+
+int main(void)
+{
+    static char in[BUFSIZ], out[BUFSIZ];
+    if (mcheck_pedantic(NULL) != 0)
+        fail("mcheck_pedantic has no effect. Run this with LD_PRELOAD=libc_malloc_debug.so.0");
+    setvbuf(stdin, in, _IOFBF, sizeof in);
+    setvbuf(stdout, out, _IOFBF, sizeof out);
+    say_filling();
+    read_plan();
+    printf("%.1f\n", clock_cost());
+    fflush(stdout);
+    for (unsigned round = 0; round < rounds && getchar() != EOF; round++) {
+        if (round == 0)
+            warm_up();
+        else
+            measured_round(round);
+        print_times();
+    }
+    return 0;
+}

@@ -1,0 +1,146 @@
+//! The operations that every program runs: sizes and choices from a fixed seed.
+//!
+//! A step starts with one object less than the plan's live count. It allocates one, claims one and
+//! drops the claim, releases one and reallocates one. So at each of the four calls the heap has
+//! exactly the live count at its fullest: a reallocation needs a hold record for both objects, and
+//! there are 128 records.
+
+use std::fmt::Write;
+
+use lokhazim_reference::QUOTAS;
+
+/// The bytes of the heap.
+pub const HEAP_BYTES: usize = 32_768;
+
+/// What each quota is granted.
+pub const GRANT: u32 = 1_000_000;
+
+/// The numbers of live objects that are measured.
+pub const LIVE_COUNTS: [usize; 3] = [8, 32, 128];
+
+/// The longest request. Even 128 objects of this length fit the heap.
+pub const LONGEST: u64 = 192;
+
+/// Where the random numbers start.
+const SEED: u64 = 20_260_611;
+
+/// One step of a plan.
+#[derive(Clone, Copy, Debug, PartialEq, Eq)]
+pub struct Step {
+    /// The quota that allocates.
+    pub quota: u32,
+    /// The length that it asks for.
+    pub length: u32,
+    /// The place of the object that is claimed.
+    pub claimed: usize,
+    /// The place of the object that is released.
+    pub released: usize,
+    /// The place of the object that is reallocated.
+    pub moved: usize,
+    /// The length that it is reallocated to.
+    pub new_length: u32,
+}
+
+/// The operations for one number of live objects.
+#[derive(Clone, Debug)]
+pub struct Plan {
+    /// How many objects live at the fullest moment of each call.
+    pub live: usize,
+    /// The lengths of the objects that are there before the first step.
+    pub first: Vec<u32>,
+    /// The steps, round by round. The first round is for warming up.
+    pub rounds: Vec<Vec<Step>>,
+}
+
+impl Plan {
+    /// Makes the plan for a number of live objects: so many rounds behind the first, of so many steps.
+    pub fn new(live: usize, rounds: usize, steps: usize) -> Plan {
+        let mut random = Random(SEED + live as u64);
+        Plan {
+            live,
+            first: (1..live).map(|_| random.length()).collect(),
+            rounds: (0..=rounds)
+                .map(|_| (0..steps).map(|_| random.step(live)).collect())
+                .collect(),
+        }
+    }
+
+    /// Writes the plan as `bench/mcheck.c` reads it: live objects, rounds, steps of a round, the
+    /// first lengths, then five numbers for each step.
+    pub fn text(&self) -> String {
+        let steps = self.rounds[0].len();
+        let mut text = format!("{} {} {}\n", self.live, self.rounds.len(), steps);
+        for length in &self.first {
+            let _ = writeln!(text, "{length}");
+        }
+        for step in self.rounds.iter().flatten() {
+            let (length, new_length) = (step.length, step.new_length);
+            let (claimed, released, moved) = (step.claimed, step.released, step.moved);
+            let _ = writeln!(text, "{length} {claimed} {released} {moved} {new_length}");
+        }
+        text
+    }
+}
+
+/// Gives the quota of one of the first objects, by its place.
+pub fn first_quota(place: usize) -> u32 {
+    (place % QUOTAS) as u32
+}
+
+/// A small generator of random numbers (SplitMix64).
+struct Random(u64);
+
+impl Random {
+    /// Gives the next number.
+    fn next(&mut self) -> u64 {
+        self.0 = self.0.wrapping_add(0x9E37_79B9_7F4A_7C15);
+        let a = (self.0 ^ (self.0 >> 30)).wrapping_mul(0xBF58_476D_1CE4_E5B9);
+        let b = (a ^ (a >> 27)).wrapping_mul(0x94D0_49BB_1331_11EB);
+        b ^ (b >> 31)
+    }
+
+    /// Gives a number below a bound.
+    fn below(&mut self, bound: usize) -> usize {
+        (self.next() % bound as u64) as usize
+    }
+
+    /// Gives a length from 1 to the longest.
+    fn length(&mut self) -> u32 {
+        (self.next() % LONGEST) as u32 + 1
+    }
+
+    /// Gives a step for so many live objects.
+    fn step(&mut self, live: usize) -> Step {
+        Step {
+            quota: self.below(QUOTAS) as u32,
+            length: self.length(),
+            claimed: self.below(live),
+            released: self.below(live),
+            moved: self.below(live - 1),
+            new_length: self.length(),
+        }
+    }
+}
+
+#[cfg(test)]
+mod tests {
+    use super::*;
+
+    #[test]
+    fn the_same_seed_gives_the_same_plan() {
+        assert_eq!(Plan::new(32, 2, 5).rounds, Plan::new(32, 2, 5).rounds);
+    }
+
+    #[test]
+    fn the_text_has_a_number_for_each_choice() {
+        let text = Plan::new(8, 2, 5).text();
+        assert!(text.starts_with("8 3 5\n"));
+        assert_eq!(text.split_whitespace().count(), 3 + 7 + 3 * 5 * 5);
+    }
+
+    #[test]
+    fn as_many_of_the_longest_objects_as_there_are_records_fit() {
+        let largest = LIVE_COUNTS[2] * (LONGEST as usize + 8);
+        assert!(largest <= HEAP_BYTES);
+    }
+}
