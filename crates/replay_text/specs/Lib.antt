@@ -4,3 +4,4 @@ pub mod Lines
 pub mod Commands
 pub mod Replay
 pub mod Events
+pub mod Contracts

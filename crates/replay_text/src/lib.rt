@@ -1,11 +1,15 @@
 // The replay's text: the lines of an input are read as calls, the calls are performed on a heap, and the answers are written as lines.
 use accounts::QUOTAS;
 
+mod digits;
+mod words;
+mod output;
+
 // The most numbers that a line has: those of an opening, the heap's length and the grants.
-const MOST: usize = QUOTAS + 1;
+pub(crate) const MOST: usize = QUOTAS + 1;
 
 // The name that a line begins with.
-enum Word {
+pub(crate) enum Word {
     Open,
     Alloc,
     Array,
@@ -14,4 +18,10 @@ enum Word {
     All,
     Realloc,
     Unknown,
+}
+
+// What a word is as a number.
+pub(crate) enum Number {
+    Value(u32),
+    Nothing,
 }

@@ -1,0 +1,47 @@
+-- As many digits as the number has are its decimal.
+-- Assumes nothing.
+use borrow.Author.Needs.{needs}
+use native.Mathlib.Omega.{arith}
+use Rattle.replay_text.proofs.Decimals.{length-decimal, put-decimal}
+use Rattle.replay_text.proofs.digits.put_number.Statement.{statement}
+use Rattle.replay_text.proofs.digits.put_number.Tie as tie
+use Rattle.replay_text.proofs.digits.put_number.Reads as reads
+use Rattle.replay_text.proofs.digits.put_number.Lts as lts
+use Rattle.replay_text.proofs.digits.count_digits.Reads as count-digits-reads
+use Rattle.replay_text.proofs.digits.put_digits.Reads as put-digits-reads
+
+-- src/digits.rt:44:9
+count-digits-requires : tie.Need-count-digits-requires
+count-digits-requires c κs = search needs
+
+-- src/digits.rt:45:5
+put-digits-requires : tie.Need-put-digits-requires
+put-digits-requires c κs =
+    let k = c .before in
+    let a = k .before .before .args in
+    let f = k .before .before .pre .fits in
+    omega (arith, length-decimal (a .n), k .count-digits .ensures)
+
+-- src/digits.rt:46:5
+add-result : tie.Need-add-result
+add-result c =
+    let k = c .before .before .before .before in
+    let a = k .before .before .args in
+    let f = k .before .before .pre .fits in
+    omega (arith, length-decimal (a .n), k .count-digits .ensures)
+
+-- src/digits.rt:40:1
+same-length : tie.Need-same-length
+same-length c = search needs
+
+-- src/digits.rt:40:1
+returns : tie.Need-returns
+returns c =
+    let d = c .before .before in
+    let k = d .before .before in
+    let a = k .before .before .args in
+    put-decimal (a .at) (a .n) (k .count-digits .result) (a .output .now) (d .put-digits .last .0) (k .count-digits .ensures) (d .put-digits .ensures)
+
+pub put-number-spec : {M : Type 1} → statement M
+put-number-spec =
+    tie.close (tie.spec count-digits-requires put-digits-requires add-result same-length returns)
