@@ -4,3 +4,6 @@ pub mod Puts
 pub mod Decimals
 pub mod Reading
 pub mod Marks
+pub mod Gathering
+pub mod Asking
+pub mod Phrases

@@ -57,13 +57,24 @@ module _ (mark to : ℕ) (s : List ℕ) (k : to ≤ length s) where
       ∙ ap (λ (p : List ℕ). p ∷ split mark (slice (r + 1) to s)) (sym (part-cons from r s (getD s from 0) (omega arith) (omega arith) refl))
 
   -- no mark: one part; a mark at r: the part before it, and the parts of the rest
-  pub split-last : (from r : ℕ) → from ≤ to → r ≡ to → FirstMark mark from to s r → split mark (slice from to s) ≡ slice from to s ∷ []
-  split-last from r h e m =
+  pub split-last : (from r : ℕ) → r ≡ to → FirstMark mark from to s r → split mark (slice from to s) ≡ slice from r s ∷ []
+  split-last from r e m =
       let d = to - from in
-      last-from d from (omega arith) (λ i x y. m .absent i x (omega arith))
+      let l = m .low in
+      last-from d from (omega arith) (λ i x y. m .absent i x (omega arith)) ∙ ap (λ (n : ℕ). slice from n s ∷ []) (sym e)
 
   pub split-more : (from r : ℕ) → r < to → FirstMark mark from to s r → split mark (slice from to s) ≡ slice from r s ∷ split mark (slice (r + 1) to s)
   split-more from r h m =
       let d = r - from in
       let l = m .low in
       more-from d from r (omega arith) h (m .found h) (m .absent)
+
+  -- in either case the first part ends at r
+  pub split-first : (from r : ℕ) → FirstMark mark from to s r → (rest : List (List ℕ)) × (split mark (slice from to s) ≡ slice from r s ∷ rest)
+  split-first from r m = go (ltb r to) refl
+    where
+      go : (t : Bool) → ltb r to ≡ t → (rest : List (List ℕ)) × (split mark (slice from to s) ≡ slice from r s ∷ rest)
+      go true e = (split mark (slice (r + 1) to s), split-more from r (ltb-true r to e) m)
+      go false e =
+          let h = m .high in
+          ([], split-last from r (omega (arith, ltb-false r to e)) m)

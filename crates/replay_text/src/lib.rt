@@ -1,9 +1,11 @@
 // The replay's text: the lines of an input are read as calls, the calls are performed on a heap, and the answers are written as lines.
 use accounts::QUOTAS;
+use model::Call;
 
+mod calls;
 mod digits;
-mod words;
 mod output;
+mod words;
 
 // The most numbers that a line has: those of an opening, the heap's length and the grants.
 pub(crate) const MOST: usize = QUOTAS + 1;
@@ -24,4 +26,31 @@ pub(crate) enum Word {
 pub(crate) enum Number {
     Value(u32),
     Nothing,
+}
+
+// How many numbers the words behind a name are.
+pub(crate) enum Count {
+    Read(usize),
+    Nothing,
+}
+
+// A line as a name and numbers, the first `count` of `values`; not ok where what stands behind the name is no numbers, or more than any line has.
+pub(crate) struct Line {
+    ok: bool,
+    name: Word,
+    count: usize,
+    values: [u32; MOST],
+}
+
+// The call that a line asks for.
+pub(crate) enum Asked {
+    Call(Call),
+    Nothing,
+}
+
+// The opening that a line asks for: the heap's length and the grants, where the line is ok.
+pub(crate) struct OpenLine {
+    ok: bool,
+    heap: u32,
+    grants: [u32; QUOTAS],
 }
