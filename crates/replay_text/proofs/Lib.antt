@@ -7,3 +7,4 @@ pub mod Marks
 pub mod Gathering
 pub mod Asking
 pub mod Phrases
+pub mod Answering

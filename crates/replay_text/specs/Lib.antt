@@ -5,3 +5,4 @@ pub mod Commands
 pub mod Replay
 pub mod Events
 pub mod Contracts
+pub mod Answered

@@ -39,7 +39,7 @@ unfoldable pub bad-line : List ℕ
 bad-line = text "bad" ++ tail-of []
 
 -- whether a call answers a handle; the others that have a name answer an amount
-unfoldable pub gives-handle : Call → Bool
+abbrev pub gives-handle : Call → Bool
 gives-handle (Allocate q n) = true
 gives-handle (AllocateArray q count size) = true
 gives-handle (Claim q h) = false

@@ -2,6 +2,7 @@
 use accounts::QUOTAS;
 use model::Call;
 
+mod answers;
 mod calls;
 mod digits;
 mod output;
