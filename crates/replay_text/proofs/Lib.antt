@@ -8,3 +8,5 @@ pub mod Gathering
 pub mod Asking
 pub mod Phrases
 pub mod Answering
+pub mod Running
+pub mod Listings

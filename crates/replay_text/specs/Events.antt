@@ -1,12 +1,16 @@
 -- The events of a replay, in the ledger's sense: the calls of its lines with what each answers, the newest first.
-use Prim.Native.Nat.{ℕ}
+use Prim.Native.Nat.{ℕ, _<_, _^_}
+use mathlib.Core.Path.{_≡_}
+use lib.ListN.{length, getD}
 use mathlib.Core.List.{List, [], _∷_, _++_}
 use mathlib.Core.Option.{Option, none, some}
 use Rattle.accounts.specs.declared.Accounts.{Accounts}
 use Rattle.rounding.specs.Rounding.{unit}
 use Rattle.model.specs.Step.{step}
 use Rattle.model.specs.declared.Call.{Call}
+use Rattle.accounts.specs.Accounts.{QUOTAS}
 use Rattle.ledger.specs.Ledger.{Event, Called, Wrote}
+use Rattle.ledger.specs.History.{History}
 use Rattle.replay_text.specs.Commands.{line-call}
 use Rattle.replay_text.specs.Replay.{bad-line, answer-line, ending}
 
@@ -35,3 +39,14 @@ unfoldable pub answer-lines : List Event → List ℕ
 answer-lines [] = []
 answer-lines (Called c v ∷ es) = answer-lines es ++ answer-line c v
 answer-lines (Wrote ∷ es) = answer-lines es
+
+-- a heap and its accounts that a history leads to, from an accepted opening
+pub record Reached (s : List ℕ) (k : Accounts) : Type 0 where
+  pub grants : List ℕ
+  pub events : List Event
+  pub history : History (step unit) grants events s k
+
+-- grants as an opening takes them: one for each quota, of 32 bits
+pub record Granted (grants : List ℕ) : Type 0 where
+  pub quotas : length grants ≡ QUOTAS
+  pub narrow : (q : ℕ) → getD grants q 0 < 2 ^ 32

@@ -6,6 +6,8 @@ mod answers;
 mod calls;
 mod digits;
 mod output;
+mod run;
+mod standin;
 mod words;
 
 // The most numbers that a line has: those of an opening, the heap's length and the grants.

@@ -1,0 +1,70 @@
+// The run of an input: its first line opens a heap, each further line is a call on it, and at the end its blocks are listed.
+use crate::Asked;
+use crate::answers;
+use crate::calls;
+use crate::words;
+use crate::standin;
+use accounts::Accounts;
+use accounts::QUOTAS;
+use model::BlockAnswer;
+ghost use mathlib.Core.Path.{_≡_};
+ghost use Prim.Native.Nat.{_≤_};
+ghost use lib.ListN.{length};
+ghost use lib.Seq.{slice};
+ghost use Rattle.model.specs.Calls.{open-heap};
+ghost use Rattle.replay_text.specs.Lines.{lines};
+ghost use Rattle.replay_text.specs.Replay.{heap-lines, ending, run-lines, run-opened, run-opening, run-input};
+ghost use Rattle.replay_text.specs.Contracts.{Within, Room, Put};
+ghost use Rattle.replay_text.specs.Events.{Reached, Granted};
+
+// The lines of the heap's blocks, in order.
+fn put_blocks(heap: &[u8], accounts: Accounts, output: &mut [u8], at: usize) -> usize
+    requires { ⌜ Reached (now heap) accounts × Room at (heap-lines (now heap)) (now output) ⌝ }
+    ensures { λ r. ⌜ Put at (heap-lines (now (heap .entry))) (now (output .entry)) (now (output .exit)) r ⌝ }
+{
+    let mut place: usize = 0;
+    let mut next = at;
+    loop {
+        let BlockAnswer::Listed(block) = heap::list_block(heap, accounts, place) else {
+            return next;
+        };
+        next = answers::put_block(output, next, block);
+        place = block.offset + block.size;
+    }
+}
+
+// The end of an input: the list, where nothing stands behind the last line feed.
+fn put_ending(input: &[u8], from: usize, heap: &[u8], accounts: Accounts, output: &mut [u8], at: usize) -> usize
+    requires { ⌜ (from ≤ length (now input)) × Reached (now heap) accounts × Room at (ending (slice from (length (now input)) (now input)) (now heap)) (now output) ⌝ }
+    ensures { λ r. ⌜ Put at (ending (slice from (length (now (input .entry))) (now (input .entry))) (now (heap .entry))) (now (output .entry)) (now (output .exit)) r ⌝ }
+{
+    if from == input.len() {
+        return put_blocks(heap, accounts, output, at);
+    }
+    answers::put_bad(output, at)
+}
+
+// The lines from a place on: each is a call, which is made and answered.
+fn run_calls(input: &[u8], from: usize, heap: &mut [u8], accounts: Accounts, output: &mut [u8], at: usize) -> usize
+    requires { ⌜ (from ≤ length (now input)) × Reached (now heap) accounts × Room at (run-lines (lines (slice from (length (now input)) (now input))) (now heap) accounts) (now output) ⌝ }
+    ensures { λ r. ⌜ Put at (run-lines (lines (slice from (length (now (input .entry))) (now (input .entry)))) (now (heap .entry)) accounts) (now (output .entry)) (now (output .exit)) r ⌝ }
+{
+    let len = input.len();
+    let mut start = from;
+    let mut place = at;
+    let mut books = accounts;
+    loop {
+        let end = words::find_mark(input, start, len, 10);
+        if end == len {
+            return put_ending(input, start, heap, books, output, place);
+        }
+        let Asked::Call(call) = calls::read_call(input, start, end) else {
+            return answers::put_bad(output, place);
+        };
+        let done = standin::perform(heap, books, call);
+        let answer = done.answer;
+        place = answers::put_answer(output, place, call, answer);
+        books = done.accounts;
+        start = end + 1;
+    }
+}
