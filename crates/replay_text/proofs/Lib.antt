@@ -10,3 +10,4 @@ pub mod Phrases
 pub mod Answering
 pub mod Running
 pub mod Listings
+pub mod LineRuns
