@@ -19,7 +19,7 @@ ghost use Rattle.replay_text.specs.Replay.{tail-of, ok-line, no-line, ba
 ghost use Rattle.replay_text.specs.Contracts.{Put, Room};
 
 // The refusal's number of a verdict, 0 where it is accepted.
-fn verdict_refusal(answer: Verdict) -> u32
+pub(crate) fn verdict_refusal(answer: Verdict) -> u32
     ensures { λ r. ⌜ r ≡ verdict-refusal answer ⌝ }
 {
     match answer {

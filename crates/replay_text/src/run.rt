@@ -9,13 +9,16 @@ use accounts::QUOTAS;
 use model::BlockAnswer;
 ghost use mathlib.Core.Path.{_≡_};
 ghost use Prim.Native.Nat.{_≤_};
-ghost use lib.ListN.{length};
+ghost use lib.ListN.{length, replicate};
 ghost use lib.Seq.{slice};
 ghost use Rattle.model.specs.Calls.{open-heap};
 ghost use Rattle.replay_text.specs.Lines.{lines};
-ghost use Rattle.replay_text.specs.Replay.{heap-lines, ending, run-lines, run-opened, run-opening, run-input};
+ghost use Rattle.replay_text.specs.Replay.{heap-lines, ending, run-lines, run-opened, run-input};
 ghost use Rattle.replay_text.specs.Contracts.{Within, Room, Put};
 ghost use Rattle.replay_text.specs.Events.{Reached, Granted};
+
+// The most bytes that a heap has.
+const LONGEST_HEAP: usize = 32768;
 
 // The lines of the heap's blocks, in order.
 fn put_blocks(heap: &[u8], accounts: Accounts, output: &mut [u8], at: usize) -> usize
@@ -67,4 +70,51 @@ fn run_calls(input: &[u8], from: usize, heap: &mut [u8], accounts: Accounts, out
         books = done.accounts;
         start = end + 1;
     }
+}
+
+// The lines behind an opening, on a heap that is opened with these grants.
+fn run_opened(input: &[u8], from: usize, heap: &mut [u8], grants: [u32; QUOTAS], output: &mut [u8]) -> usize
+    requires { ⌜ (from ≤ length (now input)) × Granted grants × Room 0 (run-opened (open-heap (now heap) grants) (lines (slice from (length (now input)) (now input)))) (now output) ⌝ }
+    ensures { λ r. ⌜ Put 0 (run-opened (open-heap (now (heap .entry)) grants) (lines (slice from (length (now (input .entry))) (now (input .entry))))) (now (output .entry)) (now (output .exit)) r ⌝ }
+{
+    let opened = heap::open(heap, grants);
+    let verdict = opened.verdict;
+    let refusal = answers::verdict_refusal(verdict);
+    if refusal != 0 {
+        return answers::put_refusal(output, 0, refusal);
+    }
+    let at = answers::put_ok(output, 0);
+    let accounts = opened.accounts;
+    run_calls(input, from, heap, accounts, output, at)
+}
+
+// The lines behind an opening, on a heap of so many bytes.
+fn run_opening(input: &[u8], from: usize, size: u32, grants: [u32; QUOTAS], output: &mut [u8]) -> usize
+    requires { ⌜ (from ≤ length (now input)) × Granted grants × Room 0 (run-opened (open-heap (replicate size 0) grants) (lines (slice from (length (now input)) (now input)))) (now output) ⌝ }
+    ensures { λ r. ⌜ Put 0 (run-opened (open-heap (replicate size 0) grants) (lines (slice from (length (now (input .entry))) (now (input .entry))))) (now (output .entry)) (now (output .exit)) r ⌝ }
+{
+    let len = size as usize;
+    if LONGEST_HEAP < len {
+        return answers::put_refusal(output, 0, 1);
+    }
+    let mut store = [0u8; LONGEST_HEAP];
+    run_opened(input, from, &mut store[..len], grants, output)
+}
+
+// All lines of an input: the first opens a heap.
+pub(crate) fn run_all(input: &[u8], output: &mut [u8]) -> usize
+    requires { ⌜ Room 0 (run-input (lines (now input))) (now output) ⌝ }
+    ensures { λ r. ⌜ Put 0 (run-input (lines (now (input .entry)))) (now (output .entry)) (now (output .exit)) r ⌝ }
+{
+    let len = input.len();
+    let end = words::find_mark(input, 0, len, 10);
+    if end == len {
+        return answers::put_bad(output, 0);
+    }
+    let line = calls::read_opening(input, 0, end);
+    if !line.ok {
+        return answers::put_bad(output, 0);
+    }
+    let grants = line.grants;
+    run_opening(input, end + 1, line.heap, grants, output)
 }
