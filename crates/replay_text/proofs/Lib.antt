@@ -11,3 +11,7 @@ pub mod Answering
 pub mod Running
 pub mod Listings
 pub mod LineRuns
+pub mod Openings
+pub mod Bounds
+pub mod Histories
+pub mod InputRuns

@@ -40,7 +40,7 @@ unfolding onto
 onto-some b [] = (b ∷ [], [], refl)
 onto-some b (p ∷ ps) = (b ∷ p, ps, refl)
 
-split-some : (mark : ℕ) (s : List ℕ) → (q : List ℕ) × (qs : List (List ℕ)) × (split mark s ≡ q ∷ qs)
+pub split-some : (mark : ℕ) (s : List ℕ) → (q : List ℕ) × (qs : List (List ℕ)) × (split mark s ≡ q ∷ qs)
 unfolding split
 split-some mark [] = ([], [], refl)
 split-some mark (b ∷ s) = go (eqb b mark) (onto-some b (split mark s))

@@ -11,8 +11,9 @@ use Rattle.model.specs.declared.Call.{Call}
 use Rattle.accounts.specs.Accounts.{QUOTAS}
 use Rattle.ledger.specs.Ledger.{Event, Called, Wrote}
 use Rattle.ledger.specs.History.{History}
+use Rattle.ledger.specs.Demand3.{Holds}
 use Rattle.replay_text.specs.Commands.{line-call}
-use Rattle.replay_text.specs.Replay.{bad-line, answer-line, ending}
+use Rattle.replay_text.specs.Replay.{ok-line, bad-line, answer-line, ending, replay}
 
 -- what lines lead to: the heap, the accounts and the events, and what is printed behind the answers
 pub record Ran : Type 0 where
@@ -39,6 +40,13 @@ unfoldable pub answer-lines : List Event → List ℕ
 answer-lines [] = []
 answer-lines (Called c v ∷ es) = answer-lines es ++ answer-line c v
 answer-lines (Wrote ∷ es) = answer-lines es
+
+-- the input s, opened with these grants, leads to this: what it prints, that its events are a history, and what demand 3 says of it at every split of
+-- the events into a front and a back
+pub record Historical (s grants : List ℕ) (r : Ran) : Type 0 where
+  pub printed : replay s ≡ ok-line [] ++ (answer-lines (r .events) ++ r .last)
+  pub history : History (step unit) grants (r .events) (r .heap) (r .accounts)
+  pub holds : (front back : List Event) → r .events ≡ back ++ front → Holds unit (step unit) grants front back (r .heap) (r .accounts)
 
 -- a heap and its accounts that a history leads to, from an accepted opening
 pub record Reached (s : List ℕ) (k : Accounts) : Type 0 where

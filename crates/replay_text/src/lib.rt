@@ -3,11 +3,10 @@ use accounts::QUOTAS;
 use model::Call;
 
 mod answers;
-mod calls;
+mod commands;
 mod digits;
 mod output;
 mod run;
-mod standin;
 mod words;
 
 ghost use mathlib.Core.Path.{_≡_};

@@ -1,9 +1,8 @@
 // The run of an input: its first line opens a heap, each further line is a call on it, and at the end its blocks are listed.
 use crate::Asked;
 use crate::answers;
-use crate::calls;
+use crate::commands;
 use crate::words;
-use crate::standin;
 use accounts::Accounts;
 use accounts::QUOTAS;
 use model::BlockAnswer;
@@ -61,10 +60,10 @@ fn run_calls(input: &[u8], from: usize, heap: &mut [u8], accounts: Accounts, out
         if end == len {
             return put_ending(input, start, heap, books, output, place);
         }
-        let Asked::Call(call) = calls::read_call(input, start, end) else {
+        let Asked::Call(call) = commands::read_call(input, start, end) else {
             return answers::put_bad(output, place);
         };
-        let done = standin::perform(heap, books, call);
+        let done = heap::perform(heap, books, call);
         let answer = done.answer;
         place = answers::put_answer(output, place, call, answer);
         books = done.accounts;
@@ -111,7 +110,7 @@ pub(crate) fn run_all(input: &[u8], output: &mut [u8]) -> usize
     if end == len {
         return answers::put_bad(output, 0);
     }
-    let line = calls::read_opening(input, 0, end);
+    let line = commands::read_opening(input, 0, end);
     if !line.ok {
         return answers::put_bad(output, 0);
     }

@@ -7,16 +7,10 @@ use Rattle.replay_text.specs.Replay.{ok-line, tail-of}
 use Rattle.replay_text.proofs.Puts.{room-first, room-next, put-two}
 use Rattle.replay_text.proofs.answers.put_amount.Statement.{statement}
 use Rattle.replay_text.proofs.answers.put_amount.Tie as tie
-use Rattle.replay_text.proofs.answers.put_amount.Reads as reads
-use Rattle.replay_text.proofs.answers.put_amount.Lts as lts
-use Rattle.replay_text.proofs.answers.put_last.Reads as put-last-reads
-use Rattle.replay_text.proofs.output.put_text.Reads as put-text-reads
 
--- src/answers.rt:183:45
 slice-aggregate-put-text : tie.Need-slice-aggregate-put-text
 slice-aggregate-put-text c = search needs
 
--- src/answers.rt:183:9
 put-text-requires : tie.Need-put-text-requires
 unfolding ok-line tail-of
 put-text-requires c κs =
@@ -24,7 +18,6 @@ put-text-requires c κs =
     let a = e .args in
     room-first (a .at) (text "ok") (tail-of (a .amount ∷ [])) (a .output .now) (e .pre)
 
--- src/answers.rt:184:5
 put-last-requires : tie.Need-put-last-requires
 unfolding ok-line tail-of
 put-last-requires c κs =
@@ -33,11 +26,9 @@ put-last-requires c κs =
     let a = e .args in
     room-next (a .at) (text "ok") (tail-of (a .amount ∷ [])) (a .output .now) (p .put-text .last .0) (p .put-text .result) (e .pre) (p .put-text .ensures)
 
--- src/answers.rt:179:1
 same-length : tie.Need-same-length
 same-length c = search needs
 
--- src/answers.rt:179:1
 returns : tie.Need-returns
 unfolding ok-line tail-of
 returns c =

@@ -8,21 +8,10 @@ use Rattle.replay_text.specs.Contracts.{Room, Put}
 use Rattle.replay_text.proofs.Answering.{line-refused, line-handle, line-amount}
 use Rattle.replay_text.proofs.answers.put_answer.Statement.{statement}
 use Rattle.replay_text.proofs.answers.put_answer.Tie as tie
-use Rattle.replay_text.proofs.answers.put_answer.Reads as reads
-use Rattle.replay_text.proofs.answers.put_answer.Lts as lts
-use Rattle.replay_text.proofs.answers.amount_in.Reads as amount-in-reads
-use Rattle.replay_text.proofs.answers.answers_handle.Reads as answers-handle-reads
-use Rattle.replay_text.proofs.answers.handle_in.Reads as handle-in-reads
-use Rattle.replay_text.proofs.answers.put_amount.Reads as put-amount-reads
-use Rattle.replay_text.proofs.answers.put_handle.Reads as put-handle-reads
-use Rattle.replay_text.proofs.answers.put_refusal.Reads as put-refusal-reads
-use Rattle.replay_text.proofs.answers.refusal_in.Reads as refusal-in-reads
 
--- src/answers.rt:227:9
 refusal-in-requires : tie.Need-refusal-in-requires
 refusal-in-requires c κs = search needs
 
--- src/answers.rt:229:9
 put-refusal-requires : tie.Need-put-refusal-requires
 put-refusal-requires c κs =
     let t = c .before in
@@ -31,11 +20,9 @@ put-refusal-requires c κs =
     let a = e .args in
     subst (λ (x : List ℕ). Room (a .at) x (a .output .now)) (sym (line-refused (a .call) (a .answer) (r .refusal-in .result) (r .refusal-in .ensures) (t .if1 .taken))) (e .pre)
 
--- src/answers.rt:229:9
 same-length : tie.Need-same-length
 same-length c = search needs
 
--- src/answers.rt:229:9
 returns : tie.Need-returns
 returns c =
     let p = c .before .before in
@@ -45,15 +32,12 @@ returns c =
     let a = e .args in
     subst (λ (x : List ℕ). Put (a .at) x (a .output .now) (p .put-refusal .last .0) (p .put-refusal .result)) (line-refused (a .call) (a .answer) (r .refusal-in .result) (r .refusal-in .ensures) (t .if1 .taken)) (p .put-refusal .ensures)
 
--- src/answers.rt:231:8
 answers-handle-requires : tie.Need-answers-handle-requires
 answers-handle-requires c κs = search needs
 
--- src/answers.rt:232:39
 handle-in-requires : tie.Need-handle-in-requires
 handle-in-requires c κs = search needs
 
--- src/answers.rt:232:9
 put-handle-requires : tie.Need-put-handle-requires
 put-handle-requires c κs =
     let m = c in
@@ -65,11 +49,9 @@ put-handle-requires c κs =
     let a = e .args in
     subst (λ (x : List ℕ). Room (a .at) x (a .output .now)) (sym (line-handle (a .call) (a .answer) (r .refusal-in .result) (r .refusal-in .ensures) (l .if1 .left) (sym (h .answers-handle .ensures) ∙ t .if2 .taken) (m .handle-in .result) (m .handle-in .ensures))) (e .pre)
 
--- src/answers.rt:232:9
 same-length-2 : tie.Need-same-length-2
 same-length-2 c = search needs
 
--- src/answers.rt:232:9
 returns-2 : tie.Need-returns-2
 returns-2 c =
     let p = c .before .before in
@@ -82,11 +64,9 @@ returns-2 c =
     let a = e .args in
     subst (λ (x : List ℕ). Put (a .at) x (a .output .now) (p .put-handle .last .0) (p .put-handle .result)) (line-handle (a .call) (a .answer) (r .refusal-in .result) (r .refusal-in .ensures) (l .if1 .left) (sym (h .answers-handle .ensures) ∙ t .if2 .taken) (m .handle-in .result) (m .handle-in .ensures)) (p .put-handle .ensures)
 
--- src/answers.rt:234:28
 amount-in-requires : tie.Need-amount-in-requires
 amount-in-requires c κs = search needs
 
--- src/answers.rt:234:5
 put-amount-requires : tie.Need-put-amount-requires
 put-amount-requires c κs =
     let m = c in
@@ -98,11 +78,9 @@ put-amount-requires c κs =
     let a = e .args in
     subst (λ (x : List ℕ). Room (a .at) x (a .output .now)) (sym (line-amount (a .call) (a .answer) (r .refusal-in .result) (r .refusal-in .ensures) (l .if1 .left) (sym (h .answers-handle .ensures) ∙ t .if2 .left) (m .amount-in .result) (m .amount-in .ensures))) (e .pre)
 
--- src/answers.rt:223:1
 same-length-3 : tie.Need-same-length-3
 same-length-3 c = search needs
 
--- src/answers.rt:223:1
 returns-3 : tie.Need-returns-3
 returns-3 c =
     let p = c .before .before in

@@ -7,16 +7,10 @@ use Rattle.replay_text.specs.Replay.{block-line, tail-of}
 use Rattle.replay_text.proofs.Puts.{room-first, room-next, put-two}
 use Rattle.replay_text.proofs.answers.put_block.Statement.{statement}
 use Rattle.replay_text.proofs.answers.put_block.Tie as tie
-use Rattle.replay_text.proofs.answers.put_block.Reads as reads
-use Rattle.replay_text.proofs.answers.put_block.Lts as lts
-use Rattle.replay_text.proofs.answers.put_pair.Reads as put-pair-reads
-use Rattle.replay_text.proofs.digits.put_number.Reads as put-number-reads
 
--- src/answers.rt:242:47
 cast-put-number : tie.Need-cast-put-number
 cast-put-number c = search needs
 
--- src/answers.rt:242:9
 put-number-requires : tie.Need-put-number-requires
 unfolding block-line tail-of
 put-number-requires c κs =
@@ -24,11 +18,9 @@ put-number-requires c κs =
     let a = e .args in
     room-first (a .at) (decimal (a .block .offset)) (tail-of (a .block .size ∷ (a .block .serial ∷ []))) (a .output .now) (e .pre .1)
 
--- src/answers.rt:243:28
 cast-put-pair : tie.Need-cast-put-pair
 cast-put-pair c = search needs
 
--- src/answers.rt:243:5
 put-pair-requires : tie.Need-put-pair-requires
 unfolding block-line tail-of
 put-pair-requires c κs =
@@ -37,11 +29,9 @@ put-pair-requires c κs =
     let a = e .args in
     room-next (a .at) (decimal (a .block .offset)) (tail-of (a .block .size ∷ (a .block .serial ∷ []))) (a .output .now) (p .put-number .last .0) (p .put-number .result) (e .pre .1) (p .put-number .ensures)
 
--- src/answers.rt:238:1
 same-length : tie.Need-same-length
 same-length c = search needs
 
--- src/answers.rt:238:1
 returns : tie.Need-returns
 unfolding block-line tail-of
 returns c =

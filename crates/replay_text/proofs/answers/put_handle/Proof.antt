@@ -7,17 +7,10 @@ use Rattle.replay_text.specs.Replay.{ok-line, tail-of, handle-numbers}
 use Rattle.replay_text.proofs.Puts.{room-first, room-next, put-two}
 use Rattle.replay_text.proofs.answers.put_handle.Statement.{statement}
 use Rattle.replay_text.proofs.answers.put_handle.Tie as tie
-use Rattle.replay_text.proofs.answers.put_handle.Reads as reads
-use Rattle.replay_text.proofs.answers.put_handle.Lts as lts
-use Rattle.replay_text.proofs.answers.put_pair.Reads as put-pair-reads
-use Rattle.replay_text.proofs.output.put_spaced.Reads as put-spaced-reads
-use Rattle.replay_text.proofs.output.put_text.Reads as put-text-reads
 
--- src/answers.rt:192:43
 slice-aggregate-put-text : tie.Need-slice-aggregate-put-text
 slice-aggregate-put-text c = search needs
 
--- src/answers.rt:192:9
 put-text-requires : tie.Need-put-text-requires
 unfolding ok-line tail-of handle-numbers
 put-text-requires c κs =
@@ -25,7 +18,6 @@ put-text-requires c κs =
     let a = e .args in
     room-first (a .at) (text "ok") ((SPACE ∷ decimal (a .handle .base)) ++ (tail-of (a .handle .length ∷ (a .handle .serial ∷ [])))) (a .output .now) (e .pre)
 
--- src/answers.rt:193:9
 put-spaced-requires : tie.Need-put-spaced-requires
 unfolding ok-line tail-of handle-numbers
 put-spaced-requires c κs =
@@ -34,7 +26,6 @@ put-spaced-requires c κs =
     let a = e .args in
     room-first (p .put-text .result) (SPACE ∷ decimal (a .handle .base)) (tail-of (a .handle .length ∷ (a .handle .serial ∷ []))) (p .put-text .last .0) (room-next (a .at) (text "ok") ((SPACE ∷ decimal (a .handle .base)) ++ (tail-of (a .handle .length ∷ (a .handle .serial ∷ [])))) (a .output .now) (p .put-text .last .0) (p .put-text .result) (e .pre) (p .put-text .ensures))
 
--- src/answers.rt:194:5
 put-pair-requires : tie.Need-put-pair-requires
 unfolding ok-line tail-of handle-numbers
 put-pair-requires c κs =
@@ -44,11 +35,9 @@ put-pair-requires c κs =
     let a = e .args in
     room-next (p .put-text .result) (SPACE ∷ decimal (a .handle .base)) (tail-of (a .handle .length ∷ (a .handle .serial ∷ []))) (p .put-text .last .0) (q .put-spaced .last .0) (q .put-spaced .result) (room-next (a .at) (text "ok") ((SPACE ∷ decimal (a .handle .base)) ++ (tail-of (a .handle .length ∷ (a .handle .serial ∷ [])))) (a .output .now) (p .put-text .last .0) (p .put-text .result) (e .pre) (p .put-text .ensures)) (q .put-spaced .ensures)
 
--- src/answers.rt:188:1
 same-length : tie.Need-same-length
 same-length c = search needs
 
--- src/answers.rt:188:1
 returns : tie.Need-returns
 unfolding ok-line tail-of handle-numbers
 returns c =

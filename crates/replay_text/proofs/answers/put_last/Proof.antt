@@ -7,12 +7,7 @@ use Rattle.replay_text.specs.Replay.{tail-of}
 use Rattle.replay_text.proofs.Puts.{room-first, room-next, put-two}
 use Rattle.replay_text.proofs.answers.put_last.Statement.{statement}
 use Rattle.replay_text.proofs.answers.put_last.Tie as tie
-use Rattle.replay_text.proofs.answers.put_last.Reads as reads
-use Rattle.replay_text.proofs.answers.put_last.Lts as lts
-use Rattle.replay_text.proofs.output.put_byte.Reads as put-byte-reads
-use Rattle.replay_text.proofs.output.put_spaced.Reads as put-spaced-reads
 
--- src/answers.rt:165:9
 put-spaced-requires : tie.Need-put-spaced-requires
 unfolding tail-of
 put-spaced-requires c κs =
@@ -20,7 +15,6 @@ put-spaced-requires c κs =
     let a = e .args in
     room-first (a .at) (SPACE ∷ decimal (a .n)) (LINE-FEED ∷ []) (a .output .now) (e .pre)
 
--- src/answers.rt:166:5
 put-byte-requires : tie.Need-put-byte-requires
 unfolding tail-of
 put-byte-requires c κs =
@@ -29,11 +23,9 @@ put-byte-requires c κs =
     let a = e .args in
     room-next (a .at) (SPACE ∷ decimal (a .n)) (LINE-FEED ∷ []) (a .output .now) (p .put-spaced .last .0) (p .put-spaced .result) (e .pre) (p .put-spaced .ensures)
 
--- src/answers.rt:161:1
 same-length : tie.Need-same-length
 same-length c = search needs
 
--- src/answers.rt:161:1
 returns : tie.Need-returns
 unfolding tail-of
 returns c =

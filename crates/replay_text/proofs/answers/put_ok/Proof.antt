@@ -4,24 +4,17 @@ use borrow.Author.Needs.{needs}
 use Rattle.replay_text.specs.Replay.{ok-line, tail-of}
 use Rattle.replay_text.proofs.answers.put_ok.Statement.{statement}
 use Rattle.replay_text.proofs.answers.put_ok.Tie as tie
-use Rattle.replay_text.proofs.answers.put_ok.Reads as reads
-use Rattle.replay_text.proofs.answers.put_ok.Lts as lts
-use Rattle.replay_text.proofs.output.put_text.Reads as put-text-reads
 
--- src/answers.rt:219:34
 slice-aggregate-put-text : tie.Need-slice-aggregate-put-text
 slice-aggregate-put-text c = search needs
 
--- src/answers.rt:219:5
 put-text-requires : tie.Need-put-text-requires
 unfolding ok-line tail-of
 put-text-requires c κs = c .before .before .before .pre
 
--- src/answers.rt:215:1
 same-length : tie.Need-same-length
 same-length c = search needs
 
--- src/answers.rt:215:1
 returns : tie.Need-returns
 unfolding ok-line tail-of
 returns c = c .before .before .put-text .ensures

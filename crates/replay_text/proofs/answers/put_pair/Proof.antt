@@ -7,12 +7,7 @@ use Rattle.replay_text.specs.Replay.{tail-of}
 use Rattle.replay_text.proofs.Puts.{room-first, room-next, put-two}
 use Rattle.replay_text.proofs.answers.put_pair.Statement.{statement}
 use Rattle.replay_text.proofs.answers.put_pair.Tie as tie
-use Rattle.replay_text.proofs.answers.put_pair.Reads as reads
-use Rattle.replay_text.proofs.answers.put_pair.Lts as lts
-use Rattle.replay_text.proofs.answers.put_last.Reads as put-last-reads
-use Rattle.replay_text.proofs.output.put_spaced.Reads as put-spaced-reads
 
--- src/answers.rt:174:9
 put-spaced-requires : tie.Need-put-spaced-requires
 unfolding tail-of
 put-spaced-requires c κs =
@@ -20,7 +15,6 @@ put-spaced-requires c κs =
     let a = e .args in
     room-first (a .at) (SPACE ∷ decimal (a .m)) (tail-of (a .n ∷ [])) (a .output .now) (e .pre)
 
--- src/answers.rt:175:5
 put-last-requires : tie.Need-put-last-requires
 unfolding tail-of
 put-last-requires c κs =
@@ -29,11 +23,9 @@ put-last-requires c κs =
     let a = e .args in
     room-next (a .at) (SPACE ∷ decimal (a .m)) (tail-of (a .n ∷ [])) (a .output .now) (p .put-spaced .last .0) (p .put-spaced .result) (e .pre) (p .put-spaced .ensures)
 
--- src/answers.rt:170:1
 same-length : tie.Need-same-length
 same-length c = search needs
 
--- src/answers.rt:170:1
 returns : tie.Need-returns
 unfolding tail-of
 returns c =

@@ -7,8 +7,6 @@ use Prim.Native.Nat.{_≤_}
 use Rattle.replay_text.proofs.Decimals.{Spelling, spell-start, spell-length, spell-more, spell-end}
 use Rattle.replay_text.proofs.digits.put_digits.Statement.{statement}
 use Rattle.replay_text.proofs.digits.put_digits.Tie as tie
-use Rattle.replay_text.proofs.digits.put_digits.Reads as reads
-use Rattle.replay_text.proofs.digits.put_digits.Lts as lts
 
 abbrev Inv-loop : tie.InvT-loop
 Inv-loop output₀ at count n left₀ rest₀ output left rest = (left ≤ count) × Spelling at count n output₀ left rest output

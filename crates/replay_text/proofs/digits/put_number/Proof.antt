@@ -5,16 +5,10 @@ use native.Mathlib.Omega.{arith}
 use Rattle.replay_text.proofs.Decimals.{length-decimal, put-decimal}
 use Rattle.replay_text.proofs.digits.put_number.Statement.{statement}
 use Rattle.replay_text.proofs.digits.put_number.Tie as tie
-use Rattle.replay_text.proofs.digits.put_number.Reads as reads
-use Rattle.replay_text.proofs.digits.put_number.Lts as lts
-use Rattle.replay_text.proofs.digits.count_digits.Reads as count-digits-reads
-use Rattle.replay_text.proofs.digits.put_digits.Reads as put-digits-reads
 
--- src/digits.rt:44:9
 count-digits-requires : tie.Need-count-digits-requires
 count-digits-requires c κs = search needs
 
--- src/digits.rt:45:5
 put-digits-requires : tie.Need-put-digits-requires
 put-digits-requires c κs =
     let k = c .before in
@@ -22,7 +16,6 @@ put-digits-requires c κs =
     let f = k .before .before .pre .fits in
     omega (arith, length-decimal (a .n), k .count-digits .ensures)
 
--- src/digits.rt:46:5
 add-result : tie.Need-add-result
 add-result c =
     let k = c .before .before .before .before in
@@ -30,11 +23,9 @@ add-result c =
     let f = k .before .before .pre .fits in
     omega (arith, length-decimal (a .n), k .count-digits .ensures)
 
--- src/digits.rt:40:1
 same-length : tie.Need-same-length
 same-length c = search needs
 
--- src/digits.rt:40:1
 returns : tie.Need-returns
 returns c =
     let d = c .before .before in

@@ -10,9 +10,6 @@ use Rattle.replay_text.specs.Text.{read-on, greatest-number}
 use Rattle.replay_text.proofs.Reading.{digit-low, digit-high, digit-large, digit-more, digits-done}
 use Rattle.replay_text.proofs.digits.read_digits.Statement.{statement}
 use Rattle.replay_text.proofs.digits.read_digits.Tie as tie
-use Rattle.replay_text.proofs.digits.read_digits.Reads as reads
-use Rattle.replay_text.proofs.digits.read_digits.Lts as lts
-use Rattle.replay_text.proofs.digits.wide.Reads as wide-reads
 
 abbrev Inv-loop : tie.InvT-loop
 Inv-loop input from to value₀ at₀ value at = (from ≤ at) × (at ≤ to) × (value ≤ greatest-number) × (read-on value (slice at to input) ≡ read-on 0 (slice from to input))
@@ -20,19 +17,15 @@ Inv-loop input from to value₀ at₀ value at = (from ≤ at) × (at ≤ to) ×
 abbrev μ-loop : tie.MeasureT-loop
 μ-loop input from to value₀ at₀ value at = to - at
 
--- src/digits.rt:63:5
 loop-holds : tie.Need-loop-holds Inv-loop μ-loop
 loop-holds c = (search needs, c .before .pre .ordered, search needs, refl)
 
--- src/digits.rt:64:25
 shared-slice-read-wide : tie.Need-shared-slice-read-wide Inv-loop μ-loop
 shared-slice-read-wide c = search needs
 
--- src/digits.rt:64:13
 wide-requires : tie.Need-wide-requires Inv-loop μ-loop
 wide-requires c κs = search needs
 
--- src/digits.rt:66:13
 returns : tie.Need-returns Inv-loop μ-loop
 returns c =
     let w = c .before in
@@ -40,7 +33,6 @@ returns c =
     let a = l .before .before .args in
     sym (sym (l .loop .inv .3) ∙ digit-low (l .loop .value) (l .loop .at) (a .to) (a .input .now) (w .wide .result) (w .before .before .loop-test .taken) (l .before .before .pre .inside) (w .wide .ensures) (c .if1 .taken))
 
--- src/digits.rt:69:13
 returns-2 : tie.Need-returns-2 Inv-loop μ-loop
 returns-2 c =
     let w = c .before .before in
@@ -48,15 +40,12 @@ returns-2 c =
     let a = l .before .before .args in
     sym (sym (l .loop .inv .3) ∙ digit-high (l .loop .value) (l .loop .at) (a .to) (a .input .now) (w .wide .result) (w .before .before .loop-test .taken) (l .before .before .pre .inside) (w .wide .ensures) (omega arith) (c .if2 .taken))
 
--- src/digits.rt:71:20
 mul-next : tie.Need-mul-next Inv-loop μ-loop
 mul-next c = omega arith
 
--- src/digits.rt:71:20
 add-next : tie.Need-add-next Inv-loop μ-loop
 add-next c = omega arith
 
--- src/digits.rt:73:13
 returns-3 : tie.Need-returns-3 Inv-loop μ-loop
 returns-3 c =
     let w = c .before .before .before in
@@ -64,15 +53,12 @@ returns-3 c =
     let a = l .before .before .args in
     sym (sym (l .loop .inv .3) ∙ digit-large (l .loop .value) (l .loop .at) (a .to) (a .input .now) (w .wide .result) (w .before .before .loop-test .taken) (l .before .before .pre .inside) (w .wide .ensures) (omega arith) (omega arith) (c .if3 .taken))
 
--- src/digits.rt:76:9
 add-at : tie.Need-add-at Inv-loop μ-loop
 add-at c = search needs
 
--- src/digits.rt:63:5
 loop-less : tie.Need-loop-less Inv-loop μ-loop
 loop-less c = omega arith
 
--- src/digits.rt:63:5
 loop-again : tie.Need-loop-again Inv-loop μ-loop
 loop-again c =
     let w = c .before .before .before in
@@ -81,11 +67,9 @@ loop-again c =
     let more = digit-more (l .loop .value) (l .loop .at) (a .to) (a .input .now) (w .wide .result) (w .before .before .loop-test .taken) (l .before .before .pre .inside) (w .wide .ensures) (omega arith) (omega arith) (omega arith) in
     (omega arith, omega arith, omega arith, sym more ∙ l .loop .inv .3)
 
--- src/digits.rt:78:19
 cast-t13 : tie.Need-cast-t13 Inv-loop μ-loop
 cast-t13 c = omega arith
 
--- src/digits.rt:57:1
 returns-4 : tie.Need-returns-4 Inv-loop μ-loop
 returns-4 c =
     let l = c .before in

@@ -6,25 +6,18 @@ use mathlib.Core.Path.{sym, _∙_}
 use Rattle.replay_text.proofs.Reading.{number-none, number-zero, number-plain, number-one}
 use Rattle.replay_text.proofs.digits.read_number.Statement.{statement}
 use Rattle.replay_text.proofs.digits.read_number.Tie as tie
-use Rattle.replay_text.proofs.digits.read_number.Reads as reads
-use Rattle.replay_text.proofs.digits.read_number.Lts as lts
-use Rattle.replay_text.proofs.digits.read_digits.Reads as read-digits-reads
 
--- src/digits.rt:87:9
 returns : tie.Need-returns
 returns c =
     let a = c .before .before .args in
     sym (number-none (a .from) (a .to) (a .input .now) (c .if1 .taken))
 
--- src/digits.rt:89:8
 shared-slice-read-if2 : tie.Need-shared-slice-read-if2
 shared-slice-read-if2 c = search needs
 
--- src/digits.rt:90:9
 read-digits-requires : tie.Need-read-digits-requires
 read-digits-requires c κs = search needs
 
--- src/digits.rt:90:9
 returns-2 : tie.Need-returns-2
 returns-2 c =
     let t = c .before in
@@ -32,11 +25,9 @@ returns-2 c =
     let a = e .args in
     c .read-digits .ensures ∙ sym (number-plain (a .from) (a .to) (a .input .now) (omega arith) (e .pre .inside) (t .if2 .taken))
 
--- src/digits.rt:92:12
 sub-if3 : tie.Need-sub-if3
 sub-if3 c = search needs
 
--- src/digits.rt:93:9
 returns-3 : tie.Need-returns-3
 returns-3 c =
     let t = c .before in
@@ -44,11 +35,9 @@ returns-3 c =
     let a = e .args in
     sym (number-zero (a .from) (a .to) (a .input .now) (e .pre .inside) (t .if2 .left) (c .if3 .taken))
 
--- src/digits.rt:95:5
 read-digits-requires-2 : tie.Need-read-digits-requires-2
 read-digits-requires-2 c κs = search needs
 
--- src/digits.rt:82:1
 returns-4 : tie.Need-returns-4
 returns-4 c =
     let t = c .before in

@@ -4,22 +4,16 @@ use borrow.Author.Needs.{needs}
 use Rattle.replay_text.proofs.Puts.{put-one}
 use Rattle.replay_text.proofs.output.put_byte.Statement.{statement}
 use Rattle.replay_text.proofs.output.put_byte.Tie as tie
-use Rattle.replay_text.proofs.output.put_byte.Reads as reads
-use Rattle.replay_text.proofs.output.put_byte.Lts as lts
 
--- src/output.rt:13:5
 slice-write-output : tie.Need-slice-write-output
 slice-write-output c = search needs
 
--- src/output.rt:14:5
 add-result : tie.Need-add-result
 add-result c = search needs
 
--- src/output.rt:9:1
 same-length : tie.Need-same-length
 same-length c = search needs
 
--- src/output.rt:9:1
 returns : tie.Need-returns
 returns c = put-one (c .args .at) (c .args .byte) (c .args .output .now) (c .pre)
 

@@ -6,18 +6,12 @@ use Rattle.replay_text.specs.Text.{SPACE, decimal}
 use Rattle.replay_text.proofs.Puts.{room-first, room-next, put-two}
 use Rattle.replay_text.proofs.output.put_spaced.Statement.{statement}
 use Rattle.replay_text.proofs.output.put_spaced.Tie as tie
-use Rattle.replay_text.proofs.output.put_spaced.Reads as reads
-use Rattle.replay_text.proofs.output.put_spaced.Lts as lts
-use Rattle.replay_text.proofs.digits.put_number.Reads as put-number-reads
-use Rattle.replay_text.proofs.output.put_byte.Reads as put-byte-reads
 
--- src/output.rt:35:9
 put-byte-requires : tie.Need-put-byte-requires
 put-byte-requires c κs =
     let a = c .before .before .args in
     room-first (a .at) (SPACE ∷ []) (decimal (a .n)) (a .output .now) (c .before .before .pre)
 
--- src/output.rt:36:5
 put-number-requires : tie.Need-put-number-requires
 put-number-requires c κs =
     let b = c .before .before .before in
@@ -25,11 +19,9 @@ put-number-requires c κs =
     let a = e .args in
     room-next (a .at) (SPACE ∷ []) (decimal (a .n)) (a .output .now) (b .put-byte .last .0) (b .put-byte .result) (e .pre) (b .put-byte .ensures)
 
--- src/output.rt:31:1
 same-length : tie.Need-same-length
 same-length c = search needs
 
--- src/output.rt:31:1
 returns : tie.Need-returns
 returns c =
     let n = c .before .before in

@@ -9,8 +9,6 @@ use Rattle.layout.specs.Bytes.{overwrite}
 use Rattle.replay_text.proofs.Puts.{text-start, text-length, text-more, text-end}
 use Rattle.replay_text.proofs.output.put_text.Statement.{statement}
 use Rattle.replay_text.proofs.output.put_text.Tie as tie
-use Rattle.replay_text.proofs.output.put_text.Reads as reads
-use Rattle.replay_text.proofs.output.put_text.Lts as lts
 
 abbrev Inv-loop : tie.InvT-loop
 Inv-loop output₀ at text i₀ output i = (i ≤ length text) × (output ≡ overwrite at (take i text) output₀)
@@ -18,19 +16,15 @@ Inv-loop output₀ at text i₀ output i = (i ≤ length text) × (output ≡ ov
 abbrev μ-loop : tie.MeasureT-loop
 μ-loop output₀ at text i₀ output i = length text - i
 
--- src/output.rt:23:5
 loop-holds : tie.Need-loop-holds Inv-loop μ-loop
 loop-holds c = (search needs, text-start (c .args .at) (c .args .text .now) (c .args .output .now))
 
--- src/output.rt:24:26
 shared-slice-read-output : tie.Need-shared-slice-read-output Inv-loop μ-loop
 shared-slice-read-output c = search needs
 
--- src/output.rt:24:16
 add-output : tie.Need-add-output Inv-loop μ-loop
 add-output c = search needs
 
--- src/output.rt:24:9
 slice-write-output : tie.Need-slice-write-output Inv-loop μ-loop
 slice-write-output c =
     let l = c .before .before in
@@ -38,33 +32,27 @@ slice-write-output c =
     let f = l .before .pre .fits in
     omega (arith, text-length (a .at) (l .loop .i) (a .text .now) (a .output .now) (l .loop .output) (l .loop .inv .1))
 
--- src/output.rt:25:9
 add-i : tie.Need-add-i Inv-loop μ-loop
 add-i c = search needs
 
--- src/output.rt:23:5
 loop-less : tie.Need-loop-less Inv-loop μ-loop
 loop-less c = search needs
 
--- src/output.rt:23:5
 loop-again : tie.Need-loop-again Inv-loop μ-loop
 loop-again c =
     let l = c .before .before in
     let a = l .before .args in
     (omega arith, text-more (a .at) (l .loop .i) (a .text .now) (a .output .now) (l .loop .output) (l .before .pre) (c .before .loop-test .taken) (l .loop .inv .1))
 
--- src/output.rt:27:5
 add-result : tie.Need-add-result Inv-loop μ-loop
 add-result c = search needs
 
--- src/output.rt:18:1
 same-length : tie.Need-same-length Inv-loop μ-loop
 same-length c =
     let l = c .before in
     let a = l .before .args in
     text-length (a .at) (l .loop .i) (a .text .now) (a .output .now) (l .loop .output) (l .loop .inv .1)
 
--- src/output.rt:18:1
 returns : tie.Need-returns Inv-loop μ-loop
 returns c =
     let l = c .before in

@@ -24,10 +24,6 @@ use Rattle.replay_text.proofs.Running.{Running, run-start, run-length, 
 use Rattle.replay_text.proofs.Listings.{Passing, Next, reached-length, given-at, given-ends, passing-start, passing-none, passing-some, next-place, next-size, next-lines, next-passing}
 use Rattle.replay_text.proofs.run.put_blocks.Statement.{statement}
 use Rattle.replay_text.proofs.run.put_blocks.Tie as tie
-use Rattle.replay_text.proofs.run.put_blocks.Reads as reads
-use Rattle.replay_text.proofs.run.put_blocks.Lts as lts
-use Rattle.access.proofs.list_block.Reads as list-block-reads
-use Rattle.replay_text.proofs.answers.put_block.Reads as put-block-reads
 
 abbrev Inv-loop : tie.InvT-loop
 Inv-loop heap accounts output₀ at place₀ next₀ output place next = (bs : List Block) × Passing (blocks-of heap) place bs × Running (heap-lines heap) at output₀ output next (block-lines (listing-from place bs))
@@ -80,22 +76,18 @@ running k =
     subst (λ (x : List ℕ). Running (heap-lines (a .heap .now)) (a .at) (a .output .now) (l .loop .output) (l .loop .next) x)
     (next-lines (l .loop .inv .0) (l .loop .place) (k .block .given .0 .0) (next-block k)) (l .loop .inv .2)
 
--- src/run.rt:27:5
 loop-holds : tie.Need-loop-holds Inv-loop μ-loop
 unfolding heap-lines
 loop-holds c =
     let a = c .before .before .args in
     (blocks-of (a .heap .now), passing-start (blocks-of (a .heap .now)), run-start (heap-lines (a .heap .now)) (a .at) (a .output .now))
 
--- src/run.rt:28:42
 list-block-requires : tie.Need-list-block-requires Inv-loop μ-loop
 list-block-requires c κs = search needs
 
--- src/run.rt:28:33
 enum-known-block : tie.Need-enum-known-block Inv-loop μ-loop
 enum-known-block c = search needs
 
--- src/run.rt:29:13
 same-length : tie.Need-same-length Inv-loop μ-loop
 same-length c =
     let g = c .before in
@@ -104,7 +96,6 @@ same-length c =
     let a = e .args in
     run-length (heap-lines (a .heap .now)) (a .at) (a .output .now) (l .loop .output) (l .loop .next) (block-lines (listing-from (l .loop .place) (l .loop .inv .0))) (l .loop .inv .2)
 
--- src/run.rt:29:13
 returns : tie.Need-returns Inv-loop μ-loop
 unfolding block-lines listing-from
 returns c =
@@ -117,7 +108,6 @@ returns c =
     run-done (heap-lines (a .heap .now)) (a .at) (a .output .now) (l .loop .output) (l .loop .next)
     (subst (λ (bs : List Block). Running (heap-lines (a .heap .now)) (a .at) (a .output .now) (l .loop .output) (l .loop .next) (block-lines (listing-from (l .loop .place) bs))) none-left (l .loop .inv .2))
 
--- src/run.rt:31:9
 put-block-requires : tie.Need-put-block-requires Inv-loop μ-loop
 put-block-requires c κs =
     let k = c .before .before in
@@ -131,7 +121,6 @@ put-block-requires c κs =
     room-first (l .loop .next) (block-line b) (rest-lines k) (l .loop .output)
     (run-room (heap-lines (a .heap .now)) (a .at) (a .output .now) (l .loop .output) (l .loop .next) (block-line b ++ rest-lines k) (e .pre .1) (running k)))
 
--- src/run.rt:32:17
 add-place : tie.Need-add-place Inv-loop μ-loop
 add-place c =
     let k = c .before .before .before .before .before .before in
@@ -143,7 +132,6 @@ add-place c =
     let n = next-block k in
     omega (arith, ends k, reached-length (a .heap .now) (a .accounts) (e .pre .0))
 
--- src/run.rt:27:5
 loop-less : tie.Need-loop-less Inv-loop μ-loop
 loop-less c =
     let k = c .before .before .before .before .before .before in
@@ -158,7 +146,6 @@ loop-less c =
     let z = next-size (l .loop .inv .0) (l .loop .place) b n in
     omega arith
 
--- src/run.rt:27:5
 loop-again : tie.Need-loop-again Inv-loop μ-loop
 unfolding rest-lines
 loop-again c =

@@ -9,12 +9,7 @@ use Rattle.replay_text.specs.Contracts.{Room, Put}
 use Rattle.replay_text.proofs.LineRuns.{ending-list, ending-bad}
 use Rattle.replay_text.proofs.run.put_ending.Statement.{statement}
 use Rattle.replay_text.proofs.run.put_ending.Tie as tie
-use Rattle.replay_text.proofs.run.put_ending.Reads as reads
-use Rattle.replay_text.proofs.run.put_ending.Lts as lts
-use Rattle.replay_text.proofs.answers.put_bad.Reads as put-bad-reads
-use Rattle.replay_text.proofs.run.put_blocks.Reads as put-blocks-reads
 
--- src/run.rt:42:9
 put-blocks-requires : tie.Need-put-blocks-requires
 put-blocks-requires c κs =
     let t = c .before in
@@ -22,11 +17,9 @@ put-blocks-requires c κs =
     let a = e .args in
     (e .pre .1, subst (λ (x : List ℕ). Room (a .at) x (a .output .now)) (sym (ending-list (a .from) (a .input .now) (a .heap .now) (t .if1 .taken))) (e .pre .2))
 
--- src/run.rt:42:9
 same-length : tie.Need-same-length
 same-length c = search needs
 
--- src/run.rt:42:9
 returns : tie.Need-returns
 returns c =
     let p = c .before .before in
@@ -34,7 +27,6 @@ returns c =
     let a = t .before .before .before .before .args in
     subst (λ (x : List ℕ). Put (a .at) x (a .output .now) (p .put-blocks .last .1 .1 .0) (p .put-blocks .result)) (ending-list (a .from) (a .input .now) (a .heap .now) (t .if1 .taken)) (p .put-blocks .ensures)
 
--- src/run.rt:44:5
 put-bad-requires : tie.Need-put-bad-requires
 put-bad-requires c κs =
     let t = c .before in
@@ -44,11 +36,9 @@ put-bad-requires c κs =
     let n = t .if1 .left in
     subst (λ (x : List ℕ). Room (a .at) x (a .output .now)) (sym (ending-bad (a .from) (a .input .now) (a .heap .now) (omega arith))) (e .pre .2)
 
--- src/run.rt:37:1
 same-length-2 : tie.Need-same-length-2
 same-length-2 c = search needs
 
--- src/run.rt:37:1
 returns-2 : tie.Need-returns-2
 returns-2 c =
     let p = c .before .before in

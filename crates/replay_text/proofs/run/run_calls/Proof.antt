@@ -18,14 +18,6 @@ use Rattle.replay_text.proofs.Running.{Running, run-start, run-length, 
 use Rattle.replay_text.proofs.LineRuns.{run-ends, run-bad, run-next, reached-next}
 use Rattle.replay_text.proofs.run.run_calls.Statement.{statement}
 use Rattle.replay_text.proofs.run.run_calls.Tie as tie
-use Rattle.replay_text.proofs.run.run_calls.Reads as reads
-use Rattle.replay_text.proofs.run.run_calls.Lts as lts
-use Rattle.replay_text.proofs.answers.put_answer.Reads as put-answer-reads
-use Rattle.replay_text.proofs.answers.put_bad.Reads as put-bad-reads
-use Rattle.replay_text.proofs.calls.read_call.Reads as read-call-reads
-use Rattle.replay_text.proofs.run.put_ending.Reads as put-ending-reads
-use Rattle.replay_text.proofs.standin.perform.Reads as perform-reads
-use Rattle.replay_text.proofs.words.find_mark.Reads as find-mark-reads
 
 abbrev Inv-loop : tie.InvT-loop
 Inv-loop input from heap₀ output₀ at len start₀ place₀ books₀ heap output start place books =
@@ -125,18 +117,15 @@ made q =
     run-next (l .loop .start) (a .input .now) (l .loop .heap) (l .loop .books) (f .find-mark .result) (f .find-mark .ensures) (before-end (r .before)) (v .call .given .0 .0)
     (q .perform .last .0) (q .perform .result .accounts) (answer-values (q .perform .result .answer)) (sym (r .read-call .ensures) ∙ ap asked-call (v .call .given .1)) (q .perform .ensures)
 
--- src/run.rt:56:5
 loop-holds : tie.Need-loop-holds Inv-loop μ-loop
 loop-holds c =
     let e = c .before .before .before in
     let a = e .args in
     (e .pre .0, refl, e .pre .1, run-start (run-lines (lines (slice (a .from) (length (a .input .now)) (a .input .now))) (a .heap .now) (a .accounts)) (a .at) (a .output .now))
 
--- src/run.rt:57:13
 find-mark-requires : tie.Need-find-mark-requires Inv-loop μ-loop
 find-mark-requires c κs = record { ordered = c .loop .inv .0; inside = search needs }
 
--- src/run.rt:59:13
 put-ending-requires : tie.Need-put-ending-requires Inv-loop μ-loop
 put-ending-requires c κs =
     let t = c .before .before in
@@ -144,11 +133,9 @@ put-ending-requires c κs =
     let a = l .before .before .before .before .args in
     (l .loop .inv .0, l .loop .inv .2, there-is-room l (ending (slice (l .loop .start) (length (a .input .now)) (a .input .now)) (l .loop .heap)) (subst (so-far l) (ended t) (l .loop .inv .3)))
 
--- src/run.rt:59:13
 same-length : tie.Need-same-length Inv-loop μ-loop
 same-length c = c .before .before .before .before .before .before .before .loop .inv .1
 
--- src/run.rt:59:13
 same-length-2 : tie.Need-same-length-2 Inv-loop μ-loop
 same-length-2 c =
     let p = c .before .before in
@@ -156,7 +143,6 @@ same-length-2 c =
     let a = l .before .before .before .before .args in
     kept-length l (ending (slice (l .loop .start) (length (a .input .now)) (a .input .now)) (l .loop .heap)) (p .put-ending .last .1 .1 .1 .1 .0) (p .put-ending .result) (p .put-ending .ensures)
 
--- src/run.rt:59:13
 returns : tie.Need-returns Inv-loop μ-loop
 returns c =
     let p = c .before .before in
@@ -166,37 +152,30 @@ returns c =
     last-piece l (ending (slice (l .loop .start) (length (a .input .now)) (a .input .now)) (l .loop .heap)) (p .put-ending .last .1 .1 .1 .1 .0) (p .put-ending .result)
     (subst (so-far l) (ended t) (l .loop .inv .3)) (p .put-ending .ensures)
 
--- src/run.rt:61:33
 read-call-requires : tie.Need-read-call-requires Inv-loop μ-loop
 read-call-requires c κs = record { ordered = c .before .find-mark .ensures .low; inside = c .before .find-mark .ensures .high }
 
--- src/run.rt:61:25
 enum-known-call : tie.Need-enum-known-call Inv-loop μ-loop
 enum-known-call c = search needs
 
--- src/run.rt:62:37
 enum-told : tie.Need-enum-told Inv-loop μ-loop
 enum-told c = search needs
 
--- src/run.rt:62:13
 put-bad-requires : tie.Need-put-bad-requires Inv-loop μ-loop
 put-bad-requires c κs =
     let t = c .before in
     let l = t .before .before .before .before .before in
     there-is-room l bad-line (subst (so-far l) (not-a-call t) (l .loop .inv .3))
 
--- src/run.rt:62:13
 same-length-3 : tie.Need-same-length-3 Inv-loop μ-loop
 same-length-3 c = c .before .before .before .before .before .before .before .before .before .loop .inv .1
 
--- src/run.rt:62:13
 same-length-4 : tie.Need-same-length-4 Inv-loop μ-loop
 same-length-4 c =
     let p = c .before .before in
     let l = p .before .before .before .before .before .before .before in
     kept-length l bad-line (p .put-bad .last .0) (p .put-bad .result) (p .put-bad .ensures)
 
--- src/run.rt:62:13
 returns-2 : tie.Need-returns-2 Inv-loop μ-loop
 returns-2 c =
     let p = c .before .before in
@@ -204,11 +183,9 @@ returns-2 c =
     let l = t .before .before .before .before .before in
     last-piece l bad-line (p .put-bad .last .0) (p .put-bad .result) (subst (so-far l) (not-a-call t) (l .loop .inv .3)) (p .put-bad .ensures)
 
--- src/run.rt:64:13
 perform-requires : tie.Need-perform-requires Inv-loop μ-loop
 perform-requires c κs = tt
 
--- src/run.rt:66:9
 put-answer-requires : tie.Need-put-answer-requires Inv-loop μ-loop
 unfolding answer-of
 put-answer-requires c κs =
@@ -216,13 +193,11 @@ put-answer-requires c κs =
     let l = q .before .before .before .before .before .before .before .before in
     room-first (l .loop .place) (answer-of q) (behind q) (l .loop .output) (there-is-room l (answer-of q ++ behind q) (subst (so-far l) (made q) (l .loop .inv .3)))
 
--- src/run.rt:68:17
 add-start : tie.Need-add-start Inv-loop μ-loop
 add-start c =
     let x = c .before .before .before .before .before .before .before .before .before .before .before .before .before in
     omega (arith, before-end x)
 
--- src/run.rt:56:5
 loop-less : tie.Need-loop-less Inv-loop μ-loop
 loop-less c =
     let x = c .before .before .before .before .before .before .before .before .before .before .before .before .before in
@@ -230,7 +205,6 @@ loop-less c =
     let w = x .before .find-mark .ensures .low in
     omega arith
 
--- src/run.rt:56:5
 loop-again : tie.Need-loop-again Inv-loop μ-loop
 unfolding answer-of behind
 loop-again c =

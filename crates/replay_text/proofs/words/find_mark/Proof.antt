@@ -6,8 +6,6 @@ use Prim.Native.Nat.{_-_, _≤_}
 use Rattle.replay_text.proofs.Marks.{Absent, absent-start, absent-more}
 use Rattle.replay_text.proofs.words.find_mark.Statement.{statement}
 use Rattle.replay_text.proofs.words.find_mark.Tie as tie
-use Rattle.replay_text.proofs.words.find_mark.Reads as reads
-use Rattle.replay_text.proofs.words.find_mark.Lts as lts
 
 abbrev Inv-loop : tie.InvT-loop
 Inv-loop input from to mark at₀ at = (from ≤ at) × (at ≤ to) × Absent mark from at input
@@ -15,36 +13,29 @@ Inv-loop input from to mark at₀ at = (from ≤ at) × (at ≤ to) × Absent ma
 abbrev μ-loop : tie.MeasureT-loop
 μ-loop input from to mark at₀ at = to - at
 
--- src/words.rt:15:5
 loop-holds : tie.Need-loop-holds Inv-loop μ-loop
 loop-holds c = (search needs, c .pre .ordered, absent-start (c .args .mark) (c .args .from) (c .args .input .now))
 
--- src/words.rt:16:12
 shared-slice-read-if1 : tie.Need-shared-slice-read-if1 Inv-loop μ-loop
 shared-slice-read-if1 c = omega arith
 
--- src/words.rt:17:13
 returns : tie.Need-returns Inv-loop μ-loop
 returns c =
     let l = c .before .before .before in
     record { low = l .loop .inv .0; high = l .loop .inv .1; absent = l .loop .inv .2; found = λ h. c .if1 .taken }
 
--- src/words.rt:19:9
 add-at : tie.Need-add-at Inv-loop μ-loop
 add-at c = omega arith
 
--- src/words.rt:15:5
 loop-less : tie.Need-loop-less Inv-loop μ-loop
 loop-less c = omega arith
 
--- src/words.rt:15:5
 loop-again : tie.Need-loop-again Inv-loop μ-loop
 loop-again c =
     let l = c .before .before .before in
     let a = l .before .args in
     (omega arith, omega arith, absent-more (a .mark) (a .from) (l .loop .at) (a .input .now) (l .loop .inv .2) (c .if1 .left))
 
--- src/words.rt:10:1
 returns-2 : tie.Need-returns-2 Inv-loop μ-loop
 returns-2 c =
     let l = c .before in

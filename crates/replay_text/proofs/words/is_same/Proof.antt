@@ -10,8 +10,6 @@ use Rattle.replay_text.specs.Text.{same}
 use Rattle.replay_text.proofs.Reading.{same-start, same-apart, same-differ, same-turn, same-done}
 use Rattle.replay_text.proofs.words.is_same.Statement.{statement}
 use Rattle.replay_text.proofs.words.is_same.Tie as tie
-use Rattle.replay_text.proofs.words.is_same.Reads as reads
-use Rattle.replay_text.proofs.words.is_same.Lts as lts
 
 abbrev Inv-loop : tie.InvT-loop
 Inv-loop input from to word len i₀ i = (i ≤ len) × (len ≡ length word) × (from + len ≡ to) × (same (slice from to input) word ≡ same (slice (from + i) to input) (drop i word))
@@ -19,37 +17,30 @@ Inv-loop input from to word len i₀ i = (i ≤ len) × (len ≡ length word) ×
 abbrev μ-loop : tie.MeasureT-loop
 μ-loop input from to word len i₀ i = len - i
 
--- src/words.rt:30:8
 sub-if1 : tie.Need-sub-if1 Inv-loop μ-loop
 sub-if1 c = search needs
 
--- src/words.rt:31:9
 returns : tie.Need-returns Inv-loop μ-loop
 returns c =
     let e = c .before in
     let a = e .args in
     sym (same-apart (a .from) (a .to) (a .input .now) (a .word .now) (e .pre .ordered) (e .pre .inside) (c .if1 .taken))
 
--- src/words.rt:34:5
 loop-holds : tie.Need-loop-holds Inv-loop μ-loop
 loop-holds c =
     let e = c .before in
     let a = e .args in
     (search needs, refl, omega arith, same-start (a .from) (a .to) (a .input .now) (a .word .now))
 
--- src/words.rt:35:18
 add-if2 : tie.Need-add-if2 Inv-loop μ-loop
 add-if2 c = omega arith
 
--- src/words.rt:35:12
 shared-slice-read-if2 : tie.Need-shared-slice-read-if2 Inv-loop μ-loop
 shared-slice-read-if2 c = omega arith
 
--- src/words.rt:35:31
 shared-slice-read-if2-2 : tie.Need-shared-slice-read-if2-2 Inv-loop μ-loop
 shared-slice-read-if2-2 c = search needs
 
--- src/words.rt:36:13
 returns-2 : tie.Need-returns-2 Inv-loop μ-loop
 returns-2 c =
     let l = c .before .before .before .before in
@@ -57,15 +48,12 @@ returns-2 c =
     let a = e .args in
     sym (l .loop .inv .3 ∙ same-differ (a .from + l .loop .i) (a .to) (a .input .now) (l .loop .i) (a .word .now) (omega arith) (e .pre .inside) (omega arith) (c .if2 .taken))
 
--- src/words.rt:38:9
 add-i : tie.Need-add-i Inv-loop μ-loop
 add-i c = search needs
 
--- src/words.rt:34:5
 loop-less : tie.Need-loop-less Inv-loop μ-loop
 loop-less c = omega arith
 
--- src/words.rt:34:5
 loop-again : tie.Need-loop-again Inv-loop μ-loop
 loop-again c =
     let l = c .before .before .before .before in
@@ -73,7 +61,6 @@ loop-again c =
     let a = e .args in
     (omega arith, refl, l .loop .inv .2, l .loop .inv .3 ∙ same-turn (a .from) (a .to) (a .input .now) (l .loop .i) (a .word .now) (omega arith) (e .pre .inside) (omega arith) (c .if2 .left))
 
--- src/words.rt:25:1
 returns-3 : tie.Need-returns-3 Inv-loop μ-loop
 returns-3 c =
     let l = c .before in

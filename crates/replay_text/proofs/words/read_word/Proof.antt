@@ -5,33 +5,24 @@ use mathlib.Core.Path.{sym, _∙_}
 use Rattle.replay_text.specs.Commands.{word-of}
 use Rattle.replay_text.proofs.words.read_word.Statement.{statement}
 use Rattle.replay_text.proofs.words.read_word.Tie as tie
-use Rattle.replay_text.proofs.words.read_word.Reads as reads
-use Rattle.replay_text.proofs.words.read_word.Lts as lts
-use Rattle.replay_text.proofs.words.is_same.Reads as is-same-reads
 
--- src/words.rt:48:33
 slice-aggregate-is-same : tie.Need-slice-aggregate-is-same
 slice-aggregate-is-same c = search needs
 
--- src/words.rt:48:8
 is-same-requires : tie.Need-is-same-requires
 is-same-requires c κs = search needs
 
--- src/words.rt:49:9
 returns : tie.Need-returns
 unfolding word-of
 returns c =
     let t1 = c .before in
     rw (sym (t1 .is-same .ensures) ∙ c .if1 .taken)
--- src/words.rt:51:33
 slice-aggregate-is-same-2 : tie.Need-slice-aggregate-is-same-2
 slice-aggregate-is-same-2 c = search needs
 
--- src/words.rt:51:8
 is-same-requires-2 : tie.Need-is-same-requires-2
 is-same-requires-2 c κs = search needs
 
--- src/words.rt:52:9
 returns-2 : tie.Need-returns-2
 unfolding word-of
 returns-2 c =
@@ -39,15 +30,12 @@ returns-2 c =
     let e1 = t2 .before .before in
     let t1 = e1 .before in
     rw (sym (t1 .is-same .ensures) ∙ e1 .if1 .left, sym (t2 .is-same2 .ensures) ∙ c .if2 .taken)
--- src/words.rt:54:33
 slice-aggregate-is-same-3 : tie.Need-slice-aggregate-is-same-3
 slice-aggregate-is-same-3 c = search needs
 
--- src/words.rt:54:8
 is-same-requires-3 : tie.Need-is-same-requires-3
 is-same-requires-3 c κs = search needs
 
--- src/words.rt:55:9
 returns-3 : tie.Need-returns-3
 unfolding word-of
 returns-3 c =
@@ -57,15 +45,12 @@ returns-3 c =
     let e1 = t2 .before .before in
     let t1 = e1 .before in
     rw (sym (t1 .is-same .ensures) ∙ e1 .if1 .left, sym (t2 .is-same2 .ensures) ∙ e2 .if2 .left, sym (t3 .is-same3 .ensures) ∙ c .if3 .taken)
--- src/words.rt:57:33
 slice-aggregate-is-same-4 : tie.Need-slice-aggregate-is-same-4
 slice-aggregate-is-same-4 c = search needs
 
--- src/words.rt:57:8
 is-same-requires-4 : tie.Need-is-same-requires-4
 is-same-requires-4 c κs = search needs
 
--- src/words.rt:58:9
 returns-4 : tie.Need-returns-4
 unfolding word-of
 returns-4 c =
@@ -77,15 +62,12 @@ returns-4 c =
     let e1 = t2 .before .before in
     let t1 = e1 .before in
     rw (sym (t1 .is-same .ensures) ∙ e1 .if1 .left, sym (t2 .is-same2 .ensures) ∙ e2 .if2 .left, sym (t3 .is-same3 .ensures) ∙ e3 .if3 .left, sym (t4 .is-same4 .ensures) ∙ c .if4 .taken)
--- src/words.rt:60:33
 slice-aggregate-is-same-5 : tie.Need-slice-aggregate-is-same-5
 slice-aggregate-is-same-5 c = search needs
 
--- src/words.rt:60:8
 is-same-requires-5 : tie.Need-is-same-requires-5
 is-same-requires-5 c κs = search needs
 
--- src/words.rt:61:9
 returns-5 : tie.Need-returns-5
 unfolding word-of
 returns-5 c =
@@ -99,15 +81,12 @@ returns-5 c =
     let e1 = t2 .before .before in
     let t1 = e1 .before in
     rw (sym (t1 .is-same .ensures) ∙ e1 .if1 .left, sym (t2 .is-same2 .ensures) ∙ e2 .if2 .left, sym (t3 .is-same3 .ensures) ∙ e3 .if3 .left, sym (t4 .is-same4 .ensures) ∙ e4 .if4 .left, sym (t5 .is-same5 .ensures) ∙ c .if5 .taken)
--- src/words.rt:63:33
 slice-aggregate-is-same-6 : tie.Need-slice-aggregate-is-same-6
 slice-aggregate-is-same-6 c = search needs
 
--- src/words.rt:63:8
 is-same-requires-6 : tie.Need-is-same-requires-6
 is-same-requires-6 c κs = search needs
 
--- src/words.rt:64:9
 returns-6 : tie.Need-returns-6
 unfolding word-of
 returns-6 c =
@@ -123,15 +102,12 @@ returns-6 c =
     let e1 = t2 .before .before in
     let t1 = e1 .before in
     rw (sym (t1 .is-same .ensures) ∙ e1 .if1 .left, sym (t2 .is-same2 .ensures) ∙ e2 .if2 .left, sym (t3 .is-same3 .ensures) ∙ e3 .if3 .left, sym (t4 .is-same4 .ensures) ∙ e4 .if4 .left, sym (t5 .is-same5 .ensures) ∙ e5 .if5 .left, sym (t6 .is-same6 .ensures) ∙ c .if6 .taken)
--- src/words.rt:66:33
 slice-aggregate-is-same-7 : tie.Need-slice-aggregate-is-same-7
 slice-aggregate-is-same-7 c = search needs
 
--- src/words.rt:66:8
 is-same-requires-7 : tie.Need-is-same-requires-7
 is-same-requires-7 c κs = search needs
 
--- src/words.rt:67:9
 returns-7 : tie.Need-returns-7
 unfolding word-of
 returns-7 c =
@@ -149,7 +125,6 @@ returns-7 c =
     let e1 = t2 .before .before in
     let t1 = e1 .before in
     rw (sym (t1 .is-same .ensures) ∙ e1 .if1 .left, sym (t2 .is-same2 .ensures) ∙ e2 .if2 .left, sym (t3 .is-same3 .ensures) ∙ e3 .if3 .left, sym (t4 .is-same4 .ensures) ∙ e4 .if4 .left, sym (t5 .is-same5 .ensures) ∙ e5 .if5 .left, sym (t6 .is-same6 .ensures) ∙ e6 .if6 .left, sym (t7 .is-same7 .ensures) ∙ c .if7 .taken)
--- src/words.rt:44:1
 returns-8 : tie.Need-returns-8
 unfolding word-of
 returns-8 c =

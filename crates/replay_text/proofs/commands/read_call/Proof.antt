@@ -5,29 +5,21 @@ use borrow.Author.Tests.{not-true, not-false}
 use mathlib.Core.Path.{_∙_}
 use lib.Seq.{slice}
 use Rattle.replay_text.proofs.Phrases.{call-not, call-is}
-use Rattle.replay_text.proofs.calls.read_call.Statement.{statement}
-use Rattle.replay_text.proofs.calls.read_call.Tie as tie
-use Rattle.replay_text.proofs.calls.read_call.Reads as reads
-use Rattle.replay_text.proofs.calls.read_call.Lts as lts
-use Rattle.replay_text.proofs.calls.call_of.Reads as call-of-reads
-use Rattle.replay_text.proofs.calls.read_line.Reads as read-line-reads
+use Rattle.replay_text.proofs.commands.read_call.Statement.{statement}
+use Rattle.replay_text.proofs.commands.read_call.Tie as tie
 
--- src/calls.rt:122:9
 read-line-requires : tie.Need-read-line-requires
 read-line-requires c κs = search needs
 
--- src/calls.rt:124:9
 returns : tie.Need-returns
 returns c =
     let r = c .before .before in
     let a = r .before .before .args in
     call-not (slice (a .from) (a .to) (a .input .now)) (r .read-line .result) (r .read-line .ensures) (not-true (r .read-line .result .ok) (c .if1 .taken))
 
--- src/calls.rt:128:5
 call-of-requires : tie.Need-call-of-requires
 call-of-requires c κs = search needs
 
--- src/calls.rt:118:1
 returns-2 : tie.Need-returns-2
 returns-2 c =
     let t = c .before .before in

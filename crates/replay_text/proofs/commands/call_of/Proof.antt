@@ -7,140 +7,109 @@ use lib.ListN.{take}
 use Rattle.replay_text.specs.Commands.{call-of}
 use Rattle.replay_text.specs.declared.Word.{Word}
 use Rattle.replay_text.proofs.Asking.{call-alloc, call-array, call-claim, call-free, call-all, call-realloc}
-use Rattle.replay_text.proofs.calls.call_of.Statement.{statement}
-use Rattle.replay_text.proofs.calls.call_of.Tie as tie
-use Rattle.replay_text.proofs.calls.call_of.Reads as reads
-use Rattle.replay_text.proofs.calls.call_of.Lts as lts
-use Rattle.replay_text.proofs.calls.taking.Reads as taking-reads
+use Rattle.replay_text.proofs.commands.call_of.Statement.{statement}
+use Rattle.replay_text.proofs.commands.call_of.Tie as tie
 
--- src/calls.rt:98:17
 array-read-quota : tie.Need-array-read-quota
 array-read-quota c = search needs
 
--- src/calls.rt:99:18
 array-read-second : tie.Need-array-read-second
 array-read-second c = search needs
 
--- src/calls.rt:102:17
 array-read-t10 : tie.Need-array-read-t10
 array-read-t10 c = search needs
 
--- src/calls.rt:103:17
 array-read-t17 : tie.Need-array-read-t17
 array-read-t17 c = search needs
 
--- src/calls.rt:106:41
 enum-told : tie.Need-enum-told
 enum-told c = search needs
 
--- src/calls.rt:106:24
 taking-requires : tie.Need-taking-requires
 taking-requires c κs = search needs
 
--- src/calls.rt:107:98
 enum-told-2 : tie.Need-enum-told-2
 enum-told-2 c = search needs
 
--- src/calls.rt:107:98
 array-read-t22 : tie.Need-array-read-t22
 array-read-t22 c = search needs
 
--- src/calls.rt:107:24
 taking-requires-2 : tie.Need-taking-requires-2
 taking-requires-2 c κs = search needs
 
--- src/calls.rt:108:41
 enum-told-3 : tie.Need-enum-told-3
 enum-told-3 c = search needs
 
--- src/calls.rt:108:24
 taking-requires-3 : tie.Need-taking-requires-3
 taking-requires-3 c κs = search needs
 
--- src/calls.rt:109:40
 enum-told-4 : tie.Need-enum-told-4
 enum-told-4 c = search needs
 
--- src/calls.rt:109:23
 taking-requires-4 : tie.Need-taking-requires-4
 taking-requires-4 c κs = search needs
 
--- src/calls.rt:110:39
 enum-told-5 : tie.Need-enum-told-5
 enum-told-5 c = search needs
 
--- src/calls.rt:110:22
 taking-requires-5 : tie.Need-taking-requires-5
 taking-requires-5 c κs = search needs
 
--- src/calls.rt:111:100
 enum-told-6 : tie.Need-enum-told-6
 enum-told-6 c = search needs
 
--- src/calls.rt:111:100
 array-read-t29 : tie.Need-array-read-t29
 array-read-t29 c = search needs
 
--- src/calls.rt:111:26
 taking-requires-6 : tie.Need-taking-requires-6
 taking-requires-6 c κs = search needs
 
--- src/calls.rt:112:23
 enum-told-7 : tie.Need-enum-told-7
 enum-told-7 c = search needs
 
--- src/calls.rt:113:26
 enum-told-8 : tie.Need-enum-told-8
 enum-told-8 c = search needs
 
--- src/calls.rt:94:1
 returns : tie.Need-returns
 returns c =
     let e = c .before .before .before in
     let a = e .args in
     c .taking .ensures ∙ call-alloc (a .count) (a .t3) (omega (arith, e .pre, e .good .1 .1 .0 .1 .0 .1)) ∙ ap (λ (x : Word). call-of x (take (a .count) (a .t3))) (sym (c .before .enum-told .given .1))
 
--- src/calls.rt:94:1
 returns-2 : tie.Need-returns-2
 returns-2 c =
     let e = c .before .before .before in
     let a = e .args in
     c .taking2 .ensures ∙ call-array (a .count) (a .t3) (omega (arith, e .pre, e .good .1 .1 .0 .1 .0 .1)) ∙ ap (λ (x : Word). call-of x (take (a .count) (a .t3))) (sym (c .before .enum-told2 .given .1))
 
--- src/calls.rt:94:1
 returns-3 : tie.Need-returns-3
 returns-3 c =
     let e = c .before .before .before in
     let a = e .args in
     c .taking3 .ensures ∙ call-claim (a .count) (a .t3) (omega (arith, e .pre, e .good .1 .1 .0 .1 .0 .1)) ∙ ap (λ (x : Word). call-of x (take (a .count) (a .t3))) (sym (c .before .enum-told3 .given .1))
 
--- src/calls.rt:94:1
 returns-4 : tie.Need-returns-4
 returns-4 c =
     let e = c .before .before .before in
     let a = e .args in
     c .taking4 .ensures ∙ call-free (a .count) (a .t3) (omega (arith, e .pre, e .good .1 .1 .0 .1 .0 .1)) ∙ ap (λ (x : Word). call-of x (take (a .count) (a .t3))) (sym (c .before .enum-told4 .given .1))
 
--- src/calls.rt:94:1
 returns-5 : tie.Need-returns-5
 returns-5 c =
     let e = c .before .before .before in
     let a = e .args in
     c .taking5 .ensures ∙ call-all (a .count) (a .t3) (omega (arith, e .pre, e .good .1 .1 .0 .1 .0 .1)) ∙ ap (λ (x : Word). call-of x (take (a .count) (a .t3))) (sym (c .before .enum-told5 .given .1))
 
--- src/calls.rt:94:1
 returns-6 : tie.Need-returns-6
 returns-6 c =
     let e = c .before .before .before in
     let a = e .args in
     c .taking6 .ensures ∙ call-realloc (a .count) (a .t3) (omega (arith, e .pre, e .good .1 .1 .0 .1 .0 .1)) ∙ ap (λ (x : Word). call-of x (take (a .count) (a .t3))) (sym (c .before .enum-told6 .given .1))
 
--- src/calls.rt:94:1
 returns-7 : tie.Need-returns-7
 unfolding call-of
 returns-7 c = ap (λ (x : Word). call-of x (take (c .before .before .args .count) (c .before .before .args .t3))) (sym (c .enum-told7 .given .1))
 
--- src/calls.rt:94:1
 returns-8 : tie.Need-returns-8
 unfolding call-of
 returns-8 c = ap (λ (x : Word). call-of x (take (c .before .before .args .count) (c .before .before .args .t3))) (sym (c .enum-told8 .given .1))

@@ -13,12 +13,8 @@ use Rattle.replay_text.proofs.Marks.{split-first, split-last, split-mor
 use lib.Seq.{slice}
 use Rattle.replay_text.specs.Lines.{words}
 use Rattle.replay_text.proofs.Gathering.{Gathering, gather-start, gather-none, gather-full, gather-more, gather-end, gather-nothing}
-use Rattle.replay_text.proofs.calls.read_numbers.Statement.{statement}
-use Rattle.replay_text.proofs.calls.read_numbers.Tie as tie
-use Rattle.replay_text.proofs.calls.read_numbers.Reads as reads
-use Rattle.replay_text.proofs.calls.read_numbers.Lts as lts
-use Rattle.replay_text.proofs.digits.read_number.Reads as read-number-reads
-use Rattle.replay_text.proofs.words.find_mark.Reads as find-mark-reads
+use Rattle.replay_text.proofs.commands.read_numbers.Statement.{statement}
+use Rattle.replay_text.proofs.commands.read_numbers.Tie as tie
 
 abbrev Inv-loop : tie.InvT-loop
 Inv-loop input from to values₀ count₀ start₀ values count start = (from ≤ start) × (start ≤ to) × Gathering (words (slice from to input)) (words (slice start to input)) values count
@@ -26,30 +22,24 @@ Inv-loop input from to values₀ count₀ start₀ values count start = (from �
 abbrev μ-loop : tie.MeasureT-loop
 μ-loop input from to values₀ count₀ start₀ values count start = to - start
 
--- src/calls.rt:33:5
 loop-holds : tie.Need-loop-holds Inv-loop μ-loop
 loop-holds c =
     let e = c .before in
     let a = e .args in
     (search needs, e .pre .0 .ordered, gather-start (words (slice (a .from) (a .to) (a .input .now))) (a .values .now) (e .pre .1))
 
--- src/calls.rt:34:13
 find-mark-requires : tie.Need-find-mark-requires Inv-loop μ-loop
 find-mark-requires c κs = search needs
 
--- src/calls.rt:35:36
 read-number-requires : tie.Need-read-number-requires Inv-loop μ-loop
 read-number-requires c κs = search needs
 
--- src/calls.rt:35:27
 enum-known-value : tie.Need-enum-known-value Inv-loop μ-loop
 enum-known-value c = search needs
 
--- src/calls.rt:36:13
 enum-told : tie.Need-enum-told Inv-loop μ-loop
 enum-told c = search needs
 
--- src/calls.rt:36:13
 returns : tie.Need-returns Inv-loop μ-loop
 returns c =
     let n = c .before .before in
@@ -64,7 +54,6 @@ returns c =
     gather-nothing all (word ∷ w .0) (l .loop .values) (l .loop .count) g
     (gather-none all (w .0) (l .loop .values) (l .loop .count) word g (sym (n .read-number .ensures) ∙ ap number-value (c .enum-told .given .1)))
 
--- src/calls.rt:39:13
 returns-2 : tie.Need-returns-2 Inv-loop μ-loop
 returns-2 c =
     let n = c .before .before .before .before in
@@ -78,19 +67,15 @@ returns-2 c =
     let g = subst (λ (ws : List (List ℕ)). Gathering all ws (l .loop .values) (l .loop .count)) (w .1) (l .loop .inv .2) in
     gather-nothing all (word ∷ w .0) (l .loop .values) (l .loop .count) g (gather-full all (w .0) (l .loop .values) (l .loop .count) word g (c .if1 .taken))
 
--- src/calls.rt:41:9
 mul-values : tie.Need-mul-values Inv-loop μ-loop
 mul-values c = search needs
 
--- src/calls.rt:41:9
 element-write-values : tie.Need-element-write-values Inv-loop μ-loop
 element-write-values c = search needs
 
--- src/calls.rt:42:9
 add-count : tie.Need-add-count Inv-loop μ-loop
 add-count c = search needs
 
--- src/calls.rt:44:13
 returns-3 : tie.Need-returns-3 Inv-loop μ-loop
 returns-3 c =
     let n = c .before .before .before .before .before in
@@ -107,15 +92,12 @@ returns-3 c =
     gather-end all (set (l .loop .values) (l .loop .count) x) (l .loop .count + 1)
     (gather-more all [] (l .loop .values) (l .loop .count) word x g (search needs) (sym (n .read-number .ensures) ∙ ap number-value (v .value .given .1)))
 
--- src/calls.rt:46:17
 add-start : tie.Need-add-start Inv-loop μ-loop
 add-start c = search needs
 
--- src/calls.rt:33:5
 loop-less : tie.Need-loop-less Inv-loop μ-loop
 loop-less c = search needs
 
--- src/calls.rt:33:5
 loop-again : tie.Need-loop-again Inv-loop μ-loop
 loop-again c =
     let n = c .before .before .before .before .before in

@@ -2,16 +2,12 @@
 -- Assumes nothing.
 use borrow.Author.Needs.{needs}
 use borrow.Author.Tests.{eq-eqb, ne-eqb}
-use Rattle.replay_text.proofs.calls.taking.Statement.{statement}
-use Rattle.replay_text.proofs.calls.taking.Tie as tie
-use Rattle.replay_text.proofs.calls.taking.Reads as reads
-use Rattle.replay_text.proofs.calls.taking.Lts as lts
+use Rattle.replay_text.proofs.commands.taking.Statement.{statement}
+use Rattle.replay_text.proofs.commands.taking.Tie as tie
 
--- src/calls.rt:83:1
 returns : tie.Need-returns
 returns c = rw (eq-eqb (c .before .args .count) (c .before .args .wanted) (c .if1 .taken))
 
--- src/calls.rt:83:1
 returns-2 : tie.Need-returns-2
 returns-2 c = rw (ne-eqb (c .before .args .count) (c .before .args .wanted) (c .if1 .left))
 

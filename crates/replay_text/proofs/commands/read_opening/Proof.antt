@@ -8,24 +8,15 @@ use lib.ListN.{take}
 use lib.Seq.{slice}
 use Rattle.replay_text.proofs.Asking.{opens-fewer}
 use Rattle.replay_text.proofs.Phrases.{opening-not, opening-is, opens-not, opens-is}
-use Rattle.replay_text.proofs.calls.read_opening.Statement.{statement}
-use Rattle.replay_text.proofs.calls.read_opening.Tie as tie
-use Rattle.replay_text.proofs.calls.read_opening.Reads as reads
-use Rattle.replay_text.proofs.calls.read_opening.Lts as lts
-use Rattle.replay_text.proofs.calls.behind_first.Reads as behind-first-reads
-use Rattle.replay_text.proofs.calls.no_opening.Reads as no-opening-reads
-use Rattle.replay_text.proofs.calls.opens.Reads as opens-reads
-use Rattle.replay_text.proofs.calls.read_line.Reads as read-line-reads
+use Rattle.replay_text.proofs.commands.read_opening.Statement.{statement}
+use Rattle.replay_text.proofs.commands.read_opening.Tie as tie
 
--- src/calls.rt:176:9
 read-line-requires : tie.Need-read-line-requires
 read-line-requires c κs = search needs
 
--- src/calls.rt:180:9
 no-opening-requires : tie.Need-no-opening-requires
 no-opening-requires c κs = search needs
 
--- src/calls.rt:180:9
 returns : tie.Need-returns
 returns c =
     let t = c .before in
@@ -33,11 +24,9 @@ returns c =
     let a = r .before .before .args in
     c .no-opening .ensures ∙ opening-not (slice (a .from) (a .to) (a .input .now)) (r .read-line .result) (r .read-line .ensures) (not-true (r .read-line .result .ok) (t .if1 .taken))
 
--- src/calls.rt:183:9
 no-opening-requires-2 : tie.Need-no-opening-requires-2
 no-opening-requires-2 c κs = search needs
 
--- src/calls.rt:183:9
 returns-2 : tie.Need-returns-2
 returns-2 c =
     let t = c .before in
@@ -49,15 +38,12 @@ returns-2 c =
     ∙ opens-fewer (l .count) (l .values) (l .name) (omega (arith, r .read-line .ensures .small, r .read-line .ensures .kept)) (t .if2 .taken)
     ∙ opening-is (slice (a .from) (a .to) (a .input .now)) l (r .read-line .ensures) (not-false (l .ok) (o .if1 .left))
 
--- src/calls.rt:185:9
 opens-requires : tie.Need-opens-requires
 opens-requires c κs = search needs
 
--- src/calls.rt:186:9
 no-opening-requires-3 : tie.Need-no-opening-requires-3
 no-opening-requires-3 c κs = search needs
 
--- src/calls.rt:186:9
 returns-3 : tie.Need-returns-3
 returns-3 c =
     let t = c .before in
@@ -70,15 +56,12 @@ returns-3 c =
     ∙ opens-not (l .name) (take (l .count) (l .values)) (sym (n .opens .ensures) ∙ not-true (n .opens .result) (t .if3 .taken))
     ∙ opening-is (slice (a .from) (a .to) (a .input .now)) l (r .read-line .ensures) (not-false (l .ok) (o .if1 .left))
 
--- src/calls.rt:190:15
 array-read-t11 : tie.Need-array-read-t11
 array-read-t11 c = search needs
 
--- src/calls.rt:191:17
 behind-first-requires : tie.Need-behind-first-requires
 behind-first-requires c κs = search needs
 
--- src/calls.rt:172:1
 returns-4 : tie.Need-returns-4
 returns-4 c =
     let t = c .before in

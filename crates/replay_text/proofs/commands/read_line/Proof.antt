@@ -9,23 +9,15 @@ use lib.Seq.{slice}
 use Rattle.replay_text.specs.Lines.{words}
 use Rattle.replay_text.specs.Contracts.{MOST, Counted}
 use Rattle.replay_text.proofs.Phrases.{line-alone, line-numbers, line-nothing}
-use Rattle.replay_text.proofs.calls.read_line.Statement.{statement}
-use Rattle.replay_text.proofs.calls.read_line.Tie as tie
-use Rattle.replay_text.proofs.calls.read_line.Reads as reads
-use Rattle.replay_text.proofs.calls.read_line.Lts as lts
-use Rattle.replay_text.proofs.calls.read_numbers.Reads as read-numbers-reads
-use Rattle.replay_text.proofs.words.find_mark.Reads as find-mark-reads
-use Rattle.replay_text.proofs.words.read_word.Reads as read-word-reads
+use Rattle.replay_text.proofs.commands.read_line.Statement.{statement}
+use Rattle.replay_text.proofs.commands.read_line.Tie as tie
 
--- src/calls.rt:55:9
 find-mark-requires : tie.Need-find-mark-requires
 find-mark-requires c κs = search needs
 
--- src/calls.rt:56:9
 read-word-requires : tie.Need-read-word-requires
 read-word-requires c κs = search needs
 
--- src/calls.rt:59:9
 returns : tie.Need-returns
 returns c =
     let w = c .before in
@@ -34,23 +26,18 @@ returns c =
     let a = e .args in
     line-alone (a .from) (a .to) (a .input .now) (f .find-mark .result) (w .read-word .result) (replicate MOST 0) (e .pre .inside) (f .find-mark .ensures) (w .read-word .ensures) (c .if1 .taken) refl
 
--- src/calls.rt:66:50
 add-read-numbers : tie.Need-add-read-numbers
 add-read-numbers c = search needs
 
--- src/calls.rt:66:30
 read-numbers-requires : tie.Need-read-numbers-requires
 read-numbers-requires c κs = search needs
 
--- src/calls.rt:66:21
 enum-known-count : tie.Need-enum-known-count
 enum-known-count c = search needs
 
--- src/calls.rt:71:21
 enum-told : tie.Need-enum-told
 enum-told c = search needs
 
--- src/calls.rt:67:9
 returns-2 : tie.Need-returns-2
 returns-2 c =
     let n = c .before .before in
@@ -62,7 +49,6 @@ returns-2 c =
     line-nothing (a .from) (a .to) (a .input .now) (f .find-mark .result) (w .read-word .result) (n .read-numbers .last .1 .1 .1 .0) (e .pre .inside) (f .find-mark .ensures) (w .read-word .ensures)
     (omega arith) (subst (Counted (words (slice (f .find-mark .result + 1) (a .to) (a .input .now))) (n .read-numbers .last .1 .1 .1 .0)) (c .enum-told .given .1) (n .read-numbers .ensures))
 
--- src/calls.rt:51:1
 returns-3 : tie.Need-returns-3
 returns-3 c =
     let k = c .before in
