@@ -15,11 +15,12 @@ use Rattle.model.specs.declared.Call.{Call}
 use Rattle.replay_text.specs.Text.{SPACE}
 use Rattle.replay_text.specs.Lines.{words, numbers}
 use Rattle.replay_text.specs.Commands.{Phrase, Opening, word-of, call-of, opening-of, named, phrase-of, phrase-call, phrase-opening, line-call, line-opening}
-use Rattle.replay_text.specs.Contracts.{FirstMark, MOST, few, few-phrase, Counted, LineRead, line-phrase, is-open}
+use Rattle.replay_text.specs.Contracts.{FirstMark, MOST, few, few-phrase, Counted, LineRead, line-phrase, opening-value, is-open}
 use Rattle.replay_text.specs.declared.Count.the-variants.{Read, Nothing}
 use Rattle.replay_text.specs.declared.Word.{Word}
 use Rattle.replay_text.specs.declared.Word.the-variants.{Open, Alloc, Array, Claim, Free, All, Realloc, Unknown}
 use Rattle.replay_text.specs.declared.Line.{Line}
+use Rattle.replay_text.specs.declared.OpenLine.{OpenLine}
 use Rattle.replay_text.proofs.Marks.{split-last, split-more}
 use Rattle.replay_text.proofs.Asking.{few-phrase-call, few-phrase-opening}
 
@@ -109,3 +110,10 @@ opens-is Free n vs gs e q k g = let z : _≡_ {A = ℕ} 0 1 = cc in absurd (omeg
 opens-is All n vs gs e q k g = let z : _≡_ {A = ℕ} 0 1 = cc in absurd (omega arith)
 opens-is Realloc n vs gs e q k g = let z : _≡_ {A = ℕ} 0 1 = cc in absurd (omega arith)
 opens-is Unknown n vs gs e q k g = let z : _≡_ {A = ℕ} 0 1 = cc in absurd (omega arith)
+
+-- an opening, if one was read
+pub no-opening : (l : OpenLine) → l .ok ≡ false → opening-value l ≡ none
+no-opening l e = ap (λ (t : Bool). cond t (some (record { heap = l .heap; grants = l .grants })) none) e
+
+pub some-opening : (l : OpenLine) → l .ok ≡ true → opening-value l ≡ some (record { heap = l .heap; grants = l .grants })
+some-opening l e = ap (λ (t : Bool). cond t (some (record { heap = l .heap; grants = l .grants })) none) e

@@ -5,7 +5,7 @@ use mathlib.Core.List.{List, [], _∷_}
 use mathlib.Core.Bool.{Bool, true, false, cond}
 use mathlib.Core.Option.{Option, none, some}
 use lib.Dec.{leb}
-use lib.ListN.{length, getD, take}
+use lib.ListN.{length, getD, take, replicate}
 use Rattle.accounts.specs.Accounts.{QUOTAS}
 use Rattle.layout.specs.Bytes.{overwrite}
 use Rattle.model.specs.declared.Call.{Call}
@@ -42,6 +42,11 @@ pub record Room (at : ℕ) (text s : List ℕ) : Type 0 where
 pub record Put (at : ℕ) (text before after : List ℕ) (r : ℕ) : Type 0 where
   pub bytes : after ≡ overwrite at text before
   pub next : r ≡ at + length text
+
+-- so many zeros
+pub record Zeros (n : ℕ) (s : List ℕ) : Type 0 where
+  pub long : length s ≡ n
+  pub zeros : s ≡ replicate n 0
 
 -- a number, if it is one
 abbrev pub number-value : Number → Option ℕ

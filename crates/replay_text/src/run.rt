@@ -13,7 +13,7 @@ ghost use lib.Seq.{slice};
 ghost use Rattle.model.specs.Calls.{open-heap};
 ghost use Rattle.replay_text.specs.Lines.{lines};
 ghost use Rattle.replay_text.specs.Replay.{heap-lines, ending, run-lines, run-opened, run-input};
-ghost use Rattle.replay_text.specs.Contracts.{Within, Room, Put};
+ghost use Rattle.replay_text.specs.Contracts.{Room, Put, Zeros};
 ghost use Rattle.replay_text.specs.Events.{Reached, Granted};
 
 // The most bytes that a heap has.
@@ -87,6 +87,13 @@ fn run_opened(input: &[u8], from: usize, heap: &mut [u8], grants: [u32; QUOTAS],
     run_calls(input, from, heap, accounts, output, at)
 }
 
+// A heap's bytes before it is opened.
+fn zero_bytes() -> [u8; LONGEST_HEAP]
+    ensures { λ r. ⌜ Zeros 32768 r ⌝ }
+{
+    [0u8; LONGEST_HEAP]
+}
+
 // The lines behind an opening, on a heap of so many bytes.
 fn run_opening(input: &[u8], from: usize, size: u32, grants: [u32; QUOTAS], output: &mut [u8]) -> usize
     requires { ⌜ (from ≤ length (now input)) × Granted grants × Room 0 (run-opened (open-heap (replicate size 0) grants) (lines (slice from (length (now input)) (now input)))) (now output) ⌝ }
@@ -96,7 +103,7 @@ fn run_opening(input: &[u8], from: usize, size: u32, grants: [u32; QUOTAS], outp
     if LONGEST_HEAP < len {
         return answers::put_refusal(output, 0, 1);
     }
-    let mut store = [0u8; LONGEST_HEAP];
+    let mut store = zero_bytes();
     run_opened(input, from, &mut store[..len], grants, output)
 }
 
