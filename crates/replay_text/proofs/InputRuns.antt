@@ -4,12 +4,11 @@ use mathlib.Core.Path.{_≡_, refl, ap, sym, subst, _∙_}
 use mathlib.Core.List.{List, [], _∷_, _++_}
 use mathlib.Core.Bool.{Bool, true, false, cond}
 use mathlib.Core.Option.{Option, none, some}
-use Prim.Native.Nat.{ℕ, zero, suc, _+_, _≤_, _<_}
+use Prim.Native.Nat.{ℕ, _+_, _≤_, _<_}
 use native.Mathlib.Omega.{arith}
-use native.Mathlib.Nat.{not-suc-le-zero, le-of-suc-le-suc}
 use lib.Dec.{ltb}
 use borrow.Author.Tests.{lt-ltb, le-ltb}
-use lib.ListN.{length, take, drop, replicate}
+use lib.ListN.{length, drop, replicate}
 use lib.Seq.{slice, take-length}
 use Rattle.layout.specs.Bytes.{overwrite}
 use Rattle.layout.proofs.Overwrite.{overwrite-fits}
@@ -23,12 +22,6 @@ use Rattle.replay_text.specs.declared.Replayed.the-variants.{Written, To
 use Rattle.replay_text.proofs.Marks.{split-last, split-more}
 use Rattle.replay_text.proofs.LineRuns.{split-some}
 use Rattle.replay_text.proofs.Bounds.{replay-fits}
-
--- the first of zeros are zeros
-pub take-zeros : (n m : ℕ) → n ≤ m → _≡_ {A = List ℕ} (take n (replicate m 0)) (replicate n 0)
-take-zeros zero m h = refl
-take-zeros (suc n) zero h = absurd (not-suc-le-zero h)
-take-zeros (suc n) (suc m) h = ap (λ (s : List ℕ). 0 ∷ s) (take-zeros n m (le-of-suc-le-suc h))
 
 -- the first line ends at `end`
 module _ (input : List ℕ) (end : ℕ) (m : FirstMark LINE-FEED 0 (length input) input end) where

@@ -6,10 +6,11 @@ use mathlib.Core.Bool.{Bool, true, false, not, cond, _&&_}
 use mathlib.Core.Option.{Option, none, some}
 use Prim.Native.Nat.{ℕ, zero, suc, _+_, _*_, _-_, _%_, _^_, _≤_, _<_}
 use native.Mathlib.Omega.{arith}
+use native.Mathlib.Nat.{not-suc-le-zero, le-of-suc-le-suc}
 use lib.Dec.{leb, eqb}
 use borrow.Author.Tests.{leb-true, lt-leb, eqb-true, eq-eqb, ne-eqb}
 use lib.ListN.{length, take, drop, getD, replicate, length-drop, length-replicate}
-use lib.Seq.{getD-drop}
+use lib.Seq.{getD-drop, length-take-le}
 use Rattle.accounts.specs.declared.Accounts.{Accounts}
 use Rattle.accounts.specs.Accounts.{QUOTAS, zero-accounts}
 use Rattle.model.specs.Answers.{Values, accepted, verdict-values}
@@ -27,6 +28,7 @@ use Rattle.replay_text.specs.Lines.{join-number, numbers, words}
 use Rattle.replay_text.specs.Commands.{Opening, Phrase, opening-of, named, phrase-of, phrase-opening, line-opening, word-of}
 use Rattle.replay_text.specs.Replay.{ok-line, no-line, run-lines, run-opened}
 use Rattle.replay_text.specs.Events.{Reached, Granted}
+use Rattle.replay_text.specs.Contracts.{Zeros}
 use Rattle.replay_text.specs.Answered.{verdict-refusal}
 use Rattle.replay_text.specs.declared.Word.{Word}
 use Rattle.replay_text.specs.declared.Word.the-variants.{Open, Alloc, Array, Claim, Free, All, Realloc, Unknown}
@@ -191,3 +193,17 @@ refused-first s grants ls e = rw e
 
 pub opening-too-long : (n : ℕ) (grants : List ℕ) (ls : List (List ℕ)) → 32768 < n → no-line 1 ≡ run-opened (open-heap (replicate n 0) grants) ls
 opening-too-long n grants ls h = refused-first (replicate n 0) grants ls (rw (length-replicate {A = ℕ} n 0) (too-long n h))
+
+-- the first of zeros are zeros
+take-zeros : (n m : ℕ) → n ≤ m → _≡_ {A = List ℕ} (take n (replicate m 0)) (replicate n 0)
+take-zeros zero m h = refl
+take-zeros (suc n) zero h = absurd (not-suc-le-zero h)
+take-zeros (suc n) (suc m) h = ap (λ (s : List ℕ). 0 ∷ s) (take-zeros n m (le-of-suc-le-suc h))
+
+pub zeros-front : (n m : ℕ) (s : List ℕ) → n ≤ m → Zeros m s → take n s ≡ replicate n 0
+zeros-front n m s h z = ap (take n) (z .zeros) ∙ take-zeros n m h
+
+pub zeros-length : (n m : ℕ) (s : List ℕ) → n ≤ m → Zeros m s → n ≡ length (take n s)
+zeros-length n m s h z =
+    let l = z .long in
+    sym (length-take-le n s (omega arith))

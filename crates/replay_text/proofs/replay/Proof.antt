@@ -8,18 +8,12 @@ use Rattle.replay_text.specs.Contracts.{Room, Put}
 use Rattle.replay_text.proofs.InputRuns.{replay-short, replay-too-long, replay-runs, replay-room, replay-written}
 use Rattle.replay_text.proofs.replay.Statement.{statement}
 use Rattle.replay_text.proofs.replay.Tie as tie
-use Rattle.replay_text.proofs.replay.Reads as reads
-use Rattle.replay_text.proofs.replay.Lts as lts
-use Rattle.replay_text.proofs.answers.put_bad.Reads as put-bad-reads
-use Rattle.replay_text.proofs.run.run_all.Reads as run-all-reads
 
--- src/lib.rt:80:9
 returns : tie.Need-returns
 returns c =
     let a = c .before .before .before .args in
     replay-short (a .input .now) (a .output .now) (c .if1 .taken)
 
--- src/lib.rt:83:34
 put-bad-requires : tie.Need-put-bad-requires
 put-bad-requires c κs =
     let t = c .before in
@@ -28,11 +22,9 @@ put-bad-requires c κs =
     let a = e .args in
     subst (λ (y : List ℕ). Room 0 y (a .output .now)) (sym (replay-too-long (a .input .now) (t .if2 .taken))) (replay-room (a .input .now) (a .output .now) (search needs))
 
--- src/lib.rt:83:9
 same-length : tie.Need-same-length
 same-length c = search needs
 
--- src/lib.rt:83:9
 returns-2 : tie.Need-returns-2
 returns-2 c =
     let p = c .before .before in
@@ -43,7 +35,6 @@ returns-2 c =
     replay-written (a .input .now) (a .output .now) (search needs) (p .put-bad .last .0) (p .put-bad .result)
     (subst (λ (y : List ℕ). Put 0 y (a .output .now) (p .put-bad .last .0) (p .put-bad .result)) (replay-too-long (a .input .now) (t .if2 .taken)) (p .put-bad .ensures))
 
--- src/lib.rt:85:23
 run-all-requires : tie.Need-run-all-requires
 run-all-requires c κs =
     let t = c .before in
@@ -52,11 +43,9 @@ run-all-requires c κs =
     let a = e .args in
     subst (λ (y : List ℕ). Room 0 y (a .output .now)) (sym (replay-runs (a .input .now) (search needs))) (replay-room (a .input .now) (a .output .now) (search needs))
 
--- src/lib.rt:76:1
 same-length-2 : tie.Need-same-length-2
 same-length-2 c = search needs
 
--- src/lib.rt:76:1
 returns-3 : tie.Need-returns-3
 returns-3 c =
     let p = c .before .before in

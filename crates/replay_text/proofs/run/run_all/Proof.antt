@@ -14,18 +14,10 @@ use Rattle.replay_text.proofs.Openings.{opening-granted}
 use Rattle.replay_text.proofs.InputRuns.{input-unended, input-bad, input-opens}
 use Rattle.replay_text.proofs.run.run_all.Statement.{statement}
 use Rattle.replay_text.proofs.run.run_all.Tie as tie
-use Rattle.replay_text.proofs.run.run_all.Reads as reads
-use Rattle.replay_text.proofs.run.run_all.Lts as lts
-use Rattle.replay_text.proofs.answers.put_bad.Reads as put-bad-reads
-use Rattle.replay_text.proofs.commands.read_opening.Reads as read-opening-reads
-use Rattle.replay_text.proofs.run.run_opening.Reads as run-opening-reads
-use Rattle.replay_text.proofs.words.find_mark.Reads as find-mark-reads
 
--- src/run.rt:109:9
 find-mark-requires : tie.Need-find-mark-requires
 find-mark-requires c κs = search needs
 
--- src/run.rt:111:9
 put-bad-requires : tie.Need-put-bad-requires
 put-bad-requires c κs =
     let t = c .before in
@@ -34,11 +26,9 @@ put-bad-requires c κs =
     let a = e .args in
     subst (λ (x : List ℕ). Room 0 x (a .output .now)) (sym (input-unended (a .input .now) (f .find-mark .result) (f .find-mark .ensures) (t .if1 .taken))) (e .pre)
 
--- src/run.rt:111:9
 same-length : tie.Need-same-length
 same-length c = search needs
 
--- src/run.rt:111:9
 returns : tie.Need-returns
 returns c =
     let p = c .before .before in
@@ -48,11 +38,9 @@ returns c =
     let a = e .args in
     subst (λ (x : List ℕ). Put 0 x (a .output .now) (p .put-bad .last .0) (p .put-bad .result)) (input-unended (a .input .now) (f .find-mark .result) (f .find-mark .ensures) (t .if1 .taken)) (p .put-bad .ensures)
 
--- src/run.rt:113:9
 read-opening-requires : tie.Need-read-opening-requires
 read-opening-requires c κs = search needs
 
--- src/run.rt:115:9
 put-bad-requires-2 : tie.Need-put-bad-requires-2
 put-bad-requires-2 c κs =
     let t = c .before in
@@ -67,11 +55,9 @@ put-bad-requires-2 c κs =
     (sym (r .read-opening .ensures) ∙ no-opening (r .read-opening .result) (not-true (r .read-opening .result .ok) (t .if2 .taken))) in
     subst (λ (x : List ℕ). Room 0 x (a .output .now)) (sym is-bad) (e .pre)
 
--- src/run.rt:115:9
 same-length-2 : tie.Need-same-length-2
 same-length-2 c = search needs
 
--- src/run.rt:115:9
 returns-2 : tie.Need-returns-2
 returns-2 c =
     let p = c .before .before in
@@ -87,11 +73,9 @@ returns-2 c =
     (sym (r .read-opening .ensures) ∙ no-opening (r .read-opening .result) (not-true (r .read-opening .result .ok) (t .if2 .taken))) in
     subst (λ (x : List ℕ). Put 0 x (a .output .now) (p .put-bad2 .last .0) (p .put-bad2 .result)) is-bad (p .put-bad2 .ensures)
 
--- src/run.rt:118:24
 add-run-opening : tie.Need-add-run-opening
 add-run-opening c = search needs
 
--- src/run.rt:118:5
 run-opening-requires : tie.Need-run-opening-requires
 run-opening-requires c κs =
     let y = c .before .before in
@@ -108,11 +92,9 @@ run-opening-requires c κs =
     (omega arith, opening-granted (slice 0 (f .find-mark .result) (a .input .now)) (record { heap = l .heap; grants = l .grants }) asked,
     subst (λ (x : List ℕ). Room 0 x (a .output .now)) (sym opens) (e .pre))
 
--- src/run.rt:104:1
 same-length-3 : tie.Need-same-length-3
 same-length-3 c = search needs
 
--- src/run.rt:104:1
 returns-3 : tie.Need-returns-3
 returns-3 c =
     let q = c .before .before in

@@ -13,23 +13,13 @@ use Rattle.replay_text.proofs.Puts.{room-first, room-next, put-two}
 use Rattle.replay_text.proofs.Openings.{opened-refused, opened-runs, opened-reached}
 use Rattle.replay_text.proofs.run.run_opened.Statement.{statement}
 use Rattle.replay_text.proofs.run.run_opened.Tie as tie
-use Rattle.replay_text.proofs.run.run_opened.Reads as reads
-use Rattle.replay_text.proofs.run.run_opened.Lts as lts
-use Rattle.calls.proofs.open.Reads as open-reads
-use Rattle.replay_text.proofs.answers.put_ok.Reads as put-ok-reads
-use Rattle.replay_text.proofs.answers.put_refusal.Reads as put-refusal-reads
-use Rattle.replay_text.proofs.answers.verdict_refusal.Reads as verdict-refusal-reads
-use Rattle.replay_text.proofs.run.run_calls.Reads as run-calls-reads
 
--- src/run.rt:79:9
 open-requires : tie.Need-open-requires
 open-requires c κs = search needs
 
--- src/run.rt:81:9
 verdict-refusal-requires : tie.Need-verdict-refusal-requires
 verdict-refusal-requires c κs = search needs
 
--- src/run.rt:83:9
 put-refusal-requires : tie.Need-put-refusal-requires
 put-refusal-requires c κs =
     let t = c .before in
@@ -40,15 +30,12 @@ put-refusal-requires c κs =
     let ls = lines (slice (a .from) (length (a .input .now)) (a .input .now)) in
     subst (λ (x : List ℕ). Room 0 x (a .output .now)) (sym (opened-refused (a .heap .now) (a .grants) (o .«open» .last .0) (o .«open» .result .accounts) (o .«open» .result .verdict) (o .«open» .ensures) (v .verdict-refusal .result) (v .verdict-refusal .ensures) ls (t .if1 .taken))) (e .pre .2)
 
--- src/run.rt:83:9
 same-length : tie.Need-same-length
 same-length c = search needs
 
--- src/run.rt:83:9
 same-length-2 : tie.Need-same-length-2
 same-length-2 c = search needs
 
--- src/run.rt:83:9
 returns : tie.Need-returns
 returns c =
     let p = c .before .before in
@@ -60,7 +47,6 @@ returns c =
     let ls = lines (slice (a .from) (length (a .input .now)) (a .input .now)) in
     subst (λ (x : List ℕ). Put 0 x (a .output .now) (p .put-refusal .last .0) (p .put-refusal .result)) (opened-refused (a .heap .now) (a .grants) (o .«open» .last .0) (o .«open» .result .accounts) (o .«open» .result .verdict) (o .«open» .ensures) (v .verdict-refusal .result) (v .verdict-refusal .ensures) ls (t .if1 .taken)) (p .put-refusal .ensures)
 
--- src/run.rt:85:9
 put-ok-requires : tie.Need-put-ok-requires
 put-ok-requires c κs =
     let x = c .before in
@@ -72,7 +58,6 @@ put-ok-requires c κs =
     room-first 0 (ok-line []) (run-lines ls (o .«open» .last .0) (o .«open» .result .accounts)) (a .output .now)
     (subst (λ (x : List ℕ). Room 0 x (a .output .now)) (sym (opened-runs (a .heap .now) (a .grants) (o .«open» .last .0) (o .«open» .result .accounts) (o .«open» .result .verdict) (o .«open» .ensures) (v .verdict-refusal .result) (v .verdict-refusal .ensures) ls (x .if1 .left))) (e .pre .2))
 
--- src/run.rt:87:5
 run-calls-requires : tie.Need-run-calls-requires
 run-calls-requires c κs =
     let p = c .before .before .before .before .before in
@@ -87,15 +72,12 @@ run-calls-requires c κs =
     room-next 0 (ok-line []) (run-lines ls (o .«open» .last .0) (o .«open» .result .accounts)) (a .output .now) (p .put-ok .last .0) (p .put-ok .result)
     (subst (λ (x : List ℕ). Room 0 x (a .output .now)) (sym (opened-runs (a .heap .now) (a .grants) (o .«open» .last .0) (o .«open» .result .accounts) (o .«open» .result .verdict) (o .«open» .ensures) (v .verdict-refusal .result) (v .verdict-refusal .ensures) ls (x .if1 .left))) (e .pre .2)) (p .put-ok .ensures))
 
--- src/run.rt:75:1
 same-length-3 : tie.Need-same-length-3
 same-length-3 c = search needs
 
--- src/run.rt:75:1
 same-length-4 : tie.Need-same-length-4
 same-length-4 c = search needs
 
--- src/run.rt:75:1
 returns-2 : tie.Need-returns-2
 returns-2 c =
     let q = c .before .before .before .before in
