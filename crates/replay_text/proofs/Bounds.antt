@@ -167,8 +167,15 @@ call-least Unknown ns c e = let z : _≡_ {A = ℕ} 0 1 = cc in absurd (omega ar
 short-unknown : (w : List ℕ) → length w < 3 → word-of w ≡ Unknown
 unfolding word-of
 short-unknown w h =
-    rw (same-lengths w (text "open") (λ e. omega arith), same-lengths w (text "alloc") (λ e. omega arith), same-lengths w (text "array") (λ e. omega arith), same-lengths w (text "claim") (λ e. omega arith),
-    same-lengths w (text "free") (λ e. omega arith), same-lengths w (text "all") (λ e. omega arith), same-lengths w (text "realloc") (λ e. omega arith))
+    rw (
+      same-lengths w (text "open") (λ e. omega arith),
+      same-lengths w (text "alloc") (λ e. omega arith),
+      same-lengths w (text "array") (λ e. omega arith),
+      same-lengths w (text "claim") (λ e. omega arith),
+      same-lengths w (text "free") (λ e. omega arith),
+      same-lengths w (text "all") (λ e. omega arith),
+      same-lengths w (text "realloc") (λ e. omega arith),
+    )
 
 word-least : (w : List ℕ) → (word-of w ≡ Unknown → ⊥) → 3 ≤ length w
 word-least w h = go (ltb (length w) 3) refl
@@ -210,8 +217,13 @@ run-most (l ∷ (m ∷ ls)) s k r = go (line-call l) refl (λ s′ k′. run-mos
     go none e ih = omega (arith, bad-most)
     go (some c) e ih =
         let t = step unit c s k in
-        omega (arith, length-append (answer-line c (t .values)) (run-lines (m ∷ ls) (t .heap) (t .accounts)), answer-most c (t .values), line-least l c e,
-        ih (t .heap) (t .accounts) (reached-next s k c (t .heap) (t .accounts) (t .values) r refl))
+        omega (
+          arith,
+          length-append (answer-line c (t .values)) (run-lines (m ∷ ls) (t .heap) (t .accounts)),
+          answer-most c (t .values),
+          line-least l c e,
+          ih (t .heap) (t .accounts) (reached-next s k c (t .heap) (t .accounts) (t .values) r refl),
+        )
 
 -- the run of an opening, and of all lines
 ok-short : length (ok-line []) ≡ 3

@@ -144,15 +144,35 @@ fn answers_handle(call: Call) -> bool
     ensures { λ r. ⌜ r ≡ gives-handle call ⌝ }
 {
     match call {
-        Call::Allocate { quota: _, length: _ } => true,
-        Call::AllocateArray { quota: _, count: _, size: _ } => true,
-        Call::Claim { quota: _, handle: _ } => false,
-        Call::Release { quota: _, handle: _ } => false,
+        Call::Allocate {
+            quota: _,
+            length: _,
+        } => true,
+        Call::AllocateArray {
+            quota: _,
+            count: _,
+            size: _,
+        } => true,
+        Call::Claim {
+            quota: _,
+            handle: _,
+        } => false,
+        Call::Release {
+            quota: _,
+            handle: _,
+        } => false,
         Call::FreeAll { quota: _ } => false,
-        Call::Reallocate { quota: _, handle: _, length: _ } => true,
+        Call::Reallocate {
+            quota: _,
+            handle: _,
+            length: _,
+        } => true,
         Call::Lend { handle: _ } => false,
         Call::Remaining { quota: _ } => false,
-        Call::CanRelease { quota: _, handle: _ } => false,
+        Call::CanRelease {
+            quota: _,
+            handle: _,
+        } => false,
         Call::ListBlock { at: _ } => false,
     }
 }

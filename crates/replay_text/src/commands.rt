@@ -103,12 +103,49 @@ fn call_of(name: Word, count: usize, values: [u32; MOST]) -> Asked
         serial: values[3],
     };
     match name {
-        Word::Alloc => taking(count, 2, Call::Allocate { quota: quota, length: second }),
-        Word::Array => taking(count, 3, Call::AllocateArray { quota: quota, count: second, size: values[2] }),
-        Word::Claim => taking(count, 4, Call::Claim { quota: quota, handle: handle }),
-        Word::Free => taking(count, 4, Call::Release { quota: quota, handle: handle }),
+        Word::Alloc => taking(
+            count,
+            2,
+            Call::Allocate {
+                quota: quota,
+                length: second,
+            },
+        ),
+        Word::Array => taking(
+            count,
+            3,
+            Call::AllocateArray {
+                quota: quota,
+                count: second,
+                size: values[2],
+            },
+        ),
+        Word::Claim => taking(
+            count,
+            4,
+            Call::Claim {
+                quota: quota,
+                handle: handle,
+            },
+        ),
+        Word::Free => taking(
+            count,
+            4,
+            Call::Release {
+                quota: quota,
+                handle: handle,
+            },
+        ),
         Word::All => taking(count, 1, Call::FreeAll { quota: quota }),
-        Word::Realloc => taking(count, 5, Call::Reallocate { quota: quota, handle: handle, length: values[4] }),
+        Word::Realloc => taking(
+            count,
+            5,
+            Call::Reallocate {
+                quota: quota,
+                handle: handle,
+                length: values[4],
+            },
+        ),
         Word::Open => Asked::Nothing,
         Word::Unknown => Asked::Nothing,
     }

@@ -36,7 +36,14 @@ fn put_blocks(heap: &[u8], accounts: Accounts, output: &mut [u8], at: usize) -> 
 }
 
 // The end of an input: the list, where nothing stands behind the last line feed.
-fn put_ending(input: &[u8], from: usize, heap: &[u8], accounts: Accounts, output: &mut [u8], at: usize) -> usize
+fn put_ending(
+    input: &[u8],
+    from: usize,
+    heap: &[u8],
+    accounts: Accounts,
+    output: &mut [u8],
+    at: usize,
+) -> usize
     requires { ⌜ (from ≤ length (now input)) × Reached (now heap) accounts × Room at (ending (slice from (length (now input)) (now input)) (now heap)) (now output) ⌝ }
     ensures { λ r. ⌜ Put at (ending (slice from (length (now (input .entry))) (now (input .entry))) (now (heap .entry))) (now (output .entry)) (now (output .exit)) r ⌝ }
 {
@@ -47,7 +54,14 @@ fn put_ending(input: &[u8], from: usize, heap: &[u8], accounts: Accounts, output
 }
 
 // The lines from a place on: each is a call, which is made and answered.
-fn run_calls(input: &[u8], from: usize, heap: &mut [u8], accounts: Accounts, output: &mut [u8], at: usize) -> usize
+fn run_calls(
+    input: &[u8],
+    from: usize,
+    heap: &mut [u8],
+    accounts: Accounts,
+    output: &mut [u8],
+    at: usize,
+) -> usize
     requires { ⌜ (from ≤ length (now input)) × Reached (now heap) accounts × Room at (run-lines (lines (slice from (length (now input)) (now input))) (now heap) accounts) (now output) ⌝ }
     ensures { λ r. ⌜ Put at (run-lines (lines (slice from (length (now (input .entry))) (now (input .entry)))) (now (heap .entry)) accounts) (now (output .entry)) (now (output .exit)) r ⌝ }
 {
@@ -72,7 +86,13 @@ fn run_calls(input: &[u8], from: usize, heap: &mut [u8], accounts: Accounts, out
 }
 
 // The lines behind an opening, on a heap that is opened with these grants.
-fn run_opened(input: &[u8], from: usize, heap: &mut [u8], grants: [u32; QUOTAS], output: &mut [u8]) -> usize
+fn run_opened(
+    input: &[u8],
+    from: usize,
+    heap: &mut [u8],
+    grants: [u32; QUOTAS],
+    output: &mut [u8],
+) -> usize
     requires { ⌜ (from ≤ length (now input)) × Granted grants × Room 0 (run-opened (open-heap (now heap) grants) (lines (slice from (length (now input)) (now input)))) (now output) ⌝ }
     ensures { λ r. ⌜ Put 0 (run-opened (open-heap (now (heap .entry)) grants) (lines (slice from (length (now (input .entry))) (now (input .entry))))) (now (output .entry)) (now (output .exit)) r ⌝ }
 {
@@ -95,7 +115,13 @@ fn zero_bytes() -> [u8; LONGEST_HEAP]
 }
 
 // The lines behind an opening, on a heap of so many bytes.
-fn run_opening(input: &[u8], from: usize, size: u32, grants: [u32; QUOTAS], output: &mut [u8]) -> usize
+fn run_opening(
+    input: &[u8],
+    from: usize,
+    size: u32,
+    grants: [u32; QUOTAS],
+    output: &mut [u8],
+) -> usize
     requires { ⌜ (from ≤ length (now input)) × Granted grants × Room 0 (run-opened (open-heap (replicate size 0) grants) (lines (slice from (length (now input)) (now input)))) (now output) ⌝ }
     ensures { λ r. ⌜ Put 0 (run-opened (open-heap (replicate size 0) grants) (lines (slice from (length (now (input .entry))) (now (input .entry))))) (now (output .entry)) (now (output .exit)) r ⌝ }
 {

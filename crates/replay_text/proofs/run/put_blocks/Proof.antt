@@ -116,10 +116,11 @@ put-block-requires c κs =
     let e = l .before .before .before in
     let a = e .args in
     let b = k .block .given .0 .0 in
-    let n = next-block k in
-    (omega (arith, ends k, reached-length (a .heap .now) (a .accounts) (e .pre .0)),
-    room-first (l .loop .next) (block-line b) (rest-lines k) (l .loop .output)
-    (run-room (heap-lines (a .heap .now)) (a .at) (a .output .now) (l .loop .output) (l .loop .next) (block-line b ++ rest-lines k) (e .pre .1) (running k)))
+    let n = next-block k in (
+      omega (arith, ends k, reached-length (a .heap .now) (a .accounts) (e .pre .0)),
+      room-first (l .loop .next) (block-line b) (rest-lines k) (l .loop .output)
+          (run-room (heap-lines (a .heap .now)) (a .at) (a .output .now) (l .loop .output) (l .loop .next) (block-line b ++ rest-lines k) (e .pre .1) (running k)),
+    )
 
 add-place : tie.Need-add-place Inv-loop μ-loop
 add-place c =
@@ -156,10 +157,11 @@ loop-again c =
     let e = l .before .before .before in
     let a = e .args in
     let b = k .block .given .0 .0 in
-    let n = next-block k in
-    (n .behind,
-    next-passing (l .loop .inv .0) (l .loop .place) b n (blocks-of (a .heap .now)) (l .loop .inv .1),
-    run-more (heap-lines (a .heap .now)) (a .at) (a .output .now) (l .loop .output) (q .put-block .last .0) (l .loop .next) (q .put-block .result) (block-line b) (rest-lines k) (e .pre .1) (running k) (q .put-block .ensures))
+    let n = next-block k in (
+      n .behind,
+      next-passing (l .loop .inv .0) (l .loop .place) b n (blocks-of (a .heap .now)) (l .loop .inv .1),
+      run-more (heap-lines (a .heap .now)) (a .at) (a .output .now) (l .loop .output) (q .put-block .last .0) (l .loop .next) (q .put-block .result) (block-line b) (rest-lines k) (e .pre .1) (running k) (q .put-block .ensures),
+    )
 
 pub put-blocks-spec : {M : Type 1} → statement M
 put-blocks-spec =

@@ -88,9 +88,11 @@ run-opening-requires c κs =
     let n = x .if1 .left in
     let l = r .read-opening .result in
     let asked = sym (r .read-opening .ensures) ∙ some-opening l (not-false (l .ok) (y .if2 .left)) in
-    let opens = input-opens (a .input .now) (f .find-mark .result) (f .find-mark .ensures) (omega arith) (record { heap = l .heap; grants = l .grants }) asked in
-    (omega arith, opening-granted (slice 0 (f .find-mark .result) (a .input .now)) (record { heap = l .heap; grants = l .grants }) asked,
-    subst (λ (x : List ℕ). Room 0 x (a .output .now)) (sym opens) (e .pre))
+    let opens = input-opens (a .input .now) (f .find-mark .result) (f .find-mark .ensures) (omega arith) (record { heap = l .heap; grants = l .grants }) asked in (
+      omega arith,
+      opening-granted (slice 0 (f .find-mark .result) (a .input .now)) (record { heap = l .heap; grants = l .grants }) asked,
+      subst (λ (x : List ℕ). Room 0 x (a .output .now)) (sym opens) (e .pre),
+    )
 
 same-length-3 : tie.Need-same-length-3
 same-length-3 c = search needs

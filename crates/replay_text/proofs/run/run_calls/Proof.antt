@@ -214,12 +214,13 @@ loop-again c =
     let f = x .before in
     let l = f .before in
     let e = l .before .before .before .before in
-    let a = e .args in
-    (omega (arith, before-end x),
-    q .perform .kept .0 ∙ l .loop .inv .1,
-    reached-next (l .loop .heap) (l .loop .books) (q .before .before .before .call .given .0 .0) (q .perform .last .0) (q .perform .result .accounts) (answer-values (q .perform .result .answer)) (l .loop .inv .2) (q .perform .ensures),
-    run-more (whole l) (a .at) (a .output .now) (l .loop .output) (p .put-answer .last .0) (l .loop .place) (p .put-answer .result) (answer-of q) (behind q) (e .pre .2)
-    (subst (so-far l) (made q) (l .loop .inv .3)) (p .put-answer .ensures))
+    let a = e .args in (
+      omega (arith, before-end x),
+      q .perform .kept .0 ∙ l .loop .inv .1,
+      reached-next (l .loop .heap) (l .loop .books) (q .before .before .before .call .given .0 .0) (q .perform .last .0) (q .perform .result .accounts) (answer-values (q .perform .result .answer)) (l .loop .inv .2) (q .perform .ensures),
+      run-more (whole l) (a .at) (a .output .now) (l .loop .output) (p .put-answer .last .0) (l .loop .place) (p .put-answer .result) (answer-of q) (behind q) (e .pre .2)
+          (subst (so-far l) (made q) (l .loop .inv .3)) (p .put-answer .ensures),
+    )
 
 pub run-calls-spec : {M : Type 1} → statement M
 run-calls-spec =

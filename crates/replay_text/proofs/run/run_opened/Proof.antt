@@ -66,11 +66,12 @@ run-calls-requires c κs =
     let o = v .before .before .before in
     let e = o .before .before .before .before .before in
     let a = e .args in
-    let ls = lines (slice (a .from) (length (a .input .now)) (a .input .now)) in
-    (e .pre .0,
-    opened-reached (a .heap .now) (a .grants) (o .«open» .last .0) (o .«open» .result .accounts) (o .«open» .result .verdict) (o .«open» .ensures) (v .verdict-refusal .result) (v .verdict-refusal .ensures) (e .pre .1) (x .if1 .left),
-    room-next 0 (ok-line []) (run-lines ls (o .«open» .last .0) (o .«open» .result .accounts)) (a .output .now) (p .put-ok .last .0) (p .put-ok .result)
-    (subst (λ (x : List ℕ). Room 0 x (a .output .now)) (sym (opened-runs (a .heap .now) (a .grants) (o .«open» .last .0) (o .«open» .result .accounts) (o .«open» .result .verdict) (o .«open» .ensures) (v .verdict-refusal .result) (v .verdict-refusal .ensures) ls (x .if1 .left))) (e .pre .2)) (p .put-ok .ensures))
+    let ls = lines (slice (a .from) (length (a .input .now)) (a .input .now)) in (
+      e .pre .0,
+      opened-reached (a .heap .now) (a .grants) (o .«open» .last .0) (o .«open» .result .accounts) (o .«open» .result .verdict) (o .«open» .ensures) (v .verdict-refusal .result) (v .verdict-refusal .ensures) (e .pre .1) (x .if1 .left),
+      room-next 0 (ok-line []) (run-lines ls (o .«open» .last .0) (o .«open» .result .accounts)) (a .output .now) (p .put-ok .last .0) (p .put-ok .result)
+          (subst (λ (x : List ℕ). Room 0 x (a .output .now)) (sym (opened-runs (a .heap .now) (a .grants) (o .«open» .last .0) (o .«open» .result .accounts) (o .«open» .result .verdict) (o .«open» .ensures) (v .verdict-refusal .result) (v .verdict-refusal .ensures) ls (x .if1 .left))) (e .pre .2)) (p .put-ok .ensures),
+    )
 
 same-length-3 : tie.Need-same-length-3
 same-length-3 c = search needs

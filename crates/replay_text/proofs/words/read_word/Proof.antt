@@ -17,6 +17,7 @@ unfolding word-of
 returns c =
     let t1 = c .before in
     rw (sym (t1 .is-same .ensures) ∙ c .if1 .taken)
+
 slice-aggregate-is-same-2 : tie.Need-slice-aggregate-is-same-2
 slice-aggregate-is-same-2 c = search needs
 
@@ -30,6 +31,7 @@ returns-2 c =
     let e1 = t2 .before .before in
     let t1 = e1 .before in
     rw (sym (t1 .is-same .ensures) ∙ e1 .if1 .left, sym (t2 .is-same2 .ensures) ∙ c .if2 .taken)
+
 slice-aggregate-is-same-3 : tie.Need-slice-aggregate-is-same-3
 slice-aggregate-is-same-3 c = search needs
 
@@ -45,6 +47,7 @@ returns-3 c =
     let e1 = t2 .before .before in
     let t1 = e1 .before in
     rw (sym (t1 .is-same .ensures) ∙ e1 .if1 .left, sym (t2 .is-same2 .ensures) ∙ e2 .if2 .left, sym (t3 .is-same3 .ensures) ∙ c .if3 .taken)
+
 slice-aggregate-is-same-4 : tie.Need-slice-aggregate-is-same-4
 slice-aggregate-is-same-4 c = search needs
 
@@ -62,6 +65,7 @@ returns-4 c =
     let e1 = t2 .before .before in
     let t1 = e1 .before in
     rw (sym (t1 .is-same .ensures) ∙ e1 .if1 .left, sym (t2 .is-same2 .ensures) ∙ e2 .if2 .left, sym (t3 .is-same3 .ensures) ∙ e3 .if3 .left, sym (t4 .is-same4 .ensures) ∙ c .if4 .taken)
+
 slice-aggregate-is-same-5 : tie.Need-slice-aggregate-is-same-5
 slice-aggregate-is-same-5 c = search needs
 
@@ -81,6 +85,7 @@ returns-5 c =
     let e1 = t2 .before .before in
     let t1 = e1 .before in
     rw (sym (t1 .is-same .ensures) ∙ e1 .if1 .left, sym (t2 .is-same2 .ensures) ∙ e2 .if2 .left, sym (t3 .is-same3 .ensures) ∙ e3 .if3 .left, sym (t4 .is-same4 .ensures) ∙ e4 .if4 .left, sym (t5 .is-same5 .ensures) ∙ c .if5 .taken)
+
 slice-aggregate-is-same-6 : tie.Need-slice-aggregate-is-same-6
 slice-aggregate-is-same-6 c = search needs
 
@@ -102,6 +107,7 @@ returns-6 c =
     let e1 = t2 .before .before in
     let t1 = e1 .before in
     rw (sym (t1 .is-same .ensures) ∙ e1 .if1 .left, sym (t2 .is-same2 .ensures) ∙ e2 .if2 .left, sym (t3 .is-same3 .ensures) ∙ e3 .if3 .left, sym (t4 .is-same4 .ensures) ∙ e4 .if4 .left, sym (t5 .is-same5 .ensures) ∙ e5 .if5 .left, sym (t6 .is-same6 .ensures) ∙ c .if6 .taken)
+
 slice-aggregate-is-same-7 : tie.Need-slice-aggregate-is-same-7
 slice-aggregate-is-same-7 c = search needs
 
@@ -125,6 +131,7 @@ returns-7 c =
     let e1 = t2 .before .before in
     let t1 = e1 .before in
     rw (sym (t1 .is-same .ensures) ∙ e1 .if1 .left, sym (t2 .is-same2 .ensures) ∙ e2 .if2 .left, sym (t3 .is-same3 .ensures) ∙ e3 .if3 .left, sym (t4 .is-same4 .ensures) ∙ e4 .if4 .left, sym (t5 .is-same5 .ensures) ∙ e5 .if5 .left, sym (t6 .is-same6 .ensures) ∙ e6 .if6 .left, sym (t7 .is-same7 .ensures) ∙ c .if7 .taken)
+
 returns-8 : tie.Need-returns-8
 unfolding word-of
 returns-8 c =
@@ -142,6 +149,7 @@ returns-8 c =
     let e1 = t2 .before .before in
     let t1 = e1 .before in
     rw (sym (t1 .is-same .ensures) ∙ e1 .if1 .left, sym (t2 .is-same2 .ensures) ∙ e2 .if2 .left, sym (t3 .is-same3 .ensures) ∙ e3 .if3 .left, sym (t4 .is-same4 .ensures) ∙ e4 .if4 .left, sym (t5 .is-same5 .ensures) ∙ e5 .if5 .left, sym (t6 .is-same6 .ensures) ∙ e6 .if6 .left, sym (t7 .is-same7 .ensures) ∙ c .if7 .left)
+
 pub read-word-spec : {M : Type 1} → statement M
 read-word-spec =
     tie.close
