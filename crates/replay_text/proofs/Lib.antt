@@ -1,0 +1,17 @@
+pub mod Computing
+pub mod Rows
+pub mod Puts
+pub mod Decimals
+pub mod Reading
+pub mod Marks
+pub mod Gathering
+pub mod Asking
+pub mod Phrases
+pub mod Answering
+pub mod Running
+pub mod Listings
+pub mod LineRuns
+pub mod Openings
+pub mod Bounds
+pub mod Histories
+pub mod InputRuns

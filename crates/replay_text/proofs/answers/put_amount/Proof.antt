@@ -1,0 +1,44 @@
+-- The word, and behind it the amount.
+-- Assumes nothing.
+use borrow.Author.Needs.{needs}
+use mathlib.Core.List.{[], _∷_, _++_}
+use Rattle.replay_text.specs.Text.{text, SPACE, LINE-FEED, decimal}
+use Rattle.replay_text.specs.Replay.{ok-line, tail-of}
+use Rattle.replay_text.proofs.Puts.{room-first, room-next, put-two}
+use Rattle.replay_text.proofs.answers.put_amount.Statement.{statement}
+use Rattle.replay_text.proofs.answers.put_amount.Tie as tie
+
+slice-aggregate-put-text : tie.Need-slice-aggregate-put-text
+slice-aggregate-put-text c = search needs
+
+put-text-requires : tie.Need-put-text-requires
+unfolding ok-line tail-of
+put-text-requires c κs =
+    let e = c .before .before .before in
+    let a = e .args in
+    room-first (a .at) (text "ok") (tail-of (a .amount ∷ [])) (a .output .now) (e .pre)
+
+put-last-requires : tie.Need-put-last-requires
+unfolding ok-line tail-of
+put-last-requires c κs =
+    let p = c .before .before .before in
+    let e = p .before .before .before .before in
+    let a = e .args in
+    room-next (a .at) (text "ok") (tail-of (a .amount ∷ [])) (a .output .now) (p .put-text .last .0) (p .put-text .result) (e .pre) (p .put-text .ensures)
+
+same-length : tie.Need-same-length
+same-length c = search needs
+
+returns : tie.Need-returns
+unfolding ok-line tail-of
+returns c =
+    let q = c .before .before in
+    let p = q .before .before .before .before in
+    let e = p .before .before .before .before in
+    let a = e .args in
+    put-two (a .at) (text "ok") (tail-of (a .amount ∷ [])) (a .output .now) (p .put-text .last .0) (q .put-last .last .0) (p .put-text .result) (q .put-last .result) (e .pre) (p .put-text .ensures) (q .put-last .ensures)
+
+pub put-amount-spec : {M : Type 1} → statement M
+put-amount-spec =
+    tie.close
+    (tie.spec slice-aggregate-put-text put-text-requires put-last-requires same-length returns)

@@ -1,0 +1,38 @@
+-- As many digits as the number has are its decimal.
+-- Assumes nothing.
+use borrow.Author.Needs.{needs}
+use native.Mathlib.Omega.{arith}
+use Rattle.replay_text.proofs.Decimals.{length-decimal, put-decimal}
+use Rattle.replay_text.proofs.digits.put_number.Statement.{statement}
+use Rattle.replay_text.proofs.digits.put_number.Tie as tie
+
+count-digits-requires : tie.Need-count-digits-requires
+count-digits-requires c κs = search needs
+
+put-digits-requires : tie.Need-put-digits-requires
+put-digits-requires c κs =
+    let k = c .before in
+    let a = k .before .before .args in
+    let f = k .before .before .pre .fits in
+    omega (arith, length-decimal (a .n), k .count-digits .ensures)
+
+add-result : tie.Need-add-result
+add-result c =
+    let k = c .before .before .before .before in
+    let a = k .before .before .args in
+    let f = k .before .before .pre .fits in
+    omega (arith, length-decimal (a .n), k .count-digits .ensures)
+
+same-length : tie.Need-same-length
+same-length c = search needs
+
+returns : tie.Need-returns
+returns c =
+    let d = c .before .before in
+    let k = d .before .before in
+    let a = k .before .before .args in
+    put-decimal (a .at) (a .n) (k .count-digits .result) (a .output .now) (d .put-digits .last .0) (k .count-digits .ensures) (d .put-digits .ensures)
+
+pub put-number-spec : {M : Type 1} → statement M
+put-number-spec =
+    tie.close (tie.spec count-digits-requires put-digits-requires add-result same-length returns)

@@ -1,0 +1,8 @@
+-- What the contracts cite, in document 01's order ("The replay program").
+pub mod Text
+pub mod Lines
+pub mod Commands
+pub mod Replay
+pub mod Events
+pub mod Contracts
+pub mod Answered
