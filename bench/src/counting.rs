@@ -3,10 +3,11 @@
 use std::path::Path;
 
 use crate::callgrind::{Callgrind, Counted};
-use crate::engine::{Engine, Reference};
+use crate::engine::Reference;
 use crate::figures::{Count, CALLS};
 use crate::peer::Peer;
 use crate::plan::{Plan, LIVE_COUNTS};
+use crate::proved::Proved;
 use crate::report::{Grid, Report};
 use crate::rounds::{Runner, Runs};
 
@@ -19,16 +20,12 @@ fn plan(live: usize) -> Plan {
 }
 
 /// Runs the plan by the named program, for callgrind to count.
-pub fn run_counted<E: Engine>(
-    open_proved: fn() -> E,
-    program: &str,
-    live: &str,
-) -> Result<(), String> {
+pub fn run_counted(program: &str, live: &str) -> Result<(), String> {
     let number = live.parse().ok();
     let live = number.filter(|live| LIVE_COUNTS.contains(live));
     let plan = plan(live.ok_or(format!("LIVE is one of {LIVE_COUNTS:?}"))?);
     match program {
-        "proved" => two_rounds(Runs::new(open_proved(), &plan)),
+        "proved" => two_rounds(Runs::new(Proved::open(), &plan)),
         "reference" => two_rounds(Runs::new(Reference::open(), &plan)),
         other => Err(format!("PROGRAM is proved or reference, and not {other}")),
     }

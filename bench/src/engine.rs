@@ -3,6 +3,9 @@
 //! The names `call_...` are those that the instruction counts look for, in C too: each is never
 //! inlined and holds one whole call, with all that a caller pays to make it.
 
+use std::fmt::Display;
+
+use lokhazim::Aligned;
 use lokhazim_reference::{self as reference, Accounts, Handle, Refusal, QUOTAS};
 
 use crate::plan::{GRANT, HEAP_BYTES};
@@ -13,101 +16,97 @@ pub trait Engine {
     fn call_allocate(&mut self, quota: u32, length: u32) -> Handle;
     /// Releases an object and gives what the quota gets back.
     fn call_release(&mut self, quota: u32, handle: Handle) -> u32;
-    /// Claims an object.
-    fn call_claim(&mut self, quota: u32, handle: Handle);
-    /// Takes a claim back, which gives the quota nothing: a release that is not measured.
-    fn drop_claim(&mut self, quota: u32, handle: Handle);
+    /// Claims an object and gives its length.
+    fn call_claim(&mut self, quota: u32, handle: Handle) -> u32;
     /// Reallocates an object.
     fn call_reallocate(&mut self, quota: u32, handle: Handle, length: u32) -> Handle;
-    /// Gives the bytes of the heap.
-    fn heap(&mut self) -> &mut [u8];
+    /// Takes a claim back, which gives the quota nothing: a release that is not measured.
+    fn drop_claim(&mut self, quota: u32, handle: Handle);
+    /// Looks at the heap's bytes, or changes them where no rule names them.
+    fn look<A>(&mut self, look: impl FnOnce(&mut [u8]) -> A) -> A;
 }
 
-/// The heap's bytes, on an address that suits every object.
-#[repr(align(64))]
-pub struct Buffer(pub [u8; HEAP_BYTES]);
-
-impl Buffer {
-    /// Gives a buffer of zeros.
-    pub fn new() -> Box<Buffer> {
-        Box::new(Buffer([0; HEAP_BYTES]))
-    }
+/// Gives new bytes for a heap, on an address that suits every object. They are never given back.
+pub fn buffer() -> &'static mut [u8] {
+    &mut Box::leak(Box::new(Aligned([0; HEAP_BYTES]))).0
 }
 
 /// Stops the program at a refusal, which no plan should meet.
 #[cold]
-pub fn refused(call: &str, number: u32) -> ! {
-    panic!("{call} was refused with {number}: the plan no longer fits the heap. Lower LONGEST in bench/src/plan.rs.")
+pub fn refused(call: &str, refusal: &dyn Display) -> ! {
+    panic!("{call} was refused ({refusal}): the plan no longer fits the heap. Lower LONGEST in bench/src/plan.rs.")
 }
 
 /// A heap of the reference.
 pub struct Reference {
-    buffer: Box<Buffer>,
+    bytes: &'static mut [u8],
     accounts: Accounts,
 }
 
 impl Reference {
     /// Opens a heap.
     pub fn open() -> Reference {
-        let mut buffer = Buffer::new();
-        let (accounts, opened) = reference::open(&mut buffer.0, [GRANT; QUOTAS]);
+        let bytes = buffer();
+        let (accounts, opened) = reference::open(bytes, [GRANT; QUOTAS]);
         accepted("open", opened);
-        Reference { buffer, accounts }
+        Reference { bytes, accounts }
     }
 }
 
 /// Gives an accepted call's answer.
+#[inline(always)]
 fn accepted<A>(call: &str, answer: Result<A, Refusal>) -> A {
-    answer.unwrap_or_else(|refusal| refused(call, u32::from(refusal.number())))
+    answer.unwrap_or_else(|refusal| refused(call, &refusal))
 }
 
 impl Engine for Reference {
     #[inline(never)]
     fn call_allocate(&mut self, quota: u32, length: u32) -> Handle {
-        let answer = reference::allocate(&mut self.buffer.0, &mut self.accounts, quota, length);
+        let answer = reference::allocate(self.bytes, &mut self.accounts, quota, length);
         accepted("allocate", answer)
     }
 
     #[inline(never)]
     fn call_release(&mut self, quota: u32, handle: Handle) -> u32 {
-        let answer = reference::release(&mut self.buffer.0, &mut self.accounts, quota, handle);
+        let answer = reference::release(self.bytes, &mut self.accounts, quota, handle);
         accepted("release", answer)
     }
 
     #[inline(never)]
-    fn call_claim(&mut self, quota: u32, handle: Handle) {
-        let answer = reference::claim(&self.buffer.0, &mut self.accounts, quota, handle);
-        accepted("claim", answer);
-    }
-
-    #[inline(never)]
-    fn drop_claim(&mut self, quota: u32, handle: Handle) {
-        let answer = reference::release(&mut self.buffer.0, &mut self.accounts, quota, handle);
-        assert_eq!(accepted("release", answer), 0, "the quota had one hold");
+    fn call_claim(&mut self, quota: u32, handle: Handle) -> u32 {
+        let answer = reference::claim(self.bytes, &mut self.accounts, quota, handle);
+        accepted("claim", answer)
     }
 
     #[inline(never)]
     fn call_reallocate(&mut self, quota: u32, handle: Handle, length: u32) -> Handle {
-        let (heap, accounts) = (&mut self.buffer.0, &mut self.accounts);
-        let answer = reference::reallocate(heap, accounts, quota, handle, length);
+        let (bytes, accounts) = (&mut *self.bytes, &mut self.accounts);
+        let answer = reference::reallocate(bytes, accounts, quota, handle, length);
         accepted("reallocate", answer)
     }
 
-    fn heap(&mut self) -> &mut [u8] {
-        &mut self.buffer.0
+    #[inline(never)]
+    fn drop_claim(&mut self, quota: u32, handle: Handle) {
+        let answer = reference::release(self.bytes, &mut self.accounts, quota, handle);
+        assert_eq!(accepted("release", answer), 0, "the quota had one hold");
+    }
+
+    fn look<A>(&mut self, look: impl FnOnce(&mut [u8]) -> A) -> A {
+        look(self.bytes)
     }
 }
 
 /// Says whether a heap clears an object's bytes at allocate and at release.
 pub fn clearing(engine: &mut impl Engine) -> &'static str {
     let handle = engine.call_allocate(0, 64);
-    let range = handle.base as usize..(handle.base + handle.length) as usize;
-    engine.heap()[range.clone()].fill(0xFF);
+    let object = handle.base as usize..(handle.base + handle.length) as usize;
+    let is_clear = |bytes: &[u8]| bytes.iter().all(|byte| *byte == 0);
+    engine.look(|bytes| bytes[object.clone()].fill(0xFF));
     engine.call_release(0, handle);
-    let at_release = engine.heap()[range.clone()].iter().all(|byte| *byte == 0);
-    engine.heap()[range.clone()].fill(0xFF);
+    let at_release = engine.look(|bytes| is_clear(&bytes[object.clone()]));
+    engine.look(|bytes| bytes[object.clone()].fill(0xFF));
     engine.call_allocate(0, 64);
-    let at_allocate = engine.heap()[range].iter().all(|byte| *byte == 0);
+    let at_allocate = engine.look(|bytes| is_clear(&bytes[object.clone()]));
     match (at_allocate, at_release) {
         (true, true) => "cleared at allocate and at release",
         (true, false) => "cleared at allocate, not at release",

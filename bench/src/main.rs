@@ -1,26 +1,36 @@
-//! The benchmark's program. `scripts/bench` builds and runs it:
+//! The benchmark: the proved calls, the reference and glibc under `mcheck_pedantic` run the same
+//! operations, and their costs are put side by side. `scripts/bench` builds and runs it:
 //!
 //! - `lokhazim-bench report FOLDER [MCHECK PRELOAD]` prints the whole report; FOLDER is for callgrind's
 //!   files, MCHECK the compiled `bench/mcheck.c`, PRELOAD the library that it is run with.
 //! - `lokhazim-bench count PROGRAM LIVE` runs two rounds of a plan, for callgrind to count.
 
-#[cfg(all(library_missing, not(clippy)))]
-compile_error!("target/staticlib/libc_api.a is missing. Run: rt staticlib c_api");
+#![forbid(unsafe_code)]
 
-mod boundary;
+mod aims;
+mod callgrind;
+mod counting;
+mod engine;
+mod figures;
+mod peer;
+mod plan;
+mod proved;
+mod report;
+mod rounds;
+mod timing;
 
 use std::env;
 use std::path::{Path, PathBuf};
 use std::process::ExitCode;
 
-use boundary::{Proved, ACCOUNTS_BYTES};
-use lokhazim_bench::aims::judged;
-use lokhazim_bench::callgrind::Callgrind;
-use lokhazim_bench::counting::{counts, run_counted};
-use lokhazim_bench::engine::{clearing, Reference};
-use lokhazim_bench::peer::Peer;
-use lokhazim_bench::plan::{HEAP_BYTES, LONGEST};
-use lokhazim_bench::timing::{times, ROUNDS, STEPS};
+use aims::judged;
+use callgrind::Callgrind;
+use counting::{counts, run_counted};
+use engine::{clearing, Reference};
+use peer::Peer;
+use plan::{HEAP_BYTES, LONGEST};
+use proved::{Proved, ACCOUNTS_BYTES};
+use timing::{times, ROUNDS, STEPS};
 
 /// How the program is called.
 const USAGE: &str = "use: lokhazim-bench report FOLDER [MCHECK PRELOAD]";
@@ -34,7 +44,7 @@ fn main() -> ExitCode {
             let (program, preload) = (PathBuf::from(program), PathBuf::from(preload));
             report(Path::new(folder), Some(&Peer { program, preload }))
         }
-        ["count", program, live] => run_counted(Proved::open, program, live),
+        ["count", program, live] => run_counted(program, live),
         _ => Err(USAGE.to_string()),
     };
     match done {
@@ -49,7 +59,7 @@ fn main() -> ExitCode {
 /// Prints the whole report.
 fn report(folder: &Path, peer: Option<&Peer>) -> Result<(), String> {
     explain(peer)?;
-    let times = times(Proved::open, peer)?;
+    let times = times(peer)?;
     println!("{}\n{}", times.table(), times.growth());
     println!("Aims, by time\n{}", judged(&times));
     let Some(callgrind) = Callgrind::find(folder.to_path_buf()) else {
@@ -72,7 +82,7 @@ fn explain(peer: Option<&Peer>) -> Result<(), String> {
     println!("- A step is allocate, claim, release, reallocate; {ROUNDS} rounds of {STEPS} steps after one for warming up, the programs in turn.");
     println!("- Each call is timed by itself, and what the clock costs is taken off. The slowest tenth of a round's calls is left out, since the system may have");
     println!("  interrupted them. The release that takes a claim back is not timed.");
-    println!("- proved: the library of c_api. A call takes the accounts, {ACCOUNTS_BYTES} bytes, by value and gives them back, which is timed. An object's bytes are {proved}.");
+    println!("- proved: the library, by its Rust crate. A call takes the accounts, {ACCOUNTS_BYTES} bytes, by value and gives them back, which is timed. An object's bytes are {proved}.");
     println!("- reference: the second program, in Rust. It changes the accounts in place. An object's bytes are {reference}.");
     match peer {
         Some(peer) => {

@@ -115,7 +115,7 @@ fn run_steps(engine: &mut impl Engine, objects: &mut Vec<Object>, steps: &[Step]
         objects.push(Object { quota, handle });
 
         let Object { quota, handle } = objects[step.claimed];
-        let (time, ()) = timed(|| engine.call_claim(quota, handle));
+        let (time, _) = timed(|| engine.call_claim(quota, handle));
         times[Call::Claim as usize].push(time);
         engine.drop_claim(quota, handle);
 

@@ -1,9 +1,10 @@
 //! Nanoseconds per call: the three programs take turns, round by round.
 
-use crate::engine::{Engine, Reference};
+use crate::engine::Reference;
 use crate::figures::{Summary, CALLS};
 use crate::peer::{Peer, PeerRuns};
 use crate::plan::{Plan, LIVE_COUNTS};
+use crate::proved::Proved;
 use crate::report::Report;
 use crate::rounds::{Round, Runner, Runs};
 
@@ -32,10 +33,7 @@ impl Samples {
 }
 
 /// Times the three programs at every number of live objects.
-pub fn times<E: Engine>(
-    open_proved: fn() -> E,
-    peer: Option<&Peer>,
-) -> Result<Report<Summary>, String> {
+pub fn times(peer: Option<&Peer>) -> Result<Report<Summary>, String> {
     let mut report = Report {
         title: "Nanoseconds per call: median (lowest, spread of the middle half)".to_string(),
         proved: Vec::new(),
@@ -45,7 +43,7 @@ pub fn times<E: Engine>(
     for live in LIVE_COUNTS {
         let plan = Plan::new(live, ROUNDS, STEPS);
         let peer = peer.map(|peer| peer.start(&plan)).transpose()?;
-        let [proved, reference, other] = take_turns(open_proved(), peer, &plan)?;
+        let [proved, reference, other] = take_turns(peer, &plan)?;
         report.proved.push(proved.summaries());
         report.reference.push(reference.summaries());
         if let Some(grid) = &mut report.peer {
@@ -56,12 +54,8 @@ pub fn times<E: Engine>(
 }
 
 /// Runs all rounds of a plan; the peer's samples stay empty where it is missing.
-fn take_turns<E: Engine>(
-    engine: E,
-    mut peer: Option<PeerRuns>,
-    plan: &Plan,
-) -> Result<[Samples; 3], String> {
-    let mut proved = Runs::new(engine, plan);
+fn take_turns(mut peer: Option<PeerRuns>, plan: &Plan) -> Result<[Samples; 3], String> {
+    let mut proved = Runs::new(Proved::open(), plan);
     let mut reference = Runs::new(Reference::open(), plan);
     let mut samples: [Samples; 3] = Default::default();
     proved.warm_up()?;

@@ -1,0 +1,112 @@
+//! A heap of the proved calls, by the Rust crate over their library.
+
+use lokhazim::{Accounts, Heap, Refusal};
+use lokhazim_reference::{Handle, QUOTAS};
+
+use crate::engine::{buffer, refused, Engine};
+use crate::plan::GRANT;
+
+/// The bytes of the accounts, which a call takes and gives back.
+pub const ACCOUNTS_BYTES: usize = size_of::<Accounts>();
+
+/// A heap of the proved calls. It is missing only while its bytes are looked at.
+pub struct Proved(Option<Heap<'static>>);
+
+impl Proved {
+    /// Opens a heap.
+    pub fn open() -> Proved {
+        let opened = Heap::open(buffer(), [GRANT; QUOTAS]);
+        Proved(Some(accepted("open", opened)))
+    }
+
+    /// Gives the heap.
+    #[inline(always)]
+    fn get(&mut self) -> &mut Heap<'static> {
+        self.0.as_mut().expect("the heap is put back")
+    }
+}
+
+/// Gives an accepted call's answer.
+#[inline(always)]
+fn accepted<A>(call: &str, answer: Result<A, Refusal>) -> A {
+    answer.unwrap_or_else(|refusal| refused(call, &refusal))
+}
+
+/// Gives a handle as the crate has it.
+#[inline(always)]
+fn to_proved(handle: Handle) -> lokhazim::Handle {
+    let Handle {
+        base,
+        length,
+        serial,
+    } = handle;
+    lokhazim::Handle {
+        base,
+        length,
+        serial,
+    }
+}
+
+/// Gives a handle as the plan's runner has it.
+#[inline(always)]
+fn from_proved(handle: lokhazim::Handle) -> Handle {
+    let lokhazim::Handle {
+        base,
+        length,
+        serial,
+    } = handle;
+    Handle {
+        base,
+        length,
+        serial,
+    }
+}
+
+impl Engine for Proved {
+    #[inline(never)]
+    fn call_allocate(&mut self, quota: u32, length: u32) -> Handle {
+        from_proved(accepted("allocate", self.get().allocate(quota, length)))
+    }
+
+    #[inline(never)]
+    fn call_release(&mut self, quota: u32, handle: Handle) -> u32 {
+        accepted("release", self.get().release(quota, to_proved(handle)))
+    }
+
+    #[inline(never)]
+    fn call_claim(&mut self, quota: u32, handle: Handle) -> u32 {
+        accepted("claim", self.get().claim(quota, to_proved(handle)))
+    }
+
+    #[inline(never)]
+    fn call_reallocate(&mut self, quota: u32, handle: Handle, length: u32) -> Handle {
+        let answer = self.get().reallocate(quota, to_proved(handle), length);
+        from_proved(accepted("reallocate", answer))
+    }
+
+    #[inline(never)]
+    fn drop_claim(&mut self, quota: u32, handle: Handle) {
+        let given_back = accepted("release", self.get().release(quota, to_proved(handle)));
+        assert_eq!(given_back, 0, "the quota had one hold");
+    }
+
+    fn look<A>(&mut self, look: impl FnOnce(&mut [u8]) -> A) -> A {
+        let heap = self.0.take().expect("the heap is put back");
+        let (bytes, accounts) = heap.into_parts();
+        let seen = look(bytes);
+        self.0 = Some(accepted("check", Heap::from_parts(bytes, accounts)));
+        seen
+    }
+}
+
+#[cfg(test)]
+mod tests {
+    use super::*;
+    use crate::engine::clearing;
+
+    #[test]
+    fn the_proved_calls_clear_at_both_ends() {
+        let said = clearing(&mut Proved::open());
+        assert_eq!(said, "cleared at allocate and at release");
+    }
+}
