@@ -1,4 +1,4 @@
-# make run       prove every crate, and print what is proved so far
+# make run       prove the heap and the replay program, and run it on an example
 # make test      prove everything from nothing, try every must-fail edit, run every test
 # make lib       prove the exported calls, and write build/lib/liblokhazim.a with its header
 # make figures   print the library's code size, the stack that calls need, and the bytes of accounts
