@@ -8,7 +8,7 @@ use Prim.Native.Nat.{ℕ, _+_, _≤_, _<_}
 use native.Mathlib.Omega.{arith}
 use lib.Dec.{ltb}
 use borrow.Author.Tests.{lt-ltb, le-ltb}
-use lib.ListN.{length, drop, replicate}
+use lib.ListN.{length, drop, replicate, length-append}
 use lib.Seq.{slice, take-length}
 use Rattle.layout.specs.Bytes.{overwrite}
 use Rattle.layout.proofs.Overwrite.{overwrite-fits}
@@ -80,3 +80,22 @@ replay-too-long s h = sym (rw (lt-ltb LONGEST (length s) h))
 pub replay-runs : (s : List ℕ) → length s ≤ LONGEST → run-input (lines s) ≡ replay s
 unfolding replay
 replay-runs s h = sym (rw (le-ltb LONGEST (length s) h))
+
+-- a replay writes no more bytes than the output has
+pub replayed-counts : (s out out′ : List ℕ) (n : ℕ) → record { answer = Written n; output = out′ } ≡ replayed s out → n ≤ length out′
+unfolding replayed
+replayed-counts s out out′ n e = go (ltb (length out) OUTPUT) e
+  where
+    go : (t : Bool)
+        → _≡_ {A = Result} (record { answer = Written n; output = out′ }) (cond t (record { answer = TooShort; output = out }) (record { answer = Written (length (replay s)); output = replay s ++ drop (length (replay s)) out }))
+        → n ≤ length out′
+    go true f =
+        let q : Written n ≡ TooShort = ap (λ (r : Result). r .answer) f in
+        let z : _≡_ {A = ℕ} 0 1 = cc in
+        absurd (omega arith)
+    go false f =
+        let a : Written n ≡ Written (length (replay s)) = ap (λ (r : Result). r .answer) f in
+        let c : n ≡ length (replay s) = cc in
+        let l : length out′ ≡ length (replay s) + length (drop (length (replay s)) out) =
+        ap (λ (r : Result). length (r .output)) f ∙ length-append (replay s) (drop (length (replay s)) out) in
+        omega arith
