@@ -1,6 +1,7 @@
 -- An output of OUTPUT bytes has room for every replay (`replay-fits`), so what is written is the replay: `bad` for too long an input, the run for another.
 -- Assumes nothing.
 use borrow.Author.Needs.{needs}
+use native.Mathlib.Omega.{arith}
 use Prim.Native.Nat.{ℕ}
 use mathlib.Core.Path.{sym, subst}
 use mathlib.Core.List.{List}
@@ -12,7 +13,7 @@ use Rattle.replay_text.proofs.replay.Tie as tie
 returns : tie.Need-returns
 returns c =
     let a = c .before .before .before .args in
-    replay-short (a .input .now) (a .output .now) (c .if1 .taken)
+    replay-short (a .input .now) (a .output .now) (omega arith)
 
 put-bad-requires : tie.Need-put-bad-requires
 put-bad-requires c κs =
@@ -20,7 +21,7 @@ put-bad-requires c κs =
     let x = t .before in
     let e = x .before .before .before in
     let a = e .args in
-    subst (λ (y : List ℕ). Room 0 y (a .output .now)) (sym (replay-too-long (a .input .now) (t .if2 .taken))) (replay-room (a .input .now) (a .output .now) (search needs))
+    subst (λ (y : List ℕ). Room 0 y (a .output .now)) (sym (replay-too-long (a .input .now) (omega arith))) (replay-room (a .input .now) (a .output .now) (search needs))
 
 same-length : tie.Need-same-length
 same-length c = search needs
@@ -33,7 +34,7 @@ returns-2 c =
     let e = x .before .before .before in
     let a = e .args in
     replay-written (a .input .now) (a .output .now) (search needs) (p .put-bad .last .0) (p .put-bad .result)
-    (subst (λ (y : List ℕ). Put 0 y (a .output .now) (p .put-bad .last .0) (p .put-bad .result)) (replay-too-long (a .input .now) (t .if2 .taken)) (p .put-bad .ensures))
+    (subst (λ (y : List ℕ). Put 0 y (a .output .now) (p .put-bad .last .0) (p .put-bad .result)) (replay-too-long (a .input .now) (omega arith)) (p .put-bad .ensures))
 
 run-all-requires : tie.Need-run-all-requires
 run-all-requires c κs =

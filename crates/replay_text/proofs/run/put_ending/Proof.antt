@@ -15,7 +15,7 @@ put-blocks-requires c κs =
     let t = c .before in
     let e = t .before .before .before .before in
     let a = e .args in
-    (e .pre .1, subst (λ (x : List ℕ). Room (a .at) x (a .output .now)) (sym (ending-list (a .from) (a .input .now) (a .heap .now) (t .if1 .taken))) (e .pre .2))
+    (e .pre .1, subst (λ (x : List ℕ). Room (a .at) x (a .output .now)) (sym (ending-list (a .from) (a .input .now) (a .heap .now) (omega arith))) (e .pre .2))
 
 same-length : tie.Need-same-length
 same-length c = search needs
@@ -25,7 +25,7 @@ returns c =
     let p = c .before .before in
     let t = p .before .before in
     let a = t .before .before .before .before .args in
-    subst (λ (x : List ℕ). Put (a .at) x (a .output .now) (p .put-blocks .last .1 .1 .0) (p .put-blocks .result)) (ending-list (a .from) (a .input .now) (a .heap .now) (t .if1 .taken)) (p .put-blocks .ensures)
+    subst (λ (x : List ℕ). Put (a .at) x (a .output .now) (p .put-blocks .last .1 .1 .0) (p .put-blocks .result)) (ending-list (a .from) (a .input .now) (a .heap .now) (omega arith)) (p .put-blocks .ensures)
 
 put-bad-requires : tie.Need-put-bad-requires
 put-bad-requires c κs =
