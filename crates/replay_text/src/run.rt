@@ -6,15 +6,14 @@ use crate::words;
 use accounts::Accounts;
 use accounts::QUOTAS;
 use model::BlockAnswer;
-ghost use mathlib.Core.Path.{_≡_};
 ghost use Prim.Native.Nat.{_≤_};
 ghost use lib.ListN.{length, replicate};
 ghost use lib.Seq.{slice};
 ghost use Rattle.model.specs.Calls.{open-heap};
-ghost use Rattle.replay_text.specs.Lines.{lines};
-ghost use Rattle.replay_text.specs.Replay.{heap-lines, ending, run-lines, run-opened, run-input};
+ghost use Rattle.replay_model.specs.Lines.{lines};
+ghost use Rattle.replay_model.specs.Replay.{heap-lines, ending, run-lines, run-opened, run-input};
 ghost use Rattle.replay_text.specs.Contracts.{Room, Put, Zeros};
-ghost use Rattle.replay_text.specs.Events.{Reached, Granted};
+ghost use Rattle.replay_model.specs.Events.{Reached, Granted};
 
 // The most bytes that a heap has.
 const LONGEST_HEAP: usize = 32768;

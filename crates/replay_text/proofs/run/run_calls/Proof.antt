@@ -9,13 +9,14 @@ use mathlib.Core.List.{List, _++_}
 use lib.ListN.{length}
 use Rattle.model.specs.Answers.{answer-values}
 use lib.Seq.{slice}
-use Rattle.replay_text.specs.Lines.{lines}
-use Rattle.replay_text.specs.Replay.{bad-line, answer-line, ending, run-lines}
+use Rattle.replay_model.specs.Lines.{lines}
+use Rattle.replay_model.specs.Replay.{bad-line, answer-line, ending, run-lines}
 use Rattle.replay_text.specs.Contracts.{Room, Put, asked-call}
-use Rattle.replay_text.specs.Events.{Reached}
+use Rattle.replay_model.specs.Events.{Reached}
 use Rattle.replay_text.proofs.Puts.{put-length, room-first}
 use Rattle.replay_text.proofs.Running.{Running, run-start, run-length, run-room, run-more, run-last}
-use Rattle.replay_text.proofs.LineRuns.{run-ends, run-bad, run-next, reached-next}
+use Rattle.replay_text.proofs.LineRuns.{run-ends, run-bad, run-next}
+use Rattle.replay_model.proofs.Reaching.{reached-next}
 use Rattle.replay_text.proofs.run.run_calls.Statement.{statement}
 use Rattle.replay_text.proofs.run.run_calls.Tie as tie
 
