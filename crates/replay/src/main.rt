@@ -6,7 +6,7 @@ use replay_text::Replayed;
 ghost use mathlib.Core.Path.{_≡_};
 ghost use lib.ListN.{length};
 ghost use Rattle.io.specs.Counts.{Counts};
-ghost use Rattle.replay_text.specs.Replay.{OUTPUT as OutputLength};
+ghost use Rattle.replay_model.specs.Replay.{OUTPUT as OutputLength};
 
 // One byte more than is read of an input, so that too long an input is seen to be too long.
 const INPUT: usize = 65537;

@@ -2,7 +2,7 @@
 -- Assumes nothing.
 use Prim.Native.Nat.{ℕ}
 use mathlib.Core.Path.{_≡_, refl, ap, sym, _∙_}
-use mathlib.Core.List.{List, [], _∷_}
+use mathlib.Core.List.{[], _∷_}
 use mathlib.Core.Bool.{Bool, true, false, cond}
 use borrow.Author.Tests.{eq-eqb, ne-eqb}
 use Rattle.model.specs.Answers.{verdict-values, handle-values, amount-values, range-values, block-values, answer-values}
@@ -15,7 +15,7 @@ use Rattle.model.specs.declared.Answer.{Answer}
 use Rattle.model.specs.declared.Answer.the-variants.{Verdict as OfVerdict, Handle as OfHandle, Amount as OfAmount, Range as OfRange, Block as OfBlock}
 use Rattle.model.specs.declared.Handle.{Handle}
 use Rattle.model.specs.declared.Call.{Call}
-use Rattle.replay_text.specs.Replay.{ok-line, no-line, gives-handle, handle-numbers, answer-numbers, answer-line}
+use Rattle.replay_model.specs.Replay.{ok-line, no-line, gives-handle, handle-numbers, answer-numbers, answer-line}
 use Rattle.replay_text.specs.Answered.{answer-refusal, answer-handle, answer-amount}
 
 -- all three at once

@@ -1,25 +1,24 @@
 -- A name and its numbers as a call or an opening: a line with more numbers than any call takes asks for nothing, and the numbers in the array's
 -- front are the line's.
 -- Assumes nothing.
-use mathlib.Core.Path.{_≡_, refl, ap, sym, _∙_}
+use mathlib.Core.Path.{_≡_, refl, ap, sym}
 use mathlib.Core.List.{List, [], _∷_}
 use mathlib.Core.Bool.{Bool, true, false, cond}
 use mathlib.Core.Option.{Option, none, some}
 use Prim.Native.Nat.{ℕ, _+_, _≤_, _<_}
 use native.Mathlib.Omega.{arith}
 use lib.Dec.{leb, eqb}
-use borrow.Author.Tests.{leb-false, eqb-true, eq-eqb, ne-eqb}
-use lib.ListN.{length, take, drop, getD}
-use lib.Seq.{length-take-le, getD-take, take-all}
+use borrow.Author.Tests.{leb-false, eqb-true, ne-eqb}
+use lib.ListN.{length, take, getD}
+use lib.Seq.{length-take-le, getD-take}
 use Rattle.accounts.specs.Accounts.{QUOTAS}
-use Rattle.model.specs.declared.Handle.{Handle}
 use Rattle.model.specs.declared.Call.{Call}
 use Rattle.model.specs.declared.Call.the-variants.{Allocate, AllocateArray, Claim, Release, FreeAll, Reallocate}
-use Rattle.replay_text.specs.Lines.{numbers}
-use Rattle.replay_text.specs.Commands.{Opening, handle-in, word-of, taking, call-of, opening-of, named, phrase-of, phrase-call, phrase-opening}
+use Rattle.replay_model.specs.Lines.{numbers}
+use Rattle.replay_model.specs.Commands.{handle-in, word-of, taking, call-of, opening-of, named, phrase-of, phrase-call, phrase-opening}
 use Rattle.replay_text.specs.Contracts.{MOST, few, few-phrase}
-use Rattle.replay_text.specs.declared.Word.{Word}
-use Rattle.replay_text.specs.declared.Word.the-variants.{Open, Alloc, Array, Claim as ClaimWord, Free, All, Realloc, Unknown}
+use Rattle.replay_model.specs.declared.Word.{Word}
+use Rattle.replay_model.specs.declared.Word.the-variants.{Open, Alloc, Array, Claim as ClaimWord, Free, All, Realloc, Unknown}
 
 -- more numbers than any line has
 taking-none : (k : ℕ) (ns : List ℕ) (c : Call) → k < length ns → taking k ns c ≡ none

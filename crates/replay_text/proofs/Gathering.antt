@@ -2,18 +2,16 @@
 -- Assumes nothing.
 use mathlib.Core.Path.{_≡_, refl, ap, sym, _∙_}
 use mathlib.Core.List.{List, [], _∷_, _++_, append-nil, append-assoc}
-use mathlib.Core.Bool.{Bool, true, false, cond}
 use mathlib.Core.Option.{Option, none, some}
-use Prim.Native.Nat.{ℕ, suc, _+_, _≤_, _<_}
+use Prim.Native.Nat.{ℕ, _+_, _≤_, _<_}
 use native.Mathlib.Omega.{arith}
 use native.Mathlib.Numerals.{add-one}
-use lib.Dec.{leb}
 use borrow.Author.Tests.{le-leb, lt-leb}
 use native.Mathlib.Nat.{add-comm}
 use lib.ListN.{length, take, drop, getD, set, length-append, length-set, length-drop}
 use lib.Seq.{length-take-le, take-suc, take-suc-set, take-all, getD-drop}
-use Rattle.replay_text.specs.Text.{read-number}
-use Rattle.replay_text.specs.Lines.{join-number, numbers}
+use Rattle.replay_model.specs.Text.{read-number}
+use Rattle.replay_model.specs.Lines.{join-number, numbers}
 use Rattle.replay_text.specs.Contracts.{MOST, few, Counted}
 use Rattle.replay_text.specs.declared.Count.the-variants.{Read, Nothing}
 

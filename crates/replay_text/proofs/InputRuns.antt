@@ -1,27 +1,27 @@
 -- The run of a whole input, by where its first line ends and what it asks for; and what is written of it is the replay.
 -- Assumes nothing.
-use mathlib.Core.Path.{_≡_, refl, ap, sym, subst, _∙_}
-use mathlib.Core.List.{List, [], _∷_, _++_}
+use mathlib.Core.Path.{_≡_, ap, sym, _∙_}
+use mathlib.Core.List.{List, _++_}
 use mathlib.Core.Bool.{Bool, true, false, cond}
-use mathlib.Core.Option.{Option, none, some}
+use mathlib.Core.Option.{none, some}
 use Prim.Native.Nat.{ℕ, _+_, _≤_, _<_}
 use native.Mathlib.Omega.{arith}
 use lib.Dec.{ltb}
 use borrow.Author.Tests.{lt-ltb, le-ltb}
 use lib.ListN.{length, drop, replicate, length-append}
 use lib.Seq.{slice, take-length}
-use Rattle.layout.specs.Bytes.{overwrite}
 use Rattle.layout.proofs.Overwrite.{overwrite-fits}
 use Rattle.model.specs.Calls.{open-heap}
-use Rattle.replay_text.specs.Text.{LINE-FEED}
-use Rattle.replay_text.specs.Lines.{split, lines}
-use Rattle.replay_text.specs.Commands.{Opening, line-opening}
-use Rattle.replay_text.specs.Replay.{LONGEST, OUTPUT, bad-line, run-opened, run-opening, run-input, replay, Result, replayed}
+use Rattle.replay_model.specs.Text.{LINE-FEED}
+use Rattle.replay_model.specs.Lines.{lines}
+use Rattle.replay_model.specs.Commands.{Opening, line-opening}
+use Rattle.replay_model.specs.Replay.{LONGEST, OUTPUT, bad-line, run-opened, run-opening, run-input, replay}
+use Rattle.replay_text.specs.Answer.{Result, replayed}
 use Rattle.replay_text.specs.Contracts.{FirstMark, Room, Put}
 use Rattle.replay_text.specs.declared.Replayed.the-variants.{Written, TooShort}
 use Rattle.replay_text.proofs.Marks.{split-last, split-more}
 use Rattle.replay_text.proofs.LineRuns.{split-some}
-use Rattle.replay_text.proofs.Bounds.{replay-fits}
+use Rattle.replay_model.proofs.Bounds.{replay-fits}
 
 -- the first line ends at `end`
 module _ (input : List ℕ) (end : ℕ) (m : FirstMark LINE-FEED 0 (length input) input end) where

@@ -1,7 +1,5 @@
-pub mod Computing
-pub mod Rows
 pub mod Puts
-pub mod Decimals
+pub mod Spelling
 pub mod Reading
 pub mod Marks
 pub mod Gathering
@@ -12,6 +10,4 @@ pub mod Running
 pub mod Listings
 pub mod LineRuns
 pub mod Openings
-pub mod Bounds
-pub mod Histories
 pub mod InputRuns

@@ -3,8 +3,8 @@
 use mathlib.Core.Path.{_≡_, refl, ap, sym, _∙_}
 use mathlib.Core.List.{List, [], _∷_, _++_}
 use mathlib.Core.Bool.{Bool, true, false, cond}
-use mathlib.Core.Option.{Option, none, some}
-use Prim.Native.Nat.{ℕ, _+_, _≤_, _<_}
+use mathlib.Core.Option.{none, some}
+use Prim.Native.Nat.{ℕ, _+_, _<_}
 use native.Mathlib.Omega.{arith}
 use lib.Dec.{eqb}
 use lib.ListN.{length, getD}
@@ -12,16 +12,13 @@ use lib.Seq.{slice}
 use Rattle.accounts.specs.declared.Accounts.{Accounts}
 use Rattle.rounding.specs.Rounding.{unit}
 use Rattle.model.specs.Answers.{Values}
-use Rattle.model.specs.Calls.{Outcome}
 use Rattle.model.specs.Step.{step}
 use Rattle.model.specs.declared.Call.{Call}
-use Rattle.ledger.specs.Ledger.{Called}
-use Rattle.replay_text.specs.Text.{LINE-FEED}
-use Rattle.replay_text.specs.Lines.{onto, split, lines}
-use Rattle.replay_text.specs.Commands.{line-call}
-use Rattle.replay_text.specs.Replay.{bad-line, answer-line, heap-lines, ending, on-call, run-lines}
+use Rattle.replay_model.specs.Text.{LINE-FEED}
+use Rattle.replay_model.specs.Lines.{onto, split, lines}
+use Rattle.replay_model.specs.Commands.{line-call}
+use Rattle.replay_model.specs.Replay.{bad-line, answer-line, heap-lines, ending, on-call, run-lines}
 use Rattle.replay_text.specs.Contracts.{FirstMark}
-use Rattle.replay_text.specs.Events.{Reached}
 use Rattle.replay_text.proofs.Reading.{part-cons, part-none}
 use Rattle.replay_text.proofs.Marks.{split-last, split-more}
 
@@ -83,8 +80,3 @@ module _ (from : ℕ) (input : List ℕ) (s : List ℕ) (k : Accounts) (end : �
     run-next c s′ k′ v e o =
         next ∙ rw e
         (λ i. answer-line c (sym o i .values) ++ run-lines (lines (slice (end + 1) (length input) input)) (sym o i .heap) (sym o i .accounts))
-
--- a call's state is reached from the state before it
-pub reached-next : (s : List ℕ) (k : Accounts) (c : Call) (s′ : List ℕ) (k′ : Accounts) (v : Values) → Reached s k
-    → record { heap = s′; accounts = k′; values = v } ≡ step unit c s k → Reached s′ k′
-reached-next s k c s′ k′ v r o = record { grants = r .grants; events = Called c v ∷ r .events; history = (s, k, r .history, sym o) }

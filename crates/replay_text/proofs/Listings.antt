@@ -2,59 +2,36 @@
 -- Assumes nothing.
 use mathlib.Core.Path.{_≡_, refl, ap, sym, subst, _∙_}
 use mathlib.Core.List.{List, [], _∷_, _++_, append-nil}
-use mathlib.Core.Bool.{Bool, true, false, not, _&&_}
-use mathlib.Core.Option.{Option, none, some}
-use Prim.Native.Nat.{ℕ, _+_, _%_, _≤_, _<_}
+use mathlib.Core.Option.{none, some}
+use Prim.Native.Nat.{ℕ, _+_, _≤_}
 use native.Mathlib.Omega.{arith}
-use lib.Dec.{leb, eqb}
 use lib.ListN.{length}
 use lib.Seq.{append-snoc}
-use borrow.Author.Tests.{leb-true}
 use Rattle.accounts.specs.declared.Accounts.{Accounts}
-use Rattle.rounding.specs.Rounding.{unit}
 use Rattle.layout.specs.Blocks.{Block, size}
 use Rattle.model.specs.Lists.{total}
-use Rattle.model.specs.Answers.{Values, listed, block-values}
+use Rattle.model.specs.Answers.{block-values}
 use Rattle.model.specs.Objects.{blocks-of}
-use Rattle.model.specs.Consistent.{allowed, consistent}
-use Rattle.model.specs.Refusals.{first-refusal, line-1, line-2, check-lines}
 use Rattle.model.specs.Calls.{Outcome, listing-from, list-block}
-use Rattle.model.specs.Step.{step}
 use Rattle.model.specs.declared.ListedBlock.{ListedBlock}
 use Rattle.model.specs.declared.BlockAnswer.{BlockAnswer}
-use Rattle.model.specs.declared.BlockAnswer.the-variants.{Listed, NoBlock, Refused}
-use Rattle.model.proofs.Bools.{and-left, and-right}
+use Rattle.model.specs.declared.BlockAnswer.the-variants.{Listed}
 use Rattle.model.proofs.Lists.{total-append}
 use Rattle.model.proofs.Listing.{listed-at, block-at, list-block-step, step-at, step-end}
-use Rattle.ledger.specs.Demand3.{Holds, Demand3}
-use Rattle.ledger.proofs.Theorem.{demand-3}
 use Rattle.access.specs.Results.{outcome}
 use Rattle.access.proofs.Listed.{given-inside}
-use Rattle.replay_text.specs.Replay.{block-line, block-lines}
-use Rattle.replay_text.specs.Events.{Reached}
+use Rattle.replay_model.specs.Replay.{block-line, block-lines}
+use Rattle.replay_model.specs.Events.{Reached}
+use Rattle.replay_model.proofs.Reaching.{reached-checked}
 
--- what demand 3 says of a state that a history leads to: the check accepts it, and its length is allowed
-module _ (s : List ℕ) (k : Accounts) (r : Reached s k) where
-  reached-holds : Holds unit (step unit) (r .grants) (r .events) [] s k
-  reached-holds = demand-3 .always (r .grants) (r .events) [] s k (r .history)
+-- what the listing's call gives at a place of a state that a history leads to
+module _ (s : List ℕ) (k : Accounts) (r : Reached s k) (place : ℕ) (b : BlockAnswer) (told : outcome s k (block-values b) ≡ list-block s k place) where
+  pub given-at : block-values b .block ≡ block-at (blocks-of s) place
+  given-at = ap (λ (o : Outcome). o .values .block) (told ∙ list-block-step s k place (reached-checked s k r))
 
-  pub reached-checked : first-refusal (check-lines s k) ≡ 0
-  unfolding first-refusal check-lines line-1 line-2
-  reached-checked = rw (reached-holds .length-allowed, reached-holds .kept-consistent)
-
-  pub reached-length : length s ≤ 32768
-  unfolding allowed
-  reached-length =
-      leb-true (length s) 32768 (and-right (leb 64 (length s)) (leb (length s) 32768) (and-right (eqb (length s % 8) 0) (leb 64 (length s) && leb (length s) 32768) (reached-holds .length-allowed)))
-
-  -- what the listing's call gives at a place
-  module _ (place : ℕ) (b : BlockAnswer) (told : outcome s k (block-values b) ≡ list-block s k place) where
-    pub given-at : block-values b .block ≡ block-at (blocks-of s) place
-    given-at = ap (λ (o : Outcome). o .values .block) (told ∙ list-block-step s k place reached-checked)
-
-    pub given-ends : (l : ListedBlock) → b ≡ Listed l → l .offset + l .size ≤ length s
-    unfolding block-values
-    given-ends l e = given-inside s k place l (sym (ap (λ (o : Outcome). o .values .block) told) ∙ ap (λ (x : BlockAnswer). block-values x .block) e)
+  pub given-ends : (l : ListedBlock) → b ≡ Listed l → l .offset + l .size ≤ length s
+  unfolding block-values
+  given-ends l e = given-inside s k place l (sym (ap (λ (o : Outcome). o .values .block) told) ∙ ap (λ (x : BlockAnswer). block-values x .block) e)
 
 -- of the blocks bs, the blocks ys are left, and begin at a place
 pub record Passing (bs : List Block) (place : ℕ) (ys : List Block) : Type 0 where

@@ -1,24 +1,22 @@
 -- A line that was read: its first word is the name and the others are the numbers, and so it asks for what the line asks for.
 -- Assumes nothing.
 use mathlib.Core.Path.{_≡_, refl, ap, sym, _∙_}
-use mathlib.Core.List.{List, [], _∷_}
+use mathlib.Core.List.{List, []}
 use mathlib.Core.Bool.{Bool, true, false, cond}
-use mathlib.Core.Option.{Option, none, some}
+use mathlib.Core.Option.{none, some}
 use Prim.Native.Nat.{ℕ, _+_, _≤_, _<_}
 use native.Mathlib.Omega.{arith}
-use lib.Dec.{eqb}
 use borrow.Author.Tests.{eq-eqb}
 use lib.ListN.{length, take, drop, getD}
-use lib.Seq.{slice, length-take-le, take-all}
+use lib.Seq.{slice, take-all}
 use Rattle.accounts.specs.Accounts.{QUOTAS}
-use Rattle.model.specs.declared.Call.{Call}
-use Rattle.replay_text.specs.Text.{SPACE}
-use Rattle.replay_text.specs.Lines.{words, numbers}
-use Rattle.replay_text.specs.Commands.{Phrase, Opening, word-of, call-of, opening-of, named, phrase-of, phrase-call, phrase-opening, line-call, line-opening}
+use Rattle.replay_model.specs.Text.{SPACE}
+use Rattle.replay_model.specs.Lines.{words, numbers}
+use Rattle.replay_model.specs.Commands.{word-of, call-of, opening-of, named, phrase-call, phrase-opening, line-call, line-opening}
 use Rattle.replay_text.specs.Contracts.{FirstMark, MOST, few, few-phrase, Counted, LineRead, line-phrase, opening-value, is-open}
 use Rattle.replay_text.specs.declared.Count.the-variants.{Read, Nothing}
-use Rattle.replay_text.specs.declared.Word.{Word}
-use Rattle.replay_text.specs.declared.Word.the-variants.{Open, Alloc, Array, Claim, Free, All, Realloc, Unknown}
+use Rattle.replay_model.specs.declared.Word.{Word}
+use Rattle.replay_model.specs.declared.Word.the-variants.{Open, Alloc, Array, Claim, Free, All, Realloc, Unknown}
 use Rattle.replay_text.specs.declared.Line.{Line}
 use Rattle.replay_text.specs.declared.OpenLine.{OpenLine}
 use Rattle.replay_text.proofs.Marks.{split-last, split-more}

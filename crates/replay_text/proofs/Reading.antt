@@ -2,16 +2,17 @@
 -- Assumes nothing.
 use mathlib.Core.Path.{_≡_, refl, ap, sym, _∙_}
 use mathlib.Core.List.{List, [], _∷_}
-use mathlib.Core.Bool.{Bool, true, false, cond, _&&_}
-use mathlib.Core.Option.{Option, none, some}
-use Prim.Native.Nat.{ℕ, zero, suc, _+_, _*_, _-_, _≤_, _<_}
+use mathlib.Core.Bool.{true, false, _&&_}
+use mathlib.Core.Option.{none, some}
+use Prim.Native.Nat.{ℕ, _+_, _*_, _-_, _≤_, _<_}
 use native.Mathlib.Omega.{arith}
 use native.Mathlib.Numerals.{add-one}
-use lib.Dec.{leb, ltb, eqb}
+use lib.Dec.{eqb}
 use borrow.Author.Tests.{le-leb, lt-leb, eq-eqb, ne-eqb}
-use lib.ListN.{length, take, drop, getD}
+use lib.ListN.{length, drop, getD}
 use lib.Seq.{slice, slice-empty, slice-cons, drop-cons, drop-length, length-slice}
-use Rattle.replay_text.specs.Text.{is-digit, read-on, read-number, greatest-number, same}
+use Rattle.replay_model.proofs.Names.{same-lengths}
+use Rattle.replay_model.specs.Text.{is-digit, read-on, read-number, greatest-number, same}
 
 -- the first byte of a part, and the part behind it
 pub part-cons : (from to : ℕ) (s : List ℕ) (b : ℕ) → from < to → to ≤ length s → b ≡ getD s from 0 → slice from to s ≡ b ∷ slice (from + 1) to s
@@ -73,17 +74,6 @@ number-one from to s h k l =
     rw e
 
 -- two words of different lengths are not the same
-pub same-lengths : (v w : List ℕ) → (length v ≡ length w → ⊥) → same v w ≡ false
-unfolding same
-same-lengths [] [] h = absurd (h refl)
-same-lengths [] (b ∷ w) h = refl
-same-lengths (a ∷ v) [] h = refl
-same-lengths (a ∷ v) (b ∷ w) h = go (eqb a b) (same-lengths v w (λ e. h (ap suc e)))
-  where
-    go : (t : Bool) → same v w ≡ false → (t && same v w) ≡ false
-    go true e = e
-    go false e = refl
-
 pub same-apart : (from to : ℕ) (s w : List ℕ) → from ≤ to → to ≤ length s → (to - from ≡ length w → ⊥) → same (slice from to s) w ≡ false
 same-apart from to s w l k h = same-lengths (slice from to s) w (λ e. h (sym (length-slice from to s k) ∙ e))
 

@@ -13,14 +13,14 @@ use Rattle.replay_text.specs.declared.Number.{Number}
 use Rattle.replay_text.specs.declared.Number.the-variants.{Value, Nothing as NoNumber}
 use Rattle.replay_text.specs.declared.Count.{Count}
 use Rattle.replay_text.specs.declared.Count.the-variants.{Read, Nothing}
-use Rattle.replay_text.specs.declared.Word.{Word}
-use Rattle.replay_text.specs.declared.Word.the-variants.{Open, Alloc, Array, Claim, Free, All, Realloc, Unknown}
+use Rattle.replay_model.specs.declared.Word.{Word}
+use Rattle.replay_model.specs.declared.Word.the-variants.{Open, Alloc, Array, Claim, Free, All, Realloc, Unknown}
 use Rattle.replay_text.specs.declared.Line.{Line}
 use Rattle.replay_text.specs.declared.Asked.{Asked}
 use Rattle.replay_text.specs.declared.Asked.the-variants.{Call as AskedCall, Nothing as NotAsked}
 use Rattle.replay_text.specs.declared.OpenLine.{OpenLine}
-use Rattle.replay_text.specs.Lines.{words, numbers}
-use Rattle.replay_text.specs.Commands.{Phrase, Opening, word-of, named}
+use Rattle.replay_model.specs.Lines.{words, numbers}
+use Rattle.replay_model.specs.Commands.{Phrase, Opening, word-of, named}
 
 -- a part of an input, from a place up to another
 pub record Within (from to : ℕ) (s : List ℕ) : Type 0 where

@@ -1,8 +1,4 @@
--- What the contracts cite, in document 01's order ("The replay program").
-pub mod Text
-pub mod Lines
-pub mod Commands
-pub mod Replay
-pub mod Events
+-- What the contracts cite.
+pub mod Answer
 pub mod Contracts
 pub mod Answered

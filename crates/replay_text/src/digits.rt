@@ -5,7 +5,7 @@ ghost use Prim.Native.Nat.{_+_, _≤_};
 ghost use lib.ListN.{length};
 ghost use lib.Seq.{slice};
 ghost use Rattle.layout.specs.Bytes.{overwrite};
-ghost use Rattle.replay_text.specs.Text.{digits, places, decimal, read-on, read-number};
+ghost use Rattle.replay_model.specs.Text.{digits, places, decimal, read-on, read-number};
 ghost use Rattle.replay_text.specs.Contracts.{Put, Room, Within, number-value};
 
 // How many digits a number has.

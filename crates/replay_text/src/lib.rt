@@ -1,6 +1,7 @@
 // The replay's text: the lines of an input are read as calls, the calls are performed on a heap, and the answers are written as lines.
 use accounts::QUOTAS;
 use model::Call;
+use replay_model::Word;
 
 mod answers;
 mod commands;
@@ -10,7 +11,7 @@ mod run;
 mod words;
 
 ghost use mathlib.Core.Path.{_≡_};
-ghost use Rattle.replay_text.specs.Replay.{replayed};
+ghost use Rattle.replay_text.specs.Answer.{replayed};
 
 // The most bytes of input that are read.
 pub const LONGEST: usize = 65536;
@@ -20,18 +21,6 @@ pub const OUTPUT: usize = 589824;
 
 // The most numbers that a line has: those of an opening, the heap's length and the grants.
 pub(crate) const MOST: usize = QUOTAS + 1;
-
-// The name that a line begins with.
-pub(crate) enum Word {
-    Open,
-    Alloc,
-    Array,
-    Claim,
-    Free,
-    All,
-    Realloc,
-    Unknown,
-}
 
 // What a word is as a number.
 pub(crate) enum Number {

@@ -1,7 +1,6 @@
 // Bytes written behind each other: each function writes at a place and gives the place behind what it wrote.
-ghost use mathlib.Core.Path.{_≡_};
 ghost use mathlib.Core.List.{[], _∷_};
-ghost use Rattle.replay_text.specs.Text.{SPACE, decimal};
+ghost use Rattle.replay_model.specs.Text.{SPACE, decimal};
 ghost use Rattle.replay_text.specs.Contracts.{Put, Room};
 use crate::digits;
 

@@ -6,15 +6,14 @@ use crate::words;
 use accounts::Accounts;
 use accounts::QUOTAS;
 use model::BlockAnswer;
-ghost use mathlib.Core.Path.{_≡_};
 ghost use Prim.Native.Nat.{_≤_};
 ghost use lib.ListN.{length, replicate};
 ghost use lib.Seq.{slice};
 ghost use Rattle.model.specs.Calls.{open-heap};
-ghost use Rattle.replay_text.specs.Lines.{lines};
-ghost use Rattle.replay_text.specs.Replay.{heap-lines, ending, run-lines, run-opened, run-input};
+ghost use Rattle.replay_model.specs.Lines.{lines};
+ghost use Rattle.replay_model.specs.Replay.{heap-lines, ending, run-lines, run-opened, run-input};
 ghost use Rattle.replay_text.specs.Contracts.{Room, Put, Zeros};
-ghost use Rattle.replay_text.specs.Events.{Reached, Granted};
+ghost use Rattle.replay_model.specs.Events.{Reached, Granted};
 
 // The most bytes that a heap has.
 const LONGEST_HEAP: usize = 32768;
@@ -68,19 +67,19 @@ fn run_calls(
     let len = input.len();
     let mut start = from;
     let mut place = at;
-    let mut books = accounts;
+    let mut current = accounts;
     loop {
         let end = words::find_mark(input, start, len, 10);
         if end == len {
-            return put_ending(input, start, heap, books, output, place);
+            return put_ending(input, start, heap, current, output, place);
         }
         let Asked::Call(call) = commands::read_call(input, start, end) else {
             return answers::put_bad(output, place);
         };
-        let done = heap::perform(heap, books, call);
+        let done = heap::perform(heap, current, call);
         let answer = done.answer;
         place = answers::put_answer(output, place, call, answer);
-        books = done.accounts;
+        current = done.accounts;
         start = end + 1;
     }
 }

@@ -1,9 +1,9 @@
 // Words of a line: where they end, and which name a word is.
-use crate::Word;
+use replay_model::Word;
 ghost use mathlib.Core.Path.{_≡_};
 ghost use lib.Seq.{slice};
-ghost use Rattle.replay_text.specs.Text.{same};
-ghost use Rattle.replay_text.specs.Commands.{word-of};
+ghost use Rattle.replay_model.specs.Text.{same};
+ghost use Rattle.replay_model.specs.Commands.{word-of};
 ghost use Rattle.replay_text.specs.Contracts.{Within, FirstMark};
 
 // The first place of a byte from a place up to another, and the other where there is none.

@@ -5,7 +5,6 @@ use mathlib.Core.Path.{sym, ap, _∙_}
 use Prim.Native.Nat.{_≤_}
 use lib.ListN.{length}
 use lib.Seq.{length-take-le}
-use Rattle.replay_text.specs.Replay.{Result}
 use Rattle.replay_text.specs.declared.Replayed.{Replayed}
 use Rattle.replay_text.proofs.InputRuns.{replayed-counts}
 use Rattle.replay.proofs.print.Statement.{statement}

@@ -1,9 +1,9 @@
 -- The word, and behind it the amount.
 -- Assumes nothing.
 use borrow.Author.Needs.{needs}
-use mathlib.Core.List.{[], _∷_, _++_}
-use Rattle.replay_text.specs.Text.{text, SPACE, LINE-FEED, decimal}
-use Rattle.replay_text.specs.Replay.{ok-line, tail-of}
+use mathlib.Core.List.{[], _∷_}
+use Rattle.replay_model.specs.Text.{text}
+use Rattle.replay_model.specs.Replay.{ok-line, tail-of}
 use Rattle.replay_text.proofs.Puts.{room-first, room-next, put-two}
 use Rattle.replay_text.proofs.answers.put_amount.Statement.{statement}
 use Rattle.replay_text.proofs.answers.put_amount.Tie as tie

@@ -1,7 +1,7 @@
 -- The line is one text.
 -- Assumes nothing.
 use borrow.Author.Needs.{needs}
-use Rattle.replay_text.specs.Replay.{bad-line, tail-of}
+use Rattle.replay_model.specs.Replay.{bad-line, tail-of}
 use Rattle.replay_text.proofs.answers.put_bad.Statement.{statement}
 use Rattle.replay_text.proofs.answers.put_bad.Tie as tie
 

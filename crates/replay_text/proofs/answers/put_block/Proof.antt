@@ -1,9 +1,9 @@
 -- The offset, and behind it the two other numbers.
 -- Assumes nothing.
 use borrow.Author.Needs.{needs}
-use mathlib.Core.List.{[], _∷_, _++_}
-use Rattle.replay_text.specs.Text.{text, SPACE, LINE-FEED, decimal}
-use Rattle.replay_text.specs.Replay.{block-line, tail-of}
+use mathlib.Core.List.{[], _∷_}
+use Rattle.replay_model.specs.Text.{decimal}
+use Rattle.replay_model.specs.Replay.{block-line, tail-of}
 use Rattle.replay_text.proofs.Puts.{room-first, room-next, put-two}
 use Rattle.replay_text.proofs.answers.put_block.Statement.{statement}
 use Rattle.replay_text.proofs.answers.put_block.Tie as tie

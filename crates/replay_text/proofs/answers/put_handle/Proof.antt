@@ -2,8 +2,8 @@
 -- Assumes nothing.
 use borrow.Author.Needs.{needs}
 use mathlib.Core.List.{[], _∷_, _++_}
-use Rattle.replay_text.specs.Text.{text, SPACE, LINE-FEED, decimal}
-use Rattle.replay_text.specs.Replay.{ok-line, tail-of, handle-numbers}
+use Rattle.replay_model.specs.Text.{text, SPACE, decimal}
+use Rattle.replay_model.specs.Replay.{ok-line, tail-of, handle-numbers}
 use Rattle.replay_text.proofs.Puts.{room-first, room-next, put-two}
 use Rattle.replay_text.proofs.answers.put_handle.Statement.{statement}
 use Rattle.replay_text.proofs.answers.put_handle.Tie as tie

@@ -1,9 +1,9 @@
 -- A space and the number, and behind them the line feed.
 -- Assumes nothing.
 use borrow.Author.Needs.{needs}
-use mathlib.Core.List.{[], _∷_, _++_}
-use Rattle.replay_text.specs.Text.{text, SPACE, LINE-FEED, decimal}
-use Rattle.replay_text.specs.Replay.{tail-of}
+use mathlib.Core.List.{[], _∷_}
+use Rattle.replay_model.specs.Text.{SPACE, LINE-FEED, decimal}
+use Rattle.replay_model.specs.Replay.{tail-of}
 use Rattle.replay_text.proofs.Puts.{room-first, room-next, put-two}
 use Rattle.replay_text.proofs.answers.put_last.Statement.{statement}
 use Rattle.replay_text.proofs.answers.put_last.Tie as tie

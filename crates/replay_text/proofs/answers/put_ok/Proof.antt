@@ -1,7 +1,7 @@
 -- The line is one text.
 -- Assumes nothing.
 use borrow.Author.Needs.{needs}
-use Rattle.replay_text.specs.Replay.{ok-line, tail-of}
+use Rattle.replay_model.specs.Replay.{ok-line, tail-of}
 use Rattle.replay_text.proofs.answers.put_ok.Statement.{statement}
 use Rattle.replay_text.proofs.answers.put_ok.Tie as tie
 

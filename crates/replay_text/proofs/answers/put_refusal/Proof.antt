@@ -1,9 +1,9 @@
 -- The word, and behind it the refusal.
 -- Assumes nothing.
 use borrow.Author.Needs.{needs}
-use mathlib.Core.List.{[], _∷_, _++_}
-use Rattle.replay_text.specs.Text.{text, SPACE, LINE-FEED, decimal}
-use Rattle.replay_text.specs.Replay.{no-line, tail-of}
+use mathlib.Core.List.{[], _∷_}
+use Rattle.replay_model.specs.Text.{text}
+use Rattle.replay_model.specs.Replay.{no-line, tail-of}
 use Rattle.replay_text.proofs.Puts.{room-first, room-next, put-two}
 use Rattle.replay_text.proofs.answers.put_refusal.Statement.{statement}
 use Rattle.replay_text.proofs.answers.put_refusal.Tie as tie

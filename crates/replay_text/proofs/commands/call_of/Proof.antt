@@ -4,8 +4,8 @@ use borrow.Author.Needs.{needs}
 use native.Mathlib.Omega.{arith}
 use mathlib.Core.Path.{ap, sym, _∙_}
 use lib.ListN.{take}
-use Rattle.replay_text.specs.Commands.{call-of}
-use Rattle.replay_text.specs.declared.Word.{Word}
+use Rattle.replay_model.specs.Commands.{call-of}
+use Rattle.replay_model.specs.declared.Word.{Word}
 use Rattle.replay_text.proofs.Asking.{call-alloc, call-array, call-claim, call-free, call-all, call-realloc}
 use Rattle.replay_text.proofs.commands.call_of.Statement.{statement}
 use Rattle.replay_text.proofs.commands.call_of.Tie as tie

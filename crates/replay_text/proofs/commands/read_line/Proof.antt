@@ -6,7 +6,7 @@ use Prim.Native.Nat.{_+_}
 use mathlib.Core.Path.{refl, subst}
 use lib.ListN.{replicate}
 use lib.Seq.{slice}
-use Rattle.replay_text.specs.Lines.{words}
+use Rattle.replay_model.specs.Lines.{words}
 use Rattle.replay_text.specs.Contracts.{MOST, Counted}
 use Rattle.replay_text.proofs.Phrases.{line-alone, line-numbers, line-nothing}
 use Rattle.replay_text.proofs.commands.read_line.Statement.{statement}

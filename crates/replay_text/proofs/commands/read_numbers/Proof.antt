@@ -7,11 +7,11 @@ use Prim.Native.Nat.{ℕ, _+_, _-_, _≤_}
 use mathlib.Core.Path.{ap, sym, subst, _∙_}
 use mathlib.Core.List.{List, [], _∷_}
 use lib.ListN.{set}
-use Rattle.replay_text.specs.Text.{SPACE}
+use Rattle.replay_model.specs.Text.{SPACE}
 use Rattle.replay_text.specs.Contracts.{number-value}
 use Rattle.replay_text.proofs.Marks.{split-first, split-last, split-more}
 use lib.Seq.{slice}
-use Rattle.replay_text.specs.Lines.{words}
+use Rattle.replay_model.specs.Lines.{words}
 use Rattle.replay_text.proofs.Gathering.{Gathering, gather-start, gather-none, gather-full, gather-more, gather-end, gather-nothing}
 use Rattle.replay_text.proofs.commands.read_numbers.Statement.{statement}
 use Rattle.replay_text.proofs.commands.read_numbers.Tie as tie

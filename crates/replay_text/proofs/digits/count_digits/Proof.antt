@@ -3,8 +3,7 @@
 -- Assumes nothing.
 use borrow.Author.Needs.{needs}
 use native.Mathlib.Omega.{arith}
-use Prim.Native.Nat.{_<_}
-use Rattle.replay_text.proofs.Decimals.{Counting, count-start, count-more, count-end, count-most}
+use Rattle.replay_text.proofs.Spelling.{Counting, count-start, count-more, count-end, count-most}
 use Rattle.replay_text.proofs.digits.count_digits.Statement.{statement}
 use Rattle.replay_text.proofs.digits.count_digits.Tie as tie
 

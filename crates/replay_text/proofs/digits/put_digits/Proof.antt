@@ -4,7 +4,7 @@
 use borrow.Author.Needs.{needs}
 use native.Mathlib.Omega.{arith}
 use Prim.Native.Nat.{_≤_}
-use Rattle.replay_text.proofs.Decimals.{Spelling, spell-start, spell-length, spell-more, spell-end}
+use Rattle.replay_text.proofs.Spelling.{Spelling, spell-start, spell-length, spell-more, spell-end}
 use Rattle.replay_text.proofs.digits.put_digits.Statement.{statement}
 use Rattle.replay_text.proofs.digits.put_digits.Tie as tie
 

@@ -2,7 +2,8 @@
 -- Assumes nothing.
 use borrow.Author.Needs.{needs}
 use native.Mathlib.Omega.{arith}
-use Rattle.replay_text.proofs.Decimals.{length-decimal, put-decimal}
+use Rattle.replay_model.proofs.Decimals.{length-decimal}
+use Rattle.replay_text.proofs.Spelling.{put-decimal}
 use Rattle.replay_text.proofs.digits.put_number.Statement.{statement}
 use Rattle.replay_text.proofs.digits.put_number.Tie as tie
 

@@ -4,9 +4,9 @@
 use borrow.Author.Needs.{needs}
 use native.Mathlib.Omega.{arith}
 use Prim.Native.Nat.{_-_, _≤_}
-use mathlib.Core.Path.{_≡_, refl, ap, sym, _∙_}
+use mathlib.Core.Path.{_≡_, refl, sym, _∙_}
 use lib.Seq.{slice}
-use Rattle.replay_text.specs.Text.{read-on, greatest-number}
+use Rattle.replay_model.specs.Text.{read-on, greatest-number}
 use Rattle.replay_text.proofs.Reading.{digit-low, digit-high, digit-large, digit-more, digits-done}
 use Rattle.replay_text.proofs.digits.read_digits.Statement.{statement}
 use Rattle.replay_text.proofs.digits.read_digits.Tie as tie

@@ -2,7 +2,7 @@
 -- Assumes nothing.
 use borrow.Author.Needs.{needs}
 use mathlib.Core.List.{[], _∷_}
-use Rattle.replay_text.specs.Text.{SPACE, decimal}
+use Rattle.replay_model.specs.Text.{SPACE, decimal}
 use Rattle.replay_text.proofs.Puts.{room-first, room-next, put-two}
 use Rattle.replay_text.proofs.output.put_spaced.Statement.{statement}
 use Rattle.replay_text.proofs.output.put_spaced.Tie as tie

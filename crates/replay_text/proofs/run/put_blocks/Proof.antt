@@ -18,10 +18,11 @@ use Rattle.model.specs.Answers.{block-values}
 use Rattle.model.specs.declared.BlockAnswer.{BlockAnswer}
 use Rattle.model.specs.declared.BlockAnswer.the-variants.{Listed, NoBlock, Refused}
 use Rattle.model.proofs.BlockAnswer as S
-use Rattle.replay_text.specs.Replay.{block-line, block-lines, heap-lines}
+use Rattle.replay_model.specs.Replay.{block-line, block-lines, heap-lines}
 use Rattle.replay_text.proofs.Puts.{room-first}
 use Rattle.replay_text.proofs.Running.{Running, run-start, run-length, run-room, run-more, run-done}
-use Rattle.replay_text.proofs.Listings.{Passing, Next, reached-length, given-at, given-ends, passing-start, passing-none, passing-some, next-place, next-size, next-lines, next-passing}
+use Rattle.replay_model.proofs.Reaching.{reached-length}
+use Rattle.replay_text.proofs.Listings.{Passing, Next, given-at, given-ends, passing-start, passing-none, passing-some, next-place, next-size, next-lines, next-passing}
 use Rattle.replay_text.proofs.run.put_blocks.Statement.{statement}
 use Rattle.replay_text.proofs.run.put_blocks.Tie as tie
 

@@ -7,10 +7,9 @@ use Prim.Native.Nat.{ℕ}
 use mathlib.Core.Path.{sym, subst, _∙_}
 use mathlib.Core.List.{List}
 use lib.Seq.{slice}
-use Rattle.replay_text.specs.Commands.{Opening}
 use Rattle.replay_text.specs.Contracts.{Room, Put}
 use Rattle.replay_text.proofs.Phrases.{no-opening, some-opening}
-use Rattle.replay_text.proofs.Openings.{opening-granted}
+use Rattle.replay_model.proofs.Openings.{opening-granted}
 use Rattle.replay_text.proofs.InputRuns.{input-unended, input-bad, input-opens}
 use Rattle.replay_text.proofs.run.run_all.Statement.{statement}
 use Rattle.replay_text.proofs.run.run_all.Tie as tie

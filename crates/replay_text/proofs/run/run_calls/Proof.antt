@@ -9,23 +9,24 @@ use mathlib.Core.List.{List, _++_}
 use lib.ListN.{length}
 use Rattle.model.specs.Answers.{answer-values}
 use lib.Seq.{slice}
-use Rattle.replay_text.specs.Lines.{lines}
-use Rattle.replay_text.specs.Replay.{bad-line, answer-line, ending, run-lines}
+use Rattle.replay_model.specs.Lines.{lines}
+use Rattle.replay_model.specs.Replay.{bad-line, answer-line, ending, run-lines}
 use Rattle.replay_text.specs.Contracts.{Room, Put, asked-call}
-use Rattle.replay_text.specs.Events.{Reached}
+use Rattle.replay_model.specs.Events.{Reached}
 use Rattle.replay_text.proofs.Puts.{put-length, room-first}
 use Rattle.replay_text.proofs.Running.{Running, run-start, run-length, run-room, run-more, run-last}
-use Rattle.replay_text.proofs.LineRuns.{run-ends, run-bad, run-next, reached-next}
+use Rattle.replay_text.proofs.LineRuns.{run-ends, run-bad, run-next}
+use Rattle.replay_model.proofs.Reaching.{reached-next}
 use Rattle.replay_text.proofs.run.run_calls.Statement.{statement}
 use Rattle.replay_text.proofs.run.run_calls.Tie as tie
 
 abbrev Inv-loop : tie.InvT-loop
-Inv-loop input from heap₀ output₀ at len start₀ place₀ books₀ heap output start place books =
-    (start ≤ length input) × (length heap ≡ length heap₀) × Reached heap books
-    × Running (run-lines (lines (slice from (length input) input)) heap₀ books₀) at output₀ output place (run-lines (lines (slice start (length input) input)) heap books)
+Inv-loop input from heap₀ output₀ at len start₀ place₀ current₀ heap output start place current =
+    (start ≤ length input) × (length heap ≡ length heap₀) × Reached heap current
+    × Running (run-lines (lines (slice from (length input) input)) heap₀ current₀) at output₀ output place (run-lines (lines (slice start (length input) input)) heap current)
 
 abbrev μ-loop : tie.MeasureT-loop
-μ-loop input from heap₀ output₀ at len start₀ place₀ books₀ heap output start place books = length input - start
+μ-loop input from heap₀ output₀ at len start₀ place₀ current₀ heap output start place current = length input - start
 
 -- all that is to be written, and what is left of it
 abbrev whole : tie.At-loop Inv-loop μ-loop → List ℕ
@@ -36,7 +37,7 @@ whole l =
 abbrev left-over : tie.At-loop Inv-loop μ-loop → List ℕ
 left-over l =
     let a = l .before .before .before .before .args in
-    run-lines (lines (slice (l .loop .start) (length (a .input .now)) (a .input .now))) (l .loop .heap) (l .loop .books)
+    run-lines (lines (slice (l .loop .start) (length (a .input .now)) (a .input .now))) (l .loop .heap) (l .loop .current)
 
 -- where what is left is this, so far
 abbrev so-far : tie.At-loop Inv-loop μ-loop → List ℕ → Type 0
@@ -73,7 +74,7 @@ ended t =
     let f = t .before in
     let l = f .before in
     let a = l .before .before .before .before .args in
-    run-ends (l .loop .start) (a .input .now) (l .loop .heap) (l .loop .books) (f .find-mark .result) (f .find-mark .ensures) (t .if1 .taken)
+    run-ends (l .loop .start) (a .input .now) (l .loop .heap) (l .loop .current) (f .find-mark .result) (f .find-mark .ensures) (t .if1 .taken)
 
 -- the line ends before the input does
 before-end : (x : tie.Else1 Inv-loop μ-loop) → x .before .find-mark .result < length (x .before .before .before .before .before .before .args .input .now)
@@ -91,7 +92,7 @@ not-a-call t =
     let f = r .before .before in
     let l = f .before in
     let a = l .before .before .before .before .args in
-    run-bad (l .loop .start) (a .input .now) (l .loop .heap) (l .loop .books) (f .find-mark .result) (f .find-mark .ensures) (before-end (r .before))
+    run-bad (l .loop .start) (a .input .now) (l .loop .heap) (l .loop .current) (f .find-mark .result) (f .find-mark .ensures) (before-end (r .before))
     (sym (r .read-call .ensures) ∙ ap asked-call (t .enum-told .given .1))
 
 -- a call that was made: its answer and the run of the lines behind it are what is left
@@ -114,7 +115,7 @@ made q =
     let f = r .before .before in
     let l = f .before in
     let a = l .before .before .before .before .args in
-    run-next (l .loop .start) (a .input .now) (l .loop .heap) (l .loop .books) (f .find-mark .result) (f .find-mark .ensures) (before-end (r .before)) (v .call .given .0 .0)
+    run-next (l .loop .start) (a .input .now) (l .loop .heap) (l .loop .current) (f .find-mark .result) (f .find-mark .ensures) (before-end (r .before)) (v .call .given .0 .0)
     (q .perform .last .0) (q .perform .result .accounts) (answer-values (q .perform .result .answer)) (sym (r .read-call .ensures) ∙ ap asked-call (v .call .given .1)) (q .perform .ensures)
 
 loop-holds : tie.Need-loop-holds Inv-loop μ-loop
@@ -217,7 +218,7 @@ loop-again c =
     let a = e .args in (
       omega (arith, before-end x),
       q .perform .kept .0 ∙ l .loop .inv .1,
-      reached-next (l .loop .heap) (l .loop .books) (q .before .before .before .call .given .0 .0) (q .perform .last .0) (q .perform .result .accounts) (answer-values (q .perform .result .answer)) (l .loop .inv .2) (q .perform .ensures),
+      reached-next (l .loop .heap) (l .loop .current) (q .before .before .before .call .given .0 .0) (q .perform .last .0) (q .perform .result .accounts) (answer-values (q .perform .result .answer)) (l .loop .inv .2) (q .perform .ensures),
       run-more (whole l) (a .at) (a .output .now) (l .loop .output) (p .put-answer .last .0) (l .loop .place) (p .put-answer .result) (answer-of q) (behind q) (e .pre .2)
           (subst (so-far l) (made q) (l .loop .inv .3)) (p .put-answer .ensures),
     )

@@ -6,8 +6,8 @@ use mathlib.Core.Path.{sym, subst}
 use mathlib.Core.List.{List, []}
 use lib.ListN.{length}
 use lib.Seq.{slice}
-use Rattle.replay_text.specs.Lines.{lines}
-use Rattle.replay_text.specs.Replay.{ok-line, run-lines}
+use Rattle.replay_model.specs.Lines.{lines}
+use Rattle.replay_model.specs.Replay.{ok-line, run-lines}
 use Rattle.replay_text.specs.Contracts.{Room, Put}
 use Rattle.replay_text.proofs.Puts.{room-first, room-next, put-two}
 use Rattle.replay_text.proofs.Openings.{opened-refused, opened-runs, opened-reached}

@@ -6,9 +6,9 @@ use mathlib.Core.Path.{sym, subst}
 use mathlib.Core.List.{List}
 use lib.ListN.{length}
 use lib.Seq.{slice}
-use Rattle.replay_text.specs.Lines.{lines}
+use Rattle.replay_model.specs.Lines.{lines}
 use Rattle.model.specs.Calls.{open-heap}
-use Rattle.replay_text.specs.Replay.{run-opened}
+use Rattle.replay_model.specs.Replay.{run-opened}
 use Rattle.replay_text.specs.Contracts.{Room, Put}
 use Rattle.replay_text.proofs.Openings.{opening-too-long, zeros-front, zeros-length}
 use Rattle.replay_text.proofs.run.run_opening.Statement.{statement}

@@ -3,10 +3,10 @@
 use borrow.Author.Needs.{needs}
 use native.Mathlib.Omega.{arith}
 use Prim.Native.Nat.{_+_, _-_, _≤_}
-use mathlib.Core.Path.{_≡_, refl, ap, sym, _∙_}
+use mathlib.Core.Path.{_≡_, refl, sym, _∙_}
 use lib.ListN.{length, drop}
 use lib.Seq.{slice}
-use Rattle.replay_text.specs.Text.{same}
+use Rattle.replay_model.specs.Text.{same}
 use Rattle.replay_text.proofs.Reading.{same-start, same-apart, same-differ, same-turn, same-done}
 use Rattle.replay_text.proofs.words.is_same.Statement.{statement}
 use Rattle.replay_text.proofs.words.is_same.Tie as tie

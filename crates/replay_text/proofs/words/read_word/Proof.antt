@@ -2,7 +2,7 @@
 -- Assumes nothing.
 use borrow.Author.Needs.{needs}
 use mathlib.Core.Path.{sym, _∙_}
-use Rattle.replay_text.specs.Commands.{word-of}
+use Rattle.replay_model.specs.Commands.{word-of}
 use Rattle.replay_text.proofs.words.read_word.Statement.{statement}
 use Rattle.replay_text.proofs.words.read_word.Tie as tie
 

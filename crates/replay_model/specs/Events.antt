@@ -12,8 +12,8 @@ use Rattle.accounts.specs.Accounts.{QUOTAS}
 use Rattle.ledger.specs.Ledger.{Event, Called, Wrote}
 use Rattle.ledger.specs.History.{History}
 use Rattle.ledger.specs.Demand3.{Holds}
-use Rattle.replay_text.specs.Commands.{line-call}
-use Rattle.replay_text.specs.Replay.{ok-line, bad-line, answer-line, ending, replay}
+use Rattle.replay_model.specs.Commands.{line-call}
+use Rattle.replay_model.specs.Replay.{ok-line, bad-line, answer-line, ending, replay}
 
 -- what lines lead to: the heap, the accounts and the events, and what is printed behind the answers
 pub record Ran : Type 0 where

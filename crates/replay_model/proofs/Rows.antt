@@ -5,9 +5,9 @@ use Prim.Native.String.{String}
 use mathlib.Core.Path.{_≡_, refl}
 use mathlib.Core.List.{List, [], _∷_, _++_, map}
 use lib.ListN.{length, replicate}
-use Rattle.replay_text.specs.Text.{text, decimal, read-number}
-use Rattle.replay_text.specs.Replay.{replay}
-use Rattle.replay_text.proofs.Computing.{computing}
+use Rattle.replay_model.specs.Text.{text}
+use Rattle.replay_model.specs.Replay.{replay}
+use Rattle.replay_model.proofs.Computing.{computing}
 
 -- an input and what it prints
 pub data Row : Type 0 where

@@ -9,10 +9,10 @@ use Rattle.accounts.specs.Accounts.{QUOTAS}
 use Rattle.model.specs.declared.Handle.{Handle}
 use Rattle.model.specs.declared.Call.{Call}
 use Rattle.model.specs.declared.Call.the-variants.{Allocate, AllocateArray, Claim, Release, FreeAll, Reallocate}
-use Rattle.replay_text.specs.Text.{text, same}
-use Rattle.replay_text.specs.Lines.{words, numbers}
-use Rattle.replay_text.specs.declared.Word.{Word}
-use Rattle.replay_text.specs.declared.Word.the-variants.{Open, Alloc, Array, Claim as ClaimWord, Free, All, Realloc, Unknown}
+use Rattle.replay_model.specs.Text.{text, same}
+use Rattle.replay_model.specs.Lines.{words, numbers}
+use Rattle.replay_model.specs.declared.Word.{Word}
+use Rattle.replay_model.specs.declared.Word.the-variants.{Open, Alloc, Array, Claim as ClaimWord, Free, All, Realloc, Unknown}
 
 -- the names: "`open H` and eight grants first and only there, then `alloc q n`, `array q n s`, `claim q b l s`, `free q b l s`, `all q`, `realloc q b l s n`"
 unfoldable pub word-of : List ℕ → Word

@@ -1,9 +1,9 @@
 -- Every definition that a computed replay unfolds, under one name.
 use Rattle.model.proofs.Computing.{computing as model-computing}
-use Rattle.replay_text.specs.Text.{digits, places, decimal, is-digit, read-on, read-number, same}
-use Rattle.replay_text.specs.Lines.{onto, split, join-number, numbers}
-use Rattle.replay_text.specs.Commands.{word-of, taking, call-of, opening-of, named, phrase-of, phrase-call, phrase-opening, line-call, line-opening}
-use Rattle.replay_text.specs.Replay.{tail-of, ok-line, no-line, bad-line, handle-numbers, answer-numbers, answer-line, block-line, block-lines, heap-lines, ending, on-call, run-lines, run-opened, run-opening, run-input, replay}
+use Rattle.replay_model.specs.Text.{digits, places, decimal, is-digit, read-on, read-number, same}
+use Rattle.replay_model.specs.Lines.{onto, split, join-number, numbers}
+use Rattle.replay_model.specs.Commands.{word-of, taking, call-of, opening-of, named, phrase-of, phrase-call, phrase-opening, line-call, line-opening}
+use Rattle.replay_model.specs.Replay.{tail-of, ok-line, no-line, bad-line, handle-numbers, answer-numbers, answer-line, block-line, block-lines, heap-lines, ending, on-call, run-lines, run-opened, run-opening, run-input, replay}
 
 unfoldable pub computing : Unit {0}
 unfolding model-computing

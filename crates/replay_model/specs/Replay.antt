@@ -4,7 +4,7 @@ use mathlib.Core.List.{List, [], _∷_, _++_}
 use mathlib.Core.Bool.{Bool, true, false, cond}
 use mathlib.Core.Option.{Option, none, some}
 use lib.Dec.{ltb, eqb}
-use lib.ListN.{length, drop, replicate}
+use lib.ListN.{length, replicate}
 use Rattle.accounts.specs.declared.Accounts.{Accounts}
 use Rattle.rounding.specs.Rounding.{unit}
 use Rattle.model.specs.Answers.{Values}
@@ -15,11 +15,9 @@ use Rattle.model.specs.declared.Handle.{Handle}
 use Rattle.model.specs.declared.ListedBlock.{ListedBlock}
 use Rattle.model.specs.declared.Call.{Call}
 use Rattle.model.specs.declared.Call.the-variants.{Allocate, AllocateArray, Claim, Release, FreeAll, Reallocate, Lend, Remaining, CanRelease, ListBlock}
-use Rattle.replay_text.specs.declared.Replayed.{Replayed}
-use Rattle.replay_text.specs.declared.Replayed.the-variants.{Written, TooShort}
-use Rattle.replay_text.specs.Text.{text, decimal, SPACE, LINE-FEED}
-use Rattle.replay_text.specs.Lines.{lines}
-use Rattle.replay_text.specs.Commands.{Opening, line-opening, line-call}
+use Rattle.replay_model.specs.Text.{text, decimal, SPACE, LINE-FEED}
+use Rattle.replay_model.specs.Lines.{lines}
+use Rattle.replay_model.specs.Commands.{Opening, line-opening, line-call}
 
 -- "It reads at most 65,536 bytes"
 abbrev pub LONGEST : ℕ
@@ -118,14 +116,3 @@ replay s =
 -- the length of an output that is enough for every input
 abbrev pub OUTPUT : ℕ
 OUTPUT = 589824
-
--- the answer of a replay, and its output: too short an output stays as it is; else what is printed stands in front, and the bytes behind it stay
-pub record Result : Type 0 where
-  pub answer : Replayed
-  pub output : List ℕ
-
-unfoldable pub replayed : List ℕ → List ℕ → Result
-replayed s out =
-    let printed = replay s in
-    let written : Result = record { answer = Written (length printed); output = printed ++ drop (length printed) out } in
-    cond (ltb (length out) OUTPUT) (record { answer = TooShort; output = out }) written

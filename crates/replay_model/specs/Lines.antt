@@ -4,7 +4,7 @@ use mathlib.Core.List.{List, [], _∷_}
 use mathlib.Core.Bool.{cond}
 use mathlib.Core.Option.{Option, none, some}
 use lib.Dec.{eqb}
-use Rattle.replay_text.specs.Text.{SPACE, LINE-FEED, read-number}
+use Rattle.replay_model.specs.Text.{SPACE, LINE-FEED, read-number}
 
 -- a byte in front of the first of these parts
 unfoldable pub onto : ℕ → List (List ℕ) → List (List ℕ)

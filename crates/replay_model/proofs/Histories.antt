@@ -3,10 +3,9 @@
 -- Assumes nothing.
 use mathlib.Core.Path.{_≡_, refl, ap, sym, subst, _∙_}
 use mathlib.Core.List.{List, [], _∷_, _++_, append-assoc}
-use mathlib.Core.Bool.{Bool, true, false, cond}
+use mathlib.Core.Bool.{Bool, cond}
 use mathlib.Core.Option.{Option, none, some}
 use Prim.Native.Nat.{ℕ, _≤_}
-use lib.Dec.{ltb, eqb}
 use borrow.Author.Tests.{le-ltb, eq-eqb}
 use lib.ListN.{length, replicate}
 use Rattle.accounts.specs.declared.Accounts.{Accounts}
@@ -14,15 +13,14 @@ use Rattle.rounding.specs.Rounding.{unit}
 use Rattle.model.specs.Calls.{Outcome, open-heap}
 use Rattle.model.specs.Step.{step}
 use Rattle.model.specs.declared.Call.{Call}
-use Rattle.ledger.specs.Ledger.{Event, Called, Wrote}
+use Rattle.ledger.specs.Ledger.{Event, Called}
 use Rattle.ledger.specs.History.{History}
-use Rattle.ledger.specs.Demand3.{Holds, Demand3}
 use Rattle.ledger.proofs.Theorem.{demand-3}
-use Rattle.replay_text.specs.Lines.{lines}
-use Rattle.replay_text.specs.Commands.{Opening, line-call, line-opening}
-use Rattle.replay_text.specs.Replay.{LONGEST, ok-line, no-line, bad-line, answer-line, ending, on-call, run-lines, run-opened, run-opening, run-input, replay}
-use Rattle.replay_text.specs.Events.{Ran, ran-call, ran-lines, answer-lines, Historical}
-use Rattle.replay_text.proofs.Openings.{opening-granted, begins}
+use Rattle.replay_model.specs.Lines.{lines}
+use Rattle.replay_model.specs.Commands.{Opening, line-call, line-opening}
+use Rattle.replay_model.specs.Replay.{LONGEST, ok-line, bad-line, answer-line, on-call, run-lines, run-opened, run-opening, run-input, replay}
+use Rattle.replay_model.specs.Events.{Ran, ran-call, ran-lines, answer-lines, Historical}
+use Rattle.replay_model.proofs.Openings.{opening-granted, begins}
 
 -- the lines of a history lead to a history
 module _ (grants : List ℕ) where

@@ -1,41 +1,39 @@
 -- The output of every replay is short enough: an answer's line is at most six times as long as the line that asked for it, and a heap has at most
 -- 4,096 blocks.
 -- Assumes nothing.
-use mathlib.Core.Path.{_≡_, refl, ap, sym, subst, _∙_}
+use mathlib.Core.Path.{_≡_, refl, sym}
 use mathlib.Core.List.{List, [], _∷_, _++_}
-use mathlib.Core.Bool.{Bool, true, false, cond, _&&_}
+use mathlib.Core.Bool.{Bool, true, false, cond}
 use mathlib.Core.Option.{Option, none, some}
-use Prim.Native.Nat.{ℕ, zero, suc, _+_, _*_, _≤_, _<_}
+use Prim.Native.Nat.{ℕ, suc, _+_, _*_, _≤_, _<_}
 use native.Mathlib.Omega.{arith}
-use lib.Dec.{leb, ltb, eqb}
-use borrow.Author.Tests.{ltb-true, ltb-false, eqb-true, le-leb, lt-leb}
+use lib.Dec.{ltb, eqb}
+use borrow.Author.Tests.{ltb-true, ltb-false, eqb-true}
 use lib.ListN.{length, getD, replicate, length-append}
 use Rattle.accounts.specs.declared.Accounts.{Accounts}
-use Rattle.accounts.specs.Accounts.{QUOTAS}
 use Rattle.rounding.specs.Rounding.{unit}
 use Rattle.layout.specs.Blocks.{Block, size, total-size, parse}
 use Rattle.finder.proofs.Parsed.{total-parsed}
 use Rattle.model.specs.Lists.{total, or-else}
 use Rattle.model.specs.Answers.{Values}
 use Rattle.model.specs.Objects.{blocks-of}
-use Rattle.model.specs.Calls.{Outcome, listing-from, open-heap}
+use Rattle.model.specs.Calls.{listing-from, open-heap}
 use Rattle.model.specs.Step.{step}
 use Rattle.model.specs.declared.ListedBlock.{ListedBlock}
 use Rattle.model.specs.declared.Call.{Call}
 use Rattle.model.specs.declared.Call.the-variants.{Allocate, AllocateArray, Claim as Claims, Release, FreeAll, Reallocate}
-use Rattle.replay_text.specs.Text.{text, LINE-FEED, SPACE, decimal, read-number}
-use Rattle.replay_text.specs.Lines.{onto, split, lines, words, join-number, numbers}
-use Rattle.replay_text.specs.Commands.{Opening, handle-in, word-of, taking, call-of, named, phrase-of, phrase-call, line-call, line-opening}
-use Rattle.replay_text.specs.Replay.{LONGEST, OUTPUT, tail-of, ok-line, no-line, bad-line, gives-handle, handle-numbers, answer-numbers, answer-line, block-line, block-lines, heap-lines, ending, on-call, run-lines, run-opened, run-opening, run-input, replay}
-use Rattle.replay_text.specs.Events.{Reached, Granted}
-use Rattle.replay_text.specs.declared.Word.{Word}
-use Rattle.replay_text.specs.declared.Word.the-variants.{Open, Alloc, Array, Claim, Free, All, Realloc, Unknown}
-use Rattle.replay_text.proofs.Rows
-use Rattle.replay_text.proofs.Decimals.{decimal-most}
-use Rattle.replay_text.proofs.Reading.{same-lengths}
-use Rattle.replay_text.proofs.Listings.{reached-length}
-use Rattle.replay_text.proofs.LineRuns.{reached-next}
-use Rattle.replay_text.proofs.Openings.{opening-granted, opened-by}
+use Rattle.replay_model.specs.Text.{text, LINE-FEED, SPACE, decimal, read-number}
+use Rattle.replay_model.specs.Lines.{onto, split, lines, words, join-number, numbers}
+use Rattle.replay_model.specs.Commands.{Opening, handle-in, word-of, taking, call-of, named, phrase-of, phrase-call, line-call, line-opening}
+use Rattle.replay_model.specs.Replay.{LONGEST, OUTPUT, tail-of, ok-line, no-line, bad-line, gives-handle, handle-numbers, answer-numbers, answer-line, block-line, block-lines, heap-lines, ending, on-call, run-lines, run-opened, run-opening, run-input, replay}
+use Rattle.replay_model.specs.Events.{Reached, Granted}
+use Rattle.replay_model.specs.declared.Word.{Word}
+use Rattle.replay_model.specs.declared.Word.the-variants.{Open, Alloc, Array, Claim, Free, All, Realloc, Unknown}
+use Rattle.replay_model.proofs.Rows
+use Rattle.replay_model.proofs.Decimals.{decimal-most}
+use Rattle.replay_model.proofs.Names.{same-lengths}
+use Rattle.replay_model.proofs.Reaching.{reached-length, reached-next}
+use Rattle.replay_model.proofs.Openings.{opening-granted, opened-by}
 
 -- a line's numbers: a space and at most ten digits each, and the line feed
 tail-most : (ns : List ℕ) → length (tail-of ns) ≤ 11 * length ns + 1

@@ -1,0 +1,40 @@
+-- States that a history reaches: demand 3 speaks of them, so the check accepts them, and a call leads to another.
+-- Assumes nothing.
+use mathlib.Core.Path.{_≡_, sym}
+use mathlib.Core.List.{List, [], _∷_}
+use mathlib.Core.Bool.{_&&_}
+use Prim.Native.Nat.{ℕ, _%_, _≤_}
+use lib.Dec.{leb, eqb}
+use lib.ListN.{length}
+use borrow.Author.Tests.{leb-true}
+use Rattle.accounts.specs.declared.Accounts.{Accounts}
+use Rattle.rounding.specs.Rounding.{unit}
+use Rattle.model.specs.Answers.{Values}
+use Rattle.model.specs.Consistent.{allowed}
+use Rattle.model.specs.Refusals.{first-refusal, line-1, line-2, check-lines}
+use Rattle.model.specs.Step.{step}
+use Rattle.model.specs.declared.Call.{Call}
+use Rattle.model.proofs.Bools.{and-right}
+use Rattle.ledger.specs.Ledger.{Called}
+use Rattle.ledger.specs.Demand3.{Holds}
+use Rattle.ledger.proofs.Theorem.{demand-3}
+use Rattle.replay_model.specs.Events.{Reached}
+
+-- what demand 3 says of a state that a history leads to: the check accepts it, and its length is allowed
+module _ (s : List ℕ) (k : Accounts) (r : Reached s k) where
+  reached-holds : Holds unit (step unit) (r .grants) (r .events) [] s k
+  reached-holds = demand-3 .always (r .grants) (r .events) [] s k (r .history)
+
+  pub reached-checked : first-refusal (check-lines s k) ≡ 0
+  unfolding first-refusal check-lines line-1 line-2
+  reached-checked = rw (reached-holds .length-allowed, reached-holds .kept-consistent)
+
+  pub reached-length : length s ≤ 32768
+  unfolding allowed
+  reached-length =
+      leb-true (length s) 32768 (and-right (leb 64 (length s)) (leb (length s) 32768) (and-right (eqb (length s % 8) 0) (leb 64 (length s) && leb (length s) 32768) (reached-holds .length-allowed)))
+
+-- a call's state is reached from the state before it
+pub reached-next : (s : List ℕ) (k : Accounts) (c : Call) (s′ : List ℕ) (k′ : Accounts) (v : Values) → Reached s k
+    → record { heap = s′; accounts = k′; values = v } ≡ step unit c s k → Reached s′ k′
+reached-next s k c s′ k′ v r o = record { grants = r .grants; events = Called c v ∷ r .events; history = (s, k, r .history, sym o) }
