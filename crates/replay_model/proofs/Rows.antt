@@ -1,11 +1,11 @@
--- Replays that are computed: document 01's example, and the corners of its rules. One table, one theorem, and a second for long inputs.
+-- Replays that are computed: document 01's example, and the corners of its rules. One table, one theorem, and others for long inputs and for numbers.
 -- Assumes nothing.
 use Prim.Native.Nat.{ℕ, _-_}
 use Prim.Native.String.{String}
 use mathlib.Core.Path.{_≡_, refl}
 use mathlib.Core.List.{List, [], _∷_, _++_, map}
 use lib.ListN.{length, replicate}
-use Rattle.replay_model.specs.Text.{text}
+use Rattle.replay_model.specs.Text.{text, decimal}
 use Rattle.replay_model.specs.Replay.{replay}
 use Rattle.replay_model.proofs.Computing.{computing}
 
@@ -82,3 +82,9 @@ pub long-rows : (replay (filled "open 56 0 0 0 0 0 0 0 0\n" 65536) ≡ text "no 
     × (replay (filled "open 64 0 0 0 0 0 0 0 0\n" 65537) ≡ text "bad\n")
 unfolding computing filled
 long-rows = (refl, refl, refl, refl)
+
+-- numbers as they are written
+pub decimals-run : map decimal (0 ∷ 9 ∷ 10 ∷ 99 ∷ 100 ∷ 32768 ∷ 1000000000 ∷ 4294967295 ∷ [])
+    ≡ text "0" ∷ text "9" ∷ text "10" ∷ text "99" ∷ text "100" ∷ text "32768" ∷ text "1000000000" ∷ text "4294967295" ∷ []
+unfolding computing
+decimals-run = refl

@@ -51,7 +51,7 @@ returns-3 c =
     let w = c .before .before .before in
     let l = w .before .before .before in
     let a = l .before .before .args in
-    sym (sym (l .loop .inv .3) ∙ digit-large (l .loop .value) (l .loop .at) (a .to) (a .input .now) (w .wide .result) (w .before .before .loop-test .taken) (l .before .before .pre .inside) (w .wide .ensures) (omega arith) (omega arith) (c .if3 .taken))
+    sym (sym (l .loop .inv .3) ∙ digit-large (l .loop .value) (l .loop .at) (a .to) (a .input .now) (w .wide .result) (w .before .before .loop-test .taken) (l .before .before .pre .inside) (w .wide .ensures) (omega arith) (omega arith) (omega arith))
 
 add-at : tie.Need-add-at Inv-loop μ-loop
 add-at c = search needs
