@@ -1,5 +1,6 @@
 # make run       prove the heap and the replay program, and run it on an example
 # make test      prove everything from nothing, try every must-fail edit, run every test
+# make wrong     try the wrong programs that the gate leaves out
 # make lib       prove the exported calls, and write build/lib/liblokhazim.a with its header
 # make figures   print the library's code size, the stack that calls need, and the bytes of accounts
 # make bench     time the proved calls, the reference and glibc under mcheck_pedantic
@@ -9,13 +10,16 @@
 SECONDS := 60
 SEED :=
 
-.PHONY: run test lib figures bench fuzz sanitize clean
+.PHONY: run test wrong lib figures bench fuzz sanitize clean
 
 run:
 	@scripts/run
 
 test:
 	@scripts/test
+
+wrong:
+	@scripts/wrong
 
 lib:
 	@scripts/lib
