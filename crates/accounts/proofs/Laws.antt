@@ -10,13 +10,13 @@ use lib.ListN.{length, getD, set, length-set, length-map, length-replicate, List
 use lib.Seq.{getD-set-same, getD-set-other, set-set, set-getD, set-out, map-set-same, ext-getD}
 use lib.Dec.{leb, ltb}
 use borrow.Author.Count.{below-more}
-use borrow.Author.Tests.{lt-ltb, le-ltb, le-leb, lt-leb}
+use borrow.Author.Tests.{lt-ltb, le-ltb, le-leb}
 use Rattle.accounts.specs.declared.Quota.{Quota}
 use Rattle.accounts.specs.declared.Hold.{Hold}
 use Rattle.accounts.specs.declared.Accounts.{Accounts}
 use Rattle.accounts.specs.declared.Place.the-variants.{At, Nothing}
-use Rattle.accounts.specs.Accounts.{QUOTAS, HOLDS, zero-quota, zero-hold, zero-accounts, with-remainder, with-holds, with-last-serial, grants, granted, opened}
-use Rattle.accounts.specs.Accounts.{quota-at, remaining, spent, set-remaining, charge, refund, first-from, hold-at, put-hold}
+use Rattle.accounts.specs.Accounts.{QUOTAS, HOLDS, zero-quota, zero-hold, zero-accounts, with-remainder, with-quotas, with-holds, with-last-serial, grants, granted, opened}
+use Rattle.accounts.specs.Accounts.{quota-at, remaining, spent, set-remaining, charged, refunded, charge, refund, first-from, hold-at, put-hold}
 use Rattle.accounts.proofs.Rows
 
 -- the first record that passes a test stands at place i
@@ -157,13 +157,6 @@ module _ (q : ℕ) (t : Bool) (paid k : Accounts) where
   pub no-quota : QUOTAS ≤ q → cond (ltb q QUOTAS && t) paid k ≡ k
   no-quota h = rw (le-ltb q QUOTAS h) refl
 
-  pub refused : t ≡ false → cond (ltb q QUOTAS && t) paid k ≡ k
-  refused e = by-quota (ltb q QUOTAS)
-    where
-      by-quota : (x : Bool) → cond (x && t) paid k ≡ k
-      by-quota true = rw e refl
-      by-quota false = refl
-
 -- what holds of both outcomes holds of the one that a test picks
 either : (P : Accounts → Type 0) (t : Bool) (x y : Accounts) → P x → P y → P (cond t x y)
 either P true x y h l = h
@@ -179,10 +172,6 @@ module _ (q n : ℕ) (k : Accounts) where
   unfolding charge
   charge-no-quota h = no-quota q (leb n (remaining q k)) (set-remaining q (remaining q k - n) k) k h
 
-  pub charge-short : remaining q k < n → charge q n k ≡ k
-  unfolding charge
-  charge-short l = refused q (leb n (remaining q k)) (set-remaining q (remaining q k - n) k) k (lt-leb n (remaining q k) l)
-
   -- refunding adds it where it is allowed, and changes nothing where it is not
   pub refund-pays : q < QUOTAS → remaining q k + n < 2 ^ 32 → refund q n k ≡ set-remaining q (remaining q k + n) k
   unfolding refund
@@ -192,9 +181,19 @@ module _ (q n : ℕ) (k : Accounts) where
   unfolding refund
   refund-no-quota h = no-quota q (ltb (remaining q k + n) (2 ^ 32)) (set-remaining q (remaining q k + n) k) k h
 
-  pub refund-long : 2 ^ 32 ≤ remaining q k + n → refund q n k ≡ k
-  unfolding refund
-  refund-long l = refused q (ltb (remaining q k + n) (2 ^ 32)) (set-remaining q (remaining q k + n) k) k (le-ltb (remaining q k + n) (2 ^ 32) l)
+  -- a quota that is there changes by itself
+  by-amount : (t : Bool) (m : ℕ) → cond t (set-remaining q m k) k ≡ with-quotas (set (k .quotas) q (cond t (with-remainder m (quota-at q k)) (quota-at q k))) k
+  unfolding set-remaining
+  by-amount true m = refl
+  by-amount false m = sym (ap (λ (qs : List Quota). with-quotas qs k) (set-getD (k .quotas) q zero-quota))
+
+  pub charge-charged : q < QUOTAS → charge q n k ≡ with-quotas (set (k .quotas) q (charged n (quota-at q k))) k
+  unfolding charge remaining
+  charge-charged h = rw (lt-ltb q QUOTAS h) (by-amount (leb n (remaining q k)) (remaining q k - n))
+
+  pub refund-refunded : q < QUOTAS → refund q n k ≡ with-quotas (set (k .quotas) q (refunded n (quota-at q k))) k
+  unfolding refund remaining
+  refund-refunded h = rw (lt-ltb q QUOTAS h) (by-amount (ltb (remaining q k + n) (2 ^ 32)) (remaining q k + n))
 
   -- neither changes anything but what remains of that quota
   pub charge-kept : Kept q k (charge q n k)

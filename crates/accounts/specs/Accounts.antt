@@ -65,6 +65,13 @@ spent q k = quota-at q k .grant - remaining q k
 unfoldable pub set-remaining : ℕ → ℕ → Accounts → Accounts
 set-remaining q n k = with-quotas (set (k .quotas) q (with-remainder n (quota-at q k))) k
 
+-- a quota after it has paid, as it is where it has less than that; and after it was paid back, as it is where the sum needs more than 32 bits
+abbrev pub charged : ℕ → Quota → Quota
+charged n x = cond (leb n (x .remainder)) (with-remainder (x .remainder - n) x) x
+
+abbrev pub refunded : ℕ → Quota → Quota
+refunded n x = cond (ltb (x .remainder + n) (2 ^ 32)) (with-remainder (x .remainder + n) x) x
+
 -- the quota pays; where there is no such quota, or it has less than that, nothing changes
 unfoldable pub charge : ℕ → ℕ → Accounts → Accounts
 charge q n k = cond (ltb q QUOTAS && leb n (remaining q k)) (set-remaining q (remaining q k - n) k) k

@@ -1,6 +1,6 @@
 // The accounting state of a shared heap: quotas and hold records, a state that goes in by value and comes back changed.
 ghost use mathlib.Core.Path.{_≡_};
-ghost use Rattle.accounts.specs.Accounts.{zero-hold, zero-accounts, used, is-for, dropped, opened, remaining, spent, charge, refund, with-holds, with-last-serial};
+ghost use Rattle.accounts.specs.Accounts.{zero-hold, zero-accounts, charged, refunded, used, is-for, dropped, opened, remaining, spent, charge, refund, with-holds, with-last-serial};
 ghost use Rattle.accounts.specs.Accounts.{find-hold, lowest-unused, hold-at, put-hold, drop-hold, drop-records};
 
 // The number of quotas.
@@ -38,6 +38,34 @@ pub enum Place {
     Nothing,
 }
 
+impl Quota {
+    // The quota after it has paid; as it is where it has less than that.
+    fn charged(self, amount: u32) -> Quota
+        ensures { λ r. ⌜ r ≡ charged amount self ⌝ }
+    {
+        if self.remainder < amount {
+            return self;
+        }
+        Quota {
+            grant: self.grant,
+            remainder: self.remainder - amount,
+        }
+    }
+
+    // The quota after it was paid back; as it is where the sum needs more than 32 bits.
+    fn refunded(self, amount: u32) -> Quota
+        ensures { λ r. ⌜ r ≡ refunded amount self ⌝ }
+    {
+        if 4294967295 - amount < self.remainder {
+            return self;
+        }
+        Quota {
+            grant: self.grant,
+            remainder: self.remainder + amount,
+        }
+    }
+}
+
 impl Hold {
     // An unused record.
     pub fn zero() -> Hold
@@ -67,12 +95,13 @@ impl Hold {
     pub fn is_for(self, serial: u32, quota: u8) -> bool
         ensures { λ r. ⌜ r ≡ is-for serial quota self ⌝ }
     {
-        if self.is_used() {
-            if self.serial == serial {
-                return self.quota == quota;
-            }
+        if self.serial != serial {
+            return false;
         }
-        false
+        if self.quota != quota {
+            return false;
+        }
+        self.is_used()
     }
 
     // The record as it is, or zeros where it is one of this quota.
@@ -155,15 +184,10 @@ impl Accounts {
         ensures { λ r. ⌜ r ≡ charge quota amount self ⌝ }
     {
         let q = quota as usize;
-        if QUOTAS <= q {
-            return self;
+        if q < QUOTAS {
+            let entry = self.quotas[q];
+            self.quotas[q] = entry.charged(amount);
         }
-        let mut entry = self.quotas[q];
-        if entry.remainder < amount {
-            return self;
-        }
-        entry.remainder = entry.remainder - amount;
-        self.quotas[q] = entry;
         self
     }
 
@@ -172,15 +196,10 @@ impl Accounts {
         ensures { λ r. ⌜ r ≡ refund quota amount self ⌝ }
     {
         let q = quota as usize;
-        if QUOTAS <= q {
-            return self;
+        if q < QUOTAS {
+            let entry = self.quotas[q];
+            self.quotas[q] = entry.refunded(amount);
         }
-        let mut entry = self.quotas[q];
-        if 4294967295 - amount < entry.remainder {
-            return self;
-        }
-        entry.remainder = entry.remainder + amount;
-        self.quotas[q] = entry;
         self
     }
 
@@ -236,10 +255,9 @@ impl Accounts {
     pub fn add_hold(mut self, at: usize, hold: Hold) -> Accounts
         ensures { λ r. ⌜ r ≡ put-hold at hold self ⌝ }
     {
-        if HOLDS <= at {
-            return self;
+        if at < HOLDS {
+            self.holds[at] = hold;
         }
-        self.holds[at] = hold;
         self
     }
 

@@ -22,10 +22,10 @@ ghost use Rattle.calls.specs.Releasing.{claim-dropped};
 fn is_of(hold: Hold, serial: u32) -> bool
     ensures { λ r. ⌜ r ≡ is-of serial hold ⌝ }
 {
-    if hold.is_used() {
-        return hold.serial == serial;
+    if hold.serial != serial {
+        return false;
     }
-    false
+    hold.is_used()
 }
 
 // Whether some record is for the object with this serial.

@@ -9,21 +9,21 @@ use Rattle.accounts.proofs.Laws.{put-out}
 use Rattle.accounts.proofs.Accounts.add_hold.Statement.{statement}
 use Rattle.accounts.proofs.Accounts.add_hold.Tie as tie
 
-returns : tie.Need-returns
-returns c =
-    let a = c .before .args in
-    let long : length (a .t1 .holds) ≡ HOLDS = simp length-map at (c .before .good .0 .1 .1 .1 .1 .0 .1 .0 .1) in
-    sym (put-out (a .at) (a .hold) (a .t1) (omega arith))
-
 mul-hold : tie.Need-mul-hold
 mul-hold c = search needs
 
 element-set-from-hold : tie.Need-element-set-from-hold
 element-set-from-hold c = search needs
 
-returns-2 : tie.Need-returns-2
+returns : tie.Need-returns
 unfolding put-hold
-returns-2 c = refl
+returns c = refl
+
+returns-2 : tie.Need-returns-2
+returns-2 c =
+    let a = c .before .args in
+    let long : length (a .t1 .holds) ≡ HOLDS = simp length-map at (c .before .good .0 .1 .1 .1 .1 .0 .1 .0 .1) in
+    sym (put-out (a .at) (a .hold) (a .t1) (omega arith))
 
 pub add-hold-spec : {M : Type 1} → statement M
-add-hold-spec = tie.close (tie.spec returns mul-hold element-set-from-hold returns-2)
+add-hold-spec = tie.close (tie.spec mul-hold element-set-from-hold returns returns-2)

@@ -1,16 +1,14 @@
--- `accounts::Accounts::charge` meets its contract: the two tests are the definition's, and the amount is taken off only after both.
+-- `accounts::Accounts::charge` meets its contract: a quota that is there changes by itself.
 -- Assumes nothing.
 use borrow.Author.Needs.{needs}
-use mathlib.Core.Path.{sym}
-use Rattle.accounts.specs.Accounts.{remaining, set-remaining}
-use Rattle.accounts.proofs.Laws.{charge-pays, charge-no-quota, charge-short}
+use mathlib.Core.Path.{_∙_, ap, sym}
+use Prim.Native.Nat.{_+_}
+use lib.ListN.{set}
+use Rattle.accounts.specs.declared.Quota.{Quota}
+use Rattle.accounts.specs.Accounts.{with-quotas}
+use Rattle.accounts.proofs.Laws.{charge-charged, charge-no-quota}
 use Rattle.accounts.proofs.Accounts.charge.Statement.{statement}
 use Rattle.accounts.proofs.Accounts.charge.Tie as tie
-
-returns : tie.Need-returns
-returns c =
-    let a = c .before .args in
-    sym (charge-no-quota (a .quota) (a .amount) (a .t1) (search needs))
 
 mul-entry : tie.Need-mul-entry
 mul-entry c = search needs
@@ -18,36 +16,26 @@ mul-entry c = search needs
 element-copy-out-entry : tie.Need-element-copy-out-entry
 element-copy-out-entry c = search needs
 
+charged-requires : tie.Need-charged-requires
+charged-requires c κs = search needs
+
+mul-t8 : tie.Need-mul-t8
+mul-t8 c = search needs
+
+element-set-from-self : tie.Need-element-set-from-self
+element-set-from-self c = search needs
+
+returns : tie.Need-returns
+returns c =
+    let a = c .before .before .before .args in
+    ap (λ (x : Quota). with-quotas (set (a .t1 .quotas) (a .quota) x) (a .t1)) (c .charged .ensures) ∙ sym (charge-charged (a .quota) (a .amount) (a .t1) (search needs))
+
 returns-2 : tie.Need-returns-2
-unfolding remaining
 returns-2 c =
-    let a = c .before .before .before .before .args in
-    sym (charge-short (a .quota) (a .amount) (a .t1) (search needs))
-
-sub-entry : tie.Need-sub-entry
-sub-entry c = search needs
-
-mul-entry-2 : tie.Need-mul-entry-2
-mul-entry-2 c = search needs
-
-element-set-from-entry : tie.Need-element-set-from-entry
-element-set-from-entry c = search needs
-
-returns-3 : tie.Need-returns-3
-unfolding remaining set-remaining
-returns-3 c =
-    let a = c .before .before .before .before .before .args in
-    sym (charge-pays (a .quota) (a .amount) (a .t1) (search needs) (search needs))
+    let a = c .before .args in
+    sym (charge-no-quota (a .quota) (a .amount) (a .t1) (search needs))
 
 pub charge-spec : {M : Type 1} → statement M
 charge-spec =
     tie.close
-    (tie.spec
-    returns
-    mul-entry
-    element-copy-out-entry
-    returns-2
-    sub-entry
-    mul-entry-2
-    element-set-from-entry
-    returns-3)
+    (tie.spec mul-entry element-copy-out-entry charged-requires mul-t8 element-set-from-self returns returns-2)

@@ -1,16 +1,14 @@
--- `accounts::Accounts::refund` meets its contract: the two tests are the definition's, and the sum is made only where it fits 32 bits.
+-- `accounts::Accounts::refund` meets its contract: a quota that is there changes by itself.
 -- Assumes nothing.
 use borrow.Author.Needs.{needs}
-use mathlib.Core.Path.{sym}
-use Rattle.accounts.specs.Accounts.{remaining, set-remaining}
-use Rattle.accounts.proofs.Laws.{refund-pays, refund-no-quota, refund-long}
+use mathlib.Core.Path.{_∙_, ap, sym}
+use Prim.Native.Nat.{_+_}
+use lib.ListN.{set}
+use Rattle.accounts.specs.declared.Quota.{Quota}
+use Rattle.accounts.specs.Accounts.{with-quotas}
+use Rattle.accounts.proofs.Laws.{refund-refunded, refund-no-quota}
 use Rattle.accounts.proofs.Accounts.refund.Statement.{statement}
 use Rattle.accounts.proofs.Accounts.refund.Tie as tie
-
-returns : tie.Need-returns
-returns c =
-    let a = c .before .args in
-    sym (refund-no-quota (a .quota) (a .amount) (a .t1) (search needs))
 
 mul-entry : tie.Need-mul-entry
 mul-entry c = search needs
@@ -18,40 +16,26 @@ mul-entry c = search needs
 element-copy-out-entry : tie.Need-element-copy-out-entry
 element-copy-out-entry c = search needs
 
-sub-if2 : tie.Need-sub-if2
-sub-if2 c = search needs
+refunded-requires : tie.Need-refunded-requires
+refunded-requires c κs = search needs
+
+mul-t8 : tie.Need-mul-t8
+mul-t8 c = search needs
+
+element-set-from-self : tie.Need-element-set-from-self
+element-set-from-self c = search needs
+
+returns : tie.Need-returns
+returns c =
+    let a = c .before .before .before .args in
+    ap (λ (x : Quota). with-quotas (set (a .t1 .quotas) (a .quota) x) (a .t1)) (c .refunded .ensures) ∙ sym (refund-refunded (a .quota) (a .amount) (a .t1) (search needs))
 
 returns-2 : tie.Need-returns-2
-unfolding remaining
 returns-2 c =
-    let a = c .before .before .before .before .args in
-    sym (refund-long (a .quota) (a .amount) (a .t1) (search needs))
-
-add-entry : tie.Need-add-entry
-add-entry c = search needs
-
-mul-entry-2 : tie.Need-mul-entry-2
-mul-entry-2 c = search needs
-
-element-set-from-entry : tie.Need-element-set-from-entry
-element-set-from-entry c = search needs
-
-returns-3 : tie.Need-returns-3
-unfolding remaining set-remaining
-returns-3 c =
-    let a = c .before .before .before .before .before .args in
-    sym (refund-pays (a .quota) (a .amount) (a .t1) (search needs) (search needs))
+    let a = c .before .args in
+    sym (refund-no-quota (a .quota) (a .amount) (a .t1) (search needs))
 
 pub refund-spec : {M : Type 1} → statement M
 refund-spec =
     tie.close
-    (tie.spec
-    returns
-    mul-entry
-    element-copy-out-entry
-    sub-if2
-    returns-2
-    add-entry
-    mul-entry-2
-    element-set-from-entry
-    returns-3)
+    (tie.spec mul-entry element-copy-out-entry refunded-requires mul-t8 element-set-from-self returns returns-2)

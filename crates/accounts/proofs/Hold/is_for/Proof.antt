@@ -1,33 +1,33 @@
--- `accounts::Hold::is_for` meets its contract: the three tests of the definition, in its order.
+-- `accounts::Hold::is_for` meets its contract: the three tests of the definition, the serial first.
 -- Assumes nothing.
 use borrow.Author.Needs.{needs}
-use mathlib.Core.Path.{_≡_}
-use mathlib.Core.Bool.{true, false}
+use mathlib.Core.Path.{refl, sym, _∙_}
+use mathlib.Core.Bool.{true, _&&_, and-true, and-false}
 use borrow.Author.Tests.{ne-eqb, eq-eqb}
 use Rattle.accounts.specs.Accounts.{used, is-for}
 use Rattle.accounts.proofs.Hold.is_for.Statement.{statement}
 use Rattle.accounts.proofs.Hold.is_for.Tie as tie
 
-is-used-requires : tie.Need-is-used-requires
-is-used-requires c κs = search needs
-
 returns : tie.Need-returns
 unfolding is-for
-returns c =
-    let u : used (c .before .before .before .before .before .args .self) ≡ true = cc in
-    simp (u, eq-eqb _ _ (c .before .if2 .taken))
+returns c = rw (ne-eqb _ _ (c .if1 .taken), and-false (used (c .before .before .args .self))) refl
 
 returns-2 : tie.Need-returns-2
 unfolding is-for
 returns-2 c =
-    let u : used (c .before .before .before .before .args .self) ≡ true = cc in
-    simp (u, ne-eqb _ _ (c .if2 .left))
+    let m = c .before .before in
+    rw (eq-eqb _ _ (m .if1 .left), ne-eqb _ _ (c .if2 .taken)) (sym (and-false (used (m .before .before .args .self) && true)))
+
+is-used-requires : tie.Need-is-used-requires
+is-used-requires c κs = search needs
 
 returns-3 : tie.Need-returns-3
 unfolding is-for
 returns-3 c =
-    let u : used (c .before .before .args .self) ≡ false = cc in
-    simp u
+    let n = c .before in
+    let m = n .before .before in
+    let u = used (m .before .before .args .self) in
+    rw (eq-eqb _ _ (m .if1 .left), eq-eqb _ _ (n .if2 .left)) (c .is-used .ensures ∙ sym (and-true u) ∙ sym (and-true (u && true)))
 
 pub is-for-spec : {M : Type 1} → statement M
-is-for-spec = tie.close (tie.spec is-used-requires returns returns-2 returns-3)
+is-for-spec = tie.close (tie.spec returns returns-2 is-used-requires returns-3)
