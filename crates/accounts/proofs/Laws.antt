@@ -3,20 +3,20 @@
 use Prim.Native.Nat.{ℕ, zero, suc, _+_, _-_, _^_, _≤_, _<_}
 use native.Mathlib.Omega.{arith}
 use mathlib.Core.Path.{_≡_, refl, ap, sym, subst, _∙_}
-use mathlib.Core.Bool.{Bool, true, false, cond, _&&_, true≢false}
+use mathlib.Core.Bool.{Bool, true, false, cond, _&&_, and-false, true≢false}
 use mathlib.Core.Logic.{_⊎_, inl, inr, ⊎-elim, _≢_}
 use mathlib.Core.List.{List, [], _∷_, map}
 use lib.ListN.{length, getD, set, length-set, length-map, length-replicate, List·getD-map, List·getD-eq-default}
 use lib.Seq.{getD-set-same, getD-set-other, set-set, set-getD, set-out, map-set-same, ext-getD}
 use lib.Dec.{leb, ltb}
 use borrow.Author.Count.{below-more}
-use borrow.Author.Tests.{lt-ltb, le-ltb, le-leb}
+use borrow.Author.Tests.{lt-ltb, le-ltb, le-leb, ne-eqb}
 use Rattle.accounts.specs.declared.Quota.{Quota}
 use Rattle.accounts.specs.declared.Hold.{Hold}
 use Rattle.accounts.specs.declared.Accounts.{Accounts}
 use Rattle.accounts.specs.declared.Place.the-variants.{At, Nothing}
 use Rattle.accounts.specs.Accounts.{QUOTAS, HOLDS, zero-quota, zero-hold, zero-accounts, with-remainder, with-quotas, with-holds, with-last-serial, grants, granted, opened}
-use Rattle.accounts.specs.Accounts.{quota-at, remaining, spent, set-remaining, charged, refunded, charge, refund, first-from, hold-at, put-hold}
+use Rattle.accounts.specs.Accounts.{quota-at, remaining, spent, set-remaining, charged, refunded, charge, refund, used, is-for, first-from, hold-at, put-hold}
 use Rattle.accounts.proofs.Rows
 
 -- the first record that passes a test stands at place i
@@ -98,6 +98,11 @@ module _ (p : Hold → Bool) where
     unfolding Searched
     none-nothing none =
         ⊎-elim (λ f. absurd (true≢false (sym (f .2 .passes) ∙ none (f .0) (f .2 .within)))) (λ f. f .0) (searched 0 hs)
+
+-- a record of another object is not for this one
+pub for-another : (serial q : ℕ) (h : Hold) → h .serial ≢ serial → is-for serial q h ≡ false
+unfolding is-for
+for-another serial q h d = rw (ne-eqb (h .serial) serial d, and-false (used h)) refl
 
 -- the tables have their lengths
 pub record Sized (k : Accounts) : Type 0 where

@@ -217,9 +217,11 @@ impl Accounts {
     {
         let mut at: usize = 0;
         while at < HOLDS {
-            let hold = self.holds[at];
-            if hold.is_for(serial, quota) {
-                return Place::At(at);
+            if self.holds[at].serial == serial {
+                let hold = self.holds[at];
+                if hold.is_for(serial, quota) {
+                    return Place::At(at);
+                }
             }
             at += 1;
         }

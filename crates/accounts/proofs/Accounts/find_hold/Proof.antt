@@ -7,9 +7,10 @@ use native.Mathlib.Omega.{arith}
 use borrow.Author.Count.{below-none, below-more}
 use mathlib.Core.Path.{_≡_, sym, _∙_}
 use mathlib.Core.Bool.{false}
+use mathlib.Core.Logic.{⊎-elim}
 use lib.ListN.{length, getD, length-map}
 use Rattle.accounts.specs.Accounts.{HOLDS, zero-hold, is-for, find-hold}
-use Rattle.accounts.proofs.Laws.{first-found, none-nothing}
+use Rattle.accounts.proofs.Laws.{first-found, none-nothing, for-another}
 use Rattle.accounts.proofs.Accounts.find_hold.Statement.{statement}
 use Rattle.accounts.proofs.Accounts.find_hold.Tie as tie
 
@@ -26,6 +27,12 @@ long c = simp length-map at (c .good .0 .1 .1 .1 .1 .0 .1 .0 .1)
 loop-holds : tie.Need-loop-holds Inv-loop μ-loop
 loop-holds c = (search needs, below-none _)
 
+mul-if1 : tie.Need-mul-if1 Inv-loop μ-loop
+mul-if1 c = search needs
+
+element-copy-out-if1 : tie.Need-element-copy-out-if1 Inv-loop μ-loop
+element-copy-out-if1 c = search needs
+
 mul-hold : tie.Need-mul-hold Inv-loop μ-loop
 mul-hold c = search needs
 
@@ -38,11 +45,11 @@ is-for-requires c κs = search needs
 returns : tie.Need-returns Inv-loop μ-loop
 unfolding find-hold
 returns c =
-    let at = c .before .before .before .before in
+    let at = c .before .before .before .before .before in
     let a = at .before .args in
     sym
     (first-found (is-for (a .serial) (a .quota)) (a .t1 .holds) (at .loop .at)
-    (record { within = omega (arith, long (at .before)); passes = sym (c .before .is-for .ensures) ∙ c .if1 .taken; earlier = at .loop .inv .1 }))
+    (record { within = omega (arith, long (at .before)); passes = sym (c .before .is-for .ensures) ∙ c .if2 .taken; earlier = at .loop .inv .1 }))
 
 add-at : tie.Need-add-at Inv-loop μ-loop
 add-at c = search needs
@@ -52,8 +59,13 @@ loop-less c = search needs
 
 loop-again : tie.Need-loop-again Inv-loop μ-loop
 loop-again c =
-    let at = c .before .before .before .before in
-    (search needs, below-more _ _ (at .loop .inv .1) (sym (c .before .is-for .ensures) ∙ c .if1 .left))
+    let at = c .before .before in
+    let a = at .before .args in
+    (
+      search needs,
+      below-more _ _ (at .loop .inv .1)
+      (⊎-elim (λ t. sym (t .2 .ensures) ∙ t .3 .left) (λ e. for-another (a .serial) (a .quota) (getD (a .t1 .holds) (at .loop .at) zero-hold) (e .left)) (c .if1 .came)),
+    )
 
 returns-2 : tie.Need-returns-2 Inv-loop μ-loop
 unfolding find-hold
@@ -69,6 +81,8 @@ find-hold-spec =
     Inv-loop
     μ-loop
     loop-holds
+    mul-if1
+    element-copy-out-if1
     mul-hold
     element-copy-out-hold
     is-for-requires

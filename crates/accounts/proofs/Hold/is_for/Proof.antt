@@ -1,16 +1,18 @@
 -- `accounts::Hold::is_for` meets its contract: the three tests of the definition, the serial first.
 -- Assumes nothing.
 use borrow.Author.Needs.{needs}
-use mathlib.Core.Path.{refl, sym, _∙_}
+use mathlib.Core.Path.{sym, _∙_}
 use mathlib.Core.Bool.{true, _&&_, and-true, and-false}
 use borrow.Author.Tests.{ne-eqb, eq-eqb}
 use Rattle.accounts.specs.Accounts.{used, is-for}
+use Rattle.accounts.proofs.Laws.{for-another}
 use Rattle.accounts.proofs.Hold.is_for.Statement.{statement}
 use Rattle.accounts.proofs.Hold.is_for.Tie as tie
 
 returns : tie.Need-returns
-unfolding is-for
-returns c = rw (ne-eqb _ _ (c .if1 .taken), and-false (used (c .before .before .args .self))) refl
+returns c =
+    let a = c .before .before .args in
+    sym (for-another (a .serial) (a .quota) (a .self) (c .if1 .taken))
 
 returns-2 : tie.Need-returns-2
 unfolding is-for
