@@ -56,7 +56,7 @@ pub(crate) fn grant(heap: &mut [u8], accounts: Accounts, quota: u32, length: u32
 {
     let size = rounding::object_length(length) as u32;
     let charge = size + 8;
-    if accounts.remaining(quota) < charge {
+    if accounts.quotas[quota as usize].remainder < charge {
         return HandleResult::refused(accounts, Refusal::QuotaExceeded);
     }
     let Place::At(place) = accounts.lowest_unused() else {

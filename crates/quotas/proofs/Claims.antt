@@ -65,19 +65,19 @@ module _ (i n : ℕ) (k : Accounts) (h : Hold) (is : h ≡ hold-at i k) where
   again-raises d = rw (sym is, ne-eqb (h .count) greatest-count d)
 
 -- a remainder below the charge, and one that is enough, with and without an unused record
-module _ (q : ℕ) (h : Hold) (n : ℕ) (k : Accounts) (x : ℕ) (is : x ≡ remaining q k) where
-  pub first-short : x < charge-of n → not-claimed QuotaExceeded k ≡ claim-first q h n k
+module _ (q : ℕ) (h : Hold) (n : ℕ) (k : Accounts) where
+  pub first-short : remaining q k < charge-of n → not-claimed QuotaExceeded k ≡ claim-first q h n k
   unfolding claim-first
-  first-short l = rw (sym is, lt-ltb x (charge-of n) l)
+  first-short l = rw (lt-ltb (remaining q k) (charge-of n) l)
 
-  module _ (enough : charge-of n ≤ x) (p : Place) (at : p ≡ lowest-unused k) where
+  module _ (enough : charge-of n ≤ remaining q k) (p : Place) (at : p ≡ lowest-unused k) where
     pub first-full : p ≡ Nothing → not-claimed HoldsExhausted k ≡ claim-first q h n k
     unfolding claim-first claim-in
-    first-full e = rw (sym is, le-ltb x (charge-of n) enough, sym at, e)
+    first-full e = rw (le-ltb (remaining q k) (charge-of n) enough, sym at, e)
 
     pub first-takes : (i : ℕ) → p ≡ At i → claimed-length n (put-hold i h (charge q (charge-of n) k)) ≡ claim-first q h n k
     unfolding claim-first claim-in
-    first-takes i e = rw (sym is, le-ltb x (charge-of n) enough, sym at, e)
+    first-takes i e = rw (le-ltb (remaining q k) (charge-of n) enough, sym at, e)
 
 -- claim's lines behind the lookup, and what it leaves and answers
 abbrev pub claim-rest : Accounts → ℕ → Handle → List Line

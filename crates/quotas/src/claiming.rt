@@ -10,7 +10,8 @@ use model::Handle;
 use model::Refusal;
 use model::Verdict;
 ghost use mathlib.Core.Path.{_≡_};
-ghost use Prim.Native.Nat.{_≤_};
+ghost use Prim.Native.Nat.{_≤_, _<_};
+ghost use Rattle.accounts.specs.Accounts.{QUOTAS};
 ghost use Rattle.model.specs.Calls.{claim as claim-of};
 ghost use Rattle.quotas.specs.Results.{amount-outcome};
 ghost use Rattle.quotas.specs.Claims.{claim-again, claim-first};
@@ -36,11 +37,11 @@ fn claim_again(accounts: Accounts, at: usize, length: u32) -> AmountResult
 
 // The quota pays for an object of this length, and the lowest unused record becomes its hold.
 fn claim_first(accounts: Accounts, quota: u32, hold: Hold, length: u32) -> AmountResult
-    requires { ⌜ length ≤ 32760 ⌝ }
+    requires { ⌜ (quota < QUOTAS) × (length ≤ 32760) ⌝ }
     ensures { λ r. ⌜ r ≡ claim-first quota hold length accounts ⌝ }
 {
     let charge = length + 8;
-    if accounts.remaining(quota) < charge {
+    if accounts.quotas[quota as usize].remainder < charge {
         return AmountResult::refused(accounts, Refusal::QuotaExceeded);
     }
     let Place::At(at) = accounts.lowest_unused() else {

@@ -5,6 +5,7 @@ use mathlib.Core.Path.{_≡_, ap, sym, _∙_}
 use Prim.Native.Nat.{_+_}
 use native.Mathlib.Omega.{arith}
 use Rattle.accounts.specs.declared.Accounts.{Accounts}
+use Rattle.accounts.specs.Accounts.{remaining}
 use Rattle.model.specs.declared.HandleAnswer.the-variants.{Given}
 use Rattle.rounding.specs.Rounding.{unit, object-length, alignment}
 use Rattle.rounding.proofs.Rounding.{within-heap}
@@ -29,19 +30,22 @@ add-charge c =
     let e = c .before .before in
     omega (arith, c .object-length .ensures, within-heap (e .args .length) (e .pre .short))
 
-remaining-requires : tie.Need-remaining-requires
-remaining-requires c κs = search needs
+mul-if1 : tie.Need-mul-if1
+mul-if1 c = search needs
+
+element-copy-out-if1 : tie.Need-element-copy-out-if1
+element-copy-out-if1 c = omega (arith, c .before .before .pre .checked .exists)
 
 refused-requires : tie.Need-refused-requires
 refused-requires c κs = search needs
 
 returns : tie.Need-returns
+unfolding remaining
 returns c =
-    let m = c .before .before in
-    let z = m .before in
+    let z = c .before .before in
     let e = z .before .before in
     let a = e .args in
-    refused-8 (a .heap .now) (a .accounts) (a .quota) (a .length) (e .pre) (c .refused .result) (omega (arith, c .before .if1 .taken, m .remaining .ensures, z .object-length .ensures))
+    refused-8 (a .heap .now) (a .t2) (a .quota) (a .length) (e .pre) (c .refused .result) (omega (arith, c .before .if1 .taken, z .object-length .ensures))
     (c .refused .ensures)
 
 lowest-unused-requires : tie.Need-lowest-unused-requires
@@ -57,29 +61,29 @@ refused-requires-2 : tie.Need-refused-requires-2
 refused-requires-2 c κs = search needs
 
 returns-2 : tie.Need-returns-2
+unfolding remaining
 returns-2 c =
     let u = c .before .before .before in
     let x = u .before in
-    let m = x .before in
-    let z = m .before in
+    let z = x .before in
     let e = z .before .before in
     let a = e .args in
-    refused-9 (a .heap .now) (a .accounts) (a .quota) (a .length) (e .pre) (c .refused2 .result) (omega (arith, x .if1 .left, m .remaining .ensures, z .object-length .ensures))
+    refused-9 (a .heap .now) (a .t2) (a .quota) (a .length) (e .pre) (c .refused2 .result) (omega (arith, x .if1 .left, z .object-length .ensures))
     (sym (u .lowest-unused .ensures) ∙ c .before .enum-told .given .1) (c .refused2 .ensures)
 
 refused-requires-3 : tie.Need-refused-requires-3
 refused-requires-3 c κs = search needs
 
 returns-3 : tie.Need-returns-3
+unfolding remaining
 returns-3 c =
     let p = c .before .before .before in
     let u = p .before .before in
     let x = u .before in
-    let m = x .before in
-    let z = m .before in
+    let z = x .before in
     let e = z .before .before in
     let a = e .args in
-    refused-10 (a .heap .now) (a .accounts) (a .quota) (a .length) (e .pre) (c .refused3 .result) (omega (arith, x .if1 .left, m .remaining .ensures, z .object-length .ensures))
+    refused-10 (a .heap .now) (a .t2) (a .quota) (a .length) (e .pre) (c .refused3 .result) (omega (arith, x .if1 .left, z .object-length .ensures))
     (p .place .given .0 .0) (sym (u .lowest-unused .ensures) ∙ p .place .given .1) (omega (arith, c .before .if2 .taken, e .good .1 .0 .1 .1 .1 .0 .1)) (c .refused3 .ensures)
 
 alignment-requires : tie.Need-alignment-requires
@@ -92,22 +96,22 @@ find-base-requires : tie.Need-find-base-requires
 find-base-requires c κs = search needs
 
 -- the search for a base is the definition's
-searched : (b : tie.After-find-base) → let a = b .before .before .before .before .before .before .before .before .before .before .before .before .args in
+searched : (b : tie.After-find-base) → let a = b .before .before .before .before .before .before .before .before .before .before .before .args in
     b .find-base .result ≡ find-fit (alignment unit (a .length)) (object-length unit (a .length)) (a .heap .now)
 searched b =
     let l = b .before .before in
-    let z = l .before .before .before .before .before .before .before .before in
+    let z = l .before .before .before .before .before .before .before in
     let a = z .before .before .args in
     b .find-base .ensures ∙ (λ i. find-fit (l .alignment .ensures i) (z .object-length .ensures i) (a .heap .now))
 
 -- the object lies in the block that was found
-room : (l : tie.After-block) → let a = l .before .before .before .before .before .before .before .before .before .before .before .before .before .before .args in
+room : (l : tie.After-block) → let a = l .before .before .before .before .before .before .before .before .before .before .before .before .before .args in
     Room (l .block .given .0 .0) (l .block .given .0 .1 .0) (object-length unit (a .length))
 room l =
     let b = l .before .before in
-    let e = b .before .before .before .before .before .before .before .before .before .before .before .before in
+    let e = b .before .before .before .before .before .before .before .before .before .before .before in
     let a = e .args in
-    the-room (a .heap .now) (a .accounts) (a .length) (e .pre .checked .sound) (l .block .given .0 .0) (l .block .given .0 .1 .0) (sym (searched b) ∙ l .block .given .1)
+    the-room (a .heap .now) (a .t2) (a .length) (e .pre .checked .sound) (l .block .given .0 .0) (l .block .given .0 .1 .0) (sym (searched b) ∙ l .block .given .1)
     (e .pre .checked .extent)
 
 enum-known-block : tie.Need-enum-known-block
@@ -123,17 +127,17 @@ same-length : tie.Need-same-length
 same-length c = search needs
 
 returns-4 : tie.Need-returns-4
+unfolding remaining
 returns-4 c =
     let b = c .before .before .before in
     let y = b .before .before .before in
     let p = y .before .before in
     let u = p .before .before in
     let x = u .before in
-    let m = x .before in
-    let z = m .before in
+    let z = x .before in
     let e = z .before .before in
     let a = e .args in
-    refused-11 (a .heap .now) (a .accounts) (a .quota) (a .length) (e .pre) (c .refused4 .result) (omega (arith, x .if1 .left, m .remaining .ensures, z .object-length .ensures))
+    refused-11 (a .heap .now) (a .t2) (a .quota) (a .length) (e .pre) (c .refused4 .result) (omega (arith, x .if1 .left, z .object-length .ensures))
     (p .place .given .0 .0) (sym (u .lowest-unused .ensures) ∙ p .place .given .1) (y .if2 .left) (sym (searched b) ∙ c .before .enum-told2 .given .1) (c .refused4 .ensures)
 
 add-serial : tie.Need-add-serial
@@ -158,6 +162,7 @@ same-length-2 : tie.Need-same-length-2
 same-length-2 c = search needs
 
 returns-5 : tie.Need-returns-5
+unfolding remaining
 returns-5 c =
     let v = c .before .before .before .before in
     let l = v .before .before .before in
@@ -166,13 +171,12 @@ returns-5 c =
     let p = y .before .before in
     let u = p .before .before in
     let x = u .before in
-    let m = x .before in
-    let z = m .before in
+    let z = x .before in
     let e = z .before .before in
     let a = e .args in
     let q = l .block .given in
-    let n = a .accounts .«last_serial» + 1 in
-    granted (a .heap .now) (a .accounts) (a .quota) (a .length) (e .pre) (c .given .result) (omega (arith, x .if1 .left, m .remaining .ensures, z .object-length .ensures)) (p .place .given .0 .0)
+    let n = a .t2 .«last_serial» + 1 in
+    granted (a .heap .now) (a .t2) (a .quota) (a .length) (e .pre) (c .given .result) (omega (arith, x .if1 .left, z .object-length .ensures)) (p .place .given .0 .0)
     (sym (u .lowest-unused .ensures) ∙ p .place .given .1) (y .if2 .left) (q .0 .0) (q .0 .1 .0) (sym (searched b) ∙ q .1) (λ i. omega (arith, z .before .slice-known .given i)) (v .carve .last .0)
     (z .object-length .result) (z .object-length .ensures) (v .carve .ensures)
     (c .given .ensures ∙ ap (λ (w : Accounts). record { accounts = w; answer = Given (record { base = q .0 .1 .0; length = z .object-length .result; serial = n }) }) (c .before .booked .ensures))
@@ -184,7 +188,8 @@ grant-spec =
     object-length-requires
     cast-size
     add-charge
-    remaining-requires
+    mul-if1
+    element-copy-out-if1
     refused-requires
     returns
     lowest-unused-requires

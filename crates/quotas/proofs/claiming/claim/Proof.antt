@@ -135,7 +135,7 @@ claim-first-requires c κs =
     let a = e .before .before .before .before .args in
     let k = e .before .before .check in
     let l = located (a .heap .now) (a .accounts) (k .result) (k .ensures) (e .enum-told .given .1) (a .handle) (b .block .given .0 .0) (sym (f .find-object .ensures) ∙ b .block .given .1) in
-    omega (arith, l .header, l .end)
+    (omega (arith, f .before .if1 .left), omega (arith, l .header, l .end))
 
 returns-5 : tie.Need-returns-5
 returns-5 c =

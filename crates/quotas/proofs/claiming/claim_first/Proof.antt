@@ -1,10 +1,11 @@
 -- `quotas::claim_first` meets its contract: the charge is compared with the remainder, then the lowest unused place is looked for, and only then the
 -- quota pays and the record is stored.
 -- Assumes nothing.
+use native.Mathlib.Omega.{arith}
 use mathlib.Core.Path.{ap, _∙_}
 use borrow.Author.Needs.{needs}
 use Rattle.accounts.specs.declared.Accounts.{Accounts}
-use Rattle.accounts.specs.Accounts.{put-hold}
+use Rattle.accounts.specs.Accounts.{remaining, put-hold}
 use Rattle.quotas.specs.Claims.{claimed-length}
 use Rattle.quotas.proofs.Claims.{first-short, first-full, first-takes}
 use Rattle.quotas.proofs.claiming.claim_first.Statement.{statement}
@@ -13,17 +14,20 @@ use Rattle.quotas.proofs.claiming.claim_first.Tie as tie
 add-charge : tie.Need-add-charge
 add-charge c = search needs
 
-remaining-requires : tie.Need-remaining-requires
-remaining-requires c κs = search needs
+mul-if1 : tie.Need-mul-if1
+mul-if1 c = search needs
+
+element-copy-out-if1 : tie.Need-element-copy-out-if1
+element-copy-out-if1 c = omega (arith, c .pre .0)
 
 refused-requires : tie.Need-refused-requires
 refused-requires c κs = search needs
 
 returns : tie.Need-returns
+unfolding remaining
 returns c =
-    let r = c .before .before in
-    let a = r .before .args in
-    c .refused .ensures ∙ first-short (a .quota) (a .hold) (a .length) (a .accounts) (r .remaining .result) (r .remaining .ensures) (c .before .if1 .taken)
+    let a = c .before .before .args in
+    c .refused .ensures ∙ first-short (a .quota) (a .hold) (a .length) (a .t1) (c .before .if1 .taken)
 
 lowest-unused-requires : tie.Need-lowest-unused-requires
 lowest-unused-requires c κs = search needs
@@ -38,13 +42,12 @@ refused-requires-2 : tie.Need-refused-requires-2
 refused-requires-2 c κs = search needs
 
 returns-2 : tie.Need-returns-2
+unfolding remaining
 returns-2 c =
     let u = c .before .before .before in
-    let r = u .before .before in
-    let a = r .before .args in
+    let a = u .before .before .args in
     c .refused2 .ensures
-    ∙ first-full (a .quota) (a .hold) (a .length) (a .accounts) (r .remaining .result) (r .remaining .ensures) (u .before .if1 .left) (u .lowest-unused .result) (u .lowest-unused .ensures)
-    (c .before .enum-told .given .1)
+    ∙ first-full (a .quota) (a .hold) (a .length) (a .t1) (u .before .if1 .left) (u .lowest-unused .result) (u .lowest-unused .ensures) (c .before .enum-told .given .1)
 
 charge-requires : tie.Need-charge-requires
 charge-requires c κs = search needs
@@ -53,21 +56,21 @@ add-hold-requires : tie.Need-add-hold-requires
 add-hold-requires c κs = search needs
 
 returns-3 : tie.Need-returns-3
+unfolding remaining
 returns-3 c =
     let p = c .before .before .before in
     let u = p .before .before in
-    let r = u .before .before in
-    let a = r .before .args in
+    let a = u .before .before .args in
     ap (claimed-length (a .length)) (c .add-hold .ensures ∙ ap (λ (k : Accounts). put-hold (p .at .given .0 .0) (a .hold) k) (c .before .charge .ensures))
-    ∙ first-takes (a .quota) (a .hold) (a .length) (a .accounts) (r .remaining .result) (r .remaining .ensures) (u .before .if1 .left) (u .lowest-unused .result) (u .lowest-unused .ensures)
-    (p .at .given .0 .0) (p .at .given .1)
+    ∙ first-takes (a .quota) (a .hold) (a .length) (a .t1) (u .before .if1 .left) (u .lowest-unused .result) (u .lowest-unused .ensures) (p .at .given .0 .0) (p .at .given .1)
 
 pub claim-first-spec : {M : Type 1} → statement M
 claim-first-spec =
     tie.close
     (tie.spec
     add-charge
-    remaining-requires
+    mul-if1
+    element-copy-out-if1
     refused-requires
     returns
     lowest-unused-requires
