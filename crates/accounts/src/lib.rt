@@ -157,9 +157,9 @@ impl Accounts {
     pub fn remaining(self, quota: u32) -> u32
         ensures { λ r. ⌜ r ≡ remaining quota self ⌝ }
     {
-        let q = quota as usize;
-        if q < QUOTAS {
-            return self.quotas[q].remainder;
+        let number = quota as usize;
+        if number < QUOTAS {
+            return self.quotas[number].remainder;
         }
         0
     }
@@ -244,11 +244,11 @@ impl Accounts {
     }
 
     // The record at a place, of zeros where there is none.
-    pub fn hold_at(self, at: usize) -> Hold
-        ensures { λ r. ⌜ r ≡ hold-at at self ⌝ }
+    pub fn hold_at(self, place: usize) -> Hold
+        ensures { λ r. ⌜ r ≡ hold-at place self ⌝ }
     {
-        if at < HOLDS {
-            return self.holds[at];
+        if place < HOLDS {
+            return self.holds[place];
         }
         Hold::zero()
     }

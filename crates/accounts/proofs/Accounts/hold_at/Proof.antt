@@ -26,7 +26,7 @@ returns-2 : tie.Need-returns-2
 returns-2 c =
     let k = c .before .before .args .t1 in
     let long : length (k .holds) ≡ HOLDS = simp length-map at (c .before .before .good .0 .1 .1 .1 .1 .0 .1 .0 .1) in
-    c .zero .ensures ∙ sym (hold-at-out (c .before .before .args .at) k (omega arith))
+    c .zero .ensures ∙ sym (hold-at-out (c .before .before .args .place) k (omega arith))
 
 pub hold-at-spec : {M : Type 1} → statement M
 hold-at-spec =
