@@ -68,6 +68,14 @@ abbrev pub looked-up : Option Met → Lookup
 looked-up none = Missing
 looked-up (some m) = Found m
 
+-- a block that was met starts at a place
+abbrev pub stands-at : ℕ → Met → Bool
+stands-at at m = eqb (m .at) at
+
+-- the block that the walk meets at a place
+unfoldable pub find-at : ℕ → List ℕ → Lookup
+find-at at s = looked-up (first (stands-at at) (met s))
+
 -- the first block that holds the object that a handle names
 unfoldable pub find-object : Handle → List ℕ → Lookup
 find-object h s = looked-up (first (holds-named h) (met s))

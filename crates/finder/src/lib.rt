@@ -3,7 +3,9 @@ use layout::Start;
 use model::Handle;
 ghost use mathlib.Core.Path.{_≡_};
 ghost use Prim.Native.Nat.{_<_};
-ghost use Rattle.finder.specs.Walk.{Bounded, met-at, holds-named, fit-in, find-object, find-fit};
+ghost use mathlib.Core.Bool.{cond};
+ghost use Rattle.finder.specs.declared.Lookup.the-variants.{Missing};
+ghost use Rattle.finder.specs.Walk.{Bounded, met-at, find-at, holds-named, fit-in, find-object, find-fit};
 
 // A block that the walk met: its place, its size in bytes with the header, the units of the block before it, and its serial.
 pub struct Met {
@@ -61,21 +63,43 @@ fn holds_named(block: Met, handle: Handle) -> bool
     handle.serial == block.serial
 }
 
-// The block whose object a handle names.
+// Whether the walk comes to a place. Sizes alone lead it there.
+fn comes_to(heap: &[u8], target: usize) -> bool
+    ensures { λ r. ⌜ find-at target (now (heap .entry)) ≡ cond r (met-at target (now (heap .entry))) Missing ⌝ }
+{
+    if heap.len() <= target {
+        return false;
+    }
+    let mut at: usize = 0;
+    while at < target {
+        let units = layout::read_u16(heap, at) as usize;
+        if units == 0 {
+            return false;
+        }
+        at += 8 * units;
+    }
+    at == target
+}
+
+// The block whose object a handle names. It can stand at one place only: its header there is compared first, then the walk has to come there.
 pub fn find_object(heap: &[u8], handle: Handle) -> Lookup
     ensures { λ r. ⌜ r ≡ find-object handle (now (heap .entry)) ⌝ }
 {
-    let mut at: usize = 0;
-    loop {
-        let Lookup::Found(block) = met_at(heap, at) else {
-            return Lookup::Missing;
-        };
-        if holds_named(block, handle) {
-            return Lookup::Found(block);
-        }
-        let size = block.size;
-        at += size;
+    let base = handle.base as usize;
+    if base < 8 {
+        return Lookup::Missing;
     }
+    let place = base - 8;
+    let Lookup::Found(block) = met_at(heap, place) else {
+        return Lookup::Missing;
+    };
+    if !holds_named(block, handle) {
+        return Lookup::Missing;
+    }
+    if !comes_to(heap, place) {
+        return Lookup::Missing;
+    }
+    Lookup::Found(block)
 }
 
 // Where an object has its base in a block, if the block is free and has room. A gap up to the next multiple of the alignment stands in front of it.
