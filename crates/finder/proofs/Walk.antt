@@ -60,13 +60,21 @@ module _ (at : ℕ) (s : List ℕ) where
           let known : MetAt at s (headed at h) = record { place = refl; header = omega arith; inside = l; units = omega arith; serial = sym n } in
           rw q at known
 
-  -- where the size that is read is 0, none is met
-  pub met-zero : read-number 2 at s ≡ 0 → met-at at s ≡ Missing
-  met-zero z = go (met-at at s) refl
+  -- where no block can be met, none is
+  met-not : ((m : Met) → met-at at s ≡ Found m → ⊥) → met-at at s ≡ Missing
+  met-not f = go (met-at at s) refl
     where
       go : (x : Lookup) → met-at at s ≡ x → met-at at s ≡ Missing
       go Missing e = e
-      go (Found m) e = let k = met-known m e in absurd (omega arith)
+      go (Found m) e = absurd (f m e)
+
+  -- where no header fits, none is met
+  pub met-short : length s < at + 8 → met-at at s ≡ Missing
+  met-short l = met-not (λ m e. let k = met-known m e in omega arith)
+
+  -- where the size that is read is 0, none is met
+  pub met-zero : read-number 2 at s ≡ 0 → met-at at s ≡ Missing
+  met-zero z = met-not (λ m e. let k = met-known m e in omega arith)
 
   -- where it is not 0 and none is met, the block would end behind s
   pub met-past : met-at at s ≡ Missing → 0 < read-number 2 at s → length s < at + 8 * read-number 2 at s

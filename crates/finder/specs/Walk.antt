@@ -101,6 +101,11 @@ fitted a (some m) = At m (base-in a m)
 unfoldable pub fit-in : ℕ → ℕ → Met → Fit
 fit-in a n m = cond (has-room a n m) (At m (base-in a m)) Nowhere
 
+-- the same of what the walk meets at a place
+abbrev pub fit-met : ℕ → ℕ → Lookup → Fit
+fit-met a n Missing = Nowhere
+fit-met a n (Found m) = fit-in a n m
+
 -- the first block that has room, and its lowest base; alignment 0 has no multiples but 0, and fits nowhere
 unfoldable pub find-fit : ℕ → ℕ → List ℕ → Fit
 find-fit a n s = cond (eqb a 0) Nowhere (fitted a (first (has-room a n) (met s)))
