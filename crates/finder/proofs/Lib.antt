@@ -1,4 +1,5 @@
 pub mod Walk
+pub mod Reached
 pub mod Multiple
 pub mod Fits
 pub mod Parsed

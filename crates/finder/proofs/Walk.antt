@@ -1,28 +1,35 @@
 -- The walk: what is known of a block that it meets, and how a search among the blocks that are met goes on from a place. A walk that meets no
 -- block finds nothing there, one that meets a block of which the test holds has found it, and any other goes on behind the block.
 -- Assumes nothing.
-use mathlib.Core.Path.{_≡_, refl, _∙_}
+use mathlib.Core.Path.{_≡_, refl, ap, sym, _∙_}
 use mathlib.Core.List.{List}
 use mathlib.Core.Bool.{Bool, true, false}
 use mathlib.Core.Option.{none, some}
-use Prim.Native.Nat.{ℕ, zero, suc, _+_, _≤_}
+use Prim.Native.Nat.{ℕ, zero, suc, _+_, _*_, _≤_, _<_}
 use native.Mathlib.Omega.{arith}
-use lib.ListN.{length}
-use Rattle.layout.specs.Blocks.{start-at}
+use lib.Dec.{leb}
+use borrow.Author.Tests.{leb-true, leb-false}
+use lib.ListN.{length, drop}
+use Rattle.layout.specs.Bytes.{read-number}
+use Rattle.layout.specs.Blocks.{read-header, start-at}
 use Rattle.layout.specs.declared.Header.{Header}
 use Rattle.layout.specs.declared.Start.{Start}
 use Rattle.layout.specs.declared.Start.the-variants.{Block as Starts, Nothing}
-use Rattle.layout.proofs.Starts.{start-found}
+use Rattle.layout.proofs.Fields.{read-fits, read-three}
+use Rattle.layout.proofs.Starts.{start-yes, start-found}
 use Rattle.model.specs.Lists.{first}
 use Rattle.finder.specs.declared.Met.{Met}
+use Rattle.finder.specs.declared.Lookup.{Lookup}
 use Rattle.finder.specs.declared.Lookup.the-variants.{Found, Missing}
 use Rattle.finder.specs.Walk.{headed, met-start, met-at, met-from, met}
 
--- a block that was met at a place of s: it has a header, and ends in s
+-- a block that was met at a place of s: it has a header, ends in s, and its size and serial are those that are read there
 pub record MetAt (at : ℕ) (s : List ℕ) (m : Met) : Type 0 where
   pub place : m .at ≡ at
   pub header : 8 ≤ m .size
   pub inside : at + m .size ≤ length s
+  pub units : m .size ≡ 8 * read-number 2 at s
+  pub serial : m .serial ≡ read-number 4 (at + 4) s
 
 module _ (at : ℕ) (s : List ℕ) where
   -- where no block starts, none is met
@@ -47,12 +54,44 @@ module _ (at : ℕ) (s : List ℕ) where
           let f = start-found at s h e in
           let p = f .some-size in
           let l = f .inside in
-          let known : MetAt at s (headed at h) = record { place = refl; header = omega arith; inside = l } in
+          let r = read-three at s (omega arith) ∙ f .header in
+          let z : read-number 2 at s ≡ h .size = ap (λ (x : Header). x .size) r in
+          let n : read-number 4 (at + 4) s ≡ h .serial = ap (λ (x : Header). x .serial) r in
+          let known : MetAt at s (headed at h) = record { place = refl; header = omega arith; inside = l; units = omega arith; serial = sym n } in
           rw q at known
+
+  -- where no block can be met, none is
+  met-not : ((m : Met) → met-at at s ≡ Found m → ⊥) → met-at at s ≡ Missing
+  met-not f = go (met-at at s) refl
+    where
+      go : (x : Lookup) → met-at at s ≡ x → met-at at s ≡ Missing
+      go Missing e = e
+      go (Found m) e = absurd (f m e)
+
+  -- where no header fits, none is met
+  pub met-short : length s < at + 8 → met-at at s ≡ Missing
+  met-short l = met-not (λ m e. let k = met-known m e in omega arith)
+
+  -- where the size that is read is 0, none is met
+  pub met-zero : read-number 2 at s ≡ 0 → met-at at s ≡ Missing
+  met-zero z = met-not (λ m e. let k = met-known m e in omega arith)
+
+  -- where it is not 0 and none is met, the block would end behind s
+  pub met-past : met-at at s ≡ Missing → 0 < read-number 2 at s → length s < at + 8 * read-number 2 at s
+  unfolding read-header
+  met-past e p = go (leb (at + 8 * read-number 2 at s) (length s)) refl
+    where
+      go : (x : Bool) → leb (at + 8 * read-number 2 at s) (length s) ≡ x → length s < at + 8 * read-number 2 at s
+      go false f = leb-false (at + 8 * read-number 2 at s) (length s) f
+      go true t =
+          let l = leb-true (at + 8 * read-number 2 at s) (length s) t in
+          let r : read-number 2 at s ≡ read-header (drop at s) .size = read-fits 2 at s (omega arith) in
+          let b = met-block (read-header (drop at s)) (start-yes at s (omega arith) (omega arith)) in
+          let z : _≡_ {A = ℕ} 0 1 = cc in
+          absurd (omega arith)
 
 -- a search that came to a place: it goes on there as the whole search does, with fuel enough for the rest of s
 pub record Searching (p : Met → Bool) (s : List ℕ) (at : ℕ) : Type 0 where
-  pub within : at ≤ length s
   pub fuel : ℕ
   pub enough : length s ≤ at + fuel
   pub same : first p (met s) ≡ first p (met-from fuel at s)
@@ -61,7 +100,7 @@ module _ (p : Met → Bool) (s : List ℕ) where
   -- it starts at 0
   pub search-start : Searching p s 0
   unfolding met
-  search-start = record { within = omega arith; fuel = length s; enough = omega arith; same = refl }
+  search-start = record { fuel = length s; enough = omega arith; same = refl }
 
   module _ (at : ℕ) (w : Searching p s at) where
     -- where it meets no block, it finds none
@@ -72,6 +111,19 @@ module _ (p : Met → Bool) (s : List ℕ) where
         go : (k : ℕ) → first p (met-from k at s) ≡ none
         go zero = refl
         go (suc k) = rw e
+
+    -- where the test holds of no block from there on, it finds none
+    pub search-none : ((x : ℕ) (m : Met) → at ≤ x → met-at x s ≡ Found m → p m ≡ false) → first p (met s) ≡ none
+    unfolding met-from first
+    search-none f = w .same ∙ go (w .fuel) at (omega arith)
+      where
+        step : (k x : ℕ) → at ≤ x → ((y : ℕ) → at ≤ y → first p (met-from k y s) ≡ none) → (o : Lookup) → met-at x s ≡ o → first p (met-from (suc k) x s) ≡ none
+        step k x l ih Missing e = rw e
+        step k x l ih (Found m) e = let n = met-known x s m e in rw (e, f x m l e) (ih (m .at + m .size) (omega arith))
+
+        go : (k x : ℕ) → at ≤ x → first p (met-from k x s) ≡ none
+        go zero x l = refl
+        go (suc k) x l = step k x l (go k) (met-at x s) refl
 
     module _ (m : Met) (e : met-at at s ≡ Found m) where
       -- a block of which the test holds is found
@@ -92,4 +144,13 @@ module _ (p : Met → Bool) (s : List ℕ) where
           go zero h q = let l = met-known at s m e in absurd (omega arith)
           go (suc k) h q =
               let l = met-known at s m e in
-              record { within = l .inside; fuel = k; enough = omega arith; same = q ∙ rw (e, t, l .place) }
+              record { fuel = k; enough = omega arith; same = q ∙ rw (e, t, l .place) }
+
+    -- the size alone leads on: past a block of which the test does not hold, or behind s
+    pub search-stepped : 0 < read-number 2 at s → ((m : Met) → met-at at s ≡ Found m → p m ≡ false) → Searching p s (at + 8 * read-number 2 at s)
+    unfolding met-from first
+    search-stepped n f = go (met-at at s) refl
+      where
+        go : (x : Lookup) → met-at at s ≡ x → Searching p s (at + 8 * read-number 2 at s)
+        go Missing e = let l = met-past at s e n in record { fuel = 0; enough = omega arith; same = search-ended e }
+        go (Found m) e = let k = met-known at s m e in rw (k .units) at (search-passed m e (f m e))

@@ -68,6 +68,14 @@ abbrev pub looked-up : Option Met → Lookup
 looked-up none = Missing
 looked-up (some m) = Found m
 
+-- a block that was met starts at a place
+abbrev pub stands-at : ℕ → Met → Bool
+stands-at at m = eqb (m .at) at
+
+-- the block that the walk meets at a place
+unfoldable pub find-at : ℕ → List ℕ → Lookup
+find-at at s = looked-up (first (stands-at at) (met s))
+
 -- the first block that holds the object that a handle names
 unfoldable pub find-object : Handle → List ℕ → Lookup
 find-object h s = looked-up (first (holds-named h) (met s))
@@ -92,6 +100,11 @@ fitted a (some m) = At m (base-in a m)
 -- the lowest base in one block, if the block has room
 unfoldable pub fit-in : ℕ → ℕ → Met → Fit
 fit-in a n m = cond (has-room a n m) (At m (base-in a m)) Nowhere
+
+-- the same of what the walk meets at a place
+abbrev pub fit-met : ℕ → ℕ → Lookup → Fit
+fit-met a n Missing = Nowhere
+fit-met a n (Found m) = fit-in a n m
 
 -- the first block that has room, and its lowest base; alignment 0 has no multiples but 0, and fits nowhere
 unfoldable pub find-fit : ℕ → ℕ → List ℕ → Fit

@@ -2,8 +2,10 @@
 use layout::Start;
 use model::Handle;
 ghost use mathlib.Core.Path.{_≡_};
-ghost use Prim.Native.Nat.{_<_};
-ghost use Rattle.finder.specs.Walk.{Bounded, met-at, holds-named, fit-in, find-object, find-fit};
+ghost use Prim.Native.Nat.{_+_, _^_, _<_};
+ghost use mathlib.Core.Bool.{cond};
+ghost use Rattle.finder.specs.declared.Lookup.the-variants.{Missing};
+ghost use Rattle.finder.specs.Walk.{Bounded, met-at, find-at, holds-named, fit-in, fit-met, find-object, find-fit};
 
 // A block that the walk met: its place, its size in bytes with the header, the units of the block before it, and its serial.
 pub struct Met {
@@ -61,33 +63,52 @@ fn holds_named(block: Met, handle: Handle) -> bool
     handle.serial == block.serial
 }
 
-// The block whose object a handle names.
+// Whether the walk comes to a place. Sizes alone lead it there.
+fn comes_to(heap: &[u8], target: usize) -> bool
+    ensures { λ r. ⌜ find-at target (now (heap .entry)) ≡ cond r (met-at target (now (heap .entry))) Missing ⌝ }
+{
+    if heap.len() <= target {
+        return false;
+    }
+    let mut at: usize = 0;
+    while at < target {
+        let units = layout::read_u16(heap, at) as usize;
+        if units == 0 {
+            return false;
+        }
+        at += 8 * units;
+    }
+    at == target
+}
+
+// The block whose object a handle names. It can stand at one place only: its header there is compared first, then the walk has to come there.
 pub fn find_object(heap: &[u8], handle: Handle) -> Lookup
     ensures { λ r. ⌜ r ≡ find-object handle (now (heap .entry)) ⌝ }
 {
-    let mut at: usize = 0;
-    loop {
-        let Lookup::Found(block) = met_at(heap, at) else {
-            return Lookup::Missing;
-        };
-        if holds_named(block, handle) {
-            return Lookup::Found(block);
-        }
-        let size = block.size;
-        at += size;
+    let base = handle.base as usize;
+    if base < 8 {
+        return Lookup::Missing;
     }
+    let place = base - 8;
+    let Lookup::Found(block) = met_at(heap, place) else {
+        return Lookup::Missing;
+    };
+    if !holds_named(block, handle) {
+        return Lookup::Missing;
+    }
+    if !comes_to(heap, place) {
+        return Lookup::Missing;
+    }
+    Lookup::Found(block)
 }
 
-// Where an object has its base in a block, if the block is free and has room. A gap up to the next multiple of the alignment stands in front of it.
+// Where an object has its base in a free block, if the block has room. A gap up to the next multiple of the alignment stands in front of it.
 fn fit_in(block: Met, alignment: usize, length: usize) -> Fit
-    requires { ⌜ (0 < alignment) × Bounded block ⌝ }
+    requires { ⌜ (0 < alignment) × (block .serial ≡ 0) × Bounded block ⌝ }
     ensures { λ r. ⌜ r ≡ fit-in alignment length block ⌝ }
 {
     let start = block.at + 8;
     let room = block.size - 8;
-    if block.serial != 0 {
-        return Fit::Nowhere;
-    }
     let gap = alignment - 1 - (start - 1) % alignment;
     if room < gap {
         return Fit::Nowhere;
@@ -99,6 +120,24 @@ fn fit_in(block: Met, alignment: usize, length: usize) -> Fit
     Fit::At(block, start + gap)
 }
 
+// The same for the block that starts at a place. Its size and its serial alone tell of most blocks that they are too small or live.
+fn fit_at(heap: &[u8], at: usize, alignment: usize, length: usize) -> Fit
+    requires { ⌜ (0 < alignment) × (at + 4 < 2 ^ 64) ⌝ }
+    ensures { λ r. ⌜ r ≡ fit-met alignment length (met-at at (now (heap .entry))) ⌝ }
+{
+    if layout::read_u32(heap, at + 4) != 0 {
+        return Fit::Nowhere;
+    }
+    let units = layout::read_u16(heap, at) as usize;
+    if units <= length / 8 {
+        return Fit::Nowhere;
+    }
+    let Lookup::Found(block) = met_at(heap, at) else {
+        return Fit::Nowhere;
+    };
+    fit_in(block, alignment, length)
+}
+
 // The first free block with room for an object of this alignment and length, and the object's base.
 pub fn find_base(heap: &[u8], alignment: u32, length: usize) -> Fit
     ensures { λ r. ⌜ r ≡ find-fit alignment length (now (heap .entry)) ⌝ }
@@ -107,16 +146,21 @@ pub fn find_base(heap: &[u8], alignment: u32, length: usize) -> Fit
     if unit == 0 {
         return Fit::Nowhere;
     }
+    let len = heap.len();
+    if len < 8 {
+        return Fit::Nowhere;
+    }
     let mut place: usize = 0;
-    loop {
-        let Lookup::Found(block) = met_at(heap, place) else {
-            return Fit::Nowhere;
-        };
-        let fit = fit_in(block, unit, length);
+    while place <= len - 8 {
+        let fit = fit_at(heap, place, unit, length);
         if let Fit::At(found, base) = fit {
             return Fit::At(found, base);
         }
-        let size = block.size;
-        place += size;
+        let units = layout::read_u16(heap, place) as usize;
+        if units == 0 {
+            return Fit::Nowhere;
+        }
+        place += 8 * units;
     }
+    Fit::Nowhere
 }

@@ -1,92 +1,89 @@
--- `finder::find_base` meets its contract. The loop's invariant: the search for a block with room came to `place` (`Searching`). Each turn meets a block
--- that ends in the heap, so the rest of the heap gets shorter.
+-- `finder::find_base` meets its contract. The loop's invariant: the search for a block with room came to `place` (`Searching`). Each turn goes on by the
+-- size that is read there (`search-stepped`), so the rest of the heap gets shorter.
 -- Assumes nothing.
 use borrow.Author.Needs.{needs}
 use native.Mathlib.Omega.{arith}
-use Prim.Native.Nat.{_-_}
+use Prim.Native.Nat.{_-_, _<_}
 use mathlib.Core.Path.{_≡_, ap, sym, _∙_}
-use lib.ListN.{length}
-use Rattle.finder.specs.declared.Lookup.the-variants.{Found}
-use Rattle.finder.specs.Walk.{met-at, has-room, fitted}
-use Rattle.finder.proofs.Walk.{MetAt, met-known, Searching, search-start, search-ended, search-found, search-passed}
-use Rattle.finder.proofs.Fits.{fit-room, fit-none, fit-zero, fit-ended, fit-first}
+use Rattle.layout.specs.Bytes.{read-number}
+use Rattle.finder.specs.Walk.{met-at, has-room, fitted, fit-met}
+use Rattle.finder.proofs.Walk.{met-short, met-zero, Searching, search-start, search-found, search-stepped}
+use Rattle.finder.proofs.Fits.{fit-none, met-fits, fit-zero, fit-ended, fit-first}
 use Rattle.finder.proofs.find_base.Statement.{statement}
 use Rattle.finder.proofs.find_base.Tie as tie
 
 abbrev Inv-loop : tie.InvT-loop
-Inv-loop heap alignment n unit place₀ place = Searching (has-room alignment n) heap place
+Inv-loop heap alignment n unit len place₀ place = Searching (has-room alignment n) heap place
 
 abbrev μ-loop : tie.MeasureT-loop
-μ-loop heap alignment n unit place₀ place = length heap - place
+μ-loop heap alignment n unit len place₀ place = len - place
 
 returns : tie.Need-returns Inv-loop μ-loop
 returns c = let a = c .before .before .args in sym (fit-zero (a .alignment) (a .length) (a .heap .now) (omega (arith, c .if1 .taken)))
 
-loop-holds : tie.Need-loop-holds Inv-loop μ-loop
-loop-holds c = let a = c .before .before .args in search-start (has-room (a .alignment) (a .length)) (a .heap .now)
-
-met-at-requires : tie.Need-met-at-requires Inv-loop μ-loop
-met-at-requires c κs = search needs
-
-enum-known-block : tie.Need-enum-known-block Inv-loop μ-loop
-enum-known-block c = search needs
-
-enum-told : tie.Need-enum-told Inv-loop μ-loop
-enum-told c = search needs
-
 returns-2 : tie.Need-returns-2 Inv-loop μ-loop
 returns-2 c =
-    let l = c .before .before .before in
-    let a = l .before .before .before .args in
-    let nothing = search-ended (has-room (a .alignment) (a .length)) (a .heap .now) (l .loop .place) (l .loop .inv) (sym (c .before .before .met-at .ensures) ∙ c .enum-told .given .1) in
-    sym (fit-ended (a .alignment) (a .length) (a .heap .now) nothing)
+    let a = c .before .before .before .args in
+    sym (fit-ended (a .alignment) (a .length) (a .heap .now) 0 (search-start (has-room (a .alignment) (a .length)) (a .heap .now)) (met-short 0 (a .heap .now) (omega arith)))
 
--- the block that was met at this place
-found : (c : tie.After-block Inv-loop μ-loop)
-    → met-at (c .before .before .before .loop .place) (c .before .before .before .before .before .before .args .heap .now) ≡ Found (c .block .given .0 .0)
-found c = sym (c .before .before .met-at .ensures) ∙ c .block .given .1
+loop-holds : tie.Need-loop-holds Inv-loop μ-loop
+loop-holds c = let a = c .before .before .before .args in search-start (has-room (a .alignment) (a .length)) (a .heap .now)
 
-known : (c : tie.After-block Inv-loop μ-loop)
-    → MetAt (c .before .before .before .loop .place) (c .before .before .before .before .before .before .args .heap .now) (c .block .given .0 .0)
-known c = met-known (c .before .before .before .loop .place) (c .before .before .before .before .before .before .args .heap .now) (c .block .given .0 .0) (found c)
-
-fit-in-requires : tie.Need-fit-in-requires Inv-loop μ-loop
-fit-in-requires c κs =
-    let k = known (c .before) in
-    (omega (arith, c .before .before .before .before .before .if1 .left), record { header = k .header; end = omega arith })
+fit-at-requires : tie.Need-fit-at-requires Inv-loop μ-loop
+fit-at-requires c κs = (omega (arith, c .before .before .before .if1 .left), omega arith)
 
 enum-known-fit : tie.Need-enum-known-fit Inv-loop μ-loop
 enum-known-fit c = search needs
 
 returns-3 : tie.Need-returns-3 Inv-loop μ-loop
 returns-3 c =
-    let b = c .before .before .before .before .before in
-    let l = b .before .before .before in
-    let r = l .before in
+    let l = c .before .before .before .before .before in
+    let r = l .before .before in
     let a = r .before .before .args in
-    let m = b .block .given .0 .0 in
     let f = c .before .fit .given in
-    let w = fit-room (a .alignment) (a .length) m (f .0 .0) (f .0 .1 .0) (sym (c .before .before .before .fit-in .ensures) ∙ f .1) in
-    let here = search-found (has-room (a .alignment) (a .length)) (a .heap .now) (l .loop .place) (l .loop .inv) m (found b) (w .0) in
-    w .1 ∙ sym (fit-first (a .alignment) (a .length) (a .heap .now) (omega (arith, r .if1 .left)) ∙ ap (fitted (a .alignment)) here)
+    let w = met-fits (a .alignment) (a .length) (met-at (l .loop .place) (a .heap .now)) (f .0 .0) (f .0 .1 .0) (sym (c .before .before .before .fit-at .ensures) ∙ f .1) in
+    let here = search-found (has-room (a .alignment) (a .length)) (a .heap .now) (l .loop .place) (l .loop .inv) (w .0) (w .1) (w .2) in
+    w .3 ∙ sym (fit-first (a .alignment) (a .length) (a .heap .now) (omega (arith, r .if1 .left)) ∙ ap (fitted (a .alignment)) here)
 
-enum-told-2 : tie.Need-enum-told-2 Inv-loop μ-loop
-enum-told-2 c = search needs
+enum-told : tie.Need-enum-told Inv-loop μ-loop
+enum-told c = search needs
+
+read-u16-requires : tie.Need-read-u16-requires Inv-loop μ-loop
+read-u16-requires c κs = search needs
+
+cast-units : tie.Need-cast-units Inv-loop μ-loop
+cast-units c = search needs
+
+returns-4 : tie.Need-returns-4 Inv-loop μ-loop
+returns-4 c =
+    let l = c .before .before .before .before .before .before in
+    let a = l .before .before .before .before .args in
+    sym (fit-ended (a .alignment) (a .length) (a .heap .now) (l .loop .place) (l .loop .inv) (met-zero (l .loop .place) (a .heap .now) (sym (c .before .read-u16 .ensures) ∙ c .if3 .taken)))
+
+mul-place : tie.Need-mul-place Inv-loop μ-loop
+mul-place c = search needs
 
 add-place : tie.Need-add-place Inv-loop μ-loop
-add-place c = let k = known (c .before .before .before .before) in omega arith
+add-place c = omega (arith, c .before .before .before .before .before .before .before .before .before .before .good .0 .1)
 
 loop-less : tie.Need-loop-less Inv-loop μ-loop
-loop-less c = let k = known (c .before .before .before .before) in omega arith
+loop-less c = search needs
 
 loop-again : tie.Need-loop-again Inv-loop μ-loop
 loop-again c =
-    let b = c .before .before .before .before in
-    let l = b .before .before .before in
-    let a = l .before .before .before .args in
-    let m = b .block .given .0 .0 in
-    let none = fit-none (a .alignment) (a .length) m (sym (c .before .before .fit-in .ensures) ∙ c .enum-told2 .given .1) in
-    search-passed (has-room (a .alignment) (a .length)) (a .heap .now) (l .loop .place) (l .loop .inv) m (found b) none
+    let l = c .before .before .before .before .before .before in
+    let a = l .before .before .before .before .args in
+    let nowhere = sym (c .before .before .before .before .fit-at .ensures) ∙ c .before .before .enum-told .given .1 in
+    let e = c .before .read-u16 .ensures in
+    rw e
+    (search-stepped (has-room (a .alignment) (a .length)) (a .heap .now) (l .loop .place) (l .loop .inv) (omega (arith, c .if3 .left))
+    (λ m f. fit-none (a .alignment) (a .length) m (rw f at nowhere)))
+
+returns-5 : tie.Need-returns-5 Inv-loop μ-loop
+returns-5 c =
+    let l = c .before in
+    let a = l .before .before .before .before .args in
+    sym (fit-ended (a .alignment) (a .length) (a .heap .now) (l .loop .place) (l .loop .inv) (met-short (l .loop .place) (a .heap .now) (omega arith)))
 
 pub find-base-spec : {M : Type 1} → statement M
 find-base-spec =
@@ -95,15 +92,17 @@ find-base-spec =
     Inv-loop
     μ-loop
     returns
-    loop-holds
-    met-at-requires
-    enum-known-block
-    enum-told
     returns-2
-    fit-in-requires
+    loop-holds
+    fit-at-requires
     enum-known-fit
     returns-3
-    enum-told-2
+    enum-told
+    read-u16-requires
+    cast-units
+    returns-4
+    mul-place
     add-place
     loop-less
-    loop-again)
+    loop-again
+    returns-5)

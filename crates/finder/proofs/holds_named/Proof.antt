@@ -12,6 +12,7 @@ use Rattle.model.proofs.Bools.{and-no}
 use Rattle.model.specs.declared.Handle.{Handle}
 use Rattle.finder.specs.declared.Met.{Met}
 use Rattle.finder.specs.Walk.{live-met, holds-named}
+use Rattle.finder.proofs.Reached.{other-base}
 use Rattle.finder.proofs.holds_named.Statement.{statement}
 use Rattle.finder.proofs.holds_named.Tie as tie
 
@@ -19,10 +20,6 @@ module _ (h : Handle) (m : Met) where
   free : m .serial ≡ 0 → holds-named h m ≡ false
   unfolding holds-named
   free e = rw (eq-eqb (m .serial) 0 e)
-
-  other-base : (h .base ≡ m .at + 8 → ⊥) → holds-named h m ≡ false
-  unfolding holds-named names whole
-  other-base b = and-no (live-met m) _ (rw (ne-eqb (h .base) (m .at + 8) b))
 
   other-length : (h .length ≡ m .size - 8 → ⊥) → holds-named h m ≡ false
   unfolding holds-named names whole
