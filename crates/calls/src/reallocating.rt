@@ -1,21 +1,23 @@
 // Reallocation: a new object while the old one still counts, the old one's bytes in it, and then the old one released once.
 use crate::HandleResult;
 use crate::allocation::grant;
-use crate::releasing::give_up;
+use crate::releasing::drop_claim;
 use accounts::Accounts;
 use accounts::Place;
 use accounts::QUOTAS;
 use finder::Lookup;
+use finder::Met;
 use model::Handle;
 use model::HandleAnswer;
 use model::Refusal;
 use model::Verdict;
 ghost use mathlib.Core.Path.{_≡_};
-ghost use Prim.Native.Nat.{min};
+ghost use Prim.Native.Nat.{_+_, _^_, _<_, min};
 ghost use Rattle.model.specs.Calls.{reallocate as reallocate-of};
 ghost use Rattle.rounding.specs.Rounding.{unit};
 ghost use Rattle.calls.specs.Results.{handle-outcome};
 ghost use Rattle.calls.specs.Ready.{Ready};
+ghost use Rattle.calls.specs.Releasing.{current};
 
 // The shorter of two lengths.
 fn shorter(a: usize, b: usize) -> usize
@@ -27,8 +29,21 @@ fn shorter(a: usize, b: usize) -> usize
     b
 }
 
+// A block that was met before, as it stands now: the block in front of it may be another one.
+fn current(heap: &[u8], block: Met) -> Met
+    requires { ⌜ block .at + 2 < 2 ^ 64 ⌝ }
+    ensures { λ r. ⌜ r ≡ current (now (heap .entry)) block ⌝ }
+{
+    Met {
+        at: block.at,
+        size: block.size,
+        back: layout::read_u16(heap, block.at + 2) as usize,
+        serial: block.serial,
+    }
+}
+
 // Reallocation behind the first four lines: the old object and the quota's record for it, a new object, the bytes that both have room for, and one
-// claim less on the old object, which is looked up again because the block in front of it may be another one now.
+// claim less on the old object. It stands where it stood, and the quota's record for it too.
 fn exchange(
     heap: &mut [u8],
     accounts: Accounts,
@@ -42,9 +57,9 @@ fn exchange(
     let Lookup::Found(old) = finder::find_object(heap, handle) else {
         return HandleResult::refused(accounts, Refusal::NoSuchObject);
     };
-    if let Place::Nothing = accounts.find_hold(old.serial, quota as u8) {
+    let Place::At(place) = accounts.find_hold(old.serial, quota as u8) else {
         return HandleResult::refused(accounts, Refusal::NotHeld);
-    }
+    };
     let granted = grant(heap, accounts, quota, length);
     let answer = granted.answer;
     let HandleAnswer::Given(new) = answer else {
@@ -52,7 +67,8 @@ fn exchange(
     };
     let count = shorter(new.length as usize, old.size - 8);
     layout::copy_part(heap, old.at + 8, new.base as usize, count);
-    let released = give_up(heap, granted.accounts, quota, handle);
+    let block = current(heap, old);
+    let released = drop_claim(heap, granted.accounts, quota, block, place);
     let left = released.accounts;
     HandleResult {
         accounts: left,

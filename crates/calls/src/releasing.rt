@@ -29,7 +29,7 @@ fn is_of(hold: Hold, serial: u32) -> bool
 }
 
 // Whether some record is for the object with this serial.
-pub(crate) fn is_held(holds: [Hold; HOLDS], serial: u32) -> bool
+fn is_held(holds: [Hold; HOLDS], serial: u32) -> bool
     ensures { λ r. ⌜ r ≡ held holds serial ⌝ }
 {
     let mut at: usize = 0;
@@ -44,7 +44,7 @@ pub(crate) fn is_held(holds: [Hold; HOLDS], serial: u32) -> bool
 }
 
 // One claim of a quota on a block is given up; the last one gives the quota its charge back, and an object that no quota claims is freed.
-fn drop_claim(
+pub(crate) fn drop_claim(
     heap: &mut [u8],
     accounts: Accounts,
     quota: u32,
@@ -54,7 +54,7 @@ fn drop_claim(
     requires { ⌜ Holding (now heap) accounts quota block place ⌝ }
     ensures { λ r. ⌜ amount-outcome (now (heap .exit)) r ≡ claim-dropped (now (heap .entry)) accounts quota (object-met block) ⌝ }
 {
-    let hold = accounts.hold_at(place);
+    let hold = accounts.holds[place];
     if 1 < hold.count {
         let fewer = Hold {
             serial: hold.serial,
@@ -75,7 +75,7 @@ fn drop_claim(
 }
 
 // Release behind the first three lines: the lookup, the quota's record, and one claim less.
-pub(crate) fn give_up(
+fn give_up(
     heap: &mut [u8],
     accounts: Accounts,
     quota: u32,

@@ -3,7 +3,7 @@
 -- Assumes nothing.
 use mathlib.Core.Path.{_≡_, refl, ap, sym, _∙_}
 use mathlib.Core.List.{List}
-use mathlib.Core.Bool.{Bool, true, false}
+use mathlib.Core.Bool.{Bool, true, false, cond}
 use mathlib.Core.Option.{none, some}
 use Prim.Native.Nat.{ℕ, zero, suc, _+_, _*_, _≤_, _<_}
 use native.Mathlib.Omega.{arith}
@@ -23,12 +23,13 @@ use Rattle.finder.specs.declared.Lookup.{Lookup}
 use Rattle.finder.specs.declared.Lookup.the-variants.{Found, Missing}
 use Rattle.finder.specs.Walk.{headed, met-start, met-at, met-from, met}
 
--- a block that was met at a place of s: it has a header, ends in s, and its size and serial are those that are read there
+-- a block that was met at a place of s: it has a header, ends in s, and its numbers are those that are read there
 pub record MetAt (at : ℕ) (s : List ℕ) (m : Met) : Type 0 where
   pub place : m .at ≡ at
   pub header : 8 ≤ m .size
   pub inside : at + m .size ≤ length s
   pub units : m .size ≡ 8 * read-number 2 at s
+  pub back : m .back ≡ read-number 2 (at + 2) s
   pub serial : m .serial ≡ read-number 4 (at + 4) s
 
 module _ (at : ℕ) (s : List ℕ) where
@@ -56,8 +57,9 @@ module _ (at : ℕ) (s : List ℕ) where
           let l = f .inside in
           let r = read-three at s (omega arith) ∙ f .header in
           let z : read-number 2 at s ≡ h .size = ap (λ (x : Header). x .size) r in
+          let b : read-number 2 (at + 2) s ≡ h .back = ap (λ (x : Header). x .back) r in
           let n : read-number 4 (at + 4) s ≡ h .serial = ap (λ (x : Header). x .serial) r in
-          let known : MetAt at s (headed at h) = record { place = refl; header = omega arith; inside = l; units = omega arith; serial = sym n } in
+          let known : MetAt at s (headed at h) = record { place = refl; header = omega arith; inside = l; units = omega arith; back = sym b; serial = sym n } in
           rw q at known
 
   -- where no block can be met, none is
@@ -101,6 +103,26 @@ module _ (p : Met → Bool) (s : List ℕ) where
   pub search-start : Searching p s 0
   unfolding met
   search-start = record { fuel = length s; enough = omega arith; same = refl }
+
+  -- what it finds is met where it stands
+  pub search-met : (m : Met) → first p (met s) ≡ some m → met-at (m .at) s ≡ Found m
+  unfolding met met-from first
+  search-met m = go (length s) 0
+    where
+      Ends : ℕ → Type 0
+      Ends k = (x : ℕ) → first p (met-from k x s) ≡ some m → met-at (m .at) s ≡ Found m
+
+      by-test : (k x : ℕ) → Ends k → (b : Met) → met-at x s ≡ Found b → (t : Bool) → cond t (some b) (first p (met-from k (b .at + b .size) s)) ≡ some m → met-at (m .at) s ≡ Found m
+      by-test k x ih b e true f = let q : b ≡ m = cc in rw q at (ap (λ (n : ℕ). met-at n s) (met-known x s b e .place) ∙ e)
+      by-test k x ih b e false f = ih (b .at + b .size) f
+
+      step : (k x : ℕ) → Ends k → (o : Lookup) → met-at x s ≡ o → first p (met-from (suc k) x s) ≡ some m → met-at (m .at) s ≡ Found m
+      step k x ih Missing e f = let n = rw e at f in let z : _≡_ {A = ℕ} 0 1 = cc in absurd (omega arith)
+      step k x ih (Found b) e f = by-test k x ih b e (p b) (rw e at f)
+
+      go : (k : ℕ) → Ends k
+      go zero x f = let z : _≡_ {A = ℕ} 0 1 = cc in absurd (omega arith)
+      go (suc k) x f = step k x (go k) (met-at x s) refl f
 
   module _ (at : ℕ) (w : Searching p s at) where
     -- where it meets no block, it finds none
