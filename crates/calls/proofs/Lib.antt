@@ -5,4 +5,5 @@ pub mod Granted
 pub mod Released
 pub mod ReleaseAnswers
 pub mod Reallocated
+pub mod Exchanged
 pub mod ReallocateAnswers

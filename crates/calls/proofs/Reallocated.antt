@@ -5,15 +5,20 @@
 use Prim.Native.Nat.{ℕ, suc, min}
 use mathlib.Core.Path.{_≡_, refl, ap, sym, _∙_}
 use mathlib.Core.List.{List, [], _∷_, List·Memᴰ}
-use mathlib.Core.Bool.{true, not}
+use mathlib.Core.Bool.{Bool, true, false, not, false≢true}
 use mathlib.Core.Option.{some}
 use Rattle.accounts.specs.declared.Accounts.{Accounts}
+use Rattle.accounts.specs.declared.Hold.{Hold}
+use Rattle.accounts.specs.declared.Place.the-variants.{At}
+use Rattle.accounts.specs.Accounts.{used, unused, is-for, first-from, find-hold}
+use Rattle.accounts.proofs.Laws.{for-another}
 use Rattle.rounding.specs.Rounding.{unit}
 use Rattle.rounding.proofs.Rounding.{unit-is}
 use Rattle.layout.specs.Bytes.{Octets, copy-part}
 use Rattle.layout.specs.Blocks.{Block, render}
 use Rattle.model.specs.Answers.{given, handle-values}
-use Rattle.model.specs.Lists.{or-else}
+use Rattle.model.specs.Lists.{or-else, change-first}
+use Rattle.model.specs.Holds.{take-record}
 use Rattle.model.specs.Objects.{blocks-of, objects, objects-of, lookup, lookup-whole, found}
 use Rattle.model.specs.Consistent.{allowed, has-record}
 use Rattle.model.specs.Refusals.{Line, first-refusal, line-5, line-6, release-lines, allocate-lines, reallocate-lines}
@@ -24,6 +29,7 @@ use Rattle.model.specs.declared.Refusal.{Refusal}
 use Rattle.model.specs.declared.HandleAnswer.{HandleAnswer}
 use Rattle.model.specs.declared.HandleAnswer.the-variants.{Given, Refused}
 use Rattle.model.specs.declared.Call.the-variants.{Allocate}
+use Rattle.model.proofs.Bools.{fails}
 use Rattle.model.proofs.Lookup.{lookup-exactly, lookup-whole-is}
 use Rattle.model.proofs.Refusals.{by-lines, refusal-of-lines, accepted-exactly, unless-refused}
 use Rattle.writer.proofs.CopyBytes.{copied-bytes}
@@ -44,6 +50,22 @@ use Rattle.access.proofs.Lines.{number-some, accepted-is, line-passes}
 use Rattle.access.proofs.Lookups.{line-5-passes}
 use Rattle.calls.proofs.Ready.{checked-passes, ready-passes}
 use Rattle.calls.proofs.Granted.{from-8}
+
+-- a record that takes the place of the first unused one, and is not the one that is looked for, changes no place
+module _ (serial q : ℕ) (w : Hold) (other : is-for serial q w ≡ false) where
+  not-used : (h : Hold) → unused h ≡ true → is-for serial q h ≡ false
+  unfolding unused is-for
+  not-used h e = rw (fails (used h) (λ t. false≢true (rw t at e))) refl
+
+  pub record-kept : (hs : List Hold) (n : ℕ) → first-from (is-for serial q) n (change-first unused (λ _. w) hs) ≡ first-from (is-for serial q) n hs
+  unfolding first-from change-first
+  record-kept [] n = refl
+  record-kept (h ∷ hs) n = go (unused h) refl (record-kept hs (suc n))
+    where
+      go : (x : Bool) → unused h ≡ x → first-from (is-for serial q) (suc n) (change-first unused (λ _. w) hs) ≡ first-from (is-for serial q) (suc n) hs
+          → first-from (is-for serial q) n (change-first unused (λ _. w) (h ∷ hs)) ≡ first-from (is-for serial q) n (h ∷ hs)
+      go true e ih = rw (e, other, not-used h e) refl
+      go false e ih = rw (e, ih) refl
 
 -- a handle that names an object names it to reallocate too
 pub whole-named : (h old : Handle) (s : List ℕ) → lookup h s ≡ some old → (lookup-whole h s ≡ some old) × (found (lookup-whole h s) ≡ old)
@@ -139,14 +161,18 @@ module _ (s : List ℕ) (k : Accounts) (q : ℕ) (h : Handle) (n : ℕ) (r : Rea
     filled-checked : Checked (render (filled .blocks)) (filled .accounts) q
     filled-checked = record { extent = written .allowed; sound = written .sound; exists = r .checked .exists }
 
-    -- and the old object can be released in it
+    -- the old object can be released in it: its handle names it, the quota has its record
+    filled-named : lookup h (render (filled .blocks)) ≡ some old
+    filled-named =
+        let x = still-releasable (state-of s k) start q old new room fresh there held in
+        lookup-exactly h (render (filled .blocks)) old .1 (handle-is, rw (written .objects, handle-is) (x .0))
+
     filled-releases : (release (render (filled .blocks)) (filled .accounts) q h .heap ≡ render (released q old filled .blocks))
         × (release (render (filled .blocks)) (filled .accounts) q h .accounts ≡ released q old filled .accounts)
     filled-releases =
         let x = still-releasable (state-of s k) start q old new room fresh there held in
-        let m : lookup h (render (filled .blocks)) ≡ some old = lookup-exactly h (render (filled .blocks)) old .1 (handle-is, rw (written .objects, handle-is) (x .0)) in
         let t : state-of (render (filled .blocks)) (filled .accounts) ≡ filled = ap (λ (bs : List Block). record { blocks = bs; accounts = filled .accounts }) (written .blocks) in
-        rw t at (release-leaves (render (filled .blocks)) (filled .accounts) q h old filled-checked m (x .1))
+        rw t at (release-leaves (render (filled .blocks)) (filled .accounts) q h old filled-checked filled-named (x .1))
 
   -- allocate granted an object, and the old one's bytes were copied to it
   module _ (o : Octets s) (l : Limits k) (t : List ℕ) (x : HandleResult) (e : handle-outcome t x ≡ allocate unit s k q n) (new : Handle) (a : x .answer ≡ Given new) (t₂ : List ℕ)
@@ -174,11 +200,21 @@ module _ (s : List ℕ) (k : Accounts) (q : ℕ) (h : Handle) (n : ℕ) (r : Rea
         let u : t ≡ render (made o l passed .blocks) = ap (λ (y : Outcome). y .heap) granted-is in
         c ∙ (λ i. copy-part (old .base) (new-is i .base) (min (new-is i .length) (old .length)) (u i)) ∙ sym (filled-bytes o l passed)
 
-    -- release may be asked for, and what it gives makes up what reallocate gives
+    -- release may be asked for: the object is named, and the quota's record stands where it stood
+    pub copied-named : lookup h t₂ ≡ some old
+    copied-named = rw bytes-are (filled-named o l passed)
+
+    pub copied-place : (i : ℕ) → find-hold (old .serial) q k ≡ At i → find-hold (old .serial) q (x .accounts) ≡ At i
+    unfolding find-hold allocated take-record
+    copied-place i e =
+        let w : Hold = record { serial = new-object unit s k n .serial; quota = q; count = 1 } in
+        rw accounts-are (record-kept (old .serial) q w (for-another (old .serial) q w (λ z. fresh o l passed (sym z))) (k .holds) 0 ∙ e)
+
     pub copied-checked : Checked t₂ (x .accounts) q
     unfolding copied
     copied-checked = rw (bytes-are, accounts-are) (filled-checked o l passed)
 
+    -- what it gives makes up what reallocate gives
     pub given-too : (u : List ℕ) (y : AmountResult) → amount-outcome u y ≡ release t₂ (x .accounts) q h → outcome u (y .accounts) (given new) ≡ reallocate unit s k q h n
     unfolding reallocate copied
     given-too u y f =

@@ -6,10 +6,10 @@ use mathlib.Core.Path.{_≡_, refl, ap, sym, _∙_}
 use mathlib.Core.List.{List, [], _∷_}
 use mathlib.Core.Bool.{Bool, true, false}
 use lib.ListN.{length}
-use Rattle.accounts.specs.declared.Hold.{Hold}
 use Rattle.accounts.specs.declared.Accounts.{Accounts}
 use Rattle.accounts.specs.declared.Place.the-variants.{At, Nothing}
-use Rattle.accounts.specs.Accounts.{QUOTAS, find-hold, hold-at, put-hold, drop-hold, refund}
+use Rattle.accounts.specs.Accounts.{QUOTAS, is-for, find-hold, hold-at, put-hold, drop-hold, refund}
+use Rattle.accounts.proofs.Laws.{found-first}
 use Rattle.layout.specs.Bytes.{Octets}
 use Rattle.model.specs.Answers.{refusal-number, verdict-values, amount-of, amount-values}
 use Rattle.model.specs.Objects.{lookup, found}
@@ -76,34 +76,37 @@ module _ (s : List ℕ) (k : Accounts) (q : ℕ) (h : Handle) where
           ap (claim-dropped s k q) (sym (located s k Accepted told refl h m e .object))
           ∙ accepted-is (first-refusal (release-lines s k q h)) s k _ (release-passes s k Accepted told refl h m e q (c .exists) i (rw (byte-quota q (c .exists)) p))
 
--- the quota's record w for the object of the block m stands at place i
+-- the quota's record for the object of the block m stands at place i
 module _ (s : List ℕ) (k : Accounts) (o : Octets s) (q : ℕ) (m : Met) (i : ℕ) (y : Holding s k q m i) where
   pub holding-inside : Inside m s
   holding-inside = inside s k o (y .checked .sound) (y .handle) m (y .named) (allowed-long (length s) (y .checked .extent) .1)
 
+  pub holding-place : i < length (k .holds)
+  unfolding find-hold
+  holding-place = found-first (is-for (m .serial) q) (k .holds) i (y .place) .within
+
   -- the results of the three ways to the end
-  module _ (w : Hold) (we : w ≡ hold-at i k) where
-    pub fewer-result : 1 < w .count → (k′ : Accounts) → k′ ≡ put-hold i (with-count (w .count - 1) w) k → (r : AmountResult) → r ≡ record { accounts = k′; answer = Amount 0 }
-        → amount-outcome s r ≡ claim-dropped s k q (object-met m)
-    fewer-result l k′ ke r re =
-        let f = fewer-claims s k o (y .checked .sound) (y .handle) m (y .named) q i (y .place) (rw we at l) in
-        gives s k′ 0 r re ∙ (rw (ke, we) f)
+  pub fewer-result : 1 < hold-at i k .count → (k′ : Accounts) → k′ ≡ put-hold i (with-count (hold-at i k .count - 1) (hold-at i k)) k → (r : AmountResult)
+      → r ≡ record { accounts = k′; answer = Amount 0 } → amount-outcome s r ≡ claim-dropped s k q (object-met m)
+  fewer-result l k′ ke r re =
+      let f = fewer-claims s k o (y .checked .sound) (y .handle) m (y .named) q i (y .place) l in
+      gives s k′ 0 r re ∙ (rw ke f)
 
-    module _ (l : w .count ≤ 1) (k₁ k₂ : Accounts) (e₁ : k₁ ≡ refund q (m .size - 8 + 8) k) (e₂ : k₂ ≡ drop-hold i k₁) (x : Bool) (xe : x ≡ held (k₂ .holds) (m .serial)) (r : AmountResult)
-        (re : r ≡ record { accounts = k₂; answer = Amount (m .size - 8 + 8) }) where
-      left : k₂ ≡ drop-hold i (refund q (m .size - 8 + 8) k)
-      left = e₂ ∙ ap (drop-hold i) e₁
+  module _ (l : hold-at i k .count ≤ 1) (k₁ k₂ : Accounts) (e₁ : k₁ ≡ refund q (m .size - 8 + 8) k) (e₂ : k₂ ≡ drop-hold i k₁) (x : Bool) (xe : x ≡ held (k₂ .holds) (m .serial)) (r : AmountResult)
+      (re : r ≡ record { accounts = k₂; answer = Amount (m .size - 8 + 8) }) where
+    left : k₂ ≡ drop-hold i (refund q (m .size - 8 + 8) k)
+    left = e₂ ∙ ap (drop-hold i) e₁
 
-      left-held : (b : Bool) → x ≡ b → held (drop-hold i (refund q (m .size - 8 + 8) k) .holds) (m .serial) ≡ b
-      left-held b v = ap (λ (a : Accounts). held (a .holds) (m .serial)) (sym left) ∙ sym xe ∙ v
+    left-held : (b : Bool) → x ≡ b → held (drop-hold i (refund q (m .size - 8 + 8) k) .holds) (m .serial) ≡ b
+    left-held b v = ap (λ (a : Accounts). held (a .holds) (m .serial)) (sym left) ∙ sym xe ∙ v
 
-      pub held-result : x ≡ true → amount-outcome s r ≡ claim-dropped s k q (object-met m)
-      held-result v =
-          gives s k₂ (m .size - 8 + 8) r re
-          ∙ (rw left (still-held s k o (y .checked .sound) (y .handle) m (y .named) q i (y .place) (rw we at l) (left-held true v)))
+    pub held-result : x ≡ true → amount-outcome s r ≡ claim-dropped s k q (object-met m)
+    held-result v =
+        gives s k₂ (m .size - 8 + 8) r re
+        ∙ (rw left (still-held s k o (y .checked .sound) (y .handle) m (y .named) q i (y .place) l (left-held true v)))
 
-      pub freed-result : x ≡ false → (s′ : List ℕ) → s′ ≡ free-in m s → amount-outcome s′ r ≡ claim-dropped s k q (object-met m)
-      freed-result v s′ si =
-          let se = si ∙ sym (frees m s (inside-test m s holding-inside) .0) in
-          gives s′ k₂ (m .size - 8 + 8) r re
-          ∙ (rw (se, left) (no-longer-held s k o (y .checked .sound) (y .handle) m (y .named) q i (y .place) (rw we at l) (left-held false v)))
+    pub freed-result : x ≡ false → (s′ : List ℕ) → s′ ≡ free-in m s → amount-outcome s′ r ≡ claim-dropped s k q (object-met m)
+    freed-result v s′ si =
+        let se = si ∙ sym (frees m s (inside-test m s holding-inside) .0) in
+        gives s′ k₂ (m .size - 8 + 8) r re
+        ∙ (rw (se, left) (no-longer-held s k o (y .checked .sound) (y .handle) m (y .named) q i (y .place) l (left-held false v)))

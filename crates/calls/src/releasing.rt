@@ -75,12 +75,7 @@ pub(crate) fn drop_claim(
 }
 
 // Release behind the first three lines: the lookup, the quota's record, and one claim less.
-fn give_up(
-    heap: &mut [u8],
-    accounts: Accounts,
-    quota: u32,
-    handle: Handle,
-) -> AmountResult
+fn give_up(heap: &mut [u8], accounts: Accounts, quota: u32, handle: Handle) -> AmountResult
     requires { ⌜ Checked (now heap) accounts quota ⌝ }
     ensures { λ r. ⌜ amount-outcome (now (heap .exit)) r ≡ release-of (now (heap .entry)) accounts quota handle ⌝ }
 {

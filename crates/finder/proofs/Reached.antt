@@ -4,7 +4,7 @@
 use mathlib.Core.Path.{_≡_, refl, ap, sym, _∙_}
 use mathlib.Core.List.{List, [], _∷_}
 use mathlib.Core.Bool.{Bool, true, false, cond}
-use mathlib.Core.Option.{none, some}
+use mathlib.Core.Option.{Option, none, some}
 use Prim.Native.Nat.{ℕ, _+_, _≤_, _<_}
 use native.Mathlib.Omega.{arith}
 use lib.Dec.{eqb}
@@ -18,7 +18,7 @@ use Rattle.finder.specs.declared.Met.{Met}
 use Rattle.finder.specs.declared.Lookup.{Lookup}
 use Rattle.finder.specs.declared.Lookup.the-variants.{Found, Missing}
 use Rattle.finder.specs.Walk.{met-at, met, live-met, stands-at, holds-named, looked-up, find-at, find-object}
-use Rattle.finder.proofs.Walk.{met-known, Searching, search-start, search-ended, search-found, search-none}
+use Rattle.finder.proofs.Walk.{MetAt, met-known, search-met, Searching, search-start, search-ended, search-found, search-none}
 
 module _ (place : ℕ) (s : List ℕ) (at : ℕ) (w : Searching (stands-at place) s at) where
   -- a search that ends on the way
@@ -84,3 +84,12 @@ module _ (h : Handle) (s : List ℕ) where
       same : (x : Met) (t : Bool) → cond t (Found m) Missing ≡ Found x → holds-named h x ≡ true
       same x true q = let z : m ≡ x = cc in rw z at n
       same x false q = let z : _≡_ {A = ℕ} 0 1 = cc in absurd (omega arith)
+
+  -- the block that is found is met where it stands
+  pub found-met : (m : Met) → find-object h s ≡ Found m → MetAt (m .at) s m
+  unfolding find-object
+  found-met m = go (first (holds-named h) (met s)) refl
+    where
+      go : (x : Option Met) → first (holds-named h) (met s) ≡ x → looked-up x ≡ Found m → MetAt (m .at) s m
+      go none e f = let z : _≡_ {A = ℕ} 0 1 = cc in absurd (omega arith)
+      go (some b) e f = let q : b ≡ m = cc in met-known (m .at) s m (search-met (holds-named h) s m (rw q at e))

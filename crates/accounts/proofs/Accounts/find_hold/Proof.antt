@@ -60,11 +60,10 @@ loop-less c = search needs
 loop-again : tie.Need-loop-again Inv-loop μ-loop
 loop-again c =
     let at = c .before .before in
-    let a = at .before .args in
-    (
+    let a = at .before .args in (
       search needs,
       below-more _ _ (at .loop .inv .1)
-      (⊎-elim (λ t. sym (t .2 .ensures) ∙ t .3 .left) (λ e. for-another (a .serial) (a .quota) (getD (a .t1 .holds) (at .loop .at) zero-hold) (e .left)) (c .if1 .came)),
+          (⊎-elim (λ t. sym (t .2 .ensures) ∙ t .3 .left) (λ e. for-another (a .serial) (a .quota) (getD (a .t1 .holds) (at .loop .at) zero-hold) (e .left)) (c .if1 .came)),
     )
 
 returns-2 : tie.Need-returns-2 Inv-loop μ-loop

@@ -12,14 +12,19 @@ use Rattle.model.specs.Answers.{handle-values}
 use Rattle.model.specs.Objects.{lookup}
 use Rattle.model.specs.Consistent.{has-record}
 use Rattle.model.specs.declared.Refusal.the-variants.{NoSuchObject, NotHeld}
+use Rattle.accounts.specs.Accounts.{find-hold}
+use Rattle.accounts.specs.declared.Place.the-variants.{At}
+use Rattle.finder.specs.declared.Met.{Met}
 use Rattle.finder.specs.declared.Lookup.the-variants.{Found}
 use Rattle.finder.specs.Walk.{object-met, find-object}
 use Rattle.writer.specs.Freeing.{Inside}
 use Rattle.invariant.proofs.Recorded.{Limits}
 use Rattle.calls.proofs.Typed.{grants-narrow}
-use Rattle.calls.proofs.ReleaseAnswers.{holding-inside}
+use Rattle.calls.specs.Ready.{Checked}
+use Rattle.calls.proofs.ReleaseAnswers.{holding-inside, dropped}
+use Rattle.calls.proofs.Exchanged.{found-again}
 use Rattle.calls.proofs.ReallocateAnswers.{refuses, by-object, by-record, block-named, block-held}
-use Rattle.calls.proofs.Reallocated.{refused-too, copied-checked, given-too}
+use Rattle.calls.proofs.Reallocated.{refused-too, copied-named, copied-place, copied-checked, given-too}
 use borrow.Author.Needs.{needs}
 use Rattle.calls.proofs.reallocating.exchange.Statement.{statement}
 use Rattle.calls.proofs.reallocating.exchange.Tie as tie
@@ -66,6 +71,9 @@ cast-find-hold c = search needs
 find-hold-requires : tie.Need-find-hold-requires
 find-hold-requires c κs = search needs
 
+enum-known-place : tie.Need-enum-known-place
+enum-known-place c = search needs
+
 enum-told-2 : tie.Need-enum-told-2
 enum-told-2 c = search needs
 
@@ -84,11 +92,8 @@ returns-2 c =
     refuses (a .heap .now) (a .accounts) (a .quota) (a .handle) (a .length) (c .refused2 .result) NotHeld (c .refused2 .ensures)
     (by-record (a .heap .now) (a .accounts) (a .quota) (a .handle) (a .length) (e .pre) (b .old .given .0 .0) (block-is b) (sym (p .find-hold .ensures) ∙ c .before .enum-told2 .given .1))
 
-enum-told-3 : tie.Need-enum-told-3
-enum-told-3 c = search needs
-
 -- the handle names the block's object, the quota has a record for it, and the block lies in the heap
-named : (c : tie.After-enum-told3) → let b = c .before .before .before .before in let a = b .before .before .before .before .before .args in
+named : (c : tie.After-place) → let b = c .before .before .before .before in let a = b .before .before .before .before .before .args in
     lookup (a .handle) (a .heap .now) ≡ some (object-met (b .old .given .0 .0))
 named c =
     let b = c .before .before .before .before in
@@ -96,25 +101,25 @@ named c =
     let a = e .args in
     block-named (a .heap .now) (a .accounts) (a .quota) (a .handle) (a .length) (e .pre) (b .old .given .0 .0) (block-is b)
 
-held : (c : tie.After-enum-told3) → let b = c .before .before .before .before in let a = b .before .before .before .before .before .args in
+held : (c : tie.After-place) → let b = c .before .before .before .before in let a = b .before .before .before .before .before .args in
     has-record (a .accounts .holds) (a .quota) (b .old .given .0 .0 .serial) ≡ true
 held c =
     let p = c .before .before in
     let b = p .before .before in
     let e = b .before .before .before .before .before in
     let a = e .args in
-    block-held (a .heap .now) (a .accounts) (a .quota) (a .handle) (a .length) (e .pre) (b .old .given .0 .0) (block-is b) (c .enum-told3 .given .0 .0)
-    (sym (p .find-hold .ensures) ∙ c .enum-told3 .given .1)
+    block-held (a .heap .now) (a .accounts) (a .quota) (a .handle) (a .length) (e .pre) (b .old .given .0 .0) (block-is b) (c .place .given .0 .0)
+    (sym (p .find-hold .ensures) ∙ c .place .given .1)
 
-lies : (c : tie.After-enum-told3) → let b = c .before .before .before .before in Inside (b .old .given .0 .0) (b .before .before .before .before .before .args .heap .now)
+lies : (c : tie.After-place) → let b = c .before .before .before .before in Inside (b .old .given .0 .0) (b .before .before .before .before .before .args .heap .now)
 lies c =
     let p = c .before .before in
     let b = p .before .before in
     let k = b .before .before .before .before in
     let e = k .before in
     let a = e .args in
-    holding-inside (a .heap .now) (a .accounts) (octets k) (a .quota) (b .old .given .0 .0) (c .enum-told3 .given .0 .0)
-    (record { checked = e .pre .checked; handle = a .handle; named = block-is b; place = sym (p .find-hold .ensures) ∙ c .enum-told3 .given .1 })
+    holding-inside (a .heap .now) (a .accounts) (octets k) (a .quota) (b .old .given .0 .0) (c .place .given .0 .0)
+    (record { checked = e .pre .checked; handle = a .handle; named = block-is b; place = sym (p .find-hold .ensures) ∙ c .place .given .1 })
 
 grant-requires : tie.Need-grant-requires
 grant-requires c κs = search needs
@@ -122,8 +127,8 @@ grant-requires c κs = search needs
 enum-known-answer : tie.Need-enum-known-answer
 enum-known-answer c = search needs
 
-enum-told-4 : tie.Need-enum-told-4
-enum-told-4 c = search needs
+enum-told-3 : tie.Need-enum-told-3
+enum-told-3 c = search needs
 
 same-length-3 : tie.Need-same-length-3
 same-length-3 c = search needs
@@ -131,24 +136,24 @@ same-length-3 c = search needs
 returns-3 : tie.Need-returns-3
 returns-3 c =
     let g = c .before .before .before .before in
-    let t = g .before .before in
+    let t = g .before .before .before in
     let b = t .before .before .before .before in
     let e = b .before .before .before .before .before in
     let a = e .args in
     refused-too (a .heap .now) (a .accounts) (a .quota) (a .handle) (a .length) (e .pre) (object-met (b .old .given .0 .0)) (named t) (held t) (g .grant .last .0) (g .grant .result)
-    (c .enum-told4 .given .0 .0) (c .enum-told4 .given .1) (g .grant .ensures)
+    (c .enum-told3 .given .0 .0) (c .enum-told3 .given .1) (g .grant .ensures)
 
 cast-shorter : tie.Need-cast-shorter
 cast-shorter c = search needs
 
 sub-shorter : tie.Need-sub-shorter
-sub-shorter c = let i = lies (c .before .before .before .before .before .before .before .before .before) in omega (arith, i .header)
+sub-shorter c = let i = lies (c .before .before .before .before .before .before .before .before .before .before) in omega (arith, i .header)
 
 shorter-requires : tie.Need-shorter-requires
 shorter-requires c κs = search needs
 
 add-copy-part : tie.Need-add-copy-part
-add-copy-part c = let i = lies (c .before .before .before .before .before .before .before .before .before .before .before .before) in omega (arith, i .end, i .allowed)
+add-copy-part c = let i = lies (c .before .before .before .before .before .before .before .before .before .before .before .before .before) in omega (arith, i .end, i .allowed)
 
 cast-copy-part : tie.Need-cast-copy-part
 cast-copy-part c = search needs
@@ -160,21 +165,28 @@ copy-part-requires c κs = search needs
 copied : (m : tie.After-copy-part)
     → let w = m .before .before .before .before .before .before .before .before in
     let g = w .before .before .before .before in
-    let o = g .before .before .before .before .before .before .old .given .0 .0 in
+    let o = g .before .before .before .before .before .before .before .old .given .0 .0 in
     m .copy-part .last .0 ≡ copy-part (o .at + 8) (w .answer .given .0 .0 .base) (min (w .answer .given .0 .0 .length) (o .size - 8)) (g .grant .last .0)
 copied m =
     let d = m .before .before .before .before in
     let w = d .before .before .before .before in
     let g = w .before .before .before .before in
-    let o = g .before .before .before .before .before .before .old .given .0 .0 in
+    let o = g .before .before .before .before .before .before .before .old .given .0 .0 in
     m .copy-part .ensures ∙ ap (λ (n : ℕ). copy-part (o .at + 8) (w .answer .given .0 .0 .base) n (g .grant .last .0)) (d .shorter .ensures)
 
-give-up-requires : tie.Need-give-up-requires
-give-up-requires c κs =
+current-requires : tie.Need-current-requires
+current-requires c κs =
     let m = c .before .before .before in
+    let i = lies (m .before .before .before .before .before .before .before .before .before .before .before .before .before .before .before) in
+    omega (arith, i .end, i .allowed)
+
+-- release may be asked for in what the copy leaves
+ready : (m : tie.After-copy-part) → let g = m .before .before .before .before .before .before .before .before .before .before .before .before in
+    Checked (m .copy-part .last .0) (g .grant .result .accounts) (g .before .before .before .before .before .before .before .before .before .before .before .before .args .quota)
+ready m =
     let w = m .before .before .before .before .before .before .before .before in
     let g = w .before .before .before .before in
-    let t = g .before .before in
+    let t = g .before .before .before in
     let b = t .before .before .before .before in
     let k = b .before .before .before .before in
     let e = k .before in
@@ -182,23 +194,77 @@ give-up-requires c κs =
     copied-checked (a .heap .now) (a .accounts) (a .quota) (a .handle) (a .length) (e .pre) (object-met (b .old .given .0 .0)) (named t) (held t) (octets k) (limits e) (g .grant .last .0) (g .grant .result)
     (g .grant .ensures) (w .answer .given .0 .0) (w .answer .given .1) (m .copy-part .last .0) (copied m)
 
+-- the old block is found where it stood, and the quota's record too
+again : (n : tie.After-current) → let m = n .before .before .before .before in let g = m .before .before .before .before .before .before .before .before .before .before .before .before in
+    find-object (g .before .before .before .before .before .before .before .before .before .before .before .before .args .handle) (m .copy-part .last .0) ≡ Found (n .current .result)
+again n =
+    let m = n .before .before .before .before in
+    let w = m .before .before .before .before .before .before .before .before in
+    let g = w .before .before .before .before in
+    let t = g .before .before .before in
+    let b = t .before .before .before .before in
+    let k = b .before .before .before .before in
+    let e = k .before in
+    let a = e .args in
+    found-again (m .copy-part .last .0) (g .grant .result .accounts) (a .quota) (ready m) (a .handle) (b .old .given .0 .0) (lies t .header)
+    (copied-named (a .heap .now) (a .accounts) (a .quota) (a .handle) (a .length) (e .pre) (object-met (b .old .given .0 .0)) (named t) (held t) (octets k) (limits e) (g .grant .last .0) (g .grant .result)
+    (g .grant .ensures) (w .answer .given .0 .0) (w .answer .given .1) (m .copy-part .last .0) (copied m))
+    ∙ ap Found (sym (n .current .ensures))
+
+placed : (n : tie.After-current) → let m = n .before .before .before .before in let g = m .before .before .before .before .before .before .before .before .before .before .before .before in
+    let t = g .before .before .before in
+    find-hold (n .current .result .serial) (t .before .before .before .before .before .before .before .before .before .args .quota) (g .grant .result .accounts) ≡ At (t .place .given .0 .0)
+placed n =
+    let m = n .before .before .before .before in
+    let w = m .before .before .before .before .before .before .before .before in
+    let g = w .before .before .before .before in
+    let t = g .before .before .before in
+    let b = t .before .before .before .before in
+    let k = b .before .before .before .before in
+    let e = k .before in
+    let a = e .args in
+    ap (λ (x : Met). find-hold (x .serial) (a .quota) (g .grant .result .accounts)) (n .current .ensures)
+    ∙ copied-place (a .heap .now) (a .accounts) (a .quota) (a .handle) (a .length) (e .pre) (object-met (b .old .given .0 .0)) (named t) (held t) (octets k) (limits e) (g .grant .last .0) (g .grant .result)
+    (g .grant .ensures) (w .answer .given .0 .0) (w .answer .given .1) (m .copy-part .last .0) (copied m)
+    (t .place .given .0 .0) (sym (t .before .before .find-hold .ensures) ∙ t .place .given .1)
+
+drop-claim-requires : tie.Need-drop-claim-requires
+drop-claim-requires c κs =
+    let n = c .before in
+    let m = n .before .before .before .before in
+    let w = m .before .before .before .before .before .before .before .before in
+    let g = w .before .before .before .before in
+    let t = g .before .before .before in
+    let b = t .before .before .before .before in
+    let k = b .before .before .before .before in
+    let e = k .before in
+    let a = e .args in
+    record { checked = ready m; handle = a .handle; named = again n; place = placed n }
+
 same-length-4 : tie.Need-same-length-4
-same-length-4 c = search needs
+same-length-4 c =
+    let u = c .before .before .before in
+    let m = u .before .before .before .before .before .before in
+    let g = m .before .before .before .before .before .before .before .before .before .before .before .before in
+    search (needs, u .drop-claim .last .1, m .copy-part .last .1, g .grant .last .1)
 
 returns-4 : tie.Need-returns-4
 unfolding handle-values
 returns-4 c =
     let u = c .before .before .before in
-    let m = u .before .before .before .before in
+    let n = u .before .before in
+    let m = n .before .before .before .before in
     let w = m .before .before .before .before .before .before .before .before in
     let g = w .before .before .before .before in
-    let t = g .before .before in
+    let t = g .before .before .before in
     let b = t .before .before .before .before in
     let k = b .before .before .before .before in
     let e = k .before in
     let a = e .args in
     given-too (a .heap .now) (a .accounts) (a .quota) (a .handle) (a .length) (e .pre) (object-met (b .old .given .0 .0)) (named t) (held t) (octets k) (limits e) (g .grant .last .0) (g .grant .result)
-    (g .grant .ensures) (w .answer .given .0 .0) (w .answer .given .1) (m .copy-part .last .0) (copied m) (u .give-up .last .0) (u .give-up .result) (u .give-up .ensures)
+    (g .grant .ensures) (w .answer .given .0 .0) (w .answer .given .1) (m .copy-part .last .0) (copied m) (u .drop-claim .last .0) (u .drop-claim .result)
+    (u .drop-claim .ensures
+    ∙ dropped (m .copy-part .last .0) (g .grant .result .accounts) (a .quota) (a .handle) (ready m) (n .current .result) (again n) (t .place .given .0 .0) (placed n))
 
 pub exchange-spec : {M : Type 1} → statement M
 exchange-spec =
@@ -212,14 +278,14 @@ exchange-spec =
     returns
     cast-find-hold
     find-hold-requires
+    enum-known-place
     enum-told-2
     refused-requires-2
     same-length-2
     returns-2
-    enum-told-3
     grant-requires
     enum-known-answer
-    enum-told-4
+    enum-told-3
     same-length-3
     returns-3
     cast-shorter
@@ -228,6 +294,7 @@ exchange-spec =
     add-copy-part
     cast-copy-part
     copy-part-requires
-    give-up-requires
+    current-requires
+    drop-claim-requires
     same-length-4
     returns-4)
