@@ -20,7 +20,7 @@ use Rattle.finder.proofs.Multiple.{multiple-behind}
 
 module _ (a n : ℕ) where
   -- a block that fits has room, and the base is its lowest
-  pub fit-room : (m f : Met) (b : ℕ) → fit-in a n m ≡ At f b → (has-room a n m ≡ true) × (At f b ≡ At m (base-in a m))
+  fit-room : (m f : Met) (b : ℕ) → fit-in a n m ≡ At f b → (has-room a n m ≡ true) × (At f b ≡ At m (base-in a m))
   unfolding fit-in
   fit-room m f b = go (has-room a n m)
     where

@@ -1,5 +1,6 @@
 -- The walk: what is known of a block that it meets, and how a search among the blocks that are met goes on from a place. A walk that meets no
--- block finds nothing there, one that meets a block of which the test holds has found it, and any other goes on behind the block.
+-- block finds nothing there, one that meets a block of which the test holds has found it, and any other goes on behind the block. The size that is
+-- read at a place is enough to go on: where no block is met, it leads behind the heap.
 -- Assumes nothing.
 use mathlib.Core.Path.{_≡_, refl, ap, sym, _∙_}
 use mathlib.Core.List.{List}
@@ -79,7 +80,7 @@ module _ (at : ℕ) (s : List ℕ) where
   met-zero z = met-not (λ m e. let k = met-known m e in omega arith)
 
   -- where it is not 0 and none is met, the block would end behind s
-  pub met-past : met-at at s ≡ Missing → 0 < read-number 2 at s → length s < at + 8 * read-number 2 at s
+  met-past : met-at at s ≡ Missing → 0 < read-number 2 at s → length s < at + 8 * read-number 2 at s
   unfolding read-header
   met-past e p = go (leb (at + 8 * read-number 2 at s) (length s)) refl
     where
@@ -169,10 +170,13 @@ module _ (p : Met → Bool) (s : List ℕ) where
               record { fuel = k; enough = omega arith; same = q ∙ rw (e, t, l .place) }
 
     -- the size alone leads on: past a block of which the test does not hold, or behind s
-    pub search-stepped : 0 < read-number 2 at s → ((m : Met) → met-at at s ≡ Found m → p m ≡ false) → Searching p s (at + 8 * read-number 2 at s)
+    pub search-stepped : (size : ℕ) → size ≡ 8 * read-number 2 at s → 0 < size → ((m : Met) → met-at at s ≡ Found m → p m ≡ false) → Searching p s (at + size)
     unfolding met-from first
-    search-stepped n f = go (met-at at s) refl
+    search-stepped size q n f = go (met-at at s) refl
       where
-        go : (x : Lookup) → met-at at s ≡ x → Searching p s (at + 8 * read-number 2 at s)
-        go Missing e = let l = met-past at s e n in record { fuel = 0; enough = omega arith; same = search-ended e }
-        go (Found m) e = let k = met-known at s m e in rw (k .units) at (search-passed m e (f m e))
+        go : (x : Lookup) → met-at at s ≡ x → Searching p s (at + size)
+        go Missing e = let l = met-past at s e (omega arith) in record { fuel = 0; enough = omega arith; same = search-ended e }
+        go (Found m) e =
+            let k = met-known at s m e in
+            let z : m .size ≡ size = omega arith in
+            rw z at (search-passed m e (f m e))

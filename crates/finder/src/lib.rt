@@ -72,11 +72,11 @@ fn comes_to(heap: &[u8], target: usize) -> bool
     }
     let mut at: usize = 0;
     while at < target {
-        let units = layout::read_u16(heap, at) as usize;
-        if units == 0 {
+        let size = 8 * layout::read_u16(heap, at) as usize;
+        if size == 0 {
             return false;
         }
-        at += 8 * units;
+        at += size;
     }
     at == target
 }
@@ -125,11 +125,11 @@ fn fit_at(heap: &[u8], at: usize, alignment: usize, length: usize) -> Fit
     requires { ⌜ (0 < alignment) × (at + 4 < 2 ^ 64) ⌝ }
     ensures { λ r. ⌜ r ≡ fit-met alignment length (met-at at (now (heap .entry))) ⌝ }
 {
-    if layout::read_u32(heap, at + 4) != 0 {
-        return Fit::Nowhere;
-    }
     let units = layout::read_u16(heap, at) as usize;
     if units <= length / 8 {
+        return Fit::Nowhere;
+    }
+    if layout::read_u32(heap, at + 4) != 0 {
         return Fit::Nowhere;
     }
     let Lookup::Found(block) = met_at(heap, at) else {
@@ -156,11 +156,11 @@ pub fn find_base(heap: &[u8], alignment: u32, length: usize) -> Fit
         if let Fit::At(found, base) = fit {
             return Fit::At(found, base);
         }
-        let units = layout::read_u16(heap, place) as usize;
-        if units == 0 {
+        let size = 8 * layout::read_u16(heap, place) as usize;
+        if size == 0 {
             return Fit::Nowhere;
         }
-        place += 8 * units;
+        place += size;
     }
     Fit::Nowhere
 }

@@ -4,9 +4,7 @@
 use borrow.Author.Needs.{needs}
 use borrow.Author.Tests.{ne-eqb}
 use native.Mathlib.Omega.{arith}
-use Prim.Native.Nat.{_-_, _<_}
-use mathlib.Core.Path.{_≡_, sym, _∙_}
-use Rattle.layout.specs.Bytes.{read-number}
+use Prim.Native.Nat.{_-_}
 use Rattle.finder.specs.Walk.{stands-at}
 use Rattle.finder.proofs.Walk.{met-known, met-zero, Searching, search-start, search-stepped}
 use Rattle.finder.proofs.Reached.{reached-ended, reached, reached-never}
@@ -28,21 +26,18 @@ loop-holds c = let a = c .before .before .args in search-start (stands-at (a .ta
 read-u16-requires : tie.Need-read-u16-requires Inv-loop μ-loop
 read-u16-requires c κs = search needs
 
-cast-units : tie.Need-cast-units Inv-loop μ-loop
-cast-units c = search needs
+cast-size : tie.Need-cast-size Inv-loop μ-loop
+cast-size c = search needs
+
+mul-size : tie.Need-mul-size Inv-loop μ-loop
+mul-size c = search needs
 
 returns-2 : tie.Need-returns-2 Inv-loop μ-loop
 returns-2 c =
     let l = c .before .before .before in
     let a = l .before .before .before .args in
-    reached-ended (a .target) (a .heap .now) (l .loop .at) (l .loop .inv) (met-zero (l .loop .at) (a .heap .now) (sym (c .before .read-u16 .ensures) ∙ c .if2 .taken))
-
--- the size that was read is not 0
-units : (c : tie.Else2 Inv-loop μ-loop) → 0 < read-number 2 (c .before .before .before .loop .at) (c .before .before .before .before .before .before .args .heap .now)
-units c = let e = c .before .read-u16 .ensures in omega (arith, c .if2 .left)
-
-mul-at : tie.Need-mul-at Inv-loop μ-loop
-mul-at c = search needs
+    let u = c .before .read-u16 .ensures in
+    reached-ended (a .target) (a .heap .now) (l .loop .at) (l .loop .inv) (met-zero (l .loop .at) (a .heap .now) (omega (arith, c .if2 .taken)))
 
 add-at : tie.Need-add-at Inv-loop μ-loop
 add-at c = omega (arith, c .before .before .before .before .before .before .good .0 .1)
@@ -54,9 +49,9 @@ loop-again : tie.Need-loop-again Inv-loop μ-loop
 loop-again c =
     let l = c .before .before .before in
     let a = l .before .before .before .args in
-    rw (c .before .read-u16 .ensures)
-    (search-stepped (stands-at (a .target)) (a .heap .now) (l .loop .at) (l .loop .inv) (units c)
-    (λ m e. let k = met-known (l .loop .at) (a .heap .now) m e in ne-eqb (m .at) (a .target) (λ q. omega arith)))
+    let u = c .before .read-u16 .ensures in
+    search-stepped (stands-at (a .target)) (a .heap .now) (l .loop .at) (l .loop .inv) _ (omega arith) (omega (arith, c .if2 .left))
+    (λ m e. let k = met-known (l .loop .at) (a .heap .now) m e in ne-eqb (m .at) (a .target) (λ q. omega arith))
 
 returns-3 : tie.Need-returns-3 Inv-loop μ-loop
 returns-3 c =
@@ -73,9 +68,9 @@ comes-to-spec =
     returns
     loop-holds
     read-u16-requires
-    cast-units
+    cast-size
+    mul-size
     returns-2
-    mul-at
     add-at
     loop-less
     loop-again

@@ -3,10 +3,9 @@
 -- Assumes nothing.
 use borrow.Author.Needs.{needs}
 use native.Mathlib.Omega.{arith}
-use Prim.Native.Nat.{_-_, _<_}
-use mathlib.Core.Path.{_≡_, ap, sym, _∙_}
-use Rattle.layout.specs.Bytes.{read-number}
-use Rattle.finder.specs.Walk.{met-at, has-room, fitted, fit-met}
+use Prim.Native.Nat.{_-_}
+use mathlib.Core.Path.{ap, sym, _∙_}
+use Rattle.finder.specs.Walk.{met-at, has-room, fitted}
 use Rattle.finder.proofs.Walk.{met-short, met-zero, Searching, search-start, search-found, search-stepped}
 use Rattle.finder.proofs.Fits.{fit-none, met-fits, fit-zero, fit-ended, fit-first}
 use Rattle.finder.proofs.find_base.Statement.{statement}
@@ -51,17 +50,18 @@ enum-told c = search needs
 read-u16-requires : tie.Need-read-u16-requires Inv-loop μ-loop
 read-u16-requires c κs = search needs
 
-cast-units : tie.Need-cast-units Inv-loop μ-loop
-cast-units c = search needs
+cast-size : tie.Need-cast-size Inv-loop μ-loop
+cast-size c = search needs
+
+mul-size : tie.Need-mul-size Inv-loop μ-loop
+mul-size c = search needs
 
 returns-4 : tie.Need-returns-4 Inv-loop μ-loop
 returns-4 c =
     let l = c .before .before .before .before .before .before in
     let a = l .before .before .before .before .args in
-    sym (fit-ended (a .alignment) (a .length) (a .heap .now) (l .loop .place) (l .loop .inv) (met-zero (l .loop .place) (a .heap .now) (sym (c .before .read-u16 .ensures) ∙ c .if3 .taken)))
-
-mul-place : tie.Need-mul-place Inv-loop μ-loop
-mul-place c = search needs
+    let u = c .before .read-u16 .ensures in
+    sym (fit-ended (a .alignment) (a .length) (a .heap .now) (l .loop .place) (l .loop .inv) (met-zero (l .loop .place) (a .heap .now) (omega (arith, c .if3 .taken))))
 
 add-place : tie.Need-add-place Inv-loop μ-loop
 add-place c = omega (arith, c .before .before .before .before .before .before .before .before .before .before .good .0 .1)
@@ -74,10 +74,9 @@ loop-again c =
     let l = c .before .before .before .before .before .before in
     let a = l .before .before .before .before .args in
     let nowhere = sym (c .before .before .before .before .fit-at .ensures) ∙ c .before .before .enum-told .given .1 in
-    let e = c .before .read-u16 .ensures in
-    rw e
-    (search-stepped (has-room (a .alignment) (a .length)) (a .heap .now) (l .loop .place) (l .loop .inv) (omega (arith, c .if3 .left))
-    (λ m f. fit-none (a .alignment) (a .length) m (rw f at nowhere)))
+    let u = c .before .read-u16 .ensures in
+    search-stepped (has-room (a .alignment) (a .length)) (a .heap .now) (l .loop .place) (l .loop .inv) _ (omega arith) (omega (arith, c .if3 .left))
+    (λ m e. fit-none (a .alignment) (a .length) m (rw e at nowhere))
 
 returns-5 : tie.Need-returns-5 Inv-loop μ-loop
 returns-5 c =
@@ -99,9 +98,9 @@ find-base-spec =
     returns-3
     enum-told
     read-u16-requires
-    cast-units
+    cast-size
+    mul-size
     returns-4
-    mul-place
     add-place
     loop-less
     loop-again

@@ -17,13 +17,13 @@ read-u16-requires c κs = search needs
 cast-units : tie.Need-cast-units
 cast-units c = search needs
 
-returns-2 : tie.Need-returns-2
-returns-2 c =
-    let s = c .before .before .before .before .before in
+returns : tie.Need-returns
+returns c =
+    let s = c .before .before .before in
     let a = s .args in
     let u = c .before .read-u16 .ensures in
     sym (met-fits-not (a .alignment) (a .length) (met-at (a .at) (a .heap .now))
-    (λ m e. let k = met-known (a .at) (a .heap .now) m e in fit-small (a .alignment) (a .length) (s .pre .0) m (omega (arith, c .if2 .taken))))
+    (λ m e. let k = met-known (a .at) (a .heap .now) m e in fit-small (a .alignment) (a .length) (s .pre .0) m (omega (arith, c .if1 .taken))))
 
 add-read-u32 : tie.Need-add-read-u32
 add-read-u32 c = search needs
@@ -31,12 +31,12 @@ add-read-u32 c = search needs
 read-u32-requires : tie.Need-read-u32-requires
 read-u32-requires c κs = search needs
 
-returns : tie.Need-returns
-returns c =
-    let a = c .before .before .before .args in
+returns-2 : tie.Need-returns-2
+returns-2 c =
+    let a = c .before .before .before .before .before .args in
     let u = c .before .read-u32 .ensures in
     sym (met-fits-not (a .alignment) (a .length) (met-at (a .at) (a .heap .now))
-    (λ m e. let k = met-known (a .at) (a .heap .now) m e in fit-live (a .alignment) (a .length) m (λ z. omega (arith, c .if1 .taken))))
+    (λ m e. let k = met-known (a .at) (a .heap .now) m e in fit-live (a .alignment) (a .length) m (λ z. omega (arith, c .if2 .taken))))
 
 met-at-requires : tie.Need-met-at-requires
 met-at-requires c κs = search needs
@@ -63,8 +63,8 @@ fit-in-requires c κs =
     let b = c .before in
     let s = b .before .before .before .before .before .before .before .before in
     let k = met-known (s .args .at) (s .args .heap .now) (b .block .given .0 .0) (found b) in
-    let e = b .before .before .before .before .before .before .read-u32 .ensures in
-    (s .pre .0, omega (arith, b .before .before .before .before .before .if1 .left), record { header = k .header; end = omega arith })
+    let e = b .before .before .before .before .read-u32 .ensures in
+    (s .pre .0, omega (arith, b .before .before .before .if2 .left), record { header = k .header; end = omega arith })
 
 returns-4 : tie.Need-returns-4
 returns-4 c =
@@ -76,11 +76,11 @@ pub fit-at-spec : {M : Type 1} → statement M
 fit-at-spec =
     tie.close
     (tie.spec
-    add-read-u32
-    read-u32-requires
-    returns
     read-u16-requires
     cast-units
+    returns
+    add-read-u32
+    read-u32-requires
     returns-2
     met-at-requires
     enum-known-block
