@@ -18,7 +18,8 @@ returns-2 : tie.Need-returns-2
 unfolding is-for
 returns-2 c =
     let m = c .before .before in
-    rw (eq-eqb _ _ (m .if1 .left), ne-eqb _ _ (c .if2 .taken)) (sym (and-false (used (m .before .before .args .self) && true)))
+    let a = m .before .before .args in
+    rw (eq-eqb (a .self .serial) (a .serial) (m .if1 .left), ne-eqb (a .self .quota) (a .quota) (c .if2 .taken)) (sym (and-false (used (a .self) && true)))
 
 is-used-requires : tie.Need-is-used-requires
 is-used-requires c κs = search needs
@@ -28,8 +29,9 @@ unfolding is-for
 returns-3 c =
     let n = c .before in
     let m = n .before .before in
-    let u = used (m .before .before .args .self) in
-    rw (eq-eqb _ _ (m .if1 .left), eq-eqb _ _ (n .if2 .left)) (c .is-used .ensures ∙ sym (and-true u) ∙ sym (and-true (u && true)))
+    let a = m .before .before .args in
+    let u = used (a .self) in
+    rw (eq-eqb (a .self .serial) (a .serial) (m .if1 .left), eq-eqb (a .self .quota) (a .quota) (n .if2 .left)) (c .is-used .ensures ∙ sym (and-true u) ∙ sym (and-true (u && true)))
 
 pub is-for-spec : {M : Type 1} → statement M
 is-for-spec = tie.close (tie.spec returns returns-2 is-used-requires returns-3)

@@ -1,15 +1,20 @@
 -- `accounts::Quota::charged` meets its contract: the test is the definition's, and the amount is taken off only after it.
 -- Assumes nothing.
+use borrow.Author.Needs.{needs}
 use mathlib.Core.Path.{refl}
 use borrow.Author.Tests.{le-leb, lt-leb}
 use Rattle.accounts.proofs.Quota.charged.Statement.{statement}
 use Rattle.accounts.proofs.Quota.charged.Tie as tie
 
 returns : tie.Need-returns
-returns c = rw (lt-leb _ _ (c .if1 .taken)) refl
+returns c =
+    let a = c .before .before .args in
+    rw (lt-leb (a .amount) (a .self .remainder) (search needs)) refl
 
 returns-2 : tie.Need-returns-2
-returns-2 c = rw (le-leb _ _ (c .before .if1 .left)) refl
+returns-2 c =
+    let a = c .before .before .before .args in
+    rw (le-leb (a .amount) (a .self .remainder) (search needs)) refl
 
 pub charged-spec : {M : Type 1} → statement M
 charged-spec = tie.close (tie.spec returns returns-2)
