@@ -12,7 +12,7 @@ use lib.Seq.{drop-cons, getD-set-same, getD-set-other, drop-set-lt, ext-getD}
 use Rattle.accounts.specs.declared.Hold.{Hold}
 use Rattle.accounts.specs.Accounts.{HOLDS, zero-hold}
 use Rattle.checker.specs.Keys.{well-formed, key-of, keys-of, serial-of, used-keys}
-use Rattle.checker.specs.Chains.{slot, Leads, here, on, Ascends}
+use Rattle.checker.specs.Chains.{SLOTS, slot, Leads, here, on, Ascends}
 use Rattle.checker.specs.Contracts.{Fresh, Index}
 use Rattle.checker.proofs.Cases.{by-eq}
 use Rattle.checker.proofs.Tables.{all-places}
@@ -30,7 +30,7 @@ abbrev LinkedFrom : ℕ → List ℕ → List ℕ → List ℕ → Type 0
 LinkedFrom i keys next heads = From i (λ p. (getD keys p 0 ≡ 0 → ⊥) → Leads next (getD heads (slot (serial-of (getD keys p 0))) 0) p)
 
 abbrev HeadsFrom : ℕ → List ℕ → Type 0
-HeadsFrom i heads = (x : ℕ) → x < HOLDS → (i ≤ getD heads x 0) × (getD heads x 0 ≤ HOLDS)
+HeadsFrom i heads = (x : ℕ) → x < SLOTS → (i ≤ getD heads x 0) × (getD heads x 0 ≤ HOLDS)
 
 -- a link that is set at a lower place is not on the way
 leads-keep : (next : List ℕ) (j v : ℕ) → Ascends next → {n p : ℕ} → j < n → Leads next n p → Leads (set next j v) n p
@@ -49,8 +49,8 @@ module _ (keys next heads : List ℕ) (j k : ℕ) (below : j < HOLDS) (keys-long
       let o = getD-set-other keys j p k 0 (λ q. omega arith) in
       subst (λ (x : ℕ). Leads next (getD heads (slot (serial-of x)) 0) p) (sym o) (links p a l (λ z. used (o ∙ z))))
 
-  module _ (up : Ascends next) (next-long : length next ≡ HOLDS) (heads-long : length heads ≡ HOLDS)
-      (hf : HeadsFrom (suc j) heads) (r : ℕ) (small : r < HOLDS) (res : slot (serial-of k) ≡ r) where
+  module _ (up : Ascends next) (next-long : length next ≡ HOLDS) (heads-long : length heads ≡ SLOTS)
+      (hf : HeadsFrom (suc j) heads) (r : ℕ) (small : r < SLOTS) (res : slot (serial-of k) ≡ r) where
     up-more : Ascends (set next j (getD heads r 0))
     up-more p l =
         by-eq p j
@@ -111,13 +111,13 @@ pub record Grown (hs : List Hold) (i n : ℕ) (keys next heads : List ℕ) : Typ
   pub low : i + n ≤ HOLDS
   pub keys-long : length keys ≡ HOLDS
   pub next-long : length next ≡ HOLDS
-  pub heads-long : length heads ≡ HOLDS
+  pub heads-long : length heads ≡ SLOTS
   pub keyed : (p : ℕ) → i ≤ p → p < HOLDS → getD keys p 0 ≡ key-of (getD hs p zero-hold)
   pub well : (p : ℕ) → i ≤ p → p < HOLDS → well-formed (getD hs p zero-hold) ≡ true
   pub counted : n ≡ used-keys (drop i keys)
   pub up : Ascends next
   pub links : (p : ℕ) → i ≤ p → p < HOLDS → (getD keys p 0 ≡ 0 → ⊥) → Leads next (getD heads (slot (serial-of (getD keys p 0))) 0) p
-  pub heads-from : (x : ℕ) → x < HOLDS → (i ≤ getD heads x 0) × (getD heads x 0 ≤ HOLDS)
+  pub heads-from : (x : ℕ) → x < SLOTS → (i ≤ getD heads x 0) × (getD heads x 0 ≤ HOLDS)
 
 module _ {hs : List Hold} where
   pub grown-none : {keys next heads : List ℕ} → Fresh keys next heads → Grown hs HOLDS 0 keys next heads
@@ -169,7 +169,7 @@ module _ {hs : List Hold} where
         }
 
     -- one with a serial, whose slot is r
-    pub grown-more : (getD hs j zero-hold .serial ≡ 0 → ⊥) → {r : ℕ} → r ≡ slot (getD hs j zero-hold .serial) → r < HOLDS
+    pub grown-more : (getD hs j zero-hold .serial ≡ 0 → ⊥) → {r : ℕ} → r ≡ slot (getD hs j zero-hold .serial) → r < SLOTS
         → Grown hs j (n + 1) (set keys j k) (set next j (getD heads r 0)) (set heads r j)
     grown-more z {r} at-slot small =
         let low = g′ .low in

@@ -21,19 +21,20 @@ use Rattle.model.specs.Refusals.{first-refusal, line-1, line-2, check-lines}
 use Rattle.model.specs.Calls.{unless, check}
 use Rattle.model.proofs.Bools.{and-no}
 use Rattle.checker.specs.Keys.{well-formed}
+use Rattle.checker.specs.Chains.{SLOTS}
 use Rattle.checker.specs.Audit.{owes, begin, audit-parsed, audited}
 use Rattle.checker.specs.Contracts.{Fresh, Index, Indexed, Owing, Ready}
 use Rattle.checker.proofs.Consistency.{audited-is-consistent}
 
 -- new arrays
-pub fresh : Fresh (replicate HOLDS 0) (replicate HOLDS HOLDS) (replicate HOLDS HOLDS)
+pub fresh : Fresh (replicate HOLDS 0) (replicate HOLDS HOLDS) (replicate SLOTS HOLDS)
 fresh =
     record {
       keys-long = length-replicate {A = ℕ} HOLDS 0;
       next-long = length-replicate {A = ℕ} HOLDS HOLDS;
-      heads-long = length-replicate {A = ℕ} HOLDS HOLDS;
+      heads-long = length-replicate {A = ℕ} SLOTS HOLDS;
       no-link = λ x l. getD-replicate HOLDS x HOLDS 0 l;
-      no-head = λ x l. getD-replicate HOLDS x HOLDS 0 l;
+      no-head = λ x l. getD-replicate SLOTS x HOLDS 0 l;
     }
 
 module _ (s : List ℕ) (k : Accounts) where

@@ -11,7 +11,7 @@ use Rattle.accounts.specs.declared.Hold.{Hold}
 use Rattle.accounts.specs.Accounts.{QUOTAS, HOLDS}
 use Rattle.model.specs.Lists.{all}
 use Rattle.checker.specs.Keys.{well-formed, keys-of, used-keys, strike, struck, pay, unpaid}
-use Rattle.checker.specs.Chains.{Ascends, Covers, Linked}
+use Rattle.checker.specs.Chains.{SLOTS, Ascends, Covers, Linked}
 use Rattle.checker.specs.Audit.{owes, solvent, begin, visit, settled}
 
 -- `find` asks for chains that lead from a place to each key of the serial
@@ -25,9 +25,9 @@ pub record Findable (keys next : List ℕ) (from serial : ℕ) : Type 0 where
 pub record Fresh (keys next heads : List ℕ) : Type 0 where
   pub keys-long : length keys ≡ HOLDS
   pub next-long : length next ≡ HOLDS
-  pub heads-long : length heads ≡ HOLDS
+  pub heads-long : length heads ≡ SLOTS
   pub no-link : (x : ℕ) → x < HOLDS → getD next x 0 ≡ HOLDS
-  pub no-head : (x : ℕ) → x < HOLDS → getD heads x 0 ≡ HOLDS
+  pub no-head : (x : ℕ) → x < SLOTS → getD heads x 0 ≡ HOLDS
 
 -- and makes the keys, how many are used, and the chains
 pub record Index (hs : List Hold) (r : ℕ) (keys next heads : List ℕ) : Type 0 where
@@ -38,7 +38,7 @@ pub record Index (hs : List Hold) (r : ℕ) (keys next heads : List ℕ) : Type 
   pub long : length keys ≡ HOLDS
   pub up : Ascends next
   pub linked : Linked keys next heads
-  pub heads-inside : (x : ℕ) → x < HOLDS → getD heads x 0 ≤ HOLDS
+  pub heads-inside : (x : ℕ) → x < SLOTS → getD heads x 0 ≤ HOLDS
 
 -- or gives HOLDS + 1 where a record is not well-formed
 abbrev pub Indexed : List Hold → ℕ → List ℕ → List ℕ → List ℕ → Type 0
@@ -72,7 +72,7 @@ pub record Ready (keys next heads owed : List ℕ) : Type 0 where
   pub owed-long : length owed ≡ QUOTAS
   pub up : Ascends next
   pub linked : Linked keys next heads
-  pub heads-inside : (x : ℕ) → x < HOLDS → getD heads x 0 ≤ HOLDS
+  pub heads-inside : (x : ℕ) → x < SLOTS → getD heads x 0 ≤ HOLDS
 
 -- `visit` gives how many keys it strikes, with the arrays ready for the next block
 pub record Passed (next heads keys keys′ owed′ : List ℕ) (r : ℕ) : Type 0 where

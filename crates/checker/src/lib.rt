@@ -22,10 +22,13 @@ ghost use Rattle.model.specs.Calls.{check as check-of};
 ghost use Rattle.accounts.specs.Accounts.{QUOTAS, HOLDS};
 ghost use Rattle.layout.specs.Blocks.{parse};
 ghost use Rattle.checker.specs.Keys.{well-formed, key-of, used-keys, for-serial};
-ghost use Rattle.checker.specs.Chains.{slot, search-from};
+ghost use Rattle.checker.specs.Chains.{SLOTS, slot, search-from};
 ghost use Rattle.checker.specs.Audit.{none-owed, begin, audit-parsed};
 ghost use Rattle.checker.specs.Contracts.{Findable, Fresh, Indexed, Owing, Payable, Settled, Ready, Visited};
 ghost use Rattle.checker.specs.Holders.{held-each, has-key, Chained};
+
+// The number of slots: so many that a chain is seldom longer than one record.
+const SLOTS: usize = 4 * HOLDS;
 
 // Whether a heap may have this length.
 fn is_allowed(len: usize) -> bool
@@ -65,9 +68,9 @@ fn key(hold: Hold) -> usize
 
 // The slot of a serial: its product with 2^32 over the golden ratio, scaled to the number of slots.
 fn slot_of(serial: u32) -> usize
-    ensures { λ r. ⌜ (r ≡ slot serial) × (r < HOLDS) ⌝ }
+    ensures { λ r. ⌜ (r ≡ slot serial) × (r < SLOTS) ⌝ }
 {
-    (serial as usize) * 2654435769 % 4294967296 * HOLDS / 4294967296
+    (serial as usize) * 2654435769 % 4294967296 * SLOTS / 4294967296
 }
 
 // The place that a link leads to.
@@ -83,7 +86,7 @@ fn index(
     holds: [Hold; HOLDS],
     keys: &mut [usize; HOLDS],
     next: &mut [u16; HOLDS],
-    heads: &mut [u16; HOLDS],
+    heads: &mut [u16; SLOTS],
 ) -> usize
     requires { ⌜ Fresh (now keys) (now next) (now heads) ⌝ }
     ensures { λ r. ⌜ Indexed holds r (now (keys .exit)) (now (next .exit)) (now (heads .exit)) ⌝ }
@@ -180,7 +183,7 @@ fn settle(
 fn visit(
     keys: &mut [usize; HOLDS],
     next: &[u16; HOLDS],
-    heads: &[u16; HOLDS],
+    heads: &[u16; SLOTS],
     owed: &mut [usize; QUOTAS],
     last: u32,
     free: bool,
@@ -231,7 +234,7 @@ fn walk(
     heap: &[u8],
     keys: &mut [usize; HOLDS],
     next: &[u16; HOLDS],
-    heads: &[u16; HOLDS],
+    heads: &[u16; SLOTS],
     owed: &mut [usize; QUOTAS],
     last: u32,
     used: usize,
@@ -277,7 +280,7 @@ pub fn check(heap: &[u8], accounts: Accounts) -> Verdict
     let end = HOLDS as u16;
     let mut keys = [0usize; HOLDS];
     let mut next = [end; HOLDS];
-    let mut heads = [end; HOLDS];
+    let mut heads = [end; SLOTS];
     let mut owed = [0usize; QUOTAS];
     let holds = accounts.holds;
     let used = index(holds, &mut keys, &mut next, &mut heads);
@@ -296,7 +299,7 @@ pub fn check(heap: &[u8], accounts: Accounts) -> Verdict
 }
 
 // Whether a used record's key has the serial: the chain of the serial's slot leads to one.
-fn is_held(keys: &[usize; HOLDS], next: &[u16; HOLDS], heads: &[u16; HOLDS], serial: u32) -> bool
+fn is_held(keys: &[usize; HOLDS], next: &[u16; HOLDS], heads: &[u16; SLOTS], serial: u32) -> bool
     requires { ⌜ Chained (now keys) (now next) (now heads) ⌝ }
     ensures { λ r. ⌜ r ≡ has-key (now (keys .entry)) serial ⌝ }
 {
@@ -312,7 +315,7 @@ fn is_held(keys: &[usize; HOLDS], next: &[u16; HOLDS], heads: &[u16; HOLDS], ser
 fn are_held(
     keys: &[usize; HOLDS],
     next: &[u16; HOLDS],
-    heads: &[u16; HOLDS],
+    heads: &[u16; SLOTS],
     serials: [u32; HOLDS],
 ) -> [bool; HOLDS]
     requires { ⌜ Chained (now keys) (now next) (now heads) ⌝ }
@@ -336,7 +339,7 @@ pub fn held_each(holds: [Hold; HOLDS], serials: [u32; HOLDS]) -> [bool; HOLDS]
     let end = HOLDS as u16;
     let mut keys = [0usize; HOLDS];
     let mut next = [end; HOLDS];
-    let mut heads = [end; HOLDS];
+    let mut heads = [end; SLOTS];
     let count = index(holds, &mut keys, &mut next, &mut heads);
     if HOLDS < count {
         return [true; HOLDS];
