@@ -4,9 +4,9 @@
 use Prim.Native.Nat.{ℕ, suc, _+_, _<_, _≤_}
 use mathlib.Core.Path.{_≡_, ap, sym, subst, _∙_}
 use mathlib.Core.Bool.{true}
-use mathlib.Core.List.{List, [], _∷_}
+use mathlib.Core.List.{List, []}
 use native.Mathlib.Omega.{arith}
-use borrow.Author.Tests.{eq-eqb, ne-eqb}
+use borrow.Author.Tests.{ne-eqb}
 use lib.ListN.{length, getD, drop, set, drop-of-length-le, length-set, length-map, List·getD-map}
 use lib.Seq.{drop-cons, getD-set-same, getD-set-other, drop-set-lt, ext-getD}
 use Rattle.accounts.specs.declared.Hold.{Hold}
@@ -39,17 +39,12 @@ leads-keep next j v up l (on {n} {p} h r) =
     let u = up n h in
     on h (subst (λ (x : ℕ). Leads (set next j v) x p) (sym (getD-set-other next j n v 0 (λ e. omega arith))) (leads-keep next j v up (omega arith) r))
 
-module _ (keys next heads : List ℕ) (j k : ℕ) (below : j < HOLDS) (keys-long : length keys ≡ HOLDS) (links : LinkedFrom (suc j) keys next heads) where
+module _ (keys next heads : List ℕ) (j : ℕ) (links : LinkedFrom (suc j) keys next heads) where
   -- an unused place needs no link
-  links-skip : k ≡ 0 → LinkedFrom j (set keys j k) next heads
-  links-skip e =
-      from-more _ j
-      (λ used. absurd (used (getD-set-same keys j k 0 (omega arith) ∙ e)))
-      (λ p a l used.
-      let o = getD-set-other keys j p k 0 (λ q. omega arith) in
-      subst (λ (x : ℕ). Leads next (getD heads (slot (serial-of x)) 0) p) (sym o) (links p a l (λ z. used (o ∙ z))))
+  links-skip : getD keys j 0 ≡ 0 → LinkedFrom j keys next heads
+  links-skip e = from-more _ j (λ used. absurd (used e)) links
 
-  module _ (up : Ascends next) (next-long : length next ≡ HOLDS) (heads-long : length heads ≡ SLOTS)
+  module _ (k : ℕ) (below : j < HOLDS) (keys-long : length keys ≡ HOLDS) (up : Ascends next) (next-long : length next ≡ HOLDS) (heads-long : length heads ≡ SLOTS)
       (hf : HeadsFrom (suc j) heads) (r : ℕ) (small : r < SLOTS) (res : slot (serial-of k) ≡ r) where
     up-more : Ascends (set next j (getD heads r 0))
     up-more p l =
@@ -92,19 +87,16 @@ module _ (keys next heads : List ℕ) (j k : ℕ) (below : j < HOLDS) (keys-long
             (leads-keep next j (getD heads r 0) up (omega arith) old)))
 
 -- the keys behind the place
-module _ (keys : List ℕ) (j k : ℕ) (below : j < length keys) where
-  cut-keys : drop j (set keys j k) ≡ k ∷ drop (suc j) keys
-  cut-keys =
+module _ (keys : List ℕ) (j : ℕ) (below : j < length keys) where
+  used-more : (k : ℕ) → (k ≡ 0 → ⊥) → used-keys (drop j (set keys j k)) ≡ suc (used-keys (drop (suc j) keys))
+  unfolding used-keys
+  used-more k n =
       let l : j < length (set keys j k) = simp length-set (omega arith) in
-      rw (drop-cons (set keys j k) j 0, getD-set-same keys j k 0 (omega arith), drop-set-lt (suc j) keys j k (omega arith))
+      rw (drop-cons (set keys j k) j 0, getD-set-same keys j k 0 (omega arith), drop-set-lt (suc j) keys j k (omega arith), ne-eqb k 0 n)
 
-  used-more : (k ≡ 0 → ⊥) → used-keys (drop j (set keys j k)) ≡ suc (used-keys (drop (suc j) keys))
+  used-same : getD keys j 0 ≡ 0 → used-keys (drop j keys) ≡ used-keys (drop (suc j) keys)
   unfolding used-keys
-  used-more n = rw (cut-keys, ne-eqb k 0 n)
-
-  used-same : k ≡ 0 → used-keys (drop j (set keys j k)) ≡ used-keys (drop (suc j) keys)
-  unfolding used-keys
-  used-same e = rw (cut-keys, eq-eqb k 0 e)
+  used-same e = rw (drop-cons keys j 0, e)
 
 -- what holds of the arrays when the n used places from i on are chained
 pub record Grown (hs : List Hold) (i n : ℕ) (keys next heads : List ℕ) : Type 0 where
@@ -112,6 +104,7 @@ pub record Grown (hs : List Hold) (i n : ℕ) (keys next heads : List ℕ) : Typ
   pub keys-long : length keys ≡ HOLDS
   pub next-long : length next ≡ HOLDS
   pub heads-long : length heads ≡ SLOTS
+  pub blank : (p : ℕ) → p < i → getD keys p 0 ≡ 0
   pub keyed : (p : ℕ) → i ≤ p → p < HOLDS → getD keys p 0 ≡ key-of (getD hs p zero-hold)
   pub well : (p : ℕ) → i ≤ p → p < HOLDS → well-formed (getD hs p zero-hold) ≡ true
   pub counted : n ≡ used-keys (drop i keys)
@@ -130,6 +123,7 @@ module _ {hs : List Hold} where
         keys-long = f .keys-long;
         next-long = f .next-long;
         heads-long = f .heads-long;
+        blank = f .no-key;
         keyed = λ p a l. absurd (omega arith);
         well = λ p a l. absurd (omega arith);
         counted = rw b;
@@ -138,40 +132,35 @@ module _ {hs : List Hold} where
         heads-from = λ x l. (omega (arith, f .no-head x l), omega (arith, f .no-head x l));
       }
 
-  module _ {i j n : ℕ} {keys next heads : List ℕ} {k : ℕ} (at : i ≡ suc j) (g : Grown hs i n keys next heads)
-      (key : k ≡ key-of (getD hs j zero-hold)) (ok : well-formed (getD hs j zero-hold) ≡ true) where
+  module _ {i j n : ℕ} {keys next heads : List ℕ} (at : i ≡ suc j) (g : Grown hs i n keys next heads)
+      (ok : well-formed (getD hs j zero-hold) ≡ true) where
     g′ : Grown hs (suc j) n keys next heads
     g′ = subst (λ (x : ℕ). Grown hs x n keys next heads) at g
 
-    keyed-more : From j (λ p. getD (set keys j k) p 0 ≡ key-of (getD hs p zero-hold))
-    keyed-more =
-        let l = g′ .keys-long in
-        let b = g′ .low in
-        from-more _ j (getD-set-same keys j k 0 (omega arith) ∙ key) (λ p a h. getD-set-other keys j p k 0 (λ q. omega arith) ∙ g′ .keyed p a h)
-
     -- a place without a serial
-    pub grown-skip : getD hs j zero-hold .serial ≡ 0 → Grown hs j n (set keys j k) next heads
+    pub grown-skip : getD hs j zero-hold .serial ≡ 0 → Grown hs j n keys next heads
     grown-skip z =
         let low = g′ .low in
         let kl = g′ .keys-long in
-        let e : k ≡ 0 = key ∙ no-key (getD hs j zero-hold) ok z in
+        let e : getD keys j 0 ≡ 0 = g′ .blank j (omega arith) in
         record {
           low = omega arith;
-          keys-long = simp length-set kl;
+          keys-long = kl;
           next-long = g′ .next-long;
           heads-long = g′ .heads-long;
-          keyed = keyed-more;
+          blank = λ p l. g′ .blank p (omega arith);
+          keyed = from-more _ j (e ∙ sym (no-key (getD hs j zero-hold) ok z)) (g′ .keyed);
           well = from-more _ j ok (g′ .well);
-          counted = omega (arith, g′ .counted, used-same keys j k (omega arith) e);
+          counted = g′ .counted ∙ sym (used-same keys j (omega arith) e);
           up = g′ .up;
-          links = links-skip keys next heads j k (omega arith) kl (g′ .links) e;
+          links = links-skip keys next heads j (g′ .links) e;
           heads-from = λ x l. (let h = g′ .heads-from x l in (omega arith, h .1));
         }
 
     -- one with a serial, whose slot is r
-    pub grown-more : (getD hs j zero-hold .serial ≡ 0 → ⊥) → {r : ℕ} → r ≡ slot (getD hs j zero-hold .serial) → r < SLOTS
+    pub grown-more : (getD hs j zero-hold .serial ≡ 0 → ⊥) → {k : ℕ} → k ≡ key-of (getD hs j zero-hold) → {r : ℕ} → r ≡ slot (getD hs j zero-hold .serial) → r < SLOTS
         → Grown hs j (n + 1) (set keys j k) (set next j (getD heads r 0)) (set heads r j)
-    grown-more z {r} at-slot small =
+    grown-more z {k} key {r} at-slot small =
         let low = g′ .low in
         let kl = g′ .keys-long in
         let nl = g′ .next-long in
@@ -185,12 +174,13 @@ module _ {hs : List Hold} where
           keys-long = simp length-set kl;
           next-long = simp length-set nl;
           heads-long = simp length-set hl;
-          keyed = keyed-more;
+          blank = λ p l. getD-set-other keys j p k 0 (λ q. omega arith) ∙ g′ .blank p (omega arith);
+          keyed = from-more _ j (getD-set-same keys j k 0 (omega arith) ∙ key) (λ p a l. getD-set-other keys j p k 0 (λ q. omega arith) ∙ g′ .keyed p a l);
           well = from-more _ j ok (g′ .well);
-          counted = omega (arith, g′ .counted, used-more keys j k (omega arith) ne);
-          up = up-more keys next heads j k (omega arith) kl (g′ .links) (g′ .up) nl hl (g′ .heads-from) r small res;
-          links = links-more keys next heads j k (omega arith) kl (g′ .links) (g′ .up) nl hl (g′ .heads-from) r small res;
-          heads-from = heads-more keys next heads j k (omega arith) kl (g′ .links) (g′ .up) nl hl (g′ .heads-from) r small res;
+          counted = omega (arith, g′ .counted, used-more keys j (omega arith) k ne);
+          up = up-more keys next heads j (g′ .links) k (omega arith) kl (g′ .up) nl hl (g′ .heads-from) r small res;
+          links = links-more keys next heads j (g′ .links) k (omega arith) kl (g′ .up) nl hl (g′ .heads-from) r small res;
+          heads-from = heads-more keys next heads j (g′ .links) k (omega arith) kl (g′ .up) nl hl (g′ .heads-from) r small res;
         }
 
   -- when all are

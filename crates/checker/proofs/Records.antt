@@ -2,10 +2,10 @@
 -- rest is the quota; an unused record is all zero, and so is its key.
 -- Assumes nothing.
 use Prim.Native.Nat.{ℕ, _+_, _*_, _<_, _≤_}
-use mathlib.Core.Path.{_≡_}
-use mathlib.Core.Bool.{true, false, not, _&&_}
+use mathlib.Core.Path.{_≡_, refl}
+use mathlib.Core.Bool.{Bool, true, false, not, _&&_, _||_}
 use native.Mathlib.Omega.{arith}
-use borrow.Author.Tests.{eq-eqb, ne-eqb, eqb-true, ltb-true, leb-true, not-false}
+use borrow.Author.Tests.{eq-eqb, ne-eqb, eqb-true, le-leb, lt-leb, ltb-true, leb-true, not-false}
 use lib.Dec.{eqb, leb, ltb}
 use Rattle.accounts.specs.declared.Hold.{Hold}
 use Rattle.accounts.specs.Accounts.{QUOTAS, used}
@@ -13,6 +13,19 @@ use Rattle.model.specs.Consistent.{is-of}
 use Rattle.model.proofs.Bools.{and-left, and-right, implies}
 use Rattle.checker.specs.Keys.{well-formed, key-of, serial-of, quota-of, for-serial}
 use Rattle.checker.proofs.Cases.{by-test}
+
+-- what is left to test of a record without a serial, and of one with a serial
+pub well-blank : (h : Hold) → h .serial ≡ 0 → well-formed h ≡ (eqb (h .quota) 0 && eqb (h .count) 0)
+unfolding well-formed used
+well-blank h z = rw (eq-eqb (h .serial) 0 z, lt-leb 1 (h .serial) (omega arith)) (go (eqb (h .quota) 0 && eqb (h .count) 0))
+  where
+    go : (t : Bool) → (not (not t) || false) ≡ t
+    go true = refl
+    go false = refl
+
+pub well-possible : (h : Hold) → (h .serial ≡ 0 → ⊥) → well-formed h ≡ (ltb (h .quota) QUOTAS && leb 1 (h .count))
+unfolding well-formed used
+well-possible h n = rw (ne-eqb (h .serial) 0 n, le-leb 1 (h .serial) (omega (arith, n)))
 
 -- an unused record is all zero; one with a serial is used
 pub unused-zero : (h : Hold) → used h ≡ false → (h .serial ≡ 0) × (h .quota ≡ 0) × (h .count ≡ 0)

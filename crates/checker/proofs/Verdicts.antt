@@ -33,6 +33,7 @@ fresh =
       keys-long = length-replicate {A = ℕ} HOLDS 0;
       next-long = length-replicate {A = ℕ} HOLDS HOLDS;
       heads-long = length-replicate {A = ℕ} SLOTS HOLDS;
+      no-key = λ x l. getD-replicate HOLDS x 0 0 l;
       no-link = λ x l. getD-replicate HOLDS x HOLDS 0 l;
       no-head = λ x l. getD-replicate SLOTS x HOLDS 0 l;
     }

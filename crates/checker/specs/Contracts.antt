@@ -21,11 +21,12 @@ pub record Findable (keys next : List ℕ) (from serial : ℕ) : Type 0 where
   pub up : Ascends next
   pub covers : Covers keys next from serial
 
--- `index` asks for arrays with no link and no head
+-- `index` asks for arrays with no key, no link and no head
 pub record Fresh (keys next heads : List ℕ) : Type 0 where
   pub keys-long : length keys ≡ HOLDS
   pub next-long : length next ≡ HOLDS
   pub heads-long : length heads ≡ SLOTS
+  pub no-key : (x : ℕ) → x < HOLDS → getD keys x 0 ≡ 0
   pub no-link : (x : ℕ) → x < HOLDS → getD next x 0 ≡ HOLDS
   pub no-head : (x : ℕ) → x < SLOTS → getD heads x 0 ≡ HOLDS
 

@@ -13,15 +13,16 @@ use model::Verdict;
 ghost use mathlib.Core.Path.{_≡_};
 ghost use mathlib.Core.Option.{some};
 ghost use mathlib.Core.List.{map};
-ghost use Prim.Native.Nat.{_<_};
-ghost use lib.Dec.{eqb};
+ghost use Prim.Native.Nat.{_+_, _*_, _<_};
+ghost use mathlib.Core.Bool.{_&&_};
+ghost use lib.Dec.{eqb, ltb, leb};
 ghost use lib.ListN.{length};
 ghost use Rattle.model.specs.Answers.{verdict-values};
 ghost use Rattle.model.specs.Consistent.{allowed};
 ghost use Rattle.model.specs.Calls.{check as check-of};
 ghost use Rattle.accounts.specs.Accounts.{QUOTAS, HOLDS};
 ghost use Rattle.layout.specs.Blocks.{parse};
-ghost use Rattle.checker.specs.Keys.{well-formed, key-of, used-keys, for-serial};
+ghost use Rattle.checker.specs.Keys.{used-keys, for-serial};
 ghost use Rattle.checker.specs.Chains.{SLOTS, slot, search-from};
 ghost use Rattle.checker.specs.Audit.{none-owed, begin, audit-parsed};
 ghost use Rattle.checker.specs.Contracts.{Findable, Fresh, Indexed, Owing, Payable, Settled, Ready, Visited};
@@ -43,27 +44,31 @@ fn is_allowed(len: usize) -> bool
     len <= 32768
 }
 
-// Whether a record is unused, or has a serial, a quota and a count that are possible.
-fn is_well_formed(hold: Hold) -> bool
-    ensures { λ r. ⌜ r ≡ well-formed hold ⌝ }
+// Whether a record without a serial is unused.
+fn is_blank(quota: u8, count: u8) -> bool
+    ensures { λ r. ⌜ r ≡ (eqb quota 0 && eqb count 0) ⌝ }
 {
-    if !hold.is_used() {
-        return true;
-    }
-    if hold.serial < 1 {
+    if quota != 0 {
         return false;
     }
-    if QUOTAS <= hold.quota as usize {
-        return false;
-    }
-    1 <= hold.count
+    count == 0
 }
 
-// A record's serial and quota as one number.
-fn key(hold: Hold) -> usize
-    ensures { λ r. ⌜ r ≡ key-of hold ⌝ }
+// Whether a record with a serial has a quota and a count that are possible.
+fn is_possible(quota: u8, count: u8) -> bool
+    ensures { λ r. ⌜ r ≡ (ltb quota QUOTAS && leb 1 count) ⌝ }
 {
-    (hold.serial as usize) * QUOTAS + (hold.quota as usize)
+    if QUOTAS <= quota as usize {
+        return false;
+    }
+    1 <= count
+}
+
+// A serial and a quota as one number.
+fn key(serial: u32, quota: u8) -> usize
+    ensures { λ r. ⌜ r ≡ serial * QUOTAS + quota ⌝ }
+{
+    (serial as usize) * QUOTAS + (quota as usize)
 }
 
 // The slot of a serial: its product with 2^32 over the golden ratio, scaled to the number of slots.
@@ -95,14 +100,19 @@ fn index(
     let mut i = HOLDS;
     while 0 < i {
         i -= 1;
-        let hold = holds[i];
-        if !is_well_formed(hold) {
-            return HOLDS + 1;
-        }
-        keys[i] = key(hold);
-        let serial = hold.serial;
-        if serial != 0 {
+        let serial = holds[i].serial;
+        let quota = holds[i].quota;
+        let count = holds[i].count;
+        if serial == 0 {
+            if !is_blank(quota, count) {
+                return HOLDS + 1;
+            }
+        } else {
+            if !is_possible(quota, count) {
+                return HOLDS + 1;
+            }
             let slot = slot_of(serial);
+            keys[i] = key(serial, quota);
             next[i] = heads[slot];
             heads[slot] = i as u16;
             used += 1;
