@@ -15,7 +15,7 @@ use Rattle.accounts.specs.Accounts.{HOLDS}
 use Rattle.model.proofs.Bools.{and-no}
 use Rattle.checker.specs.Keys.{used-keys, strike, struck, pay, unpaid}
 use Rattle.checker.specs.Chains.{slot, Covers, Linked}
-use Rattle.checker.specs.Audit.{State, visit, visit-free, visit-live, settled}
+use Rattle.checker.specs.Audit.{State, behind, visit, visit-free, visit-live, settled}
 use Rattle.checker.specs.Contracts.{Payable, Settled, Ready, Visited}
 use Rattle.checker.proofs.Chains.{slot-small}
 use Rattle.checker.proofs.Striking.{struck-le, strike-used, strike-long, strike-linked, slot-covers}
@@ -34,30 +34,30 @@ payable {next} {heads} {keys} g s live e =
       };
     }
 
-module _ (last s n : ℕ) (free : Bool) {next heads keys owed : List ℕ} (g : Ready keys next heads owed) where
+module _ (last s n before : ℕ) {next heads keys owed : List ℕ} (g : Ready keys next heads owed) where
   -- a free block
-  pub visit-behind : s ≡ 0 → free ≡ true → Visited last s n free next heads keys owed (HOLDS + 1) (eqb s 0) keys owed
+  pub visit-behind : s ≡ 0 → before ≡ 0 → Visited last s n before next heads keys owed (HOLDS + 1) keys owed
   unfolding visit visit-free
-  visit-behind z f = inl (refl, rw (eq-eqb s 0 z, f))
+  visit-behind z f = inl (refl, rw (eq-eqb s 0 z, eq-eqb before 0 f))
 
-  pub visit-apart : s ≡ 0 → free ≡ false → Visited last s n free next heads keys owed 0 (eqb s 0) keys owed
+  pub visit-apart : s ≡ 0 → (before ≡ 0 → ⊥) → Visited last s n before next heads keys owed 0 keys owed
   unfolding visit visit-free
-  visit-apart z f = inr (record { few = omega arith; ready = g; counted = omega arith }, rw (eq-eqb s 0 z, f))
+  visit-apart z f = inr (record { few = omega arith; ready = g; counted = omega arith }, rw (eq-eqb s 0 z, ne-eqb before 0 f))
 
   -- a live one
   module _ (live : s ≡ 0 → ⊥) where
-    tests : visit last s n (record { free = free; keys = keys; owed = owed })
+    tests : visit last s n (behind before keys owed)
         ≡ cond (leb 16 n && (leb s last && not (eqb (struck s keys) 0))) (settled (strike s keys) (pay s n keys (some (unpaid owed)))) none
     unfolding visit visit-live
     tests = rw (ne-eqb s 0 live)
 
-    pub visit-short : n < 16 → Visited last s n free next heads keys owed (HOLDS + 1) (eqb s 0) keys owed
+    pub visit-short : n < 16 → Visited last s n before next heads keys owed (HOLDS + 1) keys owed
     visit-short h = inl (refl, tests ∙ rw (lt-leb 16 n h))
 
-    pub visit-late : last < s → Visited last s n free next heads keys owed (HOLDS + 1) (eqb s 0) keys owed
+    pub visit-late : last < s → Visited last s n before next heads keys owed (HOLDS + 1) keys owed
     visit-late h = inl (refl, tests ∙ rw (lt-leb s last h, and-no (leb 16 n) false refl))
 
-    pub visit-unpaid : {r : ℕ} {keys′ owed′ : List ℕ} → Settled s n keys owed r keys′ owed′ → r ≡ 0 → Visited last s n free next heads keys owed (HOLDS + 1) (eqb s 0) keys′ owed′
+    pub visit-unpaid : {r : ℕ} {keys′ owed′ : List ℕ} → Settled s n keys owed r keys′ owed′ → r ≡ 0 → Visited last s n before next heads keys owed (HOLDS + 1) keys′ owed′
     unfolding settled
     visit-unpaid (inl w) e = inl (refl, tests ∙ rw (w .1) (either (leb 16 n && (leb s last && not (eqb (struck s keys) 0)))))
       where
@@ -67,7 +67,7 @@ module _ (last s n : ℕ) (free : Bool) {next heads keys owed : List ℕ} (g : R
     visit-unpaid (inr w) e =
         inl (refl, tests ∙ rw (eq-eqb (struck s keys) 0 (sym (w .count) ∙ e), and-no (leb s last) false refl, and-no (leb 16 n) false refl))
 
-    pub visit-paid : 16 ≤ n → s ≤ last → {r : ℕ} {keys′ owed′ : List ℕ} → Settled s n keys owed r keys′ owed′ → (r ≡ 0 → ⊥) → Visited last s n free next heads keys owed r (eqb s 0) keys′ owed′
+    pub visit-paid : 16 ≤ n → s ≤ last → {r : ℕ} {keys′ owed′ : List ℕ} → Settled s n keys owed r keys′ owed′ → (r ≡ 0 → ⊥) → Visited last s n before next heads keys owed r keys′ owed′
     visit-paid long given (inl w) e = absurd (e (w .0))
     visit-paid long given (inr w) e =
         let k = w .left in

@@ -30,6 +30,10 @@ pub record State : Type 0 where
 abbrev pub begin : List ℕ → List ℕ → State
 begin keys owed = record { free = false; keys = keys; owed = owed }
 
+-- behind a block with this serial
+abbrev pub behind : ℕ → List ℕ → List ℕ → State
+behind serial keys owed = record { free = eqb serial 0; keys = keys; owed = owed }
+
 -- a free block does not stand behind a free block
 unfoldable pub visit-free : State → Option State
 visit-free t = cond (t .free) none (some (record { free = true; keys = t .keys; owed = t .owed }))

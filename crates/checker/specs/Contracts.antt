@@ -12,7 +12,7 @@ use Rattle.accounts.specs.Accounts.{QUOTAS, HOLDS}
 use Rattle.model.specs.Lists.{all}
 use Rattle.checker.specs.Keys.{well-formed, keys-of, used-keys, strike, struck, pay, unpaid}
 use Rattle.checker.specs.Chains.{SLOTS, Ascends, Covers, Linked}
-use Rattle.checker.specs.Audit.{owes, solvent, begin, visit, settled}
+use Rattle.checker.specs.Audit.{owes, solvent, begin, behind, visit, settled}
 
 -- `find` asks for chains that lead from a place to each key of the serial
 pub record Findable (keys next : List ℕ) (from serial : ℕ) : Type 0 where
@@ -82,7 +82,7 @@ pub record Passed (next heads keys keys′ owed′ : List ℕ) (r : ℕ) : Type 
   pub counted : used-keys keys ≡ r + used-keys keys′
 
 -- and what the definition leaves; or HOLDS + 1 where the block is not as it must be
-abbrev pub Visited : ℕ → ℕ → ℕ → Bool → List ℕ → List ℕ → List ℕ → List ℕ → ℕ → Bool → List ℕ → List ℕ → Type 0
-Visited last serial size free next heads keys owed r free′ keys′ owed′ =
-    ((r ≡ HOLDS + 1) × (visit last serial size (record { free = free; keys = keys; owed = owed }) ≡ none))
-    ⊎ (Passed next heads keys keys′ owed′ r × (visit last serial size (record { free = free; keys = keys; owed = owed }) ≡ some (record { free = free′; keys = keys′; owed = owed′ })))
+abbrev pub Visited : ℕ → ℕ → ℕ → ℕ → List ℕ → List ℕ → List ℕ → List ℕ → ℕ → List ℕ → List ℕ → Type 0
+Visited last serial size before next heads keys owed r keys′ owed′ =
+    ((r ≡ HOLDS + 1) × (visit last serial size (behind before keys owed) ≡ none))
+    ⊎ (Passed next heads keys keys′ owed′ r × (visit last serial size (behind before keys owed) ≡ some (behind serial keys′ owed′)))

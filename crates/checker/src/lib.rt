@@ -188,23 +188,23 @@ fn settle(
     }
 }
 
-// A block of the walk, behind a free block or not: a live one strikes its keys and is paid for. How many it strikes; HOLDS + 1 where the block
-// is not as it must be.
+// A block of the walk, behind one with the serial `before`: a live one strikes its keys and is paid for. How many it strikes; HOLDS + 1 where the
+// block is not as it must be.
 fn visit(
     keys: &mut [usize; HOLDS],
     next: &[u16; HOLDS],
     heads: &[u16; SLOTS],
     owed: &mut [usize; QUOTAS],
     last: u32,
-    free: bool,
+    before: u32,
     serial: u32,
     size: usize,
 ) -> usize
     requires { ⌜ Ready (now keys) (now next) (now heads) (now owed) ⌝ }
-    ensures { λ r. ⌜ Visited last serial size free (now (next .entry)) (now (heads .entry)) (now (keys .entry)) (now (owed .entry)) r (eqb serial 0) (now (keys .exit)) (now (owed .exit)) ⌝ }
+    ensures { λ r. ⌜ Visited last serial size before (now (next .entry)) (now (heads .entry)) (now (keys .entry)) (now (owed .entry)) r (now (keys .exit)) (now (owed .exit)) ⌝ }
 {
     if serial == 0 {
-        if free {
+        if before == 0 {
             return HOLDS + 1;
         }
         return 0;
@@ -253,11 +253,11 @@ fn walk(
     ensures { λ r. ⌜ r ≡ audit-parsed last (parse (now (heap .entry))) (some (begin (now (keys .entry)) (now (owed .entry)))) ⌝ }
 {
     let mut left = used;
-    let mut free = false;
+    let mut before: u32 = 1;
     let mut back: usize = 0;
-    let mut at: usize = 0;
-    while at < heap.len() {
-        let Start::Block(header) = layout::start_at(heap, at) else {
+    let mut rest = heap;
+    while 8 <= rest.len() {
+        let Start::Block(header) = layout::start_at(rest, 0) else {
             return false;
         };
         if header.back != back {
@@ -265,14 +265,17 @@ fn walk(
         }
         let serial = header.serial;
         let size = 8 * header.size;
-        let struck = visit(keys, next, heads, owed, last, free, serial, size);
+        let struck = visit(keys, next, heads, owed, last, before, serial, size);
         if HOLDS < struck {
             return false;
         }
         left -= struck;
-        free = serial == 0;
+        before = serial;
         back = header.size;
-        at += size;
+        rest = &rest[size..];
+    }
+    if rest.len() != 0 {
+        return false;
     }
     if left != 0 {
         return false;

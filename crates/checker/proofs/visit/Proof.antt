@@ -17,13 +17,13 @@ returns : tie.Need-returns
 returns c =
     let s = c .before .before in
     let a = s .args in
-    visit-behind (a .last) (a .serial) (a .size) (a .free) (s .pre) (c .before .if1 .taken) (c .if2 .taken)
+    visit-behind (a .last) (a .serial) (a .size) (a .before) (s .pre) (c .before .if1 .taken) (c .if2 .taken)
 
 returns-2 : tie.Need-returns-2
 returns-2 c =
     let s = c .before .before in
     let a = s .args in
-    visit-apart (a .last) (a .serial) (a .size) (a .free) (s .pre) (c .before .if1 .taken) (c .if2 .left)
+    visit-apart (a .last) (a .serial) (a .size) (a .before) (s .pre) (c .before .if1 .taken) (c .if2 .left)
 
 add-result-2 : tie.Need-add-result-2
 add-result-2 c = search needs
@@ -32,7 +32,7 @@ returns-3 : tie.Need-returns-3
 returns-3 c =
     let s = c .before .before in
     let a = s .args in
-    visit-short (a .last) (a .serial) (a .size) (a .free) (s .pre) (c .before .if1 .left) (omega arith)
+    visit-short (a .last) (a .serial) (a .size) (a .before) (s .pre) (c .before .if1 .left) (omega arith)
 
 add-result-3 : tie.Need-add-result-3
 add-result-3 c = search needs
@@ -41,7 +41,7 @@ returns-4 : tie.Need-returns-4
 returns-4 c =
     let s = c .before .before .before in
     let a = s .args in
-    visit-late (a .last) (a .serial) (a .size) (a .free) (s .pre) (c .before .before .if1 .left) (omega arith)
+    visit-late (a .last) (a .serial) (a .size) (a .before) (s .pre) (c .before .before .if1 .left) (omega arith)
 
 slot-of-requires : tie.Need-slot-of-requires
 slot-of-requires c κs = search needs
@@ -71,14 +71,14 @@ returns-5 c =
     let g = c .before .before .before .before .before .before .before in
     let s = g .before .before .before in
     let a = s .args in
-    visit-unpaid (a .last) (a .serial) (a .size) (a .free) (s .pre) (g .before .before .if1 .left) (c .before .settle .ensures) (c .if5 .taken)
+    visit-unpaid (a .last) (a .serial) (a .size) (a .before) (s .pre) (g .before .before .if1 .left) (c .before .settle .ensures) (c .if5 .taken)
 
 returns-6 : tie.Need-returns-6
 returns-6 c =
     let g = c .before .before .before .before .before .before .before in
     let s = g .before .before .before in
     let a = s .args in
-    visit-paid (a .last) (a .serial) (a .size) (a .free) (s .pre) (g .before .before .if1 .left) (omega arith) (omega arith) (c .before .settle .ensures) (c .if5 .left)
+    visit-paid (a .last) (a .serial) (a .size) (a .before) (s .pre) (g .before .before .if1 .left) (omega arith) (omega arith) (c .before .settle .ensures) (c .if5 .left)
 
 pub visit-spec : {M : Type 1} → statement M
 visit-spec =
