@@ -1,17 +1,16 @@
 -- Chains as they are built, from the last place down: a used place becomes the head of its slot and links to the head before it. A link that is
 -- set at a lower place is not on the way of any chain that is there already.
 -- Assumes nothing.
-use Prim.Native.Nat.{ℕ, suc, _+_, _<_, _≤_}
+use Prim.Native.Nat.{ℕ, suc, _<_, _≤_}
 use mathlib.Core.Path.{_≡_, ap, sym, subst, _∙_}
 use mathlib.Core.Bool.{true}
-use mathlib.Core.List.{List, []}
+use mathlib.Core.List.{List}
 use native.Mathlib.Omega.{arith}
-use borrow.Author.Tests.{ne-eqb}
-use lib.ListN.{length, getD, drop, set, drop-of-length-le, length-set, length-map, List·getD-map}
-use lib.Seq.{drop-cons, getD-set-same, getD-set-other, drop-set-lt, ext-getD}
+use lib.ListN.{length, getD, set, length-set, length-map, List·getD-map}
+use lib.Seq.{getD-set-same, getD-set-other, ext-getD}
 use Rattle.accounts.specs.declared.Hold.{Hold}
 use Rattle.accounts.specs.Accounts.{HOLDS, zero-hold}
-use Rattle.checker.specs.Keys.{well-formed, key-of, keys-of, serial-of, used-keys}
+use Rattle.checker.specs.Keys.{well-formed, key-of, keys-of, serial-of}
 use Rattle.checker.specs.Chains.{SLOTS, slot, Leads, here, on, Ascends}
 use Rattle.checker.specs.Contracts.{Fresh, Index}
 use Rattle.checker.proofs.Cases.{by-eq}
@@ -86,38 +85,22 @@ module _ (keys next heads : List ℕ) (j : ℕ) (links : LinkedFrom (suc j) keys
             subst (λ (x : ℕ). Leads (set next j (getD heads r 0)) x p) (sym (getD-set-other heads r (slot (serial-of (getD keys p 0))) j 0 w))
             (leads-keep next j (getD heads r 0) up (omega arith) old)))
 
--- the keys behind the place
-module _ (keys : List ℕ) (j : ℕ) (below : j < length keys) where
-  used-more : (k : ℕ) → (k ≡ 0 → ⊥) → used-keys (drop j (set keys j k)) ≡ suc (used-keys (drop (suc j) keys))
-  unfolding used-keys
-  used-more k n =
-      let l : j < length (set keys j k) = simp length-set (omega arith) in
-      rw (drop-cons (set keys j k) j 0, getD-set-same keys j k 0 (omega arith), drop-set-lt (suc j) keys j k (omega arith), ne-eqb k 0 n)
-
-  used-same : getD keys j 0 ≡ 0 → used-keys (drop j keys) ≡ used-keys (drop (suc j) keys)
-  unfolding used-keys
-  used-same e = rw (drop-cons keys j 0, e)
-
--- what holds of the arrays when the n used places from i on are chained
-pub record Grown (hs : List Hold) (i n : ℕ) (keys next heads : List ℕ) : Type 0 where
-  pub low : i + n ≤ HOLDS
+-- what holds of the arrays when the used places from i on are chained
+pub record Grown (hs : List Hold) (i : ℕ) (keys next heads : List ℕ) : Type 0 where
+  pub low : i ≤ HOLDS
   pub keys-long : length keys ≡ HOLDS
   pub next-long : length next ≡ HOLDS
   pub heads-long : length heads ≡ SLOTS
   pub blank : (p : ℕ) → p < i → getD keys p 0 ≡ 0
   pub keyed : (p : ℕ) → i ≤ p → p < HOLDS → getD keys p 0 ≡ key-of (getD hs p zero-hold)
   pub well : (p : ℕ) → i ≤ p → p < HOLDS → well-formed (getD hs p zero-hold) ≡ true
-  pub counted : n ≡ used-keys (drop i keys)
   pub up : Ascends next
   pub links : (p : ℕ) → i ≤ p → p < HOLDS → (getD keys p 0 ≡ 0 → ⊥) → Leads next (getD heads (slot (serial-of (getD keys p 0))) 0) p
   pub heads-from : (x : ℕ) → x < SLOTS → (i ≤ getD heads x 0) × (getD heads x 0 ≤ HOLDS)
 
 module _ {hs : List Hold} where
-  pub grown-none : {keys next heads : List ℕ} → Fresh keys next heads → Grown hs HOLDS 0 keys next heads
-  unfolding used-keys
-  grown-none {keys} f =
-      let l : length keys ≤ HOLDS = omega (arith, f .keys-long) in
-      let b : drop HOLDS keys ≡ [] = drop-of-length-le keys l in
+  pub grown-none : {keys next heads : List ℕ} → Fresh keys next heads → Grown hs HOLDS keys next heads
+  grown-none f =
       record {
         low = omega arith;
         keys-long = f .keys-long;
@@ -126,19 +109,18 @@ module _ {hs : List Hold} where
         blank = f .no-key;
         keyed = λ p a l. absurd (omega arith);
         well = λ p a l. absurd (omega arith);
-        counted = rw b;
         up = λ p l. (omega (arith, f .no-link p l), omega (arith, f .no-link p l));
         links = λ p a l. absurd (omega arith);
         heads-from = λ x l. (omega (arith, f .no-head x l), omega (arith, f .no-head x l));
       }
 
-  module _ {i j n : ℕ} {keys next heads : List ℕ} (at : i ≡ suc j) (g : Grown hs i n keys next heads)
+  module _ {i j : ℕ} {keys next heads : List ℕ} (at : i ≡ suc j) (g : Grown hs i keys next heads)
       (ok : well-formed (getD hs j zero-hold) ≡ true) where
-    g′ : Grown hs (suc j) n keys next heads
-    g′ = subst (λ (x : ℕ). Grown hs x n keys next heads) at g
+    g′ : Grown hs (suc j) keys next heads
+    g′ = subst (λ (x : ℕ). Grown hs x keys next heads) at g
 
     -- a place without a serial
-    pub grown-skip : getD hs j zero-hold .serial ≡ 0 → Grown hs j n keys next heads
+    pub grown-skip : getD hs j zero-hold .serial ≡ 0 → Grown hs j keys next heads
     grown-skip z =
         let low = g′ .low in
         let kl = g′ .keys-long in
@@ -151,7 +133,6 @@ module _ {hs : List Hold} where
           blank = λ p l. g′ .blank p (omega arith);
           keyed = from-more _ j (e ∙ sym (no-key (getD hs j zero-hold) ok z)) (g′ .keyed);
           well = from-more _ j ok (g′ .well);
-          counted = g′ .counted ∙ sym (used-same keys j (omega arith) e);
           up = g′ .up;
           links = links-skip keys next heads j (g′ .links) e;
           heads-from = λ x l. (let h = g′ .heads-from x l in (omega arith, h .1));
@@ -159,7 +140,7 @@ module _ {hs : List Hold} where
 
     -- one with a serial, whose slot is r
     pub grown-more : (getD hs j zero-hold .serial ≡ 0 → ⊥) → {k : ℕ} → k ≡ key-of (getD hs j zero-hold) → {r : ℕ} → r ≡ slot (getD hs j zero-hold .serial) → r < SLOTS
-        → Grown hs j (n + 1) (set keys j k) (set next j (getD heads r 0)) (set heads r j)
+        → Grown hs j (set keys j k) (set next j (getD heads r 0)) (set heads r j)
     grown-more z {k} key {r} at-slot small =
         let low = g′ .low in
         let kl = g′ .keys-long in
@@ -167,7 +148,6 @@ module _ {hs : List Hold} where
         let hl = g′ .heads-long in
         let h = getD hs j zero-hold in
         let serial : serial-of k ≡ h .serial = ap serial-of key ∙ key-serial (h .serial) (h .quota) (well-quota h ok) in
-        let ne : k ≡ 0 → ⊥ = λ e. z (sym serial ∙ ap serial-of e) in
         let res : slot (serial-of k) ≡ r = ap slot serial ∙ sym at-slot in
         record {
           low = omega arith;
@@ -177,21 +157,18 @@ module _ {hs : List Hold} where
           blank = λ p l. getD-set-other keys j p k 0 (λ q. omega arith) ∙ g′ .blank p (omega arith);
           keyed = from-more _ j (getD-set-same keys j k 0 (omega arith) ∙ key) (λ p a l. getD-set-other keys j p k 0 (λ q. omega arith) ∙ g′ .keyed p a l);
           well = from-more _ j ok (g′ .well);
-          counted = omega (arith, g′ .counted, used-more keys j (omega arith) k ne);
           up = up-more keys next heads j (g′ .links) k (omega arith) kl (g′ .up) nl hl (g′ .heads-from) r small res;
           links = links-more keys next heads j (g′ .links) k (omega arith) kl (g′ .up) nl hl (g′ .heads-from) r small res;
           heads-from = heads-more keys next heads j (g′ .links) k (omega arith) kl (g′ .up) nl hl (g′ .heads-from) r small res;
         }
 
   -- when all are
-  pub grown-all : length hs ≡ HOLDS → {n : ℕ} {keys next heads : List ℕ} → Grown hs 0 n keys next heads → Index hs n keys next heads
+  pub grown-all : length hs ≡ HOLDS → {keys next heads : List ℕ} → Grown hs 0 keys next heads → Index hs keys next heads
   grown-all long {keys = keys} g =
       let l = g .keys-long in
       record {
         well = all-places well-formed zero-hold hs (λ p h. g .well p (omega arith) (omega arith));
         keyed = ext-getD 0 keys (keys-of hs) (l ∙ sym long ∙ sym (length-map hs key-of)) (λ p h. g .keyed p (omega arith) (omega arith) ∙ sym (List·getD-map key-of hs p zero-hold));
-        counted = g .counted;
-        few = omega (arith, g .low);
         long = l;
         up = g .up;
         linked = λ p h. g .links p (omega arith) h;

@@ -10,6 +10,7 @@ use accounts::Quota;
 use layout::Start;
 use model::Refusal;
 use model::Verdict;
+use std::num::wrapping_sub_usize;
 ghost use mathlib.Core.Path.{_≡_};
 ghost use mathlib.Core.Option.{some};
 ghost use mathlib.Core.List.{map};
@@ -22,10 +23,10 @@ ghost use Rattle.model.specs.Consistent.{allowed};
 ghost use Rattle.model.specs.Calls.{check as check-of};
 ghost use Rattle.accounts.specs.Accounts.{QUOTAS, HOLDS};
 ghost use Rattle.layout.specs.Blocks.{parse};
-ghost use Rattle.checker.specs.Keys.{used-keys, for-serial};
+ghost use Rattle.checker.specs.Keys.{for-serial, paid-by};
 ghost use Rattle.checker.specs.Chains.{SLOTS, slot, search-from};
-ghost use Rattle.checker.specs.Audit.{none-owed, begin, audit-parsed};
-ghost use Rattle.checker.specs.Contracts.{Findable, Fresh, Indexed, Owing, Payable, Settled, Ready, Visited};
+ghost use Rattle.checker.specs.Audit.{all-zero, begin, audit-parsed};
+ghost use Rattle.checker.specs.Contracts.{Findable, Fresh, Indexed, Owing, Charged, Payable, Paid, Settled, Ready, Visited};
 ghost use Rattle.checker.specs.Holders.{held-each, has-key, Chained};
 
 // The number of slots: so many that a chain is seldom longer than one record.
@@ -85,18 +86,16 @@ fn place(link: u16) -> usize
     link as usize
 }
 
-// The keys of the records, chained by their serials' slots from the last place down, so that links go up. How many records are used;
-// HOLDS + 1 where one is not well-formed.
+// The keys of the records, chained by their serials' slots from the last place down, so that links go up. False where a record is not well-formed.
 fn index(
     holds: [Hold; HOLDS],
     keys: &mut [usize; HOLDS],
     next: &mut [u16; HOLDS],
     heads: &mut [u16; SLOTS],
-) -> usize
+) -> bool
     requires { ⌜ Fresh (now keys) (now next) (now heads) ⌝ }
     ensures { λ r. ⌜ Indexed holds r (now (keys .exit)) (now (next .exit)) (now (heads .exit)) ⌝ }
 {
-    let mut used: usize = 0;
     let mut i = HOLDS;
     while 0 < i {
         i -= 1;
@@ -105,20 +104,19 @@ fn index(
         let count = holds[i].count;
         if serial == 0 {
             if !is_blank(quota, count) {
-                return HOLDS + 1;
+                return false;
             }
         } else {
             if !is_possible(quota, count) {
-                return HOLDS + 1;
+                return false;
             }
             let slot = slot_of(serial);
             keys[i] = key(serial, quota);
             next[i] = heads[slot];
             heads[slot] = i as u16;
-            used += 1;
         }
     }
-    used
+    true
 }
 
 // What each quota owes; false where a remainder is above its grant.
@@ -153,7 +151,54 @@ fn find(keys: &[usize; HOLDS], next: &[u16; HOLDS], from: usize, serial: usize) 
     at
 }
 
-// The keys of the serial are struck, and the quota of each pays, once. How many are struck; 0 where a quota cannot pay.
+// The charge is taken off what a quota owes; false where it owes less.
+fn pay(owed: &mut [usize; QUOTAS], quota: usize, charge: usize) -> bool
+    requires { ⌜ (quota < QUOTAS) × (length (now owed) ≡ QUOTAS) ⌝ }
+    ensures { λ r. ⌜ Charged charge quota (now (owed .entry)) r (now (owed .exit)) ⌝ }
+{
+    let due = owed[quota];
+    owed[quota] = wrapping_sub_usize(due, charge);
+    if due < charge {
+        return false;
+    }
+    true
+}
+
+// The keys of the serial are struck, and the quota of each pays, once; one quota has paid already. False where a quota cannot pay.
+fn settle_others(
+    keys: &mut [usize; HOLDS],
+    next: &[u16; HOLDS],
+    owed: &mut [usize; QUOTAS],
+    payer: usize,
+    from: usize,
+    serial: usize,
+    charge: usize,
+) -> bool
+    requires { ⌜ (payer < QUOTAS) × Payable (now keys) (now next) (now owed) from serial ⌝ }
+    ensures { λ r. ⌜ Paid serial charge (now (keys .entry)) (paid-by payer (now (owed .entry))) r (now (keys .exit)) (now (owed .exit)) ⌝ }
+{
+    let mut seen = [0u8; QUOTAS];
+    seen[payer] = 1;
+    let mut at = from;
+    loop {
+        at = find(keys, next, at, serial);
+        if HOLDS <= at {
+            return true;
+        }
+        let quota = keys[at] % QUOTAS;
+        if seen[quota] != 0 {
+            return false;
+        }
+        if !pay(owed, quota, charge) {
+            return false;
+        }
+        seen[quota] = 1;
+        keys[at] = 0;
+        at = place(next[at]);
+    }
+}
+
+// The keys of the serial are struck, and the quota of each pays, once. False where there is no key, or a quota cannot pay.
 fn settle(
     keys: &mut [usize; HOLDS],
     next: &[u16; HOLDS],
@@ -161,35 +206,27 @@ fn settle(
     from: usize,
     serial: usize,
     charge: usize,
-) -> usize
+) -> bool
     requires { ⌜ Payable (now keys) (now next) (now owed) from serial ⌝ }
     ensures { λ r. ⌜ Settled serial charge (now (keys .entry)) (now (owed .entry)) r (now (keys .exit)) (now (owed .exit)) ⌝ }
 {
-    let mut seen = [0u8; QUOTAS];
-    let mut struck: usize = 0;
-    let mut at = from;
-    loop {
-        at = find(keys, next, at, serial);
-        if HOLDS <= at {
-            return struck;
-        }
-        let quota = keys[at] % QUOTAS;
-        if seen[quota] != 0 {
-            return 0;
-        }
-        if owed[quota] < charge {
-            return 0;
-        }
-        seen[quota] = 1;
-        owed[quota] = owed[quota] - charge;
-        keys[at] = 0;
-        struck += 1;
-        at = place(next[at]);
+    let at = find(keys, next, from, serial);
+    if HOLDS <= at {
+        return false;
     }
+    let payer = keys[at] % QUOTAS;
+    if !pay(owed, payer, charge) {
+        return false;
+    }
+    keys[at] = 0;
+    let after = place(next[at]);
+    if HOLDS <= after {
+        return true;
+    }
+    settle_others(keys, next, owed, payer, after, serial, charge)
 }
 
-// A block of the walk, behind one with the serial `before`: a live one strikes its keys and is paid for. How many it strikes; HOLDS + 1 where the
-// block is not as it must be.
+// A block of the walk, behind one with the serial `before`: a live one strikes its keys and is paid for. False where the block is not as it must be.
 fn visit(
     keys: &mut [usize; HOLDS],
     next: &[u16; HOLDS],
@@ -199,35 +236,45 @@ fn visit(
     before: u32,
     serial: u32,
     size: usize,
-) -> usize
+) -> bool
     requires { ⌜ Ready (now keys) (now next) (now heads) (now owed) ⌝ }
     ensures { λ r. ⌜ Visited last serial size before (now (next .entry)) (now (heads .entry)) (now (keys .entry)) (now (owed .entry)) r (now (keys .exit)) (now (owed .exit)) ⌝ }
 {
     if serial == 0 {
         if before == 0 {
-            return HOLDS + 1;
+            return false;
         }
-        return 0;
+        return true;
     }
     if size < 16 {
-        return HOLDS + 1;
+        return false;
     }
     if last < serial {
-        return HOLDS + 1;
+        return false;
     }
     let slot = slot_of(serial);
     let from = place(heads[slot]);
-    let struck = settle(keys, next, owed, from, serial as usize, size);
-    if struck == 0 {
-        return HOLDS + 1;
+    settle(keys, next, owed, from, serial as usize, size)
+}
+
+// Whether every key is struck: whether they have no bit between them.
+fn is_struck(keys: &[usize; HOLDS]) -> bool
+    requires { ⌜ length (now keys) ≡ HOLDS ⌝ }
+    ensures { λ r. ⌜ r ≡ all-zero (now (keys .entry)) ⌝ }
+{
+    let mut bits: usize = 0;
+    let mut i: usize = 0;
+    while i < HOLDS {
+        bits = bits | keys[i];
+        i += 1;
     }
-    struck
+    bits == 0
 }
 
 // Whether nothing is owed.
 fn is_paid(owed: &[usize; QUOTAS]) -> bool
     requires { ⌜ length (now owed) ≡ QUOTAS ⌝ }
-    ensures { λ r. ⌜ r ≡ none-owed (now (owed .entry)) ⌝ }
+    ensures { λ r. ⌜ r ≡ all-zero (now (owed .entry)) ⌝ }
 {
     let mut i: usize = 0;
     while i < QUOTAS {
@@ -247,12 +294,10 @@ fn walk(
     heads: &[u16; SLOTS],
     owed: &mut [usize; QUOTAS],
     last: u32,
-    used: usize,
 ) -> bool
-    requires { ⌜ (used ≡ used-keys (now keys)) × Ready (now keys) (now next) (now heads) (now owed) ⌝ }
+    requires { ⌜ Ready (now keys) (now next) (now heads) (now owed) ⌝ }
     ensures { λ r. ⌜ r ≡ audit-parsed last (parse (now (heap .entry))) (some (begin (now (keys .entry)) (now (owed .entry)))) ⌝ }
 {
-    let mut left = used;
     let mut before: u32 = 1;
     let mut back: usize = 0;
     let mut rest = heap;
@@ -265,11 +310,9 @@ fn walk(
         }
         let serial = header.serial;
         let size = 8 * header.size;
-        let struck = visit(keys, next, heads, owed, last, before, serial, size);
-        if HOLDS < struck {
+        if !visit(keys, next, heads, owed, last, before, serial, size) {
             return false;
         }
-        left -= struck;
         before = serial;
         back = header.size;
         rest = &rest[size..];
@@ -277,7 +320,7 @@ fn walk(
     if rest.len() != 0 {
         return false;
     }
-    if left != 0 {
+    if !is_struck(keys) {
         return false;
     }
     is_paid(owed)
@@ -296,8 +339,7 @@ pub fn check(heap: &[u8], accounts: Accounts) -> Verdict
     let mut heads = [end; SLOTS];
     let mut owed = [0usize; QUOTAS];
     let holds = accounts.holds;
-    let used = index(holds, &mut keys, &mut next, &mut heads);
-    if HOLDS < used {
+    if !index(holds, &mut keys, &mut next, &mut heads) {
         return Verdict::Refused(Refusal::Inconsistent);
     }
     let quotas = accounts.quotas;
@@ -305,7 +347,7 @@ pub fn check(heap: &[u8], accounts: Accounts) -> Verdict
         return Verdict::Refused(Refusal::Inconsistent);
     }
     let last = accounts.last_serial;
-    if !walk(heap, &mut keys, &next, &heads, &mut owed, last, used) {
+    if !walk(heap, &mut keys, &next, &heads, &mut owed, last) {
         return Verdict::Refused(Refusal::Inconsistent);
     }
     Verdict::Accepted
@@ -353,8 +395,7 @@ pub fn held_each(holds: [Hold; HOLDS], serials: [u32; HOLDS]) -> [bool; HOLDS]
     let mut keys = [0usize; HOLDS];
     let mut next = [end; HOLDS];
     let mut heads = [end; SLOTS];
-    let count = index(holds, &mut keys, &mut next, &mut heads);
-    if HOLDS < count {
+    if !index(holds, &mut keys, &mut next, &mut heads) {
         return [true; HOLDS];
     }
     are_held(&keys, &next, &heads, serials)

@@ -5,8 +5,7 @@ use Prim.Native.Nat.{ℕ, _-_}
 use native.Mathlib.Omega.{arith}
 use borrow.Author.Needs.{needs}
 use borrow.Author.Tests.{not-true, not-false}
-use mathlib.Core.Path.{_≡_, refl, sym, subst, _∙_}
-use mathlib.Core.Logic.{inl, inr}
+use mathlib.Core.Path.{_≡_, sym, subst, _∙_}
 use lib.ListN.{length, getD}
 use Rattle.accounts.specs.declared.Hold.{Hold}
 use Rattle.accounts.specs.Accounts.{HOLDS, zero-hold}
@@ -18,10 +17,10 @@ use Rattle.checker.proofs.index.Statement.{statement}
 use Rattle.checker.proofs.index.Tie as tie
 
 abbrev Inv-loop : tie.InvT-loop
-Inv-loop keys₀ next₀ heads₀ holds used₀ i₀ keys next heads used i = Grown holds i used keys next heads
+Inv-loop keys₀ next₀ heads₀ holds i₀ keys next heads i = Grown holds i keys next heads
 
 abbrev μ-loop : tie.MeasureT-loop
-μ-loop keys₀ next₀ heads₀ holds used₀ i₀ keys next heads used i = i
+μ-loop keys₀ next₀ heads₀ holds i₀ keys next heads i = i
 
 -- the table has its length
 long : (c : tie.Start Inv-loop μ-loop) → length (c .args .t1) ≡ HOLDS
@@ -64,14 +63,11 @@ element-copy-out-count c = search needs
 is-blank-requires : tie.Need-is-blank-requires Inv-loop μ-loop
 is-blank-requires c κs = search needs
 
-add-result : tie.Need-add-result Inv-loop μ-loop
-add-result c = search needs
-
 returns : tie.Need-returns Inv-loop μ-loop
 returns c =
     let b = c .before in
     let l = b .before .before .before in
-    inl (refl, all-fails well-formed zero-hold (l .before .args .t1) (l .loop .i - 1) (omega (arith, long (l .before))) (blank-tests b ∙ not-true _ (c .if2 .taken)))
+    all-fails well-formed zero-hold (l .before .args .t1) (l .loop .i - 1) (omega (arith, long (l .before))) (blank-tests b ∙ not-true _ (c .if2 .taken))
 
 loop-less : tie.Need-loop-less Inv-loop μ-loop
 loop-less c = search needs
@@ -84,14 +80,11 @@ loop-again c =
 is-possible-requires : tie.Need-is-possible-requires Inv-loop μ-loop
 is-possible-requires c κs = search needs
 
-add-result-2 : tie.Need-add-result-2 Inv-loop μ-loop
-add-result-2 c = search needs
-
 returns-2 : tie.Need-returns-2 Inv-loop μ-loop
 returns-2 c =
     let b = c .before in
     let l = b .before .before .before in
-    inl (refl, all-fails well-formed zero-hold (l .before .args .t1) (l .loop .i - 1) (omega (arith, long (l .before))) (possible-tests b ∙ not-true _ (c .if3 .taken)))
+    all-fails well-formed zero-hold (l .before .args .t1) (l .loop .i - 1) (omega (arith, long (l .before))) (possible-tests b ∙ not-true _ (c .if3 .taken))
 
 slot-of-requires : tie.Need-slot-of-requires Inv-loop μ-loop
 slot-of-requires c κs = search needs
@@ -126,9 +119,6 @@ mul-heads c = search needs
 element-write-heads : tie.Need-element-write-heads Inv-loop μ-loop
 element-write-heads c = search needs
 
-add-used : tie.Need-add-used Inv-loop μ-loop
-add-used c = search needs
-
 loop-less-2 : tie.Need-loop-less-2 Inv-loop μ-loop
 loop-less-2 c = search needs
 
@@ -143,10 +133,8 @@ loop-again-2 c =
 returns-3 : tie.Need-returns-3 Inv-loop μ-loop
 returns-3 c =
     let l = c .before in
-    let a = l .before .args in
     let z : l .loop .i ≡ 0 = search needs in
-    inr (grown-all (long (l .before))
-    (subst (λ (x : ℕ). Grown (a .t1) x (l .loop .used) (l .loop .keys) (l .loop .next) (l .loop .heads)) z (l .loop .inv)))
+    grown-all (long (l .before)) (subst (λ (x : ℕ). Grown (l .before .args .t1) x (l .loop .keys) (l .loop .next) (l .loop .heads)) z (l .loop .inv))
 
 pub index-spec : {M : Type 1} → statement M
 index-spec =
@@ -163,12 +151,10 @@ index-spec =
     mul-count
     element-copy-out-count
     is-blank-requires
-    add-result
     returns
     loop-less
     loop-again
     is-possible-requires
-    add-result-2
     returns-2
     slot-of-requires
     key-requires
@@ -181,7 +167,6 @@ index-spec =
     cast-heads
     mul-heads
     element-write-heads
-    add-used
     loop-less-2
     loop-again-2
     returns-3)

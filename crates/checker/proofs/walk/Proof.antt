@@ -4,26 +4,26 @@
 use Prim.Native.Nat.{ℕ, _*_, _≤_}
 use native.Mathlib.Omega.{arith}
 use borrow.Author.Needs.{needs}
-use borrow.Author.Tests.{eq-eqb, ne-eqb}
+use borrow.Author.Tests.{not-true, not-false}
 use borrow.Rule.Slice.PartAt.{part-to-end}
-use mathlib.Core.Path.{_≡_, ap, sym, _∙_}
-use mathlib.Core.Bool.{Bool, _&&_}
+use mathlib.Core.Path.{_≡_, ap, sym, subst, _∙_}
+use mathlib.Core.Bool.{Bool, true, false, _&&_}
 use mathlib.Core.List.{List}
 use lib.ListN.{length}
 use Rattle.layout.specs.declared.Start.the-variants.{Block as Starts}
 use Rattle.layout.specs.Blocks.{start-at}
 use Rattle.layout.proofs.Starts.{start-found}
-use Rattle.checker.specs.Audit.{none-owed}
-use Rattle.checker.proofs.Walking.{Walking, walking-start, walking-nothing, walking-short, walking-back, walking-end, walking-fails, walking-fewer, walking-on}
+use Rattle.checker.specs.Audit.{all-zero}
+use Rattle.checker.specs.Contracts.{Visited}
+use Rattle.checker.proofs.Walking.{Walking, walking-start, walking-nothing, walking-short, walking-back, walking-end, walking-fails, walking-on}
 use Rattle.checker.proofs.walk.Statement.{statement}
 use Rattle.checker.proofs.walk.Tie as tie
 
 abbrev Inv-loop : tie.InvT-loop
-Inv-loop heap keys₀ next heads owed₀ last used left₀ before₀ back₀ rest₀ keys owed left before back rest =
-    Walking heap keys₀ next heads owed₀ last keys owed left before back rest
+Inv-loop heap keys₀ next heads owed₀ last before₀ back₀ rest₀ keys owed before back rest = Walking heap keys₀ next heads owed₀ last keys owed before back rest
 
 abbrev μ-loop : tie.MeasureT-loop
-μ-loop heap keys₀ next heads owed₀ last used left₀ before₀ back₀ rest₀ keys owed left before back rest = length rest
+μ-loop heap keys₀ next heads owed₀ last before₀ back₀ rest₀ keys owed before back rest = length rest
 
 -- where a header was found, that header, and what is known of its size
 abbrev bytes : tie.After-header Inv-loop μ-loop → List ℕ
@@ -36,7 +36,7 @@ fits : (c : tie.After-header Inv-loop μ-loop) → (1 ≤ c .header .given .0 .0
 fits c = let w = start-found 0 (bytes c) (c .header .given .0 .0) (found c) in (w .some-size, omega (arith, w .inside))
 
 loop-holds : tie.Need-loop-holds Inv-loop μ-loop
-loop-holds c = walking-start (c .before .pre .1) (c .before .pre .0)
+loop-holds c = walking-start (c .before .pre)
 
 start-at-requires : tie.Need-start-at-requires Inv-loop μ-loop
 start-at-requires c κs = search needs
@@ -68,17 +68,26 @@ mul-size c =
 visit-requires : tie.Need-visit-requires Inv-loop μ-loop
 visit-requires c κs = c .before .before .before .before .before .before .before .before .before .before .loop .inv .ready
 
+-- the visit, by its answer
+abbrev header : tie.After-visit Inv-loop μ-loop → tie.After-header Inv-loop μ-loop
+header c = c .before .before .before .before .before .before .before
+
+abbrev turn : tie.After-visit Inv-loop μ-loop → tie.At-loop Inv-loop μ-loop
+turn c = header c .before .before .before .before
+
+abbrev Answers : tie.After-visit Inv-loop μ-loop → Bool → Type 0
+Answers c t =
+    let a = turn c .before .before .args in
+    let h = header c .header .given .0 .0 in
+    Visited (a .last) (h .serial) (8 * h .size) (turn c .loop .before) (a .next .now) (a .heads .now) (turn c .loop .keys) (turn c .loop .owed) t (c .visit .last .0) (c .visit .last .1 .1 .1 .0)
+
+visited : (c : tie.After-visit Inv-loop μ-loop) (t : Bool) → c .visit .result ≡ t → Answers c t
+visited c t e = subst (Answers c) e (c .visit .ensures)
+
 returns-3 : tie.Need-returns-3 Inv-loop μ-loop
 returns-3 c =
-    let h = c .before .before .before .before .before .before .before .before in
-    let l = h .before .before .before .before in
-    sym (walking-fails (l .loop .inv) (found h) (c .before .visit .ensures) (omega arith))
-
-sub-left : tie.Need-sub-left Inv-loop μ-loop
-sub-left c =
-    let h = c .before .before .before .before .before .before .before .before in
-    let l = h .before .before .before .before in
-    omega (arith, walking-fewer (l .loop .inv) (found h) (c .before .visit .ensures) (omega arith))
+    let v = c .before in
+    sym (walking-fails (turn v .loop .inv) (found (header v)) (visited v false (not-true _ (c .if2 .taken))))
 
 sub-rest : tie.Need-sub-rest Inv-loop μ-loop
 sub-rest c = fits (c .before .before .before .before .before .before .before .before) .1
@@ -94,32 +103,37 @@ loop-less c = let i = fits (c .before .before .before .before .before .before .b
 
 loop-again : tie.Need-loop-again Inv-loop μ-loop
 loop-again c =
-    let h = c .before .before .before .before .before .before .before .before .before in
-    let l = h .before .before .before .before in
-    walking-on (l .loop .inv) (found h) (c .before .before .visit .ensures) (omega arith) (omega arith) (part-to-end (bytes h) (8 * h .header .given .0 .0 .size))
+    let v = c .before .before in
+    let h = header v in
+    walking-on (turn v .loop .inv) (found h) (visited v true (not-false _ (c .before .if2 .left))) (omega arith) (part-to-end (bytes h) (8 * h .header .given .0 .0 .size))
 
 returns-4 : tie.Need-returns-4 Inv-loop μ-loop
 returns-4 c =
     let l = c .before .before in
     sym (walking-short (l .loop .inv) (c .if3 .taken) (omega arith))
 
+is-struck-requires : tie.Need-is-struck-requires Inv-loop μ-loop
+is-struck-requires c κs = c .before .before .before .loop .inv .ready .long
+
 returns-5 : tie.Need-returns-5 Inv-loop μ-loop
 returns-5 c =
-    let l = c .before .before .before in
+    let k = c .before in
+    let l = k .before .before .before .before in
     sym
-    (walking-end (l .loop .inv) (c .before .if3 .left)
-    ∙ ap (λ (x : Bool). x && none-owed (l .loop .owed)) (ne-eqb (l .loop .left) 0 (λ e. omega arith)))
+    (walking-end (l .loop .inv) (k .before .before .if3 .left)
+    ∙ ap (λ (x : Bool). x && all-zero (l .loop .owed)) (sym (k .is-struck .ensures) ∙ not-true _ (c .if4 .taken)))
 
 is-paid-requires : tie.Need-is-paid-requires Inv-loop μ-loop
-is-paid-requires c κs = c .before .before .before .before .loop .inv .ready .owed-long
+is-paid-requires c κs = c .before .before .before .before .before .before .loop .inv .ready .owed-long
 
 returns-6 : tie.Need-returns-6 Inv-loop μ-loop
 returns-6 c =
-    let l = c .before .before .before .before .before in
+    let k = c .before .before .before in
+    let l = k .before .before .before .before in
     c .is-paid .ensures
     ∙ sym
-    (walking-end (l .loop .inv) (c .before .before .before .if3 .left)
-    ∙ ap (λ (x : Bool). x && none-owed (l .loop .owed)) (eq-eqb (l .loop .left) 0 (omega arith)))
+    (walking-end (l .loop .inv) (k .before .before .if3 .left)
+    ∙ ap (λ (x : Bool). x && all-zero (l .loop .owed)) (sym (k .is-struck .ensures) ∙ not-false _ (c .before .before .if4 .left)))
 
 pub walk-spec : {M : Type 1} → statement M
 walk-spec =
@@ -136,13 +150,13 @@ walk-spec =
     mul-size
     visit-requires
     returns-3
-    sub-left
     sub-rest
     part-rest-start
     part-rest-end
     loop-less
     loop-again
     returns-4
+    is-struck-requires
     returns-5
     is-paid-requires
     returns-6)
