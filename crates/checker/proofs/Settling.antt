@@ -75,7 +75,7 @@ module _ {s c : ℕ} {next keys₀ : List ℕ} {p₀ : Payment} (live : s ≡ 0 
         record { struck-all = sym (g .gone ∙ w); rest = rw (e, g .gone, w); owed-long = g .owed-long }
 
     module _ (h : p < HOLDS) where
-      hit : (for-serial s (getD keys p 0) ≡ true) × (at ≤ p)
+      pub hit : (for-serial s (getD keys p 0) ≡ true) × (at ≤ p)
       hit =
           let long = g .chain .long in
           subst (λ (y : ℕ). (for-serial s (getD keys y 0) ≡ true) × (at ≤ y)) (sym found)
@@ -96,11 +96,11 @@ module _ {s c : ℕ} {next keys₀ : List ℕ} {p₀ : Payment} (live : s ≡ 0 
           let long = g .chain .long in
           to-hit ∙ pay-fails s c keys (record { seen = seen; owed = owed }) p (omega arith) (hit .0) t
 
-      pub settling-paid : (getD seen (quota-of (getD keys p 0)) 0 ≡ 0 → ⊥) → pay s c keys₀ (some p₀) ≡ none
-      settling-paid n = fails (paid-cannot c (quota-of (getD keys p 0)) (record { seen = seen; owed = owed }) n)
+      pub settling-paid : {q : ℕ} → q ≡ quota-of (getD keys p 0) → (getD seen q 0 ≡ 0 → ⊥) → pay s c keys₀ (some p₀) ≡ none
+      settling-paid e n = fails (paid-cannot c (quota-of (getD keys p 0)) (record { seen = seen; owed = owed }) (subst (λ (x : ℕ). getD seen x 0 ≡ 0 → ⊥) e n))
 
-      pub settling-short : getD owed (quota-of (getD keys p 0)) 0 < c → pay s c keys₀ (some p₀) ≡ none
-      settling-short l = fails (short-cannot c (quota-of (getD keys p 0)) (record { seen = seen; owed = owed }) l)
+      pub settling-short : {q : ℕ} → q ≡ quota-of (getD keys p 0) → getD owed q 0 < c → pay s c keys₀ (some p₀) ≡ none
+      settling-short e l = fails (short-cannot c (quota-of (getD keys p 0)) (record { seen = seen; owed = owed }) (subst (λ (x : ℕ). getD owed x 0 < c) e l))
 
       covers-more : Covers (set keys p 0) next (getD next p 0) s
       covers-more x l e =
@@ -152,10 +152,10 @@ module _ {s c : ℕ} {next keys₀ : List ℕ} {p₀ : Payment} (live : s ≡ 0 
               gone = g .gone ∙ sym (strike-set s live keys p (hit .0));
             }
 
-        pub settling-more : {y : ℕ} → y ≡ getD next p 0 → {owed′ : List ℕ} → owed′ ≡ set owed (quota-of (getD keys p 0)) (getD owed (quota-of (getD keys p 0)) 0 - c)
-            → Settling s c next keys₀ p₀ (set keys p 0) owed′ (set seen (quota-of (getD keys p 0)) 1) y
-        unfolding paid
-        settling-more e o = rw (e, o) settling-next
+      pub settling-more : {q : ℕ} → q ≡ quota-of (getD keys p 0) → getD seen q 0 ≡ 0 → c ≤ getD owed q 0 → {y : ℕ} → y ≡ getD next p 0
+          → {owed′ : List ℕ} → owed′ ≡ set owed q (getD owed q 0 - c) → Settling s c next keys₀ p₀ (set keys p 0) owed′ (set seen q 1) y
+      unfolding paid
+      settling-more e first enough n o = rw (n, o, e) (settling-next (subst (λ (x : ℕ). getD seen x 0 ≡ 0) e first) (subst (λ (x : ℕ). c ≤ getD owed x 0) e enough))
 
   -- at the end of the chain
   pub settling-done : {keys owed seen : List ℕ} {at : ℕ} → Settling s c next keys₀ p₀ keys owed seen at → HOLDS ≤ at → Paid s c keys₀ p₀ true keys owed

@@ -15,7 +15,7 @@ ghost use mathlib.Core.Path.{_≡_};
 ghost use mathlib.Core.Option.{some};
 ghost use mathlib.Core.List.{map};
 ghost use Prim.Native.Nat.{_+_, _*_, _<_};
-ghost use mathlib.Core.Bool.{_&&_};
+ghost use mathlib.Core.Bool.{true, _&&_};
 ghost use lib.Dec.{eqb, ltb, leb};
 ghost use lib.ListN.{length};
 ghost use Rattle.model.specs.Answers.{verdict-values};
@@ -23,7 +23,7 @@ ghost use Rattle.model.specs.Consistent.{allowed};
 ghost use Rattle.model.specs.Calls.{check as check-of};
 ghost use Rattle.accounts.specs.Accounts.{QUOTAS, HOLDS};
 ghost use Rattle.layout.specs.Blocks.{parse};
-ghost use Rattle.checker.specs.Keys.{for-serial, paid-by};
+ghost use Rattle.checker.specs.Keys.{quota-of, for-serial, paid-by};
 ghost use Rattle.checker.specs.Chains.{SLOTS, slot, search-from};
 ghost use Rattle.checker.specs.Audit.{all-zero, begin, audit-parsed};
 ghost use Rattle.checker.specs.Contracts.{Findable, Fresh, Indexed, Owing, Charged, Payable, Paid, Settled, Ready, Visited};
@@ -70,6 +70,21 @@ fn key(serial: u32, quota: u8) -> usize
     ensures { λ r. ⌜ r ≡ serial * QUOTAS + quota ⌝ }
 {
     (serial as usize) * QUOTAS + (quota as usize)
+}
+
+// Whether a key is one of the serial's: whether it is less than QUOTAS above the serial's first.
+fn is_of(key: usize, serial: u32) -> bool
+    ensures { λ r. ⌜ r ≡ for-serial serial key ⌝ }
+{
+    wrapping_sub_usize(key, (serial as usize) * QUOTAS) < QUOTAS
+}
+
+// The quota of one of the serial's keys: what the key is above the serial's first.
+fn quota_of(key: usize, serial: u32) -> usize
+    requires { ⌜ for-serial serial key ≡ true ⌝ }
+    ensures { λ r. ⌜ (r ≡ quota-of key) × (r < QUOTAS) ⌝ }
+{
+    key - (serial as usize) * QUOTAS
 }
 
 // The slot of a serial: its product with 2^32 over the golden ratio, scaled to the number of slots.
@@ -137,13 +152,13 @@ fn owing(quotas: [Quota; QUOTAS], owed: &mut [usize; QUOTAS]) -> bool
 }
 
 // The first place from `from` on with a key of the serial, along the chain; HOLDS where there is none.
-fn find(keys: &[usize; HOLDS], next: &[u16; HOLDS], from: usize, serial: usize) -> usize
+fn find(keys: &[usize; HOLDS], next: &[u16; HOLDS], from: usize, serial: u32) -> usize
     requires { ⌜ Findable (now keys) (now next) from serial ⌝ }
     ensures { λ r. ⌜ r ≡ search-from (for-serial serial) from (now (keys .entry)) ⌝ }
 {
     let mut at = from;
     while at < HOLDS {
-        if keys[at] / QUOTAS == serial {
+        if is_of(keys[at], serial) {
             return at;
         }
         at = place(next[at]);
@@ -171,7 +186,7 @@ fn settle_others(
     owed: &mut [usize; QUOTAS],
     payer: usize,
     from: usize,
-    serial: usize,
+    serial: u32,
     charge: usize,
 ) -> bool
     requires { ⌜ (payer < QUOTAS) × Payable (now keys) (now next) (now owed) from serial ⌝ }
@@ -185,7 +200,7 @@ fn settle_others(
         if HOLDS <= at {
             return true;
         }
-        let quota = keys[at] % QUOTAS;
+        let quota = quota_of(keys[at], serial);
         if seen[quota] != 0 {
             return false;
         }
@@ -204,7 +219,7 @@ fn settle(
     next: &[u16; HOLDS],
     owed: &mut [usize; QUOTAS],
     from: usize,
-    serial: usize,
+    serial: u32,
     charge: usize,
 ) -> bool
     requires { ⌜ Payable (now keys) (now next) (now owed) from serial ⌝ }
@@ -214,7 +229,7 @@ fn settle(
     if HOLDS <= at {
         return false;
     }
-    let payer = keys[at] % QUOTAS;
+    let payer = quota_of(keys[at], serial);
     if !pay(owed, payer, charge) {
         return false;
     }
@@ -254,7 +269,7 @@ fn visit(
     }
     let slot = slot_of(serial);
     let from = place(heads[slot]);
-    settle(keys, next, owed, from, serial as usize, size)
+    settle(keys, next, owed, from, serial, size)
 }
 
 // Whether every key is struck: whether they have no bit between them.
@@ -363,7 +378,7 @@ fn is_held(keys: &[usize; HOLDS], next: &[u16; HOLDS], heads: &[u16; SLOTS], ser
     }
     let slot = slot_of(serial);
     let from = place(heads[slot]);
-    find(keys, next, from, serial as usize) < HOLDS
+    find(keys, next, from, serial) < HOLDS
 }
 
 // For each of the serials whether a key has it.

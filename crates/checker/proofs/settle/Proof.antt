@@ -1,18 +1,18 @@
 -- `checker::settle` meets its contract. Where the search finds no key, there is none; the quota of the first key pays, or cannot. What is left then is
 -- what the rest of the chain comes to: nothing at its end, else what `settle_others` leaves.
 -- Assumes nothing.
-use Prim.Native.Nat.{ℕ, _<_}
+use Prim.Native.Nat.{_<_}
 use native.Mathlib.Omega.{arith}
 use borrow.Author.Needs.{needs}
 use borrow.Author.Tests.{not-true, not-false}
 use mathlib.Core.Path.{_≡_, subst}
 use mathlib.Core.Bool.{Bool, true, false}
 use mathlib.Core.Logic.{inl, inr}
-use lib.ListN.{getD, set, getD-replicate}
+use lib.ListN.{set, getD-replicate}
 use Rattle.accounts.specs.Accounts.{QUOTAS, HOLDS}
-use Rattle.checker.specs.Keys.{quota-of, struck, unpaid, paid-by}
+use Rattle.checker.specs.Keys.{struck, unpaid, paid-by}
 use Rattle.checker.specs.Contracts.{Charged}
-use Rattle.checker.proofs.Settling.{Settling, settling-start, settling-none, settling-short, settling-more, settling-done, settling-others, settled-by, struck-less}
+use Rattle.checker.proofs.Settling.{Settling, settling-start, settling-none, hit, settling-short, settling-more, settling-done, settling-others, settled-by, struck-less}
 use Rattle.checker.proofs.settle.Statement.{statement}
 use Rattle.checker.proofs.settle.Tie as tie
 
@@ -28,27 +28,32 @@ returns c =
     let f = c .before in
     inl (settling-none (f .before .before .pre .live) (start (f .before .before)) (f .find .ensures) (c .if1 .taken) .1)
 
-mul-payer : tie.Need-mul-payer
-mul-payer c = search needs
+mul-quota-of : tie.Need-mul-quota-of
+mul-quota-of c = search needs
 
-element-copy-out-payer : tie.Need-element-copy-out-payer
-element-copy-out-payer c = search needs
+element-copy-out-quota-of : tie.Need-element-copy-out-quota-of
+element-copy-out-quota-of c = search needs
+
+quota-of-requires : tie.Need-quota-of-requires
+quota-of-requires c κs =
+    let f = c .before .before in
+    hit (f .before .before .pre .live) (start (f .before .before)) (f .find .ensures) (search needs) .0
 
 pay-requires : tie.Need-pay-requires
 pay-requires c κs = search needs
 
 -- the payment, by its answer
+abbrev payer : tie.After-pay → tie.After-quota-of
+payer c = c .before .before
+
 abbrev found : tie.After-pay → tie.After-find
-found c = c .before .before .before .before
+found c = payer c .before .before .before
 
 abbrev entry : tie.After-pay → tie.Start
 entry c = found c .before .before
 
-abbrev payer : tie.After-pay → ℕ
-payer c = quota-of (getD (entry c .args .keys .now) (found c .find .result) 0)
-
-charged : (c : tie.After-pay) (t : Bool) → c .pay .result ≡ t → Charged (entry c .args .charge) (payer c) (entry c .args .owed .now) t (c .pay .last .0)
-charged c t e = subst (λ (x : Bool). Charged (entry c .args .charge) (payer c) (entry c .args .owed .now) x (c .pay .last .0)) e (c .pay .ensures)
+charged : (c : tie.After-pay) (t : Bool) → c .pay .result ≡ t → Charged (entry c .args .charge) (payer c .quota-of .result) (entry c .args .owed .now) t (c .pay .last .0)
+charged c t e = subst (λ (x : Bool). Charged (entry c .args .charge) (payer c .quota-of .result) (entry c .args .owed .now) x (c .pay .last .0)) e (c .pay .ensures)
 
 inside : (c : tie.After-pay) → found c .find .result < HOLDS
 inside c = search needs
@@ -60,7 +65,7 @@ some-key c z = omega (arith, struck-less (entry c .pre .live) (start (entry c)) 
 returns-2 : tie.Need-returns-2
 returns-2 c =
     let p = c .before in
-    inr (settling-short (entry p .pre .live) (start (entry p)) (found p .find .ensures) (inside p) (charged p false (not-true _ (c .if2 .taken))))
+    inr (settling-short (entry p .pre .live) (start (entry p)) (found p .find .ensures) (inside p) (payer p .quota-of .ensures .0) (charged p false (not-true _ (c .if2 .taken))))
 
 mul-keys : tie.Need-mul-keys
 mul-keys c = search needs
@@ -82,11 +87,11 @@ abbrev paid : tie.After-place → tie.After-pay
 paid c = c .before .before .before
 
 first : (c : tie.After-place) → Settling (entry (paid c) .args .serial) (entry (paid c) .args .charge) (entry (paid c) .args .next .now) (entry (paid c) .args .keys .now) (unpaid (entry (paid c) .args .owed .now))
-    (set (entry (paid c) .args .keys .now) (found (paid c) .find .result) 0) (paid c .pay .last .0) (paid-by (payer (paid c)) (paid c .pay .last .0) .seen) (c .place .result)
+    (set (entry (paid c) .args .keys .now) (found (paid c) .find .result) 0) (paid c .pay .last .0) (paid-by (payer (paid c) .quota-of .result) (paid c .pay .last .0) .seen) (c .place .result)
 first c =
     let p = paid c in
     let o = charged p true (not-false _ (c .before .before .if2 .left)) in
-    settling-more (entry p .pre .live) (start (entry p)) (found p .find .ensures) (inside p) (getD-replicate QUOTAS (payer p) 0 0 (omega arith)) (o .0) (c .place .ensures) (o .1)
+    settling-more (entry p .pre .live) (start (entry p)) (found p .find .ensures) (inside p) (payer p .quota-of .ensures .0) (getD-replicate QUOTAS (payer p .quota-of .result) 0 0 (payer p .quota-of .ensures .1)) (o .0) (c .place .ensures) (o .1)
 
 returns-3 : tie.Need-returns-3
 returns-3 c =
@@ -96,7 +101,7 @@ returns-3 c =
 settle-others-requires : tie.Need-settle-others-requires
 settle-others-requires c κs =
     let a = c .before .before .before in
-    (omega arith, record { live = entry (paid a) .pre .live; owed-long = first a .owed-long; chain = first a .chain })
+    (payer (paid a) .quota-of .ensures .1, record { live = entry (paid a) .pre .live; owed-long = first a .owed-long; chain = first a .chain })
 
 returns-4 : tie.Need-returns-4
 returns-4 c =
@@ -113,8 +118,9 @@ settle-spec =
     (tie.spec
     find-requires
     returns
-    mul-payer
-    element-copy-out-payer
+    mul-quota-of
+    element-copy-out-quota-of
+    quota-of-requires
     pay-requires
     returns-2
     mul-keys

@@ -1,16 +1,14 @@
 -- `checker::settle_others` meets its contract. The loop's invariant is `Settling`: what is left to strike and to pay is what the keys from `at` on come to.
 -- A quota that has paid or owes too little cannot pay; where the search ends, all is struck and paid. The measure is the number of keys left to strike.
 -- Assumes nothing.
-use Prim.Native.Nat.{ℕ}
 use native.Mathlib.Omega.{arith}
 use borrow.Author.Needs.{needs}
 use borrow.Author.Tests.{not-true, not-false}
 use mathlib.Core.Path.{_≡_, subst}
 use mathlib.Core.Bool.{Bool, true, false}
-use lib.ListN.{getD}
-use Rattle.checker.specs.Keys.{quota-of, struck, paid-by}
+use Rattle.checker.specs.Keys.{struck, paid-by}
 use Rattle.checker.specs.Contracts.{Charged}
-use Rattle.checker.proofs.Settling.{Settling, settling-start, settling-end, settling-paid, settling-short, settling-more, struck-less}
+use Rattle.checker.proofs.Settling.{Settling, settling-start, settling-end, hit, settling-paid, settling-short, settling-more, struck-less}
 use Rattle.checker.proofs.settle_others.Statement.{statement}
 use Rattle.checker.proofs.settle_others.Tie as tie
 
@@ -35,39 +33,51 @@ returns c =
     let l = f .before .before in
     settling-end (l .before .pre .1 .live) (l .loop .inv) (f .find .ensures) (c .if1 .taken)
 
-mul-quota : tie.Need-mul-quota Inv-loop μ-loop
-mul-quota c = search needs
+mul-quota-of : tie.Need-mul-quota-of Inv-loop μ-loop
+mul-quota-of c = search needs
 
-element-copy-out-quota : tie.Need-element-copy-out-quota Inv-loop μ-loop
-element-copy-out-quota c = search needs
+element-copy-out-quota-of : tie.Need-element-copy-out-quota-of Inv-loop μ-loop
+element-copy-out-quota-of c = search needs
+
+quota-of-requires : tie.Need-quota-of-requires Inv-loop μ-loop
+quota-of-requires c κs =
+    let f = c .before .before in
+    let l = f .before .before in
+    hit (l .before .pre .1 .live) (l .loop .inv) (f .find .ensures) (search needs) .0
 
 array-read-if2 : tie.Need-array-read-if2 Inv-loop μ-loop
 array-read-if2 c = search needs
 
 returns-2 : tie.Need-returns-2 Inv-loop μ-loop
 returns-2 c =
-    let f = c .before .before .before in
+    let q = c .before in
+    let f = q .before .before .before in
     let l = f .before .before in
-    settling-paid (l .before .pre .1 .live) (l .loop .inv) (f .find .ensures) (search needs) (c .if2 .taken)
+    settling-paid (l .before .pre .1 .live) (l .loop .inv) (f .find .ensures) (search needs) (q .quota-of .ensures .0) (c .if2 .taken)
 
 -- the payment, by its answer
-abbrev in-turn : tie.After-pay Inv-loop μ-loop → tie.At-loop Inv-loop μ-loop
-in-turn c = c .before .before .before .before .before .before .before
+abbrev quota : tie.After-pay Inv-loop μ-loop → tie.After-quota-of Inv-loop μ-loop
+quota c = c .before .before .before
 
-abbrev quota : tie.After-pay Inv-loop μ-loop → ℕ
-quota c = quota-of (getD (in-turn c .loop .keys) (c .before .before .before .before .before .find .result) 0)
+abbrev place-found : tie.After-pay Inv-loop μ-loop → tie.After-find Inv-loop μ-loop
+place-found c = quota c .before .before .before
 
-charged : (c : tie.After-pay Inv-loop μ-loop) (t : Bool) → c .pay .result ≡ t → Charged (in-turn c .before .args .charge) (quota c) (in-turn c .loop .owed) t (c .pay .last .0)
-charged c t e = subst (λ (x : Bool). Charged (in-turn c .before .args .charge) (quota c) (in-turn c .loop .owed) x (c .pay .last .0)) e (c .pay .ensures)
+abbrev turn : tie.After-pay Inv-loop μ-loop → tie.At-loop Inv-loop μ-loop
+turn c = place-found c .before .before
+
+charged : (c : tie.After-pay Inv-loop μ-loop) (t : Bool) → c .pay .result ≡ t → Charged (turn c .before .args .charge) (quota c .quota-of .result) (turn c .loop .owed) t (c .pay .last .0)
+charged c t e = subst (λ (x : Bool). Charged (turn c .before .args .charge) (quota c .quota-of .result) (turn c .loop .owed) x (c .pay .last .0)) e (c .pay .ensures)
 
 pay-requires : tie.Need-pay-requires Inv-loop μ-loop
-pay-requires c κs = (omega arith, c .before .before .before .before .before .before .loop .inv .owed-long)
+pay-requires c κs =
+    let q = c .before .before in
+    (q .quota-of .ensures .1, q .before .before .before .before .before .loop .inv .owed-long)
 
 returns-3 : tie.Need-returns-3 Inv-loop μ-loop
 returns-3 c =
     let p = c .before in
-    let l = in-turn p in
-    settling-short (l .before .pre .1 .live) (l .loop .inv) (p .before .before .before .before .before .find .ensures) (search needs) (charged p false (not-true _ (c .if3 .taken)))
+    let l = turn p in
+    settling-short (l .before .pre .1 .live) (l .loop .inv) (place-found p .find .ensures) (search needs) (quota p .quota-of .ensures .0) (charged p false (not-true _ (c .if3 .taken)))
 
 array-write-seen-2 : tie.Need-array-write-seen-2 Inv-loop μ-loop
 array-write-seen-2 c = search needs
@@ -90,15 +100,15 @@ place-requires c κs = search needs
 loop-less : tie.Need-loop-less Inv-loop μ-loop
 loop-less c =
     let p = c .before .before .before in
-    let l = in-turn p in
-    omega (arith, struck-less (l .before .pre .1 .live) (l .loop .inv) (p .before .before .before .before .before .find .ensures) (search needs))
+    let l = turn p in
+    omega (arith, struck-less (l .before .pre .1 .live) (l .loop .inv) (place-found p .find .ensures) (search needs))
 
 loop-again : tie.Need-loop-again Inv-loop μ-loop
 loop-again c =
     let p = c .before .before .before in
-    let l = in-turn p in
+    let l = turn p in
     let o = charged p true (not-false _ (c .before .before .if3 .left)) in
-    settling-more (l .before .pre .1 .live) (l .loop .inv) (p .before .before .before .before .before .find .ensures) (search needs) (p .before .before .if2 .left) (o .0) (c .place .ensures) (o .1)
+    settling-more (l .before .pre .1 .live) (l .loop .inv) (place-found p .find .ensures) (search needs) (quota p .quota-of .ensures .0) (p .before .before .if2 .left) (o .0) (c .place .ensures) (o .1)
 
 pub settle-others-spec : {M : Type 1} → statement M
 settle-others-spec =
@@ -110,8 +120,9 @@ settle-others-spec =
     loop-holds
     find-requires
     returns
-    mul-quota
-    element-copy-out-quota
+    mul-quota-of
+    element-copy-out-quota-of
+    quota-of-requires
     array-read-if2
     returns-2
     pay-requires
