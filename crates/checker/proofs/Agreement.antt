@@ -18,8 +18,8 @@ use Rattle.model.specs.declared.Handle.{Handle}
 use Rattle.model.specs.Lists.{all, any, total}
 use Rattle.model.specs.Consistent.{has-serial, serials-differ, serials-given, record-valid, records-differ, held, charge-of, has-record, charged-for, charges}
 use Rattle.model.proofs.Bools.{and-left, and-right, and-both}
-use Rattle.checker.specs.Keys.{well-formed, keys-of, used-keys, Payment, pay, unpaid}
-use Rattle.checker.specs.Audit.{none-owed}
+use Rattle.checker.specs.Keys.{well-formed, key-of, keys-of, Payment, pay, unpaid}
+use Rattle.checker.specs.Audit.{all-zero}
 use Rattle.checker.proofs.Cases.{by-test}
 use Rattle.checker.proofs.Tables.{all-at, all-places}
 use Rattle.checker.proofs.Records.{key-used}
@@ -92,19 +92,17 @@ module _ (last : ℕ) (o : Handle) (os : List Handle) (hs : List Hold) (owed : L
       }
 
 -- no object
-none-valid : (hs : List Hold) → all well-formed hs ≡ true → used-keys (keys-of hs) ≡ 0 → (all (record-valid []) hs ≡ true) × (records-differ hs ≡ true)
-unfolding used-keys all record-valid records-differ
+none-valid : (hs : List Hold) → all well-formed hs ≡ true → all-zero (keys-of hs) ≡ true → (all (record-valid []) hs ≡ true) × (records-differ hs ≡ true)
+unfolding all record-valid records-differ
 none-valid [] w e = (refl, refl)
 none-valid (h ∷ hs) w e =
     let v = and-left (well-formed h) (all well-formed hs) w in
-    by-test (used h)
-    (λ u. let z = rw (key-used h v, u) at e in absurd (omega arith))
-    (λ u.
-    let r = none-valid hs (and-right (well-formed h) (all well-formed hs) w) (rw (key-used h v, u) at e) in
-    (rw u (r .0), rw u (r .1)))
+    let u : used h ≡ false = not-true (used h) (sym (key-used h v) ∙ and-left (eqb (key-of h) 0) (all-zero (keys-of hs)) e) in
+    let r = none-valid hs (and-right (well-formed h) (all well-formed hs) w) (and-right (eqb (key-of h) 0) (all-zero (keys-of hs)) e) in
+    (rw u (r .0), rw u (r .1))
 
-valid-none : (hs : List Hold) → all well-formed hs ≡ true → all (record-valid []) hs ≡ true → used-keys (keys-of hs) ≡ 0
-unfolding used-keys all any record-valid
+valid-none : (hs : List Hold) → all well-formed hs ≡ true → all (record-valid []) hs ≡ true → all-zero (keys-of hs) ≡ true
+unfolding all any record-valid
 valid-none [] w e = refl
 valid-none (h ∷ hs) w e =
     let v = and-left (well-formed h) (all well-formed hs) w in
@@ -113,20 +111,20 @@ valid-none (h ∷ hs) w e =
     (λ u. rw (key-used h v, u) (valid-none hs (and-right (well-formed h) (all well-formed hs) w) (rw u at e)))
 
 pub agrees-none : (last : ℕ) (hs : List Hold) (owed : List ℕ) → all well-formed hs ≡ true → length owed ≡ QUOTAS
-    → ((eqb (used-keys (keys-of hs)) 0 && none-owed owed) ≡ true) ↔ Agrees last [] hs owed
+    → ((all-zero (keys-of hs) && all-zero owed) ≡ true) ↔ Agrees last [] hs owed
 unfolding serials-differ serials-given all charges total
 agrees-none last hs owed well long = (
   λ e.
-      let r = none-valid hs well (eqb-true (used-keys (keys-of hs)) 0 (and-left (eqb (used-keys (keys-of hs)) 0) (none-owed owed) e)) in
+      let r = none-valid hs well (and-left (all-zero (keys-of hs)) (all-zero owed) e) in
       record {
         differ = refl;
         given = refl;
         valid = r .0;
         unique = r .1;
         recorded = refl;
-        sums = λ q l. eqb-true (getD owed q 0) 0 (all-at (λ n. eqb n 0) 0 owed (and-right (eqb (used-keys (keys-of hs)) 0) (none-owed owed) e) q (omega arith));
+        sums = λ q l. eqb-true (getD owed q 0) 0 (all-at (λ n. eqb n 0) 0 owed (and-right (all-zero (keys-of hs)) (all-zero owed) e) q (omega arith));
       },
   λ a.
-      and-both (eqb (used-keys (keys-of hs)) 0) (none-owed owed) (eq-eqb (used-keys (keys-of hs)) 0 (valid-none hs well (a .valid)))
+      and-both (all-zero (keys-of hs)) (all-zero owed) (valid-none hs well (a .valid))
       (all-places (λ n. eqb n 0) 0 owed (λ q l. eq-eqb (getD owed q 0) 0 (a .sums q (omega arith)))),
 )

@@ -11,11 +11,11 @@ use lib.ListN.{length, getD, drop-of-length-le}
 use lib.Seq.{drop-cons}
 use Rattle.accounts.specs.Accounts.{HOLDS}
 use Rattle.checker.specs.Keys.{for-serial}
-use Rattle.checker.specs.Chains.{search, search-from, slot, Leads, here, on, Ascends, Covers}
+use Rattle.checker.specs.Chains.{SLOTS, search, search-from, slot, Leads, here, on, Ascends, Covers}
 use Rattle.checker.specs.Contracts.{Findable}
 use Rattle.checker.proofs.Cases.{by-test, by-eq}
 
-pub slot-small : (s : ℕ) → slot s < HOLDS
+pub slot-small : (s : ℕ) → slot s < SLOTS
 unfolding slot
 slot-small s = omega arith
 

@@ -6,7 +6,6 @@ use Prim.Native.Nat.{ℕ, suc, _+_, _<_}
 use mathlib.Core.Path.{_≡_, refl, ap, sym, subst, _∙_}
 use mathlib.Core.Bool.{Bool, true, false, cond, _||_}
 use mathlib.Core.List.{List, [], _∷_, map, map-congr-left}
-use mathlib.Core.Logic.{inl, inr}
 use native.Mathlib.Omega.{arith}
 use borrow.Author.Tests.{eq-eqb, ne-eqb, lt-ltb, le-ltb}
 use lib.Dec.{ltb}
@@ -21,7 +20,7 @@ use Rattle.model.proofs.Bools.{and-left, and-right, and-both, and-no}
 use Rattle.model.proofs.Consistent.{tests-exactly, consistent-cut}
 use Rattle.checker.specs.Keys.{well-formed, keys-of, for-serial}
 use Rattle.checker.specs.Chains.{search, search-from, slot, Covers}
-use Rattle.checker.specs.Contracts.{Findable, Index, Indexed}
+use Rattle.checker.specs.Contracts.{Findable, Index}
 use Rattle.checker.specs.Holders.{held-each, has-key, Chained}
 use Rattle.checker.proofs.Cases.{by-eq}
 use Rattle.checker.proofs.Records.{no-serial, key-is-of}
@@ -99,14 +98,12 @@ all-true : (ns : List ℕ) → replicate (length ns) true ≡ map (λ n. true) n
 all-true [] = refl
 all-true (n ∷ ns) = rw (all-true ns)
 
-pub each-ill : {hs : List Hold} {r : ℕ} {keys next heads : List ℕ} → Indexed hs r keys next heads → HOLDS < r
-    → (serials : List ℕ) → length serials ≡ HOLDS → replicate HOLDS true ≡ held-each hs serials
+pub each-ill : (hs : List Hold) → all well-formed hs ≡ false → (serials : List ℕ) → length serials ≡ HOLDS → replicate HOLDS true ≡ held-each hs serials
 unfolding held-each
-each-ill (inl w) h serials long = rw (w .1) (ap (λ (n : ℕ). replicate n true) (sym long) ∙ all-true serials)
-each-ill (inr w) h serials long = absurd (omega (arith, w .few))
+each-ill hs e serials long = rw e (ap (λ (n : ℕ). replicate n true) (sym long) ∙ all-true serials)
 
 -- else the keys tell
-module _ {hs : List Hold} {r : ℕ} {keys next heads : List ℕ} (i : Index hs r keys next heads) where
+module _ {hs : List Hold} {keys next heads : List ℕ} (i : Index hs keys next heads) where
   pub chained : Chained keys next heads
   chained = record { long = i .long; up = i .up; linked = i .linked; heads-inside = i .heads-inside }
 

@@ -1,18 +1,17 @@
 -- Chains as they are built, from the last place down: a used place becomes the head of its slot and links to the head before it. A link that is
 -- set at a lower place is not on the way of any chain that is there already.
 -- Assumes nothing.
-use Prim.Native.Nat.{ℕ, suc, _+_, _<_, _≤_}
+use Prim.Native.Nat.{ℕ, suc, _<_, _≤_}
 use mathlib.Core.Path.{_≡_, ap, sym, subst, _∙_}
 use mathlib.Core.Bool.{true}
-use mathlib.Core.List.{List, [], _∷_}
+use mathlib.Core.List.{List}
 use native.Mathlib.Omega.{arith}
-use borrow.Author.Tests.{eq-eqb, ne-eqb}
-use lib.ListN.{length, getD, drop, set, drop-of-length-le, length-set, length-map, List·getD-map}
-use lib.Seq.{drop-cons, getD-set-same, getD-set-other, drop-set-lt, ext-getD}
+use lib.ListN.{length, getD, set, length-set, length-map, List·getD-map}
+use lib.Seq.{getD-set-same, getD-set-other, ext-getD}
 use Rattle.accounts.specs.declared.Hold.{Hold}
 use Rattle.accounts.specs.Accounts.{HOLDS, zero-hold}
-use Rattle.checker.specs.Keys.{well-formed, key-of, keys-of, serial-of, used-keys}
-use Rattle.checker.specs.Chains.{slot, Leads, here, on, Ascends}
+use Rattle.checker.specs.Keys.{well-formed, key-of, keys-of, serial-of}
+use Rattle.checker.specs.Chains.{SLOTS, slot, Leads, here, on, Ascends}
 use Rattle.checker.specs.Contracts.{Fresh, Index}
 use Rattle.checker.proofs.Cases.{by-eq}
 use Rattle.checker.proofs.Tables.{all-places}
@@ -30,7 +29,7 @@ abbrev LinkedFrom : ℕ → List ℕ → List ℕ → List ℕ → Type 0
 LinkedFrom i keys next heads = From i (λ p. (getD keys p 0 ≡ 0 → ⊥) → Leads next (getD heads (slot (serial-of (getD keys p 0))) 0) p)
 
 abbrev HeadsFrom : ℕ → List ℕ → Type 0
-HeadsFrom i heads = (x : ℕ) → x < HOLDS → (i ≤ getD heads x 0) × (getD heads x 0 ≤ HOLDS)
+HeadsFrom i heads = (x : ℕ) → x < SLOTS → (i ≤ getD heads x 0) × (getD heads x 0 ≤ HOLDS)
 
 -- a link that is set at a lower place is not on the way
 leads-keep : (next : List ℕ) (j v : ℕ) → Ascends next → {n p : ℕ} → j < n → Leads next n p → Leads (set next j v) n p
@@ -39,18 +38,13 @@ leads-keep next j v up l (on {n} {p} h r) =
     let u = up n h in
     on h (subst (λ (x : ℕ). Leads (set next j v) x p) (sym (getD-set-other next j n v 0 (λ e. omega arith))) (leads-keep next j v up (omega arith) r))
 
-module _ (keys next heads : List ℕ) (j k : ℕ) (below : j < HOLDS) (keys-long : length keys ≡ HOLDS) (links : LinkedFrom (suc j) keys next heads) where
+module _ (keys next heads : List ℕ) (j : ℕ) (links : LinkedFrom (suc j) keys next heads) where
   -- an unused place needs no link
-  links-skip : k ≡ 0 → LinkedFrom j (set keys j k) next heads
-  links-skip e =
-      from-more _ j
-      (λ used. absurd (used (getD-set-same keys j k 0 (omega arith) ∙ e)))
-      (λ p a l used.
-      let o = getD-set-other keys j p k 0 (λ q. omega arith) in
-      subst (λ (x : ℕ). Leads next (getD heads (slot (serial-of x)) 0) p) (sym o) (links p a l (λ z. used (o ∙ z))))
+  links-skip : getD keys j 0 ≡ 0 → LinkedFrom j keys next heads
+  links-skip e = from-more _ j (λ used. absurd (used e)) links
 
-  module _ (up : Ascends next) (next-long : length next ≡ HOLDS) (heads-long : length heads ≡ HOLDS)
-      (hf : HeadsFrom (suc j) heads) (r : ℕ) (small : r < HOLDS) (res : slot (serial-of k) ≡ r) where
+  module _ (k : ℕ) (below : j < HOLDS) (keys-long : length keys ≡ HOLDS) (up : Ascends next) (next-long : length next ≡ HOLDS) (heads-long : length heads ≡ SLOTS)
+      (hf : HeadsFrom (suc j) heads) (r : ℕ) (small : r < SLOTS) (res : slot (serial-of k) ≡ r) where
     up-more : Ascends (set next j (getD heads r 0))
     up-more p l =
         by-eq p j
@@ -91,117 +85,90 @@ module _ (keys next heads : List ℕ) (j k : ℕ) (below : j < HOLDS) (keys-long
             subst (λ (x : ℕ). Leads (set next j (getD heads r 0)) x p) (sym (getD-set-other heads r (slot (serial-of (getD keys p 0))) j 0 w))
             (leads-keep next j (getD heads r 0) up (omega arith) old)))
 
--- the keys behind the place
-module _ (keys : List ℕ) (j k : ℕ) (below : j < length keys) where
-  cut-keys : drop j (set keys j k) ≡ k ∷ drop (suc j) keys
-  cut-keys =
-      let l : j < length (set keys j k) = simp length-set (omega arith) in
-      rw (drop-cons (set keys j k) j 0, getD-set-same keys j k 0 (omega arith), drop-set-lt (suc j) keys j k (omega arith))
-
-  used-more : (k ≡ 0 → ⊥) → used-keys (drop j (set keys j k)) ≡ suc (used-keys (drop (suc j) keys))
-  unfolding used-keys
-  used-more n = rw (cut-keys, ne-eqb k 0 n)
-
-  used-same : k ≡ 0 → used-keys (drop j (set keys j k)) ≡ used-keys (drop (suc j) keys)
-  unfolding used-keys
-  used-same e = rw (cut-keys, eq-eqb k 0 e)
-
--- what holds of the arrays when the n used places from i on are chained
-pub record Grown (hs : List Hold) (i n : ℕ) (keys next heads : List ℕ) : Type 0 where
-  pub low : i + n ≤ HOLDS
+-- what holds of the arrays when the used places from i on are chained
+pub record Grown (hs : List Hold) (i : ℕ) (keys next heads : List ℕ) : Type 0 where
+  pub low : i ≤ HOLDS
   pub keys-long : length keys ≡ HOLDS
   pub next-long : length next ≡ HOLDS
-  pub heads-long : length heads ≡ HOLDS
+  pub heads-long : length heads ≡ SLOTS
+  pub blank : (p : ℕ) → p < i → getD keys p 0 ≡ 0
   pub keyed : (p : ℕ) → i ≤ p → p < HOLDS → getD keys p 0 ≡ key-of (getD hs p zero-hold)
   pub well : (p : ℕ) → i ≤ p → p < HOLDS → well-formed (getD hs p zero-hold) ≡ true
-  pub counted : n ≡ used-keys (drop i keys)
   pub up : Ascends next
   pub links : (p : ℕ) → i ≤ p → p < HOLDS → (getD keys p 0 ≡ 0 → ⊥) → Leads next (getD heads (slot (serial-of (getD keys p 0))) 0) p
-  pub heads-from : (x : ℕ) → x < HOLDS → (i ≤ getD heads x 0) × (getD heads x 0 ≤ HOLDS)
+  pub heads-from : (x : ℕ) → x < SLOTS → (i ≤ getD heads x 0) × (getD heads x 0 ≤ HOLDS)
 
 module _ {hs : List Hold} where
-  pub grown-none : {keys next heads : List ℕ} → Fresh keys next heads → Grown hs HOLDS 0 keys next heads
-  unfolding used-keys
-  grown-none {keys} f =
-      let l : length keys ≤ HOLDS = omega (arith, f .keys-long) in
-      let b : drop HOLDS keys ≡ [] = drop-of-length-le keys l in
+  pub grown-none : {keys next heads : List ℕ} → Fresh keys next heads → Grown hs HOLDS keys next heads
+  grown-none f =
       record {
         low = omega arith;
         keys-long = f .keys-long;
         next-long = f .next-long;
         heads-long = f .heads-long;
+        blank = f .no-key;
         keyed = λ p a l. absurd (omega arith);
         well = λ p a l. absurd (omega arith);
-        counted = rw b;
         up = λ p l. (omega (arith, f .no-link p l), omega (arith, f .no-link p l));
         links = λ p a l. absurd (omega arith);
         heads-from = λ x l. (omega (arith, f .no-head x l), omega (arith, f .no-head x l));
       }
 
-  module _ {i j n : ℕ} {keys next heads : List ℕ} {k : ℕ} (at : i ≡ suc j) (g : Grown hs i n keys next heads)
-      (key : k ≡ key-of (getD hs j zero-hold)) (ok : well-formed (getD hs j zero-hold) ≡ true) where
-    g′ : Grown hs (suc j) n keys next heads
-    g′ = subst (λ (x : ℕ). Grown hs x n keys next heads) at g
-
-    keyed-more : From j (λ p. getD (set keys j k) p 0 ≡ key-of (getD hs p zero-hold))
-    keyed-more =
-        let l = g′ .keys-long in
-        let b = g′ .low in
-        from-more _ j (getD-set-same keys j k 0 (omega arith) ∙ key) (λ p a h. getD-set-other keys j p k 0 (λ q. omega arith) ∙ g′ .keyed p a h)
+  module _ {i j : ℕ} {keys next heads : List ℕ} (at : i ≡ suc j) (g : Grown hs i keys next heads)
+      (ok : well-formed (getD hs j zero-hold) ≡ true) where
+    g′ : Grown hs (suc j) keys next heads
+    g′ = subst (λ (x : ℕ). Grown hs x keys next heads) at g
 
     -- a place without a serial
-    pub grown-skip : getD hs j zero-hold .serial ≡ 0 → Grown hs j n (set keys j k) next heads
+    pub grown-skip : getD hs j zero-hold .serial ≡ 0 → Grown hs j keys next heads
     grown-skip z =
         let low = g′ .low in
         let kl = g′ .keys-long in
-        let e : k ≡ 0 = key ∙ no-key (getD hs j zero-hold) ok z in
+        let e : getD keys j 0 ≡ 0 = g′ .blank j (omega arith) in
         record {
           low = omega arith;
-          keys-long = simp length-set kl;
+          keys-long = kl;
           next-long = g′ .next-long;
           heads-long = g′ .heads-long;
-          keyed = keyed-more;
+          blank = λ p l. g′ .blank p (omega arith);
+          keyed = from-more _ j (e ∙ sym (no-key (getD hs j zero-hold) ok z)) (g′ .keyed);
           well = from-more _ j ok (g′ .well);
-          counted = omega (arith, g′ .counted, used-same keys j k (omega arith) e);
           up = g′ .up;
-          links = links-skip keys next heads j k (omega arith) kl (g′ .links) e;
+          links = links-skip keys next heads j (g′ .links) e;
           heads-from = λ x l. (let h = g′ .heads-from x l in (omega arith, h .1));
         }
 
     -- one with a serial, whose slot is r
-    pub grown-more : (getD hs j zero-hold .serial ≡ 0 → ⊥) → {r : ℕ} → r ≡ slot (getD hs j zero-hold .serial) → r < HOLDS
-        → Grown hs j (n + 1) (set keys j k) (set next j (getD heads r 0)) (set heads r j)
-    grown-more z {r} at-slot small =
+    pub grown-more : (getD hs j zero-hold .serial ≡ 0 → ⊥) → {k : ℕ} → k ≡ key-of (getD hs j zero-hold) → {r : ℕ} → r ≡ slot (getD hs j zero-hold .serial) → r < SLOTS
+        → Grown hs j (set keys j k) (set next j (getD heads r 0)) (set heads r j)
+    grown-more z {k} key {r} at-slot small =
         let low = g′ .low in
         let kl = g′ .keys-long in
         let nl = g′ .next-long in
         let hl = g′ .heads-long in
         let h = getD hs j zero-hold in
         let serial : serial-of k ≡ h .serial = ap serial-of key ∙ key-serial (h .serial) (h .quota) (well-quota h ok) in
-        let ne : k ≡ 0 → ⊥ = λ e. z (sym serial ∙ ap serial-of e) in
         let res : slot (serial-of k) ≡ r = ap slot serial ∙ sym at-slot in
         record {
           low = omega arith;
           keys-long = simp length-set kl;
           next-long = simp length-set nl;
           heads-long = simp length-set hl;
-          keyed = keyed-more;
+          blank = λ p l. getD-set-other keys j p k 0 (λ q. omega arith) ∙ g′ .blank p (omega arith);
+          keyed = from-more _ j (getD-set-same keys j k 0 (omega arith) ∙ key) (λ p a l. getD-set-other keys j p k 0 (λ q. omega arith) ∙ g′ .keyed p a l);
           well = from-more _ j ok (g′ .well);
-          counted = omega (arith, g′ .counted, used-more keys j k (omega arith) ne);
-          up = up-more keys next heads j k (omega arith) kl (g′ .links) (g′ .up) nl hl (g′ .heads-from) r small res;
-          links = links-more keys next heads j k (omega arith) kl (g′ .links) (g′ .up) nl hl (g′ .heads-from) r small res;
-          heads-from = heads-more keys next heads j k (omega arith) kl (g′ .links) (g′ .up) nl hl (g′ .heads-from) r small res;
+          up = up-more keys next heads j (g′ .links) k (omega arith) kl (g′ .up) nl hl (g′ .heads-from) r small res;
+          links = links-more keys next heads j (g′ .links) k (omega arith) kl (g′ .up) nl hl (g′ .heads-from) r small res;
+          heads-from = heads-more keys next heads j (g′ .links) k (omega arith) kl (g′ .up) nl hl (g′ .heads-from) r small res;
         }
 
   -- when all are
-  pub grown-all : length hs ≡ HOLDS → {n : ℕ} {keys next heads : List ℕ} → Grown hs 0 n keys next heads → Index hs n keys next heads
+  pub grown-all : length hs ≡ HOLDS → {keys next heads : List ℕ} → Grown hs 0 keys next heads → Index hs keys next heads
   grown-all long {keys = keys} g =
       let l = g .keys-long in
       record {
         well = all-places well-formed zero-hold hs (λ p h. g .well p (omega arith) (omega arith));
         keyed = ext-getD 0 keys (keys-of hs) (l ∙ sym long ∙ sym (length-map hs key-of)) (λ p h. g .keyed p (omega arith) (omega arith) ∙ sym (List·getD-map key-of hs p zero-hold));
-        counted = g .counted;
-        few = omega (arith, g .low);
         long = l;
         up = g .up;
         linked = λ p h. g .links p (omega arith) h;

@@ -1,18 +1,31 @@
 -- The key of a well-formed record tells its serial and its quota: the quota is below QUOTAS, so the key divided by QUOTAS is the serial and the
 -- rest is the quota; an unused record is all zero, and so is its key.
 -- Assumes nothing.
-use Prim.Native.Nat.{ℕ, _+_, _*_, _<_, _≤_}
-use mathlib.Core.Path.{_≡_}
-use mathlib.Core.Bool.{true, false, not, _&&_}
+use Prim.Native.Nat.{ℕ, _+_, _-_, _*_, _/_, _%_, _^_, _<_, _≤_}
+use mathlib.Core.Path.{_≡_, refl}
+use mathlib.Core.Bool.{Bool, true, false, not, _&&_, _||_}
 use native.Mathlib.Omega.{arith}
-use borrow.Author.Tests.{eq-eqb, ne-eqb, eqb-true, ltb-true, leb-true, not-false}
+use borrow.Author.Tests.{eq-eqb, ne-eqb, eqb-true, le-leb, lt-leb, lt-ltb, ltb-true, leb-true, not-false}
 use lib.Dec.{eqb, leb, ltb}
 use Rattle.accounts.specs.declared.Hold.{Hold}
 use Rattle.accounts.specs.Accounts.{QUOTAS, used}
 use Rattle.model.specs.Consistent.{is-of}
 use Rattle.model.proofs.Bools.{and-left, and-right, implies}
 use Rattle.checker.specs.Keys.{well-formed, key-of, serial-of, quota-of, for-serial}
-use Rattle.checker.proofs.Cases.{by-test}
+use Rattle.checker.proofs.Cases.{by-test, same-test}
+
+-- what is left to test of a record without a serial, and of one with a serial
+pub well-blank : (h : Hold) → h .serial ≡ 0 → well-formed h ≡ (eqb (h .quota) 0 && eqb (h .count) 0)
+unfolding well-formed used
+well-blank h z = rw (eq-eqb (h .serial) 0 z, lt-leb 1 (h .serial) (omega arith)) (go (eqb (h .quota) 0 && eqb (h .count) 0))
+  where
+    go : (t : Bool) → (not (not t) || false) ≡ t
+    go true = refl
+    go false = refl
+
+pub well-possible : (h : Hold) → (h .serial ≡ 0 → ⊥) → well-formed h ≡ (ltb (h .quota) QUOTAS && leb 1 (h .count))
+unfolding well-formed used
+well-possible h n = rw (ne-eqb (h .serial) 0 n, le-leb 1 (h .serial) (omega (arith, n)))
 
 -- an unused record is all zero; one with a serial is used
 pub unused-zero : (h : Hold) → used h ≡ false → (h .serial ≡ 0) × (h .quota ≡ 0) × (h .count ≡ 0)
@@ -34,6 +47,16 @@ key-serial s q l = omega arith
 
 pub key-quota : (s q : ℕ) → q < QUOTAS → quota-of (s * QUOTAS + q) ≡ q
 key-quota s q l = omega arith
+
+-- a key is one of the serial's exactly if it is less than QUOTAS above the serial's first, and what it is above that is its quota
+pub near-key : (key serial above : ℕ) → serial < 2 ^ 32 → above < 2 ^ 64 → (above + serial * QUOTAS) % 2 ^ 64 ≡ key → ltb above QUOTAS ≡ for-serial serial key
+near-key key serial above s a e =
+    same-test (ltb above QUOTAS) (for-serial serial key)
+    (λ t. let l = ltb-true above QUOTAS t in eq-eqb (key / QUOTAS) serial (omega arith))
+    (λ t. let q = eqb-true (key / QUOTAS) serial t in lt-ltb above QUOTAS (omega arith))
+
+pub above-key : (key serial : ℕ) → for-serial serial key ≡ true → (serial * QUOTAS ≤ key) × (key - serial * QUOTAS ≡ quota-of key)
+above-key key serial e = let q = eqb-true (key / QUOTAS) serial e in (omega arith, omega arith)
 
 module _ (h : Hold) (w : well-formed h ≡ true) where
   -- a used record has its parts

@@ -11,7 +11,7 @@ use lib.Dec.{eqb, ltb}
 use lib.ListN.{length, getD, drop, set, drop-of-length-le, length-map}
 use lib.Seq.{drop-cons}
 use Rattle.model.proofs.Bools.{or-right, or-neither}
-use Rattle.checker.specs.Keys.{serial-of, quota-of, for-serial, used-keys, strike, struck, Payment, cannot-pay, pays, pay-one, pay}
+use Rattle.checker.specs.Keys.{serial-of, quota-of, for-serial, strike, struck, Payment, cannot-pay, pays, pay-one, pay}
 use Rattle.checker.specs.Chains.{slot, Leads, Covers, Linked}
 
 -- a serial that is not 0 is no key 0's
@@ -76,16 +76,6 @@ module _ (s c : ℕ) (ks : List ℕ) (p : Payment) (i : ℕ) (l : i < length ks)
   unfolding pay-one
   pay-hit t = pay-at s c ks (some p) i l ∙ rw (e, t)
 
--- there are at most as many as keys
-pub struck-le : (s : ℕ) (ks : List ℕ) → struck s ks ≤ length ks
-unfolding struck
-struck-le s [] = omega arith
-struck-le s (k ∷ ks) = go (for-serial s k) (struck-le s ks)
-  where
-    go : (t : Bool) → struck s ks ≤ length ks → cond t (suc (struck s ks)) (struck s ks) ≤ suc (length ks)
-    go true h = omega arith
-    go false h = omega arith
-
 module _ (s : ℕ) (live : s ≡ 0 → ⊥) where
   -- a key that is struck at once, and not with the others
   pub strike-set : (ks : List ℕ) (p : ℕ) → for-serial s (getD ks p 0) ≡ true → strike s (set ks p 0) ≡ strike s ks
@@ -112,23 +102,6 @@ module _ (s : ℕ) (live : s ≡ 0 → ⊥) where
       let h = f 0 (omega arith) in
       let w = strike-none ks (λ x l. f (suc x) (omega arith)) in
       (rw (h, w .0), rw (h, w .1))
-
-  -- what is used is struck or left
-  pub strike-used : (ks : List ℕ) → used-keys ks ≡ struck s ks + used-keys (strike s ks)
-  unfolding used-keys struck strike
-  strike-used [] = refl
-  strike-used (k ∷ ks) = go (for-serial s k) refl (strike-used ks)
-    where
-      split : (t : Bool) → used-keys ks ≡ struck s ks + used-keys (strike s ks)
-          → cond t (used-keys ks) (suc (used-keys ks)) ≡ struck s ks + cond t (used-keys (strike s ks)) (suc (used-keys (strike s ks)))
-      split true ih = ih
-      split false ih = omega arith
-
-      go : (t : Bool) → for-serial s k ≡ t → used-keys ks ≡ struck s ks + used-keys (strike s ks) → used-keys (k ∷ ks) ≡ struck s (k ∷ ks) + used-keys (strike s (k ∷ ks))
-      go true e ih =
-          let q : serial-of k ≡ s = eqb-true (serial-of k) s e in
-          rw (e, ne-eqb k 0 (λ z. live (sym q ∙ ap serial-of z))) (omega arith)
-      go false e ih = rw e (split (eqb k 0) ih)
 
   pub strike-long : (ks : List ℕ) → length (strike s ks) ≡ length ks
   unfolding strike

@@ -1,14 +1,11 @@
 -- The whole check: its answer by the length and by the audit, whose parts are the index, what the quotas owe, and the walk.
 -- Assumes nothing.
-use Prim.Native.Nat.{ℕ, _<_, _≤_}
+use Prim.Native.Nat.{ℕ}
 use mathlib.Core.Path.{_≡_, refl, ap, sym, _∙_}
 use mathlib.Core.Bool.{Bool, true, false, cond}
 use mathlib.Core.List.{List}
 use mathlib.Core.Option.{some}
-use mathlib.Core.Logic.{inl, inr}
-use native.Mathlib.Omega.{arith}
 use lib.ListN.{length, replicate, getD-replicate, length-replicate, length-map}
-use Rattle.accounts.specs.declared.Hold.{Hold}
 use Rattle.accounts.specs.declared.Accounts.{Accounts}
 use Rattle.accounts.specs.Accounts.{QUOTAS, HOLDS}
 use Rattle.layout.specs.Blocks.{parse}
@@ -21,19 +18,21 @@ use Rattle.model.specs.Refusals.{first-refusal, line-1, line-2, check-lines}
 use Rattle.model.specs.Calls.{unless, check}
 use Rattle.model.proofs.Bools.{and-no}
 use Rattle.checker.specs.Keys.{well-formed}
+use Rattle.checker.specs.Chains.{SLOTS}
 use Rattle.checker.specs.Audit.{owes, begin, audit-parsed, audited}
-use Rattle.checker.specs.Contracts.{Fresh, Index, Indexed, Owing, Ready}
+use Rattle.checker.specs.Contracts.{Fresh, Index, Owing, Ready}
 use Rattle.checker.proofs.Consistency.{audited-is-consistent}
 
 -- new arrays
-pub fresh : Fresh (replicate HOLDS 0) (replicate HOLDS HOLDS) (replicate HOLDS HOLDS)
+pub fresh : Fresh (replicate HOLDS 0) (replicate HOLDS HOLDS) (replicate SLOTS HOLDS)
 fresh =
     record {
       keys-long = length-replicate {A = ℕ} HOLDS 0;
       next-long = length-replicate {A = ℕ} HOLDS HOLDS;
-      heads-long = length-replicate {A = ℕ} HOLDS HOLDS;
+      heads-long = length-replicate {A = ℕ} SLOTS HOLDS;
+      no-key = λ x l. getD-replicate HOLDS x 0 0 l;
       no-link = λ x l. getD-replicate HOLDS x HOLDS 0 l;
-      no-head = λ x l. getD-replicate HOLDS x HOLDS 0 l;
+      no-head = λ x l. getD-replicate SLOTS x HOLDS 0 l;
     }
 
 module _ (s : List ℕ) (k : Accounts) where
@@ -52,11 +51,10 @@ module _ (s : List ℕ) (k : Accounts) where
     unfolding verdict-values check unless first-refusal check-lines line-1 line-2
     verdict-passes e = rw (fits, sym (audited-is-consistent s k long) ∙ e)
 
-    -- an index that fails: a record is not well-formed
-    pub verdict-ill : {r : ℕ} {keys next heads : List ℕ} → Indexed (k .holds) r keys next heads → HOLDS < r → verdict-values (Refused Inconsistent) ≡ check s k .values
+    -- a record that is not well-formed
+    pub verdict-ill : all well-formed (k .holds) ≡ false → verdict-values (Refused Inconsistent) ≡ check s k .values
     unfolding audited
-    verdict-ill (inl w) h = verdict-fails (rw (w .1))
-    verdict-ill (inr w) h = absurd (omega (arith, w .few))
+    verdict-ill e = verdict-fails (rw e)
 
     -- a remainder above its grant
     pub verdict-insolvent : {owed : List ℕ} → Owing (k .quotas) false owed → verdict-values (Refused Inconsistent) ≡ check s k .values
@@ -64,7 +62,7 @@ module _ (s : List ℕ) (k : Accounts) where
     verdict-insolvent w = verdict-fails (rw (sym (w .0)) (and-no (all well-formed (k .holds)) false refl))
 
     -- the walk
-    module _ {r : ℕ} {keys next heads owed : List ℕ} (i : Index (k .holds) r keys next heads) (w : Owing (k .quotas) true owed) where
+    module _ {keys next heads owed : List ℕ} (i : Index (k .holds) keys next heads) (w : Owing (k .quotas) true owed) where
       pub ready : Ready keys next heads owed
       ready = record { long = i .long; owed-long = ap length (w .1 refl) ∙ length-map (k .quotas) owes ∙ long; up = i .up; linked = i .linked; heads-inside = i .heads-inside }
 
@@ -75,8 +73,3 @@ module _ (s : List ℕ) (k : Accounts) where
       pub verdict-walk : (t : Bool) → t ≡ audit-parsed (k .«last_serial») (parse s) (some (begin keys owed)) → verdict-values (cond t Accepted (Refused Inconsistent)) ≡ check s k .values
       verdict-walk true e = verdict-passes (audited-walk ∙ sym e)
       verdict-walk false e = verdict-fails (audited-walk ∙ sym e)
-
--- an index that does not fail
-pub indexed : {hs : List Hold} {r : ℕ} {keys next heads : List ℕ} → Indexed hs r keys next heads → r ≤ HOLDS → Index hs r keys next heads
-indexed (inl w) h = absurd (omega (arith, w .0))
-indexed (inr w) h = w

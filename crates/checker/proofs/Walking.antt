@@ -1,24 +1,20 @@
--- The walk: at each place, the audit of the whole heap is the audit of the blocks from that place on, with the keys and debts that are left. A place
--- that starts no block, or a back size that is wrong, is no cut; a block that fails fails the whole; at the heap's end the count of keys left and
--- the debts decide.
+-- The walk: on the way, the audit of the whole heap is the audit of the blocks in the rest of it, with the keys and debts that are left. A rest that
+-- starts no block, or a back size that is wrong, is no cut; a block that fails fails the whole; at the heap's end the keys and the debts that
+-- are left decide.
 -- Assumes nothing.
-use Prim.Native.Nat.{ℕ, _+_, _-_, _*_, _<_, _≤_}
-use mathlib.Core.Path.{_≡_, refl, ap, sym, _∙_}
-use mathlib.Core.Bool.{Bool, false, _&&_}
+use Prim.Native.Nat.{ℕ, _+_, _*_, _<_, _≤_}
+use mathlib.Core.Path.{_≡_, refl, ap, _∙_}
+use mathlib.Core.Bool.{true, false, _&&_}
 use mathlib.Core.List.{List, [], _∷_}
 use mathlib.Core.Option.{Option, none, some}
-use mathlib.Core.Logic.{inl, inr}
 use native.Mathlib.Omega.{arith}
-use lib.Dec.{eqb}
-use lib.ListN.{length, drop}
-use Rattle.accounts.specs.Accounts.{HOLDS}
+use lib.ListN.{length, drop, length-drop}
 use Rattle.layout.specs.declared.Header.{Header}
 use Rattle.layout.specs.declared.Start.the-variants.{Block as Starts, Nothing}
 use Rattle.layout.specs.Blocks.{Block, size, read-block, start-at, in-front, cut, parse}
-use Rattle.layout.proofs.Starts.{start-found}
+use Rattle.layout.proofs.Starts.{start-found, start-no}
 use Rattle.layout.proofs.Fuel.{cut-end, cut-nothing, cut-at, cut-other, block-at, size-at}
-use Rattle.checker.specs.Keys.{used-keys}
-use Rattle.checker.specs.Audit.{none-owed, State, begin, visit, audit, audit-parsed}
+use Rattle.checker.specs.Audit.{all-zero, State, begin, behind, visit, audit, audit-parsed}
 use Rattle.checker.specs.Contracts.{Ready, Visited}
 use Rattle.checker.proofs.Cases.{by-eq}
 
@@ -35,67 +31,64 @@ parsed-none last (some []) = refl
 parsed-none last (some (b ∷ bs)) = refl
 
 -- on the way
-pub record Walking (s keys₀ next heads owed₀ : List ℕ) (last : ℕ) (keys owed : List ℕ) (left : ℕ) (free : Bool) (back at : ℕ) : Type 0 where
-  pub inside : at ≤ length s
+pub record Walking (s keys₀ next heads owed₀ : List ℕ) (last : ℕ) (keys owed : List ℕ) (before back : ℕ) (rest : List ℕ) : Type 0 where
+  pub inside : length rest ≤ length s
   pub ready : Ready keys next heads owed
-  pub counted : left ≡ used-keys keys
-  pub rest : audit-parsed last (parse s) (some (begin keys₀ owed₀)) ≡ audit-parsed last (cut back (drop at s)) (some (record { free = free; keys = keys; owed = owed }))
+  pub same : audit-parsed last (parse s) (some (begin keys₀ owed₀)) ≡ audit-parsed last (cut back rest) (some (behind before keys owed))
 
-pub walking-start : {s keys next heads owed : List ℕ} {last left : ℕ} → Ready keys next heads owed → left ≡ used-keys keys → Walking s keys next heads owed last keys owed left false 0 0
+pub walking-start : {s keys next heads owed : List ℕ} {last : ℕ} → Ready keys next heads owed → Walking s keys next heads owed last keys owed 1 0 s
 unfolding parse
-walking-start r e = record { inside = omega arith; ready = r; counted = e; rest = refl }
+walking-start r = record { inside = omega arith; ready = r; same = refl }
 
-module _ {s keys₀ next heads owed₀ : List ℕ} {last : ℕ} {keys owed : List ℕ} {left : ℕ} {free : Bool} {back at : ℕ}
-    (g : Walking s keys₀ next heads owed₀ last keys owed left free back at) where
-  stops : cut back (drop at s) ≡ none → audit-parsed last (parse s) (some (begin keys₀ owed₀)) ≡ false
+module _ {s keys₀ next heads owed₀ : List ℕ} {last : ℕ} {keys owed : List ℕ} {before back : ℕ} {rest : List ℕ}
+    (g : Walking s keys₀ next heads owed₀ last keys owed before back rest) where
+  stops : cut back rest ≡ none → audit-parsed last (parse s) (some (begin keys₀ owed₀)) ≡ false
   unfolding audit-parsed
-  stops e = g .rest ∙ ap (λ (x : Option (List Block)). audit-parsed last x (some (record { free = free; keys = keys; owed = owed }))) e
+  stops e = g .same ∙ ap (λ (x : Option (List Block)). audit-parsed last x (some (behind before keys owed))) e
 
-  pub walking-nothing : at < length s → start-at at s ≡ Nothing → audit-parsed last (parse s) (some (begin keys₀ owed₀)) ≡ false
-  walking-nothing h e = stops (cut-nothing back at s h e)
+  pub walking-nothing : 0 < length rest → start-at 0 rest ≡ Nothing → audit-parsed last (parse s) (some (begin keys₀ owed₀)) ≡ false
+  walking-nothing h e = stops (cut-nothing back 0 rest h e)
 
-  pub walking-back : {h : Header} → start-at at s ≡ Starts h → (h .back ≡ back → ⊥) → audit-parsed last (parse s) (some (begin keys₀ owed₀)) ≡ false
-  walking-back {h} e n = stops (cut-other back at s h e n)
+  -- fewer bytes than a header has
+  pub walking-short : (length rest ≡ 0 → ⊥) → length rest < 8 → audit-parsed last (parse s) (some (begin keys₀ owed₀)) ≡ false
+  walking-short h l = walking-nothing (omega (arith, h)) (start-no 0 rest (λ p. omega arith))
 
-  pub walking-end : length s ≤ at → audit-parsed last (parse s) (some (begin keys₀ owed₀)) ≡ (eqb left 0 && none-owed owed)
+  pub walking-back : {h : Header} → start-at 0 rest ≡ Starts h → (h .back ≡ back → ⊥) → audit-parsed last (parse s) (some (begin keys₀ owed₀)) ≡ false
+  walking-back {h} e n = stops (cut-other back 0 rest h e n)
+
+  pub walking-end : length rest ≡ 0 → audit-parsed last (parse s) (some (begin keys₀ owed₀)) ≡ (all-zero keys && all-zero owed)
   unfolding audit-parsed audit
-  walking-end h =
-      g .rest ∙ ap (λ (x : Option (List Block)). audit-parsed last x (some (record { free = free; keys = keys; owed = owed }))) (cut-end back at s h)
-      ∙ ap (λ (x : ℕ). eqb x 0 && none-owed owed) (sym (g .counted))
+  walking-end h = g .same ∙ ap (λ (x : Option (List Block)). audit-parsed last x (some (behind before keys owed))) (cut-end back 0 rest (omega arith))
 
   -- a block that was found, and visited
-  module _ {h : Header} (e : start-at at s ≡ Starts h) where
-    step : h .back ≡ back → audit-parsed last (parse s) (some (begin keys₀ owed₀))
-        ≡ audit-parsed last (cut (h .size) (drop (at + 8 * h .size) s)) (visit last (h .serial) (8 * h .size) (record { free = free; keys = keys; owed = owed }))
-    step q =
-        let f = start-found at s h e in
-        g .rest ∙ ap (λ (x : Option (List Block)). audit-parsed last x (some (record { free = free; keys = keys; owed = owed }))) (cut-at back at s h e q)
-        ∙ parsed-front last (read-block (drop at s)) (record { free = free; keys = keys; owed = owed }) (cut (h .size) (drop (at + 8 * h .size) s))
-        ∙ ap (λ (x : ℕ). audit-parsed last (cut (h .size) (drop (at + 8 * h .size) s)) (visit last (read-block (drop at s) .serial) x (record { free = free; keys = keys; owed = owed }))) (size-at at s h f)
-        ∙ ap (λ (b : Block). audit-parsed last (cut (h .size) (drop (at + 8 * h .size) s)) (visit last (b .serial) (8 * h .size) (record { free = free; keys = keys; owed = owed }))) (block-at at s h f)
+  module _ {h : Header} (e : start-at 0 rest ≡ Starts h) where
+    front : h .back ≡ back → cut back rest ≡ in-front (read-block rest) (cut (h .size) (drop (8 * h .size) rest))
+    front q =
+        let z : 0 + 8 * h .size ≡ 8 * h .size = omega arith in
+        cut-at back 0 rest h e q ∙ ap (λ (x : ℕ). in-front (read-block rest) (cut (h .size) (drop x rest))) z
 
-    pub walking-fails : {r : ℕ} {keys′ owed′ : List ℕ} → Visited last (h .serial) (8 * h .size) free next heads keys owed r (eqb (h .serial) 0) keys′ owed′
-        → HOLDS < r → audit-parsed last (parse s) (some (begin keys₀ owed₀)) ≡ false
-    walking-fails (inl w) l =
+    step : h .back ≡ back → audit-parsed last (parse s) (some (begin keys₀ owed₀))
+        ≡ audit-parsed last (cut (h .size) (drop (8 * h .size) rest)) (visit last (h .serial) (8 * h .size) (behind before keys owed))
+    step q =
+        let f = start-found 0 rest h e in
+        g .same ∙ ap (λ (x : Option (List Block)). audit-parsed last x (some (behind before keys owed))) (front q)
+        ∙ parsed-front last (read-block rest) (behind before keys owed) (cut (h .size) (drop (8 * h .size) rest))
+        ∙ ap (λ (x : ℕ). audit-parsed last (cut (h .size) (drop (8 * h .size) rest)) (visit last (read-block rest .serial) x (behind before keys owed))) (size-at 0 rest h f)
+        ∙ ap (λ (b : Block). audit-parsed last (cut (h .size) (drop (8 * h .size) rest)) (visit last (b .serial) (8 * h .size) (behind before keys owed))) (block-at 0 rest h f)
+
+    pub walking-fails : visit last (h .serial) (8 * h .size) (behind before keys owed) ≡ none → audit-parsed last (parse s) (some (begin keys₀ owed₀)) ≡ false
+    walking-fails w =
         by-eq (h .back) back
         (λ q.
-        step q ∙ ap (λ (t : Option State). audit-parsed last (cut (h .size) (drop (at + 8 * h .size) s)) t) (w .1)
-        ∙ parsed-none last (cut (h .size) (drop (at + 8 * h .size) s)))
+        step q ∙ ap (λ (t : Option State). audit-parsed last (cut (h .size) (drop (8 * h .size) rest)) t) w
+        ∙ parsed-none last (cut (h .size) (drop (8 * h .size) rest)))
         (λ q. walking-back e q)
-    walking-fails (inr w) l = absurd (omega (arith, w .0 .few))
 
-    pub walking-fewer : {r : ℕ} {keys′ owed′ : List ℕ} → Visited last (h .serial) (8 * h .size) free next heads keys owed r (eqb (h .serial) 0) keys′ owed′
-        → r ≤ HOLDS → r ≤ left
-    walking-fewer (inl w) l = absurd (omega (arith, w .0))
-    walking-fewer (inr w) l = omega (arith, w .0 .counted, g .counted)
-
-    pub walking-on : {r : ℕ} {keys′ owed′ : List ℕ} → Visited last (h .serial) (8 * h .size) free next heads keys owed r (eqb (h .serial) 0) keys′ owed′
-        → r ≤ HOLDS → h .back ≡ back → Walking s keys₀ next heads owed₀ last keys′ owed′ (left - r) (eqb (h .serial) 0) (h .size) (at + 8 * h .size)
-    walking-on (inl w) l q = absurd (omega (arith, w .0))
-    walking-on (inr w) l q =
+    pub walking-on : {keys′ owed′ : List ℕ} → Visited last (h .serial) (8 * h .size) before next heads keys owed true keys′ owed′
+        → h .back ≡ back → {rest′ : List ℕ} → rest′ ≡ drop (8 * h .size) rest → Walking s keys₀ next heads owed₀ last keys′ owed′ (h .serial) (h .size) rest′
+    walking-on w q p =
         record {
-          inside = start-found at s h e .inside;
-          ready = w .0 .ready;
-          counted = omega (arith, w .0 .counted, g .counted);
-          rest = step q ∙ ap (λ (t : Option State). audit-parsed last (cut (h .size) (drop (at + 8 * h .size) s)) t) (w .1);
+          inside = rw (p, length-drop (8 * h .size) rest) (omega (arith, g .inside));
+          ready = w .0;
+          same = rw p (step q ∙ ap (λ (t : Option State). audit-parsed last (cut (h .size) (drop (8 * h .size) rest)) t) (w .1));
         }

@@ -9,7 +9,7 @@ use Rattle.accounts.specs.declared.Quota.{Quota}
 use Rattle.accounts.specs.declared.Accounts.{Accounts}
 use Rattle.layout.specs.Blocks.{Block, size}
 use Rattle.model.specs.Lists.{all}
-use Rattle.checker.specs.Keys.{well-formed, keys-of, used-keys, strike, struck, Payment, pay, unpaid}
+use Rattle.checker.specs.Keys.{well-formed, keys-of, strike, struck, Payment, pay, unpaid}
 
 -- what a quota owes is grant less remainder; a remainder is at most its grant
 abbrev pub owes : Quota → ℕ
@@ -18,8 +18,9 @@ owes x = x .grant - x .remainder
 abbrev pub solvent : Quota → Bool
 solvent x = leb (x .remainder) (x .grant)
 
-abbrev pub none-owed : List ℕ → Bool
-none-owed owed = all (λ n. eqb n 0) owed
+-- no number is left
+abbrev pub all-zero : List ℕ → Bool
+all-zero ns = all (λ n. eqb n 0) ns
 
 -- on the way: whether the block before is free, the keys not yet struck, and what each quota still owes
 pub record State : Type 0 where
@@ -29,6 +30,10 @@ pub record State : Type 0 where
 
 abbrev pub begin : List ℕ → List ℕ → State
 begin keys owed = record { free = false; keys = keys; owed = owed }
+
+-- behind a block with this serial
+abbrev pub behind : ℕ → List ℕ → List ℕ → State
+behind serial keys owed = record { free = eqb serial 0; keys = keys; owed = owed }
 
 -- a free block does not stand behind a free block
 unfoldable pub visit-free : State → Option State
@@ -52,7 +57,7 @@ visit last serial size t = cond (eqb serial 0) (visit-free t) (visit-live last s
 -- the blocks one after the other, from a state on
 unfoldable pub audit : ℕ → List Block → Option State → Bool
 audit last [] none = false
-audit last [] (some t) = eqb (used-keys (t .keys)) 0 && none-owed (t .owed)
+audit last [] (some t) = all-zero (t .keys) && all-zero (t .owed)
 audit last (b ∷ bs) none = false
 audit last (b ∷ bs) (some t) = audit last bs (visit last (b .serial) (size b) t)
 

@@ -8,6 +8,10 @@ use lib.ListN.{getD, drop}
 use Rattle.accounts.specs.Accounts.{HOLDS}
 use Rattle.checker.specs.Keys.{serial-of, for-serial}
 
+-- so many slots that a chain is seldom longer than one place
+abbrev pub SLOTS : ℕ
+SLOTS = 4 * HOLDS
+
 -- the first place from n on whose key passes a test, else the length
 unfoldable pub search : (ℕ → Bool) → ℕ → List ℕ → ℕ
 search p n [] = n
@@ -18,9 +22,9 @@ search p n (k ∷ ks) =
 abbrev pub search-from : (ℕ → Bool) → ℕ → List ℕ → ℕ
 search-from p n ks = search p n (drop n ks)
 
--- where the chain of a serial begins, below HOLDS: multiplied by 2^32 over the golden ratio, so that serials a fixed step apart spread
+-- where the chain of a serial begins, below SLOTS: multiplied by 2^32 over the golden ratio, so that serials a fixed step apart spread
 unfoldable pub slot : ℕ → ℕ
-slot serial = serial * 2654435769 % 4294967296 * HOLDS / 4294967296
+slot serial = serial * 2654435769 % 4294967296 * SLOTS / 4294967296
 
 -- the links lead from one place to another
 pub data Leads (next : List ℕ) : ℕ → ℕ → Type 0 where

@@ -10,7 +10,7 @@ use Rattle.accounts.specs.Accounts.{HOLDS}
 use Rattle.model.specs.Lists.{all, any}
 use Rattle.model.specs.Consistent.{held}
 use Rattle.checker.specs.Keys.{well-formed, for-serial}
-use Rattle.checker.specs.Chains.{Ascends, Linked}
+use Rattle.checker.specs.Chains.{SLOTS, Ascends, Linked}
 
 -- for each serial whether a used record has it; where a record is not well-formed every serial counts as held, so that nothing is freed
 unfoldable pub held-each : List Hold → List ℕ → List Bool
@@ -25,4 +25,4 @@ pub record Chained (keys next heads : List ℕ) : Type 0 where
   pub long : length keys ≡ HOLDS
   pub up : Ascends next
   pub linked : Linked keys next heads
-  pub heads-inside : (x : ℕ) → x < HOLDS → getD heads x 0 ≤ HOLDS
+  pub heads-inside : (x : ℕ) → x < SLOTS → getD heads x 0 ≤ HOLDS

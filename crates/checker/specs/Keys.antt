@@ -28,13 +28,6 @@ quota-of key = key % QUOTAS
 abbrev pub for-serial : ℕ → ℕ → Bool
 for-serial serial key = eqb (serial-of key) serial
 
--- how many keys are not 0
-unfoldable pub used-keys : List ℕ → ℕ
-used-keys [] = 0
-used-keys (k ∷ ks) =
-    let rest = used-keys ks in
-    cond (eqb k 0) rest (suc rest)
-
 -- the keys of a serial are struck; how many there are
 unfoldable pub strike : ℕ → List ℕ → List ℕ
 strike serial ks = map (λ k. cond (for-serial serial k) 0 k) ks
@@ -69,3 +62,7 @@ pay serial charge (k ∷ ks) p = pay serial charge ks (cond (for-serial serial k
 -- before the first has paid
 abbrev pub unpaid : List ℕ → Payment
 unpaid owed = record { seen = replicate QUOTAS 0; owed = owed }
+
+-- when one quota has
+abbrev pub paid-by : ℕ → List ℕ → Payment
+paid-by q owed = record { seen = set (replicate QUOTAS 0) q 1; owed = owed }

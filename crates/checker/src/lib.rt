@@ -10,22 +10,27 @@ use accounts::Quota;
 use layout::Start;
 use model::Refusal;
 use model::Verdict;
+use std::num::wrapping_sub_usize;
 ghost use mathlib.Core.Path.{_≡_};
 ghost use mathlib.Core.Option.{some};
 ghost use mathlib.Core.List.{map};
-ghost use Prim.Native.Nat.{_<_};
-ghost use lib.Dec.{eqb};
+ghost use Prim.Native.Nat.{_+_, _*_, _<_};
+ghost use mathlib.Core.Bool.{true, _&&_};
+ghost use lib.Dec.{eqb, ltb, leb};
 ghost use lib.ListN.{length};
 ghost use Rattle.model.specs.Answers.{verdict-values};
 ghost use Rattle.model.specs.Consistent.{allowed};
 ghost use Rattle.model.specs.Calls.{check as check-of};
 ghost use Rattle.accounts.specs.Accounts.{QUOTAS, HOLDS};
 ghost use Rattle.layout.specs.Blocks.{parse};
-ghost use Rattle.checker.specs.Keys.{well-formed, key-of, used-keys, for-serial};
-ghost use Rattle.checker.specs.Chains.{slot, search-from};
-ghost use Rattle.checker.specs.Audit.{none-owed, begin, audit-parsed};
-ghost use Rattle.checker.specs.Contracts.{Findable, Fresh, Indexed, Owing, Payable, Settled, Ready, Visited};
+ghost use Rattle.checker.specs.Keys.{quota-of, for-serial, paid-by};
+ghost use Rattle.checker.specs.Chains.{SLOTS, slot, search-from};
+ghost use Rattle.checker.specs.Audit.{all-zero, begin, audit-parsed};
+ghost use Rattle.checker.specs.Contracts.{Findable, Fresh, Indexed, Owing, Charged, Payable, Paid, Settled, Ready, Visited};
 ghost use Rattle.checker.specs.Holders.{held-each, has-key, Chained};
+
+// The number of slots: so many that a chain is seldom longer than one record.
+const SLOTS: usize = 4 * HOLDS;
 
 // Whether a heap may have this length.
 fn is_allowed(len: usize) -> bool
@@ -40,34 +45,53 @@ fn is_allowed(len: usize) -> bool
     len <= 32768
 }
 
-// Whether a record is unused, or has a serial, a quota and a count that are possible.
-fn is_well_formed(hold: Hold) -> bool
-    ensures { λ r. ⌜ r ≡ well-formed hold ⌝ }
+// Whether a record without a serial is unused.
+fn is_blank(quota: u8, count: u8) -> bool
+    ensures { λ r. ⌜ r ≡ (eqb quota 0 && eqb count 0) ⌝ }
 {
-    if !hold.is_used() {
-        return true;
-    }
-    if hold.serial < 1 {
+    if quota != 0 {
         return false;
     }
-    if QUOTAS <= hold.quota as usize {
-        return false;
-    }
-    1 <= hold.count
+    count == 0
 }
 
-// A record's serial and quota as one number.
-fn key(hold: Hold) -> usize
-    ensures { λ r. ⌜ r ≡ key-of hold ⌝ }
+// Whether a record with a serial has a quota and a count that are possible.
+fn is_possible(quota: u8, count: u8) -> bool
+    ensures { λ r. ⌜ r ≡ (ltb quota QUOTAS && leb 1 count) ⌝ }
 {
-    (hold.serial as usize) * QUOTAS + (hold.quota as usize)
+    if QUOTAS <= quota as usize {
+        return false;
+    }
+    1 <= count
+}
+
+// A serial and a quota as one number.
+fn key(serial: u32, quota: u8) -> usize
+    ensures { λ r. ⌜ r ≡ serial * QUOTAS + quota ⌝ }
+{
+    (serial as usize) * QUOTAS + (quota as usize)
+}
+
+// Whether a key is one of the serial's: whether it is less than QUOTAS above the serial's first.
+fn is_of(key: usize, serial: u32) -> bool
+    ensures { λ r. ⌜ r ≡ for-serial serial key ⌝ }
+{
+    wrapping_sub_usize(key, (serial as usize) * QUOTAS) < QUOTAS
+}
+
+// The quota of one of the serial's keys: what the key is above the serial's first.
+fn quota_of(key: usize, serial: u32) -> usize
+    requires { ⌜ for-serial serial key ≡ true ⌝ }
+    ensures { λ r. ⌜ (r ≡ quota-of key) × (r < QUOTAS) ⌝ }
+{
+    key - (serial as usize) * QUOTAS
 }
 
 // The slot of a serial: its product with 2^32 over the golden ratio, scaled to the number of slots.
 fn slot_of(serial: u32) -> usize
-    ensures { λ r. ⌜ (r ≡ slot serial) × (r < HOLDS) ⌝ }
+    ensures { λ r. ⌜ (r ≡ slot serial) × (r < SLOTS) ⌝ }
 {
-    (serial as usize) * 2654435769 % 4294967296 * HOLDS / 4294967296
+    (serial as usize) * 2654435769 % 4294967296 * SLOTS / 4294967296
 }
 
 // The place that a link leads to.
@@ -77,35 +101,37 @@ fn place(link: u16) -> usize
     link as usize
 }
 
-// The keys of the records, chained by their serials' slots from the last place down, so that links go up. How many records are used;
-// HOLDS + 1 where one is not well-formed.
+// The keys of the records, chained by their serials' slots from the last place down, so that links go up. False where a record is not well-formed.
 fn index(
     holds: [Hold; HOLDS],
     keys: &mut [usize; HOLDS],
     next: &mut [u16; HOLDS],
-    heads: &mut [u16; HOLDS],
-) -> usize
+    heads: &mut [u16; SLOTS],
+) -> bool
     requires { ⌜ Fresh (now keys) (now next) (now heads) ⌝ }
     ensures { λ r. ⌜ Indexed holds r (now (keys .exit)) (now (next .exit)) (now (heads .exit)) ⌝ }
 {
-    let mut used: usize = 0;
     let mut i = HOLDS;
     while 0 < i {
         i -= 1;
-        let hold = holds[i];
-        if !is_well_formed(hold) {
-            return HOLDS + 1;
-        }
-        keys[i] = key(hold);
-        let serial = hold.serial;
-        if serial != 0 {
+        let serial = holds[i].serial;
+        let quota = holds[i].quota;
+        let count = holds[i].count;
+        if serial == 0 {
+            if !is_blank(quota, count) {
+                return false;
+            }
+        } else {
+            if !is_possible(quota, count) {
+                return false;
+            }
             let slot = slot_of(serial);
+            keys[i] = key(serial, quota);
             next[i] = heads[slot];
             heads[slot] = i as u16;
-            used += 1;
         }
     }
-    used
+    true
 }
 
 // What each quota owes; false where a remainder is above its grant.
@@ -126,13 +152,13 @@ fn owing(quotas: [Quota; QUOTAS], owed: &mut [usize; QUOTAS]) -> bool
 }
 
 // The first place from `from` on with a key of the serial, along the chain; HOLDS where there is none.
-fn find(keys: &[usize; HOLDS], next: &[u16; HOLDS], from: usize, serial: usize) -> usize
+fn find(keys: &[usize; HOLDS], next: &[u16; HOLDS], from: usize, serial: u32) -> usize
     requires { ⌜ Findable (now keys) (now next) from serial ⌝ }
     ensures { λ r. ⌜ r ≡ search-from (for-serial serial) from (now (keys .entry)) ⌝ }
 {
     let mut at = from;
     while at < HOLDS {
-        if keys[at] / QUOTAS == serial {
+        if is_of(keys[at], serial) {
             return at;
         }
         at = place(next[at]);
@@ -140,81 +166,130 @@ fn find(keys: &[usize; HOLDS], next: &[u16; HOLDS], from: usize, serial: usize) 
     at
 }
 
-// The keys of the serial are struck, and the quota of each pays, once. How many are struck; 0 where a quota cannot pay.
+// The charge is taken off what a quota owes; false where it owes less.
+fn pay(owed: &mut [usize; QUOTAS], quota: usize, charge: usize) -> bool
+    requires { ⌜ (quota < QUOTAS) × (length (now owed) ≡ QUOTAS) ⌝ }
+    ensures { λ r. ⌜ Charged charge quota (now (owed .entry)) r (now (owed .exit)) ⌝ }
+{
+    let due = owed[quota];
+    owed[quota] = wrapping_sub_usize(due, charge);
+    if due < charge {
+        return false;
+    }
+    true
+}
+
+// The keys of the serial are struck, and the quota of each pays, once; one quota has paid already. False where a quota cannot pay.
+fn settle_others(
+    keys: &mut [usize; HOLDS],
+    next: &[u16; HOLDS],
+    owed: &mut [usize; QUOTAS],
+    payer: usize,
+    from: usize,
+    serial: u32,
+    charge: usize,
+) -> bool
+    requires { ⌜ (payer < QUOTAS) × Payable (now keys) (now next) (now owed) from serial ⌝ }
+    ensures { λ r. ⌜ Paid serial charge (now (keys .entry)) (paid-by payer (now (owed .entry))) r (now (keys .exit)) (now (owed .exit)) ⌝ }
+{
+    let mut seen = [0u8; QUOTAS];
+    seen[payer] = 1;
+    let mut at = from;
+    loop {
+        at = find(keys, next, at, serial);
+        if HOLDS <= at {
+            return true;
+        }
+        let quota = quota_of(keys[at], serial);
+        if seen[quota] != 0 {
+            return false;
+        }
+        if !pay(owed, quota, charge) {
+            return false;
+        }
+        seen[quota] = 1;
+        keys[at] = 0;
+        at = place(next[at]);
+    }
+}
+
+// The keys of the serial are struck, and the quota of each pays, once. False where there is no key, or a quota cannot pay.
 fn settle(
     keys: &mut [usize; HOLDS],
     next: &[u16; HOLDS],
     owed: &mut [usize; QUOTAS],
     from: usize,
-    serial: usize,
+    serial: u32,
     charge: usize,
-) -> usize
+) -> bool
     requires { ⌜ Payable (now keys) (now next) (now owed) from serial ⌝ }
     ensures { λ r. ⌜ Settled serial charge (now (keys .entry)) (now (owed .entry)) r (now (keys .exit)) (now (owed .exit)) ⌝ }
 {
-    let mut seen = [0u8; QUOTAS];
-    let mut struck: usize = 0;
-    let mut at = from;
-    loop {
-        at = find(keys, next, at, serial);
-        if HOLDS <= at {
-            return struck;
-        }
-        let quota = keys[at] % QUOTAS;
-        if seen[quota] != 0 {
-            return 0;
-        }
-        if owed[quota] < charge {
-            return 0;
-        }
-        seen[quota] = 1;
-        owed[quota] = owed[quota] - charge;
-        keys[at] = 0;
-        struck += 1;
-        at = place(next[at]);
+    let at = find(keys, next, from, serial);
+    if HOLDS <= at {
+        return false;
     }
+    let payer = quota_of(keys[at], serial);
+    if !pay(owed, payer, charge) {
+        return false;
+    }
+    keys[at] = 0;
+    let after = place(next[at]);
+    if HOLDS <= after {
+        return true;
+    }
+    settle_others(keys, next, owed, payer, after, serial, charge)
 }
 
-// A block of the walk, behind a free block or not: a live one strikes its keys and is paid for. How many it strikes; HOLDS + 1 where the block
-// is not as it must be.
+// A block of the walk, behind one with the serial `before`: a live one strikes its keys and is paid for. False where the block is not as it must be.
 fn visit(
     keys: &mut [usize; HOLDS],
     next: &[u16; HOLDS],
-    heads: &[u16; HOLDS],
+    heads: &[u16; SLOTS],
     owed: &mut [usize; QUOTAS],
     last: u32,
-    free: bool,
+    before: u32,
     serial: u32,
     size: usize,
-) -> usize
+) -> bool
     requires { ⌜ Ready (now keys) (now next) (now heads) (now owed) ⌝ }
-    ensures { λ r. ⌜ Visited last serial size free (now (next .entry)) (now (heads .entry)) (now (keys .entry)) (now (owed .entry)) r (eqb serial 0) (now (keys .exit)) (now (owed .exit)) ⌝ }
+    ensures { λ r. ⌜ Visited last serial size before (now (next .entry)) (now (heads .entry)) (now (keys .entry)) (now (owed .entry)) r (now (keys .exit)) (now (owed .exit)) ⌝ }
 {
     if serial == 0 {
-        if free {
-            return HOLDS + 1;
+        if before == 0 {
+            return false;
         }
-        return 0;
+        return true;
     }
     if size < 16 {
-        return HOLDS + 1;
+        return false;
     }
     if last < serial {
-        return HOLDS + 1;
+        return false;
     }
     let slot = slot_of(serial);
     let from = place(heads[slot]);
-    let struck = settle(keys, next, owed, from, serial as usize, size);
-    if struck == 0 {
-        return HOLDS + 1;
+    settle(keys, next, owed, from, serial, size)
+}
+
+// Whether every key is struck: whether they have no bit between them.
+fn is_struck(keys: &[usize; HOLDS]) -> bool
+    requires { ⌜ length (now keys) ≡ HOLDS ⌝ }
+    ensures { λ r. ⌜ r ≡ all-zero (now (keys .entry)) ⌝ }
+{
+    let mut bits: usize = 0;
+    let mut i: usize = 0;
+    while i < HOLDS {
+        bits = bits | keys[i];
+        i += 1;
     }
-    struck
+    bits == 0
 }
 
 // Whether nothing is owed.
 fn is_paid(owed: &[usize; QUOTAS]) -> bool
     requires { ⌜ length (now owed) ≡ QUOTAS ⌝ }
-    ensures { λ r. ⌜ r ≡ none-owed (now (owed .entry)) ⌝ }
+    ensures { λ r. ⌜ r ≡ all-zero (now (owed .entry)) ⌝ }
 {
     let mut i: usize = 0;
     while i < QUOTAS {
@@ -231,20 +306,18 @@ fn walk(
     heap: &[u8],
     keys: &mut [usize; HOLDS],
     next: &[u16; HOLDS],
-    heads: &[u16; HOLDS],
+    heads: &[u16; SLOTS],
     owed: &mut [usize; QUOTAS],
     last: u32,
-    used: usize,
 ) -> bool
-    requires { ⌜ (used ≡ used-keys (now keys)) × Ready (now keys) (now next) (now heads) (now owed) ⌝ }
+    requires { ⌜ Ready (now keys) (now next) (now heads) (now owed) ⌝ }
     ensures { λ r. ⌜ r ≡ audit-parsed last (parse (now (heap .entry))) (some (begin (now (keys .entry)) (now (owed .entry)))) ⌝ }
 {
-    let mut left = used;
-    let mut free = false;
+    let mut before: u32 = 1;
     let mut back: usize = 0;
-    let mut at: usize = 0;
-    while at < heap.len() {
-        let Start::Block(header) = layout::start_at(heap, at) else {
+    let mut rest = heap;
+    while 8 <= rest.len() {
+        let Start::Block(header) = layout::start_at(rest, 0) else {
             return false;
         };
         if header.back != back {
@@ -252,16 +325,17 @@ fn walk(
         }
         let serial = header.serial;
         let size = 8 * header.size;
-        let struck = visit(keys, next, heads, owed, last, free, serial, size);
-        if HOLDS < struck {
+        if !visit(keys, next, heads, owed, last, before, serial, size) {
             return false;
         }
-        left -= struck;
-        free = serial == 0;
+        before = serial;
         back = header.size;
-        at += size;
+        rest = &rest[size..];
     }
-    if left != 0 {
+    if rest.len() != 0 {
+        return false;
+    }
+    if !is_struck(keys) {
         return false;
     }
     is_paid(owed)
@@ -277,11 +351,10 @@ pub fn check(heap: &[u8], accounts: Accounts) -> Verdict
     let end = HOLDS as u16;
     let mut keys = [0usize; HOLDS];
     let mut next = [end; HOLDS];
-    let mut heads = [end; HOLDS];
+    let mut heads = [end; SLOTS];
     let mut owed = [0usize; QUOTAS];
     let holds = accounts.holds;
-    let used = index(holds, &mut keys, &mut next, &mut heads);
-    if HOLDS < used {
+    if !index(holds, &mut keys, &mut next, &mut heads) {
         return Verdict::Refused(Refusal::Inconsistent);
     }
     let quotas = accounts.quotas;
@@ -289,14 +362,14 @@ pub fn check(heap: &[u8], accounts: Accounts) -> Verdict
         return Verdict::Refused(Refusal::Inconsistent);
     }
     let last = accounts.last_serial;
-    if !walk(heap, &mut keys, &next, &heads, &mut owed, last, used) {
+    if !walk(heap, &mut keys, &next, &heads, &mut owed, last) {
         return Verdict::Refused(Refusal::Inconsistent);
     }
     Verdict::Accepted
 }
 
 // Whether a used record's key has the serial: the chain of the serial's slot leads to one.
-fn is_held(keys: &[usize; HOLDS], next: &[u16; HOLDS], heads: &[u16; HOLDS], serial: u32) -> bool
+fn is_held(keys: &[usize; HOLDS], next: &[u16; HOLDS], heads: &[u16; SLOTS], serial: u32) -> bool
     requires { ⌜ Chained (now keys) (now next) (now heads) ⌝ }
     ensures { λ r. ⌜ r ≡ has-key (now (keys .entry)) serial ⌝ }
 {
@@ -305,14 +378,14 @@ fn is_held(keys: &[usize; HOLDS], next: &[u16; HOLDS], heads: &[u16; HOLDS], ser
     }
     let slot = slot_of(serial);
     let from = place(heads[slot]);
-    find(keys, next, from, serial as usize) < HOLDS
+    find(keys, next, from, serial) < HOLDS
 }
 
 // For each of the serials whether a key has it.
 fn are_held(
     keys: &[usize; HOLDS],
     next: &[u16; HOLDS],
-    heads: &[u16; HOLDS],
+    heads: &[u16; SLOTS],
     serials: [u32; HOLDS],
 ) -> [bool; HOLDS]
     requires { ⌜ Chained (now keys) (now next) (now heads) ⌝ }
@@ -336,9 +409,8 @@ pub fn held_each(holds: [Hold; HOLDS], serials: [u32; HOLDS]) -> [bool; HOLDS]
     let end = HOLDS as u16;
     let mut keys = [0usize; HOLDS];
     let mut next = [end; HOLDS];
-    let mut heads = [end; HOLDS];
-    let count = index(holds, &mut keys, &mut next, &mut heads);
-    if HOLDS < count {
+    let mut heads = [end; SLOTS];
+    if !index(holds, &mut keys, &mut next, &mut heads) {
         return [true; HOLDS];
     }
     are_held(&keys, &next, &heads, serials)

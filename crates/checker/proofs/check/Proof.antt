@@ -2,7 +2,6 @@
 -- or a walk that fails is refused as inconsistent, since the three together are the audit and the audit is the definition's test
 -- (`audited-is-consistent`).
 -- Assumes nothing.
-use native.Mathlib.Omega.{arith}
 use borrow.Author.Needs.{needs}
 use borrow.Author.Tests.{not-true, not-false}
 use mathlib.Core.Path.{_≡_, sym, subst, _∙_}
@@ -14,8 +13,8 @@ use Rattle.model.specs.declared.Verdict.the-variants.{Accepted, Refused}
 use Rattle.model.specs.Answers.{verdict-values}
 use Rattle.model.specs.Consistent.{allowed}
 use Rattle.model.specs.Calls.{check as check-of}
-use Rattle.checker.specs.Contracts.{Owing}
-use Rattle.checker.proofs.Verdicts.{fresh, verdict-length, verdict-ill, verdict-insolvent, ready, verdict-walk, indexed}
+use Rattle.checker.specs.Contracts.{Indexed, Owing}
+use Rattle.checker.proofs.Verdicts.{fresh, verdict-length, verdict-ill, verdict-insolvent, ready, verdict-walk}
 use Rattle.checker.proofs.check.Statement.{statement}
 use Rattle.checker.proofs.check.Tie as tie
 
@@ -40,12 +39,19 @@ fits c = sym (c .before .is-allowed .ensures) ∙ not-false _ (c .if1 .left)
 long : (c : tie.Start) → length (c .args .accounts .quotas) ≡ QUOTAS
 long c = simp length-map at (c .good .1 .0 .1 .1 .0 .1 .0 .1)
 
+-- the index, by its answer
+abbrev begun : tie.After-index → tie.Start
+begun c = c .before .before .before .before .before .before .before .before
+
+index-is : (c : tie.After-index) (t : Bool) → c .index .result ≡ t → Indexed (begun c .args .accounts .holds) t (c .index .last .1 .0) (c .index .last .1 .1 .0) (c .index .last .1 .1 .1 .0)
+index-is c t e = subst (λ (x : Bool). Indexed (begun c .args .accounts .holds) x (c .index .last .1 .0) (c .index .last .1 .1 .0) (c .index .last .1 .1 .1 .0)) e (c .index .ensures)
+
 returns-2 : tie.Need-returns-2
 returns-2 c =
     let x = c .before in
     let f = x .before .before .before .before .before in
     let s = f .before .before .before in
-    verdict-ill (s .args .heap .now) (s .args .accounts) (fits f) (long s) (x .index .ensures) (omega arith)
+    verdict-ill (s .args .heap .now) (s .args .accounts) (fits f) (long s) (index-is x false (not-true _ (c .if2 .taken)))
 
 owing-requires : tie.Need-owing-requires
 owing-requires c κs = search needs
@@ -71,8 +77,7 @@ walk-requires c κs =
     let x = o .before .before .before .before in
     let f = x .before .before .before .before .before in
     let s = f .before .before .before in
-    let i = indexed (x .index .ensures) (omega arith) in
-    (i .counted, ready (s .args .heap .now) (s .args .accounts) (fits f) (long s) i (owing-is o true (not-false _ (e .if3 .left))))
+    ready (s .args .heap .now) (s .args .accounts) (fits f) (long s) (index-is x true (not-false _ (o .before .before .before .if2 .left))) (owing-is o true (not-false _ (e .if3 .left)))
 
 -- the verdict, by the answer of `walk`
 abbrev owing-before : tie.After-walk → tie.After-owing
@@ -86,7 +91,7 @@ walked c t r =
     let x = o .before .before .before .before in
     let f = x .before .before .before .before .before in
     let s = f .before .before .before in
-    verdict-walk (s .args .heap .now) (s .args .accounts) (fits f) (long s) (indexed (x .index .ensures) (omega arith)) (owing-is o true (not-false _ (e .if3 .left))) t (sym r ∙ c .walk .ensures)
+    verdict-walk (s .args .heap .now) (s .args .accounts) (fits f) (long s) (index-is x true (not-false _ (o .before .before .before .if2 .left))) (owing-is o true (not-false _ (e .if3 .left))) t (sym r ∙ c .walk .ensures)
 
 returns-4 : tie.Need-returns-4
 returns-4 c = walked (c .before) false (not-true _ (c .if4 .taken))

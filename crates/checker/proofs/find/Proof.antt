@@ -4,7 +4,6 @@
 use Prim.Native.Nat.{ℕ, _-_}
 use native.Mathlib.Omega.{arith}
 use borrow.Author.Needs.{needs}
-use borrow.Author.Tests.{eq-eqb, ne-eqb}
 use mathlib.Core.Path.{_≡_, refl, sym, ap, subst, _∙_}
 use lib.ListN.{getD}
 use Rattle.accounts.specs.Accounts.{HOLDS}
@@ -25,17 +24,20 @@ abbrev μ-loop : tie.MeasureT-loop
 loop-holds : tie.Need-loop-holds Inv-loop μ-loop
 loop-holds c = (c .pre, refl)
 
-mul-if1 : tie.Need-mul-if1 Inv-loop μ-loop
-mul-if1 c = search needs
+mul-is-of : tie.Need-mul-is-of Inv-loop μ-loop
+mul-is-of c = search needs
 
-element-copy-out-if1 : tie.Need-element-copy-out-if1 Inv-loop μ-loop
-element-copy-out-if1 c = search needs
+element-copy-out-is-of : tie.Need-element-copy-out-is-of Inv-loop μ-loop
+element-copy-out-is-of c = search needs
+
+is-of-requires : tie.Need-is-of-requires Inv-loop μ-loop
+is-of-requires c κs = search needs
 
 returns : tie.Need-returns Inv-loop μ-loop
 returns c =
-    let l = c .before .before .before in
+    let l = c .before .before .before .before in
     let a = l .before .args in
-    sym (l .loop .inv .1 ∙ search-hit (for-serial (a .serial)) (a .keys .now) (l .loop .at) (omega (arith, l .loop .inv .0 .long)) (eq-eqb _ _ (c .if1 .taken)))
+    sym (l .loop .inv .1 ∙ search-hit (for-serial (a .serial)) (a .keys .now) (l .loop .at) (omega (arith, l .loop .inv .0 .long)) (sym (c .before .is-of .ensures) ∙ c .if1 .taken))
 
 mul-place : tie.Need-mul-place Inv-loop μ-loop
 mul-place c = search needs
@@ -48,17 +50,17 @@ place-requires c κs = search needs
 
 loop-less : tie.Need-loop-less Inv-loop μ-loop
 loop-less c =
-    let l = c .before .before .before .before .before in
+    let l = c .before .before .before .before .before .before in
     let u = l .before .pre .up (l .loop .at) (search needs) in
     omega (arith, c .place .ensures)
 
 loop-again : tie.Need-loop-again Inv-loop μ-loop
 loop-again c =
     let e = c .before .before in
-    let l = e .before .before .before in
+    let l = e .before .before .before .before in
     let a = l .before .args in
     let r : getD (a .next .now) (l .loop .at) 0 ≡ c .place .result = sym (c .place .ensures) in
-    let miss = ne-eqb _ _ (e .if1 .left) in (
+    let miss = sym (e .before .is-of .ensures) ∙ e .if1 .left in (
       subst (λ (x : ℕ). Findable (a .keys .now) (a .next .now) x (a .serial)) r (find-on (l .loop .inv .0) (search needs) miss),
       l .loop .inv .1 ∙ search-on (l .loop .inv .0) (search needs) miss
           ∙ ap (λ (x : ℕ). search-from (for-serial (a .serial)) x (a .keys .now)) r,
@@ -77,8 +79,9 @@ find-spec =
     Inv-loop
     μ-loop
     loop-holds
-    mul-if1
-    element-copy-out-if1
+    mul-is-of
+    element-copy-out-is-of
+    is-of-requires
     returns
     mul-place
     element-copy-out-place

@@ -6,42 +6,33 @@ use native.Mathlib.Omega.{arith}
 use borrow.Author.Needs.{needs}
 use mathlib.Core.Path.{ap, _∙_}
 use lib.ListN.{getD}
-use Rattle.checker.proofs.Visiting.{visit-behind, visit-apart, visit-short, visit-late, payable, visit-unpaid, visit-paid}
+use Rattle.checker.proofs.Visiting.{visit-behind, visit-apart, visit-short, visit-late, payable, visit-settled}
 use Rattle.checker.proofs.visit.Statement.{statement}
 use Rattle.checker.proofs.visit.Tie as tie
-
-add-result : tie.Need-add-result
-add-result c = search needs
 
 returns : tie.Need-returns
 returns c =
     let s = c .before .before in
     let a = s .args in
-    visit-behind (a .last) (a .serial) (a .size) (a .free) (s .pre) (c .before .if1 .taken) (c .if2 .taken)
+    visit-behind (a .last) (a .serial) (a .size) (a .before) (s .pre) (c .before .if1 .taken) (c .if2 .taken)
 
 returns-2 : tie.Need-returns-2
 returns-2 c =
     let s = c .before .before in
     let a = s .args in
-    visit-apart (a .last) (a .serial) (a .size) (a .free) (s .pre) (c .before .if1 .taken) (c .if2 .left)
-
-add-result-2 : tie.Need-add-result-2
-add-result-2 c = search needs
+    visit-apart (a .last) (a .serial) (a .size) (a .before) (s .pre) (c .before .if1 .taken) (c .if2 .left)
 
 returns-3 : tie.Need-returns-3
 returns-3 c =
     let s = c .before .before in
     let a = s .args in
-    visit-short (a .last) (a .serial) (a .size) (a .free) (s .pre) (c .before .if1 .left) (omega arith)
-
-add-result-3 : tie.Need-add-result-3
-add-result-3 c = search needs
+    visit-short (a .last) (a .serial) (a .size) (a .before) (s .pre) (c .before .if1 .left) (omega arith)
 
 returns-4 : tie.Need-returns-4
 returns-4 c =
     let s = c .before .before .before in
     let a = s .args in
-    visit-late (a .last) (a .serial) (a .size) (a .free) (s .pre) (c .before .before .if1 .left) (omega arith)
+    visit-late (a .last) (a .serial) (a .size) (a .before) (s .pre) (c .before .before .if1 .left) (omega arith)
 
 slot-of-requires : tie.Need-slot-of-requires
 slot-of-requires c κs = search needs
@@ -63,39 +54,24 @@ settle-requires c κs =
     payable (s .pre) (a .serial) (g .before .before .if1 .left)
     (c .before .before .place .ensures ∙ ap (λ (x : ℕ). getD (a .heads .now) x 0) (c .before .before .before .before .slot-of .ensures .0))
 
-add-result-4 : tie.Need-add-result-4
-add-result-4 c = search needs
-
 returns-5 : tie.Need-returns-5
 returns-5 c =
-    let g = c .before .before .before .before .before .before .before in
+    let g = c .before .before .before .before .before .before in
     let s = g .before .before .before in
     let a = s .args in
-    visit-unpaid (a .last) (a .serial) (a .size) (a .free) (s .pre) (g .before .before .if1 .left) (c .before .settle .ensures) (c .if5 .taken)
-
-returns-6 : tie.Need-returns-6
-returns-6 c =
-    let g = c .before .before .before .before .before .before .before in
-    let s = g .before .before .before in
-    let a = s .args in
-    visit-paid (a .last) (a .serial) (a .size) (a .free) (s .pre) (g .before .before .if1 .left) (omega arith) (omega arith) (c .before .settle .ensures) (c .if5 .left)
+    visit-settled (a .last) (a .serial) (a .size) (a .before) (s .pre) (g .before .before .if1 .left) (omega arith) (omega arith) (c .settle .result) (c .settle .last .0) (c .settle .last .1 .1 .0) (c .settle .ensures)
 
 pub visit-spec : {M : Type 1} → statement M
 visit-spec =
     tie.close
     (tie.spec
-    add-result
     returns
     returns-2
-    add-result-2
     returns-3
-    add-result-3
     returns-4
     slot-of-requires
     mul-place
     element-copy-out-place
     place-requires
     settle-requires
-    add-result-4
-    returns-5
-    returns-6)
+    returns-5)

@@ -1,0 +1,14 @@
+-- `checker::is_blank` meets its contract: its two tests are those of the contract.
+-- Assumes nothing.
+use borrow.Author.Tests.{eq-eqb, ne-eqb}
+use Rattle.checker.proofs.is_blank.Statement.{statement}
+use Rattle.checker.proofs.is_blank.Tie as tie
+
+returns : tie.Need-returns
+returns c = simp (ne-eqb (c .before .args .quota) 0 (c .if1 .taken))
+
+returns-2 : tie.Need-returns-2
+returns-2 c = simp (eq-eqb (c .before .args .quota) 0 (c .if1 .left))
+
+pub is-blank-spec : {M : Type 1} → statement M
+is-blank-spec = tie.close (tie.spec returns returns-2)
