@@ -2,7 +2,7 @@
 -- has the serial exactly if the search along its slot's chain ends inside the table, since the chain leads to every key of the serial.
 -- The records of a consistent state are well-formed, and stay so where a quota's are dropped, since a dropped record is all zero.
 -- Assumes nothing.
-use Prim.Native.Nat.{ℕ, suc, _+_, _<_}
+use Prim.Native.Nat.{ℕ, suc, _+_}
 use mathlib.Core.Path.{_≡_, refl, ap, sym, subst, _∙_}
 use mathlib.Core.Bool.{Bool, true, false, cond, _||_}
 use mathlib.Core.List.{List, [], _∷_, map, map-congr-left}

@@ -27,7 +27,7 @@ pub well-possible : (h : Hold) → (h .serial ≡ 0 → ⊥) → well-formed h �
 unfolding well-formed used
 well-possible h n = rw (ne-eqb (h .serial) 0 n, le-leb 1 (h .serial) (omega (arith, n)))
 
--- an unused record is all zero; one with a serial is used
+-- an unused record is all zero
 pub unused-zero : (h : Hold) → used h ≡ false → (h .serial ≡ 0) × (h .quota ≡ 0) × (h .count ≡ 0)
 unfolding used
 unused-zero h e =
@@ -37,10 +37,6 @@ unused-zero h e =
       eqb-true (h .quota) 0 (and-right (eqb (h .serial) 0) (eqb (h .quota) 0) p),
       eqb-true (h .count) 0 (and-right (eqb (h .serial) 0 && eqb (h .quota) 0) (eqb (h .count) 0) t),
     )
-
-pub serial-used : (h : Hold) → (h .serial ≡ 0 → ⊥) → used h ≡ true
-unfolding used
-serial-used h n = rw (ne-eqb (h .serial) 0 n)
 
 pub key-serial : (s q : ℕ) → q < QUOTAS → serial-of (s * QUOTAS + q) ≡ s
 key-serial s q l = omega arith
