@@ -8,6 +8,8 @@
  *
  * After 'make lib':
  *     cc -std=c11 -Iinclude examples/valve.c build/lib/liblokhazim.a -o build/valve && build/valve
+ * It prints what examples/valve.out has. (valve.replay is a story of the same kind for the replay
+ * program, valve.txt the captions that 'make run' prints between its answers.)
  */
 #include "lokhazim.h"
 

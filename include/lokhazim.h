@@ -1,10 +1,12 @@
 /*
  * Lokhazim: a heap that parts of a firmware share without trusting each other.
  *
- * Each part has a quota. An object costs its length plus LOKHAZIM_HEADER, and a
- * part may hold an object that another part made. Every call checks the whole
- * heap and its accounts for itself, on any bytes and any numbers: it answers, or
- * it gives one of eleven refusals and changes nothing.
+ * Each part has a quota. An object's length is the request rounded up to a
+ * multiple of 8, from 8,192 on of 16, from 16,384 on of 32; it costs that plus
+ * LOKHAZIM_HEADER, and a part may hold an object that another part made. Every
+ * call but open checks the whole heap and its accounts for itself, on any bytes
+ * and any numbers. A call answers, or gives one of eleven refusals and changes
+ * nothing; only a refused open sets the accounts to zero.
  *
  * Use the functions lokhazim_heap_... at the end of this file. They take the
  * accounts by pointer and call the library's own functions, lokhazim_..., which
@@ -17,6 +19,8 @@
  *         static _Alignas(LOKHAZIM_ALIGNMENT) uint8_t heap[4096];
  *     An object's base is a multiple of 8, 16 or 32, by its length, counted from
  *     the heap's first byte; only in an aligned heap is its address one too.
+ *   - A quota's number is an argument, and lend and write ask for a handle only.
+ *     One trusted place keeps heap and accounts, and fills in each part's number.
  *
  * It needs C11 and x86-64, and memcpy, memmove and memset from the C library.
  */
@@ -58,7 +62,7 @@ enum lokhazim_refusal {
     LOKHAZIM_ACCEPTED = 0,
     /* The heap's length is not allowed. */
     LOKHAZIM_HEAP_LENGTH = 1,
-    /* Heap and accounts don't agree: something else has written to them. */
+    /* Heap and accounts don't agree: not opened, another heap's, or something else has written to them. */
     LOKHAZIM_INCONSISTENT = 2,
     /* There is no quota of this number. */
     LOKHAZIM_QUOTA_NUMBER = 3,
@@ -285,7 +289,7 @@ uint32_t lokhazim_can_release(
 struct lokhazim_block_reply lokhazim_list_block(
     const uint8_t *heap, size_t length, struct lokhazim_accounts accounts, size_t at);
 
-/* Checks heap and accounts as every call does first, and gives refusal 1 or 2 or none. */
+/* Checks heap and accounts as every call but open does first, and gives refusal 1 or 2 or none. */
 uint32_t lokhazim_check(
     const uint8_t *heap, size_t length, struct lokhazim_accounts accounts);
 
@@ -294,6 +298,7 @@ uint32_t lokhazim_check(
  * Each gives its refusal. `accounts` is read, and written where it is not const.
  * The last pointers take the answer, which is zero where the call is refused;
  * a pointer to a number may be null if the number isn't wanted.
+ * Any of them can give refusal 1, and any but open 2; the others are named.
  */
 
 /* Clears the heap and gives each quota its grant; where that is refused, the accounts become all zero. */
@@ -305,7 +310,7 @@ static inline enum lokhazim_refusal lokhazim_heap_open(
     return (enum lokhazim_refusal)reply.refusal;
 }
 
-/* Makes an object of at least `bytes` bytes, all zero, that the quota holds once. */
+/* Makes an object of at least `bytes` bytes, all zero, that the quota holds once. Refusals 3, 4, 8 to 11. */
 static inline enum lokhazim_refusal lokhazim_heap_allocate(
     uint8_t *heap, size_t length, struct lokhazim_accounts *accounts, uint32_t quota,
     uint32_t bytes, struct lokhazim_handle *handle)
@@ -316,7 +321,7 @@ static inline enum lokhazim_refusal lokhazim_heap_allocate(
     return (enum lokhazim_refusal)reply.refusal;
 }
 
-/* Makes an object for `count` elements of `size` bytes; their product is never cut to 32 bits. */
+/* Makes an object for `count` elements of `size` bytes; their product is never cut to 32 bits. Refusals 3, 4, 8 to 11. */
 static inline enum lokhazim_refusal lokhazim_heap_allocate_array(
     uint8_t *heap, size_t length, struct lokhazim_accounts *accounts, uint32_t quota,
     uint32_t count, uint32_t size, struct lokhazim_handle *handle)
@@ -328,7 +333,10 @@ static inline enum lokhazim_refusal lokhazim_heap_allocate_array(
     return (enum lokhazim_refusal)reply.refusal;
 }
 
-/* Lets the quota hold the object, or hold it once more; *bytes becomes the object's length. */
+/*
+ * Lets the quota hold the object, or hold it once more; *bytes becomes the object's length.
+ * The first hold costs that plus LOKHAZIM_HEADER, further ones nothing. Refusals 3, 5, 7 to 9.
+ */
 static inline enum lokhazim_refusal lokhazim_heap_claim(
     const uint8_t *heap, size_t length, struct lokhazim_accounts *accounts, uint32_t quota,
     struct lokhazim_handle handle, uint32_t *bytes)
@@ -341,7 +349,10 @@ static inline enum lokhazim_refusal lokhazim_heap_claim(
     return (enum lokhazim_refusal)reply.refusal;
 }
 
-/* Drops one hold of the quota; *refund becomes what the quota gets back, 0 while it still holds the object. */
+/*
+ * Drops one hold of the quota; *refund becomes what the quota gets back, 0 while it still holds the object.
+ * Refusals 3, 5, 6.
+ */
 static inline enum lokhazim_refusal lokhazim_heap_release(
     uint8_t *heap, size_t length, struct lokhazim_accounts *accounts, uint32_t quota,
     struct lokhazim_handle handle, uint32_t *refund)
@@ -354,7 +365,7 @@ static inline enum lokhazim_refusal lokhazim_heap_release(
     return (enum lokhazim_refusal)reply.refusal;
 }
 
-/* Drops every hold of the quota; *refund becomes what the quota gets back. */
+/* Drops every hold of the quota; *refund becomes what the quota gets back. Refusal 3. */
 static inline enum lokhazim_refusal lokhazim_heap_free_all(
     uint8_t *heap, size_t length, struct lokhazim_accounts *accounts, uint32_t quota, uint32_t *refund)
 {
@@ -366,7 +377,10 @@ static inline enum lokhazim_refusal lokhazim_heap_free_all(
     return (enum lokhazim_refusal)reply.refusal;
 }
 
-/* Makes *moved with the old object's bytes, as far as `bytes` go, then drops one hold on the old object. */
+/*
+ * Makes *moved with the old object's bytes, as far as both lengths go, then drops one hold on the old object.
+ * Quota, records and heap need room for both. Refusals 3 to 6, 8 to 11.
+ */
 static inline enum lokhazim_refusal lokhazim_heap_reallocate(
     uint8_t *heap, size_t length, struct lokhazim_accounts *accounts, uint32_t quota,
     struct lokhazim_handle handle, uint32_t bytes, struct lokhazim_handle *moved)
@@ -378,7 +392,10 @@ static inline enum lokhazim_refusal lokhazim_heap_reallocate(
     return (enum lokhazim_refusal)reply.refusal;
 }
 
-/* Lends the object's bytes: handle.length bytes at *object, until the object is freed; a null pointer where refused. */
+/*
+ * Lends the object's bytes: handle.length bytes at *object, until the object is freed; a null pointer where refused.
+ * No hold is needed. Refusal 5.
+ */
 static inline enum lokhazim_refusal lokhazim_heap_lend(
     uint8_t *heap, size_t length, const struct lokhazim_accounts *accounts,
     struct lokhazim_handle handle, uint8_t **object)
@@ -388,7 +405,7 @@ static inline enum lokhazim_refusal lokhazim_heap_lend(
     return (enum lokhazim_refusal)reply.refusal;
 }
 
-/* Writes one byte of the object, `at` bytes behind its base; writes nothing at its end or behind. */
+/* Writes one byte of the object, `at` bytes behind its base; writes nothing at its end or behind. Refusal 5. */
 static inline enum lokhazim_refusal lokhazim_heap_write(
     uint8_t *heap, size_t length, const struct lokhazim_accounts *accounts,
     struct lokhazim_handle handle, uint32_t at, uint8_t byte)
@@ -396,7 +413,7 @@ static inline enum lokhazim_refusal lokhazim_heap_write(
     return (enum lokhazim_refusal)lokhazim_write(heap, length, *accounts, handle, at, byte);
 }
 
-/* Tells what remains of the quota. */
+/* Tells what remains of the quota. Refusal 3. */
 static inline enum lokhazim_refusal lokhazim_heap_remaining(
     const uint8_t *heap, size_t length, const struct lokhazim_accounts *accounts, uint32_t quota,
     uint32_t *remainder)
@@ -425,7 +442,7 @@ static inline enum lokhazim_refusal lokhazim_heap_list_block(
     return (enum lokhazim_refusal)block->refusal;
 }
 
-/* Checks heap and accounts as every call does first, and gives refusal 1 or 2 or none. */
+/* Checks heap and accounts as every call but open does first, and gives refusal 1 or 2 or none. */
 static inline enum lokhazim_refusal lokhazim_heap_check(
     const uint8_t *heap, size_t length, const struct lokhazim_accounts *accounts)
 {

@@ -1,10 +1,12 @@
 //! A heap that parts of a program share without trusting each other, over the proved library
 //! `liblokhazim.a`.
 //!
-//! Each part has a quota, each object costs its length plus 8, and a part may hold an object that
-//! another made. Every call checks the whole heap and its accounts, and answers, or gives one of
-//! eleven refusals and changes nothing. That is proved of the library on any bytes and any numbers;
-//! this crate adds types that keep the bytes and their accounts together, and no rule of its own.
+//! Each part has a quota, each object costs its rounded length plus 8, and a part may hold an object
+//! that another made. Every call but the opening checks the whole heap and its accounts; a call
+//! answers, or gives one of eleven refusals and changes nothing. That is proved of the library on
+//! any bytes and any numbers; this crate adds types that keep the bytes and their accounts together,
+//! and no rule of its own. A quota's number is an argument: keep the [`Heap`] in one trusted place
+//! that fills in each part's number.
 //!
 //! The story of `examples/valve.c`: a logger that has nearly spent its quota is refused, a radio
 //! keeps a buffer alive by a claim, and the valve's close command still finds room.
@@ -41,8 +43,8 @@
 //! ```
 //!
 //! `make lib` writes the library to `build/lib/`, where this crate looks for it; the variable
-//! `LOKHAZIM_LIB_DIR` names another folder. The crate needs no operating system and no memory of
-//! its own.
+//! `LOKHAZIM_LIB_DIR` names another folder. The crate is for x86-64; it needs `memcpy`, `memmove` and
+//! `memset`, no operating system and no memory of its own.
 
 #![no_std]
 #![deny(missing_docs)]
