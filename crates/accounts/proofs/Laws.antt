@@ -279,6 +279,17 @@ module _ (i : ℕ) (h : Hold) (k : Accounts) where
   unfolding put-hold
   sized-put s = record { quotas-long = s .quotas-long; holds-long = length-set (k .holds) i h ∙ s .holds-long }
 
+-- paying changes neither records nor the last serial, so these can be set before or behind it
+module _ (i : ℕ) (h : Hold) (serial : ℕ) (q : ℕ) (k : Accounts) where
+  moved : (t : Bool) (m : ℕ) → cond t (set-remaining q m (put-hold i h (with-last-serial serial k))) (put-hold i h (with-last-serial serial k)) ≡ with-last-serial serial (put-hold i h (cond t (set-remaining q m k) k))
+  unfolding set-remaining put-hold
+  moved true m = refl
+  moved false m = refl
+
+  pub charge-last : (n : ℕ) → charge q n (put-hold i h (with-last-serial serial k)) ≡ with-last-serial serial (put-hold i h (charge q n k))
+  unfolding charge remaining put-hold
+  charge-last n = moved (ltb q QUOTAS && leb n (remaining q k)) (remaining q k - n)
+
 pub hold-at-out : (i : ℕ) (k : Accounts) → length (k .holds) ≤ i → hold-at i k ≡ zero-hold
 unfolding hold-at
 hold-at-out i k l = List·getD-eq-default (k .holds) zero-hold l

@@ -215,10 +215,11 @@ impl Accounts {
     pub fn find_hold(self, serial: u32, quota: u8) -> Place
         ensures { λ r. ⌜ r ≡ find-hold serial quota self ⌝ }
     {
+        let holds = self.holds;
         let mut at: usize = 0;
         while at < HOLDS {
-            if self.holds[at].serial == serial {
-                let hold = self.holds[at];
+            if holds[at].serial == serial {
+                let hold = holds[at];
                 if hold.is_for(serial, quota) {
                     return Place::At(at);
                 }
@@ -232,9 +233,10 @@ impl Accounts {
     pub fn lowest_unused(self) -> Place
         ensures { λ r. ⌜ r ≡ lowest-unused self ⌝ }
     {
+        let holds = self.holds;
         let mut low: usize = 0;
         while low < HOLDS {
-            let hold = self.holds[low];
+            let hold = holds[low];
             if !hold.is_used() {
                 return Place::At(low);
             }

@@ -15,7 +15,7 @@ use Rattle.accounts.specs.declared.Hold.{Hold}
 use Rattle.accounts.specs.declared.Accounts.{Accounts}
 use Rattle.accounts.specs.declared.Place.the-variants.{At, Nothing}
 use Rattle.accounts.specs.Accounts.{QUOTAS, used, unused, remaining, charge, with-holds, with-last-serial, put-hold, lowest-unused}
-use Rattle.accounts.proofs.Laws.{charge-kept}
+use Rattle.accounts.proofs.Laws.{charge-kept, charge-last}
 use Rattle.layout.specs.Bytes.{Octets}
 use Rattle.model.specs.Answers.{refusal-number, given, verdict-values, handle-values}
 use Rattle.model.specs.Lists.{all, is-none, or-else}
@@ -48,14 +48,15 @@ use Rattle.calls.proofs.Placed.{no-base, the-base, the-room, the-bytes}
 
 -- the accounts after a new object, by the place of the record, and by the definition
 abbrev pub booked-at : ℕ → ℕ → ℕ → ℕ → Accounts → Accounts
-booked-at q n place serial k = with-last-serial serial (put-hold place (record { serial = serial; quota = q; count = 1 }) (charge q (n + 8) k))
+booked-at q n place serial k = charge q (n + 8) (put-hold place (record { serial = serial; quota = q; count = 1 }) (with-last-serial serial k))
 
 pub booked-is : (q n place serial : ℕ) (k : Accounts) → lowest-unused k ≡ At place
     → booked-at q n place serial k ≡ with-last-serial serial (with-holds (take-record serial q (k .holds)) (charge q (charge-of n) k))
 unfolding put-hold lowest-unused take-record
 booked-is q n place serial k e =
     let h : Hold = record { serial = serial; quota = q; count = 1 } in
-    ap (λ (hs : List Hold). with-last-serial serial (with-holds hs (charge q (n + 8) k)))
+    charge-last place h serial q k (n + 8)
+    ∙ ap (λ (hs : List Hold). with-last-serial serial (with-holds hs (charge q (n + 8) k)))
     (ap (λ (hs : List Hold). set hs place h) (charge-kept q (n + 8) k .same-holds) ∙ sym (found-change unused (k .holds) place e (λ _. h)))
 
 -- the result of a call that is accepted

@@ -5,15 +5,18 @@ use Prim.Native.Nat.{ℕ, _+_, _-_, _≤_, _<_}
 use mathlib.Core.Path.{_≡_, refl, ap, sym, _∙_}
 use mathlib.Core.List.{List, [], _∷_}
 use mathlib.Core.Bool.{Bool, true, false}
-use lib.ListN.{length}
+use mathlib.Core.Logic.{_≢_}
+use native.Mathlib.Omega.{arith}
+use borrow.Author.Tests.{ne-eqb}
+use lib.ListN.{length, getD, length-set}
 use Rattle.accounts.specs.declared.Accounts.{Accounts}
 use Rattle.accounts.specs.declared.Place.the-variants.{At, Nothing}
-use Rattle.accounts.specs.Accounts.{QUOTAS, is-for, find-hold, hold-at, put-hold, drop-hold, refund}
-use Rattle.accounts.proofs.Laws.{found-first}
+use Rattle.accounts.specs.Accounts.{QUOTAS, zero-hold, is-for, find-hold, hold-at, put-hold, drop-hold, refund}
+use Rattle.accounts.proofs.Laws.{found-first, first-found, none-nothing}
 use Rattle.layout.specs.Bytes.{Octets}
 use Rattle.model.specs.Answers.{refusal-number, verdict-values, amount-of, amount-values}
 use Rattle.model.specs.Objects.{lookup, found}
-use Rattle.model.specs.Consistent.{held}
+use Rattle.model.specs.Consistent.{is-of, held}
 use Rattle.model.specs.Holds.{with-count}
 use Rattle.model.specs.Refusals.{Line, first-refusal, line-3, line-5, line-6, release-lines}
 use Rattle.model.specs.Calls.{check, release}
@@ -25,10 +28,12 @@ use Rattle.model.specs.declared.AmountAnswer.the-variants.{Amount, Refused}
 use Rattle.finder.specs.declared.Met.{Met}
 use Rattle.finder.specs.declared.Lookup.the-variants.{Found, Missing}
 use Rattle.finder.specs.Walk.{object-met, find-object}
+use Rattle.finder.proofs.Reached.{found-live}
 use Rattle.writer.specs.Freeing.{Inside, free-in}
 use Rattle.writer.proofs.Guards.{inside-test, frees}
 use Rattle.access.specs.Results.{outcome}
 use Rattle.access.proofs.Lines.{check-refuses, check-accepts, refused-is, accepted-is, line-3-refuses}
+use Rattle.access.proofs.Records.{found-some, nothing-some}
 use Rattle.access.proofs.Lookups.{byte-quota, located, quota-missing, release-refuses, release-passes}
 use Rattle.quotas.specs.declared.AmountResult.{AmountResult}
 use Rattle.quotas.specs.Results.{amount-outcome}
@@ -37,7 +42,7 @@ use Rattle.calls.specs.Releasing.{claim-dropped}
 use Rattle.quotas.proofs.Amounts.{gives}
 use Rattle.quotas.proofs.Cleared.{allowed-long}
 use Rattle.calls.proofs.Ready.{accepted-check}
-use Rattle.calls.proofs.Released.{inside, fewer-claims, still-held, no-longer-held}
+use Rattle.calls.proofs.Released.{same-of, other-of, inside, fewer-claims, left-holds, still-held, no-longer-held}
 
 module _ (s : List ℕ) (k : Accounts) (q : ℕ) (h : Handle) where
   -- the lines behind the third
@@ -92,21 +97,34 @@ module _ (s : List ℕ) (k : Accounts) (o : Octets s) (q : ℕ) (m : Met) (i : �
       let f = fewer-claims s k o (y .checked .sound) (y .handle) m (y .named) q i (y .place) l in
       gives s k′ 0 r re ∙ (rw ke f)
 
-  module _ (l : hold-at i k .count ≤ 1) (k₁ k₂ : Accounts) (e₁ : k₁ ≡ refund q (m .size - 8 + 8) k) (e₂ : k₂ ≡ drop-hold i k₁) (x : Bool) (xe : x ≡ held (k₂ .holds) (m .serial)) (r : AmountResult)
-      (re : r ≡ record { accounts = k₂; answer = Amount (m .size - 8 + 8) }) where
+  module _ (l : hold-at i k .count ≤ 1) (k₁ k₂ : Accounts) (e₁ : k₁ ≡ refund q (m .size - 8 + 8) k) (e₂ : k₂ ≡ drop-hold i k₁) where
     left : k₂ ≡ drop-hold i (refund q (m .size - 8 + 8) k)
     left = e₂ ∙ ap (drop-hold i) e₁
 
-    left-held : (b : Bool) → x ≡ b → held (drop-hold i (refund q (m .size - 8 + 8) k) .holds) (m .serial) ≡ b
-    left-held b v = ap (λ (a : Accounts). held (a .holds) (m .serial)) (sym left) ∙ sym xe ∙ v
+    left-held : (b : Bool) → held (k₂ .holds) (m .serial) ≡ b → held (drop-hold i (refund q (m .size - 8 + 8) k) .holds) (m .serial) ≡ b
+    left-held b v = ap (λ (a : Accounts). held (a .holds) (m .serial)) (sym left) ∙ v
 
-    pub held-result : x ≡ true → amount-outcome s r ≡ claim-dropped s k q (object-met m)
-    held-result v =
-        gives s k₂ (m .size - 8 + 8) r re
-        ∙ (rw left (still-held s k o (y .checked .sound) (y .handle) m (y .named) q i (y .place) l (left-held true v)))
+    -- the table keeps its length
+    left-long : length (k₂ .holds) ≡ length (k .holds)
+    left-long = ap (λ (a : Accounts). length (a .holds)) left ∙ ap length (left-holds s k o (y .checked .sound) (y .handle) m (y .named) q i (y .place) (m .size - 8 + 8)) ∙ length-set (k .holds) i zero-hold
 
-    pub freed-result : x ≡ false → (s′ : List ℕ) → s′ ≡ free-in m s → amount-outcome s′ r ≡ claim-dropped s k q (object-met m)
-    freed-result v s′ si =
-        let se = si ∙ sym (frees m s (inside-test m s holding-inside) .0) in
-        gives s′ k₂ (m .size - 8 + 8) r re
-        ∙ (rw (se, left) (no-longer-held s k o (y .checked .sound) (y .handle) m (y .named) q i (y .place) l (left-held false v)))
+    -- the first record with the object's serial stands at a place; or none has it
+    module _ (n : ℕ) (r : AmountResult) (re : r ≡ record { accounts = k₂; answer = Amount (m .size - 8 + 8) }) (none : (j : ℕ) → j < n → getD (k₂ .holds) j zero-hold .serial ≢ m .serial) where
+      none-of : (j : ℕ) → j < n → is-of (m .serial) (getD (k₂ .holds) j zero-hold) ≡ false
+      none-of j b = other-of (getD (k₂ .holds) j zero-hold) (m .serial) (ne-eqb (m .serial) (getD (k₂ .holds) j zero-hold .serial) (λ z. none j b (sym z)))
+
+      pub held-result : n < length (k .holds) → getD (k₂ .holds) n zero-hold .serial ≡ m .serial → amount-outcome s r ≡ claim-dropped s k q (object-met m)
+      unfolding held
+      held-result b e =
+          let w = same-of (getD (k₂ .holds) n zero-hold) (m .serial) (found-live (y .handle) s m (y .named)) e in
+          let v = found-some (is-of (m .serial)) (k₂ .holds) n (first-found (is-of (m .serial)) (k₂ .holds) n (record { within = omega (arith, left-long); passes = w; earlier = none-of })) in
+          gives s k₂ (m .size - 8 + 8) r re
+          ∙ (rw left (still-held s k o (y .checked .sound) (y .handle) m (y .named) q i (y .place) l (left-held true v)))
+
+      pub freed-result : length (k .holds) ≤ n → (s′ : List ℕ) → s′ ≡ free-in m s → amount-outcome s′ r ≡ claim-dropped s k q (object-met m)
+      unfolding held
+      freed-result b s′ si =
+          let v = nothing-some (is-of (m .serial)) (k₂ .holds) 0 (none-nothing (is-of (m .serial)) (k₂ .holds) (λ j c. none-of j (omega (arith, left-long)))) in
+          let se = si ∙ sym (frees m s (inside-test m s holding-inside) .0) in
+          gives s′ k₂ (m .size - 8 + 8) r re
+          ∙ (rw (se, left) (no-longer-held s k o (y .checked .sound) (y .handle) m (y .named) q i (y .place) l (left-held false v)))

@@ -7,6 +7,7 @@ use Prim.Native.Nat.{ℕ, zero, suc, _+_, _-_, _≤_, _<_, _^_}
 use native.Mathlib.Omega.{arith}
 use native.Mathlib.Nat.{add-zero}
 use mathlib.Core.Path.{_≡_, refl, ap, sym, _∙_}
+use mathlib.Core.Logic.{_≢_}
 use mathlib.Core.List.{List, [], _∷_, _++_}
 use mathlib.Core.Bool.{Bool, true, false, not, cond, _&&_, _||_, and-false}
 use mathlib.Core.Option.{Option}
@@ -67,6 +68,10 @@ zero-of t = refl
 pub other-of : (h : Hold) (t : ℕ) → eqb t (h .serial) ≡ false → is-of t h ≡ false
 unfolding is-of
 other-of h t e = rw (ne-eqb (h .serial) t (λ q. eqb-false t (h .serial) e (sym q))) (and-false (used h))
+
+pub same-of : (h : Hold) (t : ℕ) → t ≢ 0 → h .serial ≡ t → is-of t h ≡ true
+unfolding is-of used
+same-of h t d e = rw (eq-eqb (h .serial) t e, ne-eqb (h .serial) 0 (λ z. d (sym e ∙ z))) refl
 
 -- every live block of which this holds stays
 stays-all : (hs hs′ : List Hold) (bs : List Block) → all (stays hs) bs ≡ true → (p : Block → Bool) → all p bs ≡ true
@@ -243,7 +248,7 @@ module _ (s : List ℕ) (k : Accounts) (o : Octets s) (ok : consistent s k ≡ t
         ∙ dropped-is w (rw a) 0 (rw (counted, a)) s g
 
     -- the last claim leaves the record unused
-    left-holds : (n : ℕ) → drop-hold i (refund q n k) .holds ≡ set (k .holds) i zero-hold
+    pub left-holds : (n : ℕ) → drop-hold i (refund q n k) .holds ≡ set (k .holds) i zero-hold
     unfolding drop-hold put-hold
     left-holds n = ap (λ (l : List Hold). set l i zero-hold) (refund-kept q n k .same-holds)
 

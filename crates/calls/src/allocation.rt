@@ -37,16 +37,16 @@ fn given(accounts: Accounts, base: usize, length: u32, serial: u32) -> HandleRes
 // The accounts after a quota has paid for a new object and holds it once.
 fn booked(accounts: Accounts, quota: u8, charge: u32, place: usize, serial: u32) -> Accounts
     ensures { λ r.
-        ⌜ r ≡ with-last-serial serial (put-hold place (record { serial = serial; quota = quota; count = 1 }) (charge-to quota charge accounts)) ⌝ }
+        ⌜ r ≡ charge-to quota charge (put-hold place (record { serial = serial; quota = quota; count = 1 }) (with-last-serial serial accounts)) ⌝ }
 {
     let hold = Hold {
         serial: serial,
         quota: quota,
         count: 1,
     };
-    let paid = accounts.charge(quota as u32, charge);
-    let held = paid.add_hold(place, hold);
-    held.with_last_serial(serial)
+    let numbered = accounts.with_last_serial(serial);
+    let held = numbered.add_hold(place, hold);
+    held.charge(quota as u32, charge)
 }
 
 // Allocation behind the first four lines: the other refusals in their order, then the object is cut out and its quota pays.

@@ -30,4 +30,12 @@ impl HandleResult {
             answer: HandleAnswer::Refused(refusal),
         }
     }
+
+    // The result with other accounts.
+    pub(crate) fn with_accounts(mut self, accounts: Accounts) -> HandleResult
+        ensures { λ r. ⌜ r ≡ record { accounts = accounts; answer = self .answer } ⌝ }
+    {
+        self.accounts = accounts;
+        self
+    }
 }

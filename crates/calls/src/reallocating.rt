@@ -69,11 +69,7 @@ fn exchange(
     layout::copy_part(heap, old.at + 8, new.base as usize, count);
     let block = current(heap, old);
     let released = drop_claim(heap, granted.accounts, quota, block, place);
-    let left = released.accounts;
-    HandleResult {
-        accounts: left,
-        answer: HandleAnswer::Given(new),
-    }
+    granted.with_accounts(released.accounts)
 }
 
 // A new object of at least `length` bytes in place of one that the quota holds, with as many of its bytes as both have.

@@ -12,36 +12,10 @@ use model::Verdict;
 use quotas::AmountResult;
 ghost use mathlib.Core.Path.{_≡_};
 ghost use Rattle.model.specs.Calls.{release as release-of};
-ghost use Rattle.model.specs.Consistent.{is-of, held};
 ghost use Rattle.finder.specs.Walk.{object-met};
 ghost use Rattle.quotas.specs.Results.{amount-outcome};
 ghost use Rattle.calls.specs.Ready.{Checked, Holding};
 ghost use Rattle.calls.specs.Releasing.{claim-dropped};
-
-// Whether a record is for the object with this serial.
-fn is_of(hold: Hold, serial: u32) -> bool
-    ensures { λ r. ⌜ r ≡ is-of serial hold ⌝ }
-{
-    if hold.serial != serial {
-        return false;
-    }
-    hold.is_used()
-}
-
-// Whether some record is for the object with this serial.
-fn is_held(holds: [Hold; HOLDS], serial: u32) -> bool
-    ensures { λ r. ⌜ r ≡ held holds serial ⌝ }
-{
-    let mut at: usize = 0;
-    while at < HOLDS {
-        let hold = holds[at];
-        if is_of(hold, serial) {
-            return true;
-        }
-        at += 1;
-    }
-    false
-}
 
 // One claim of a quota on a block is given up; the last one gives the quota its charge back, and an object that no quota claims is freed.
 pub(crate) fn drop_claim(
@@ -66,9 +40,13 @@ pub(crate) fn drop_claim(
     let length = (block.size - 8) as u32;
     let charge = length + 8;
     let left = accounts.refund(quota, charge).drop_hold(place);
-    let holds = left.holds;
-    if is_held(holds, block.serial) {
-        return AmountResult::given(left, charge);
+    let serial = block.serial;
+    let mut at: usize = 0;
+    while at < HOLDS {
+        if left.holds[at].serial == serial {
+            return AmountResult::given(left, charge);
+        }
+        at += 1;
     }
     writer::free_block(heap, block);
     AmountResult::given(left, charge)

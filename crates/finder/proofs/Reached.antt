@@ -3,7 +3,8 @@
 -- Assumes nothing.
 use mathlib.Core.Path.{_≡_, refl, ap, sym, _∙_}
 use mathlib.Core.List.{List, [], _∷_}
-use mathlib.Core.Bool.{Bool, true, false, cond}
+use mathlib.Core.Logic.{_≢_}
+use mathlib.Core.Bool.{Bool, true, false, cond, false≢true}
 use mathlib.Core.Option.{Option, none, some}
 use Prim.Native.Nat.{ℕ, _+_, _≤_}
 use native.Mathlib.Omega.{arith}
@@ -13,11 +14,12 @@ use borrow.Author.Tests.{eqb-true, eqb-false, eq-eqb, ne-eqb}
 use Rattle.model.specs.Lists.{first}
 use Rattle.model.specs.Objects.{names, whole}
 use Rattle.model.specs.declared.Handle.{Handle}
-use Rattle.model.proofs.Bools.{and-no}
+use Rattle.model.proofs.Bools.{and-left, and-no}
+use Rattle.model.proofs.Lists.{first-some}
 use Rattle.finder.specs.declared.Met.{Met}
 use Rattle.finder.specs.declared.Lookup.{Lookup}
 use Rattle.finder.specs.declared.Lookup.the-variants.{Found, Missing}
-use Rattle.finder.specs.Walk.{met-at, met, live-met, stands-at, holds-named, looked-up, find-at, find-object}
+use Rattle.finder.specs.Walk.{met-at, met, live-met, object-met, stands-at, holds-named, looked-up, find-at, find-object}
 use Rattle.finder.proofs.Walk.{MetAt, met-known, search-met, Searching, search-start, search-ended, search-found, search-none}
 
 module _ (place : ℕ) (s : List ℕ) (at : ℕ) (w : Searching (stands-at place) s at) where
@@ -93,3 +95,15 @@ module _ (h : Handle) (s : List ℕ) where
       go : (x : Option Met) → first (holds-named h) (met s) ≡ x → looked-up x ≡ Found m → MetAt (m .at) s m
       go none e f = let z : _≡_ {A = ℕ} 0 1 = cc in absurd (omega arith)
       go (some b) e f = let q : b ≡ m = cc in met-known (m .at) s m (search-met (holds-named h) s m (rw q at e))
+
+  -- and it is live
+  pub found-live : (m : Met) → find-object h s ≡ Found m → m .serial ≢ 0
+  unfolding find-object holds-named
+  found-live m = go (first (holds-named h) (met s)) refl
+    where
+      go : (x : Option Met) → first (holds-named h) (met s) ≡ x → looked-up x ≡ Found m → m .serial ≢ 0
+      go none e f = let z : _≡_ {A = ℕ} 0 1 = cc in absurd (omega arith)
+      go (some b) e f =
+          let q : b ≡ m = cc in
+          let t = and-left (live-met m) (names h (object-met m)) (first-some (holds-named h) (met s) m (rw q at e) .1) in
+          λ z. false≢true (rw (eq-eqb (m .serial) 0 z) at t)

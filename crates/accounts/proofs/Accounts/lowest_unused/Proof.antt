@@ -14,13 +14,13 @@ use Rattle.accounts.proofs.Accounts.lowest_unused.Statement.{statement}
 use Rattle.accounts.proofs.Accounts.lowest_unused.Tie as tie
 
 abbrev Inv-loop : tie.InvT-loop
-Inv-loop self low₀ low = (low ≤ HOLDS) × ((j : ℕ) → j < low → unused (getD (self .holds) j zero-hold) ≡ false)
+Inv-loop holds low₀ low = (low ≤ HOLDS) × ((j : ℕ) → j < low → unused (getD holds j zero-hold) ≡ false)
 
 abbrev μ-loop : tie.MeasureT-loop
-μ-loop self low₀ low = HOLDS - low
+μ-loop holds low₀ low = HOLDS - low
 
 -- the table has its length
-long : (c : tie.Start Inv-loop μ-loop) → length (c .args .t1 .holds) ≡ HOLDS
+long : (c : tie.Start Inv-loop μ-loop) → length (c .args .self .holds) ≡ HOLDS
 long c = simp length-map at (c .good .0 .1 .1 .1 .1 .0 .1 .0 .1)
 
 loop-holds : tie.Need-loop-holds Inv-loop μ-loop
@@ -29,8 +29,8 @@ loop-holds c = (search needs, below-none _)
 mul-hold : tie.Need-mul-hold Inv-loop μ-loop
 mul-hold c = search needs
 
-element-copy-out-hold : tie.Need-element-copy-out-hold Inv-loop μ-loop
-element-copy-out-hold c = search needs
+array-copy-out-hold : tie.Need-array-copy-out-hold Inv-loop μ-loop
+array-copy-out-hold c = search needs
 
 is-used-requires : tie.Need-is-used-requires Inv-loop μ-loop
 is-used-requires c κs = search needs
@@ -39,10 +39,10 @@ returns : tie.Need-returns Inv-loop μ-loop
 unfolding lowest-unused unused
 returns c =
     let at = c .before .before .before .before in
-    let a = at .before .args in
+    let a = at .before .before .args in
     sym
-    (first-found unused (a .t1 .holds) (at .loop .low)
-    (record { within = omega (arith, long (at .before)); passes = ap not (sym (c .before .is-used .ensures)) ∙ c .if1 .taken; earlier = at .loop .inv .1 }))
+    (first-found unused (a .self .holds) (at .loop .low)
+    (record { within = omega (arith, long (at .before .before)); passes = ap not (sym (c .before .is-used .ensures)) ∙ c .if1 .taken; earlier = at .loop .inv .1 }))
 
 add-low : tie.Need-add-low Inv-loop μ-loop
 add-low c = search needs
@@ -60,8 +60,8 @@ returns-2 : tie.Need-returns-2 Inv-loop μ-loop
 unfolding lowest-unused
 returns-2 c =
     let at = c .before in
-    let a = at .before .args in
-    sym (none-nothing unused (a .t1 .holds) (λ j l. at .loop .inv .1 j (omega (arith, long (at .before)))))
+    let a = at .before .before .args in
+    sym (none-nothing unused (a .self .holds) (λ j l. at .loop .inv .1 j (omega (arith, long (at .before .before)))))
 
 pub lowest-unused-spec : {M : Type 1} → statement M
 lowest-unused-spec =
@@ -71,7 +71,7 @@ lowest-unused-spec =
     μ-loop
     loop-holds
     mul-hold
-    element-copy-out-hold
+    array-copy-out-hold
     is-used-requires
     returns
     add-low

@@ -11,6 +11,7 @@ use Rattle.layout.specs.Bytes.{Octets, copy-part}
 use Rattle.model.specs.Answers.{handle-values}
 use Rattle.model.specs.Objects.{lookup}
 use Rattle.model.specs.Consistent.{has-record}
+use Rattle.model.specs.declared.HandleAnswer.{HandleAnswer}
 use Rattle.model.specs.declared.Refusal.the-variants.{NoSuchObject, NotHeld}
 use Rattle.accounts.specs.Accounts.{find-hold}
 use Rattle.accounts.specs.declared.Place.the-variants.{At}
@@ -21,6 +22,8 @@ use Rattle.writer.specs.Freeing.{Inside}
 use Rattle.invariant.proofs.Recorded.{Limits}
 use Rattle.calls.proofs.Typed.{grants-narrow}
 use Rattle.calls.specs.Ready.{Checked}
+use Rattle.calls.specs.Results.{handle-outcome}
+use Rattle.access.specs.Results.{outcome}
 use Rattle.calls.proofs.ReleaseAnswers.{holding-inside, dropped}
 use Rattle.calls.proofs.Exchanged.{found-again}
 use Rattle.calls.proofs.ReallocateAnswers.{refuses, by-object, by-record, block-named, block-held}
@@ -241,6 +244,9 @@ drop-claim-requires c κs =
     let a = e .args in
     record { checked = ready m; handle = a .handle; named = again n; place = placed n }
 
+with-accounts-requires : tie.Need-with-accounts-requires
+with-accounts-requires c κs = search needs
+
 same-length-4 : tie.Need-same-length-4
 same-length-4 c =
     let u = c .before .before .before in
@@ -261,7 +267,10 @@ returns-4 c =
     let k = b .before .before .before .before in
     let e = k .before in
     let a = e .args in
-    given-too (a .heap .now) (a .accounts) (a .quota) (a .handle) (a .length) (e .pre) (object-met (b .old .given .0 .0)) (named t) (held t) (octets k) (limits e) (g .grant .last .0) (g .grant .result)
+    let s = u .drop-claim .last .0 in
+    ap (handle-outcome s) (c .with-accounts .ensures)
+    ∙ ap (λ (x : HandleAnswer). outcome s (u .drop-claim .result .accounts) (handle-values x)) (w .answer .given .1)
+    ∙ given-too (a .heap .now) (a .accounts) (a .quota) (a .handle) (a .length) (e .pre) (object-met (b .old .given .0 .0)) (named t) (held t) (octets k) (limits e) (g .grant .last .0) (g .grant .result)
     (g .grant .ensures) (w .answer .given .0 .0) (w .answer .given .1) (m .copy-part .last .0) (copied m) (u .drop-claim .last .0) (u .drop-claim .result)
     (u .drop-claim .ensures
     ∙ dropped (m .copy-part .last .0) (g .grant .result .accounts) (a .quota) (a .handle) (ready m) (n .current .result) (again n) (t .place .given .0 .0) (placed n))
@@ -296,5 +305,6 @@ exchange-spec =
     copy-part-requires
     current-requires
     drop-claim-requires
+    with-accounts-requires
     same-length-4
     returns-4)
