@@ -1,5 +1,5 @@
--- One block of the walk: each of the definition's tests decides it where it fails, and where all pass, the settlement of a live block leaves the
--- arrays as the walk wants them.
+-- One block of the walk: each of the definition's tests, and one of a free block's size, decides it where it fails, and where all pass, the
+-- settlement of a live block leaves the arrays as the walk wants them.
 -- Assumes nothing.
 use Prim.Native.Nat.{ℕ, _<_, _≤_}
 use mathlib.Core.Path.{_≡_, refl, sym, subst, _∙_}

@@ -57,7 +57,7 @@ module _ {s keys₀ next heads owed₀ : List ℕ} {last : ℕ} {keys owed : Lis
   unfolding audit-parsed audit
   walking-end h = g .same ∙ ap (λ (x : Option (List Block)). audit-parsed last x (some (behind before keys owed))) (cut-end back 0 rest (omega arith))
 
-  -- the header that is read, and the visit
+  -- by the header that is read, and the visit
   module _ {h : Header} (e : header-at 0 rest ≡ h) (some-rest : 8 ≤ length rest) where
     pub walking-long : length rest < 8 * h .size → audit-parsed last (parse s) (some (begin keys₀ owed₀)) ≡ false
     walking-long l = walking-nothing (omega arith) (start-no 0 rest e (λ p. omega arith))
