@@ -1,5 +1,5 @@
--- One block of the walk: each of the definition's tests decides it where it fails, and where all pass, the settlement of a live block leaves the
--- arrays as the walk wants them.
+-- One block of the walk: each of the definition's tests, and one of a free block's size, decides it where it fails, and where all pass, the
+-- settlement of a live block leaves the arrays as the walk wants them.
 -- Assumes nothing.
 use Prim.Native.Nat.{ℕ, _<_, _≤_}
 use mathlib.Core.Path.{_≡_, refl, sym, subst, _∙_}
@@ -8,7 +8,7 @@ use mathlib.Core.List.{List}
 use mathlib.Core.Option.{Option, none, some}
 use mathlib.Core.Logic.{inl, inr}
 use native.Mathlib.Omega.{arith}
-use borrow.Author.Tests.{eq-eqb, ne-eqb, le-leb, lt-leb}
+use borrow.Author.Tests.{eq-eqb, ne-eqb, le-leb, lt-leb, leb-true, leb-false}
 use lib.Dec.{eqb, leb}
 use lib.ListN.{getD}
 use Rattle.model.proofs.Bools.{and-no}
@@ -37,11 +37,15 @@ module _ (last s n before : ℕ) {next heads keys owed : List ℕ} (g : Ready ke
   -- a free block
   pub visit-behind : s ≡ 0 → before ≡ 0 → Visited last s n before next heads keys owed false keys owed
   unfolding visit visit-free
-  visit-behind z f = rw (eq-eqb s 0 z, eq-eqb before 0 f)
+  visit-behind z f l = rw (eq-eqb s 0 z, eq-eqb before 0 f)
 
-  pub visit-apart : s ≡ 0 → (before ≡ 0 → ⊥) → Visited last s n before next heads keys owed true keys owed
+  pub visit-apart : s ≡ 0 → (before ≡ 0 → ⊥) → Visited last s n before next heads keys owed (leb 8 n) keys owed
   unfolding visit visit-free
-  visit-apart z f = (g, rw (eq-eqb s 0 z, ne-eqb before 0 f))
+  visit-apart z f = go (leb 8 n) refl
+    where
+      go : (x : Bool) → leb 8 n ≡ x → Visited last s n before next heads keys owed x keys owed
+      go true t = (leb-true 8 n t, g, rw (eq-eqb s 0 z, ne-eqb before 0 f))
+      go false t = λ l. absurd (omega (arith, leb-false 8 n t))
 
   -- a live one
   module _ (live : s ≡ 0 → ⊥) where
@@ -51,15 +55,16 @@ module _ (last s n before : ℕ) {next heads keys owed : List ℕ} (g : Ready ke
     tests = rw (ne-eqb s 0 live)
 
     pub visit-short : n < 16 → Visited last s n before next heads keys owed false keys owed
-    visit-short h = tests ∙ rw (lt-leb 16 n h)
+    visit-short h l = tests ∙ rw (lt-leb 16 n h)
 
     pub visit-late : last < s → Visited last s n before next heads keys owed false keys owed
-    visit-late h = tests ∙ rw (lt-leb s last h, and-no (leb 16 n) false refl)
+    visit-late h l = tests ∙ rw (lt-leb s last h, and-no (leb 16 n) false refl)
 
     pub visit-settled : 16 ≤ n → s ≤ last → (r : Bool) (keys′ owed′ : List ℕ) → Settled s n keys owed r keys′ owed′ → Visited last s n before next heads keys owed r keys′ owed′
     unfolding settled
     visit-settled long given true keys′ owed′ w =
         let k = w .1 .struck-all in (
+          omega arith,
           record {
             long = rw k (strike-long s live keys ∙ g .long);
             owed-long = w .1 .owed-long;
@@ -69,8 +74,8 @@ module _ (last s n before : ℕ) {next heads keys owed : List ℕ} (g : Ready ke
           },
           tests ∙ rw (le-leb 16 n long, le-leb s last given, ne-eqb (struck s keys) 0 (w .0), ne-eqb s 0 live) (w .1 .rest),
         )
-    visit-settled long given false keys′ owed′ (inl w) = tests ∙ rw (eq-eqb (struck s keys) 0 w, and-no (leb s last) false refl, and-no (leb 16 n) false refl)
-    visit-settled long given false keys′ owed′ (inr w) = tests ∙ rw w (either (leb 16 n && (leb s last && not (eqb (struck s keys) 0))))
+    visit-settled long given false keys′ owed′ (inl w) = λ l. tests ∙ rw (eq-eqb (struck s keys) 0 w, and-no (leb s last) false refl, and-no (leb 16 n) false refl)
+    visit-settled long given false keys′ owed′ (inr w) = λ l. tests ∙ rw w (either (leb 16 n && (leb s last && not (eqb (struck s keys) 0))))
       where
         either : (t : Bool) → _≡_ {A = Option State} (cond t none none) none
         either true = refl

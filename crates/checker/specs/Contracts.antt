@@ -83,8 +83,9 @@ pub record Ready (keys next heads owed : List ℕ) : Type 0 where
   pub linked : Linked keys next heads
   pub heads-inside : (x : ℕ) → x < SLOTS → getD heads x 0 ≤ HOLDS
 
--- `visit` leaves what the definition leaves, and the arrays ready for the next block; or says that the block is not as it must be
+-- `visit` takes a block of 8 bytes or more that is as it must be, and leaves what the definition leaves, and the arrays ready for the next block;
+-- or says that the block is shorter or not as it must be
 abbrev pub Visited : ℕ → ℕ → ℕ → ℕ → List ℕ → List ℕ → List ℕ → List ℕ → Bool → List ℕ → List ℕ → Type 0
 Visited last serial size before next heads keys owed true keys′ owed′ =
-    Ready keys′ next heads owed′ × (visit last serial size (behind before keys owed) ≡ some (behind serial keys′ owed′))
-Visited last serial size before next heads keys owed false keys′ owed′ = visit last serial size (behind before keys owed) ≡ none
+    (8 ≤ size) × Ready keys′ next heads owed′ × (visit last serial size (behind before keys owed) ≡ some (behind serial keys′ owed′))
+Visited last serial size before next heads keys owed false keys′ owed′ = 8 ≤ size → visit last serial size (behind before keys owed) ≡ none

@@ -7,7 +7,6 @@ use accounts::HOLDS;
 use accounts::Hold;
 use accounts::QUOTAS;
 use accounts::Quota;
-use layout::Start;
 use model::Refusal;
 use model::Verdict;
 use std::num::wrapping_sub_usize;
@@ -259,7 +258,7 @@ fn visit(
         if before == 0 {
             return false;
         }
-        return true;
+        return 8 <= size;
     }
     if size < 16 {
         return false;
@@ -317,14 +316,15 @@ fn walk(
     let mut back: usize = 0;
     let mut rest = heap;
     while 8 <= rest.len() {
-        let Start::Block(header) = layout::start_at(rest, 0) else {
+        let header = layout::header_at(rest, 0);
+        let size = 8 * header.size;
+        if rest.len() < size {
             return false;
-        };
+        }
         if header.back != back {
             return false;
         }
         let serial = header.serial;
-        let size = 8 * header.size;
         if !visit(keys, next, heads, owed, last, before, serial, size) {
             return false;
         }

@@ -1,5 +1,6 @@
--- `checker::visit` meets its contract: its tests are those of the definition, in the same order, and each of them decides it where it fails. The chain
--- of the serial's slot leads to each key of the serial, so what `settle` strikes and what is paid then are the definition's.
+-- `checker::visit` meets its contract: its tests are those of the definition, in the same order, and that a free block has 8 bytes; each of them
+-- decides it where it fails. The chain of the serial's slot leads to each key of the serial, so what `settle` strikes and what is paid then are the
+-- definition's.
 -- Assumes nothing.
 use Prim.Native.Nat.{ℕ}
 use native.Mathlib.Omega.{arith}

@@ -1,7 +1,7 @@
 -- `checker::walk` meets its contract. The loop's invariant is `Walking`: the audit of the whole heap is that of the blocks in the rest of it, with what is
--- left of keys and debts. The measure is the length of the rest: a block has a size.
+-- left of keys and debts. The measure is the length of the rest: a block that was visited has a size.
 -- Assumes nothing.
-use Prim.Native.Nat.{ℕ, _*_, _≤_}
+use Prim.Native.Nat.{ℕ, _*_}
 use native.Mathlib.Omega.{arith}
 use borrow.Author.Needs.{needs}
 use borrow.Author.Tests.{not-true, not-false}
@@ -10,12 +10,10 @@ use mathlib.Core.Path.{_≡_, ap, sym, subst, _∙_}
 use mathlib.Core.Bool.{Bool, true, false, _&&_}
 use mathlib.Core.List.{List}
 use lib.ListN.{length}
-use Rattle.layout.specs.declared.Start.the-variants.{Block as Starts}
-use Rattle.layout.specs.Blocks.{start-at}
-use Rattle.layout.proofs.Starts.{start-found}
+use Rattle.layout.specs.Blocks.{header-at}
 use Rattle.checker.specs.Audit.{all-zero}
 use Rattle.checker.specs.Contracts.{Visited}
-use Rattle.checker.proofs.Walking.{Walking, walking-start, walking-nothing, walking-short, walking-back, walking-end, walking-fails, walking-on}
+use Rattle.checker.proofs.Walking.{Walking, walking-start, walking-long, walking-short, walking-back, walking-end, walking-fails, walking-on}
 use Rattle.checker.proofs.walk.Statement.{statement}
 use Rattle.checker.proofs.walk.Tie as tie
 
@@ -25,60 +23,50 @@ Inv-loop heap keys₀ next heads owed₀ last before₀ back₀ rest₀ keys owe
 abbrev μ-loop : tie.MeasureT-loop
 μ-loop heap keys₀ next heads owed₀ last before₀ back₀ rest₀ keys owed before back rest = length rest
 
--- where a header was found, that header, and what is known of its size
-abbrev bytes : tie.After-header Inv-loop μ-loop → List ℕ
-bytes c = c .before .before .before .before .loop .rest .now
+-- the rest of the heap, and the header that was read of it
+abbrev bytes : tie.After-header-at Inv-loop μ-loop → List ℕ
+bytes c = c .before .before .loop .rest .now
 
-found : (c : tie.After-header Inv-loop μ-loop) → start-at 0 (bytes c) ≡ Starts (c .header .given .0 .0)
-found c = sym (c .before .before .start-at .ensures) ∙ c .header .given .1
-
-fits : (c : tie.After-header Inv-loop μ-loop) → (1 ≤ c .header .given .0 .0 .size) × (8 * c .header .given .0 .0 .size ≤ length (bytes c))
-fits c = let w = start-found 0 (bytes c) (c .header .given .0 .0) (found c) in (w .some-size, omega (arith, w .inside))
+read : (c : tie.After-header-at Inv-loop μ-loop) → header-at 0 (bytes c) ≡ c .header-at .result
+read c = sym (c .header-at .ensures .0)
 
 loop-holds : tie.Need-loop-holds Inv-loop μ-loop
 loop-holds c = walking-start (c .before .pre)
 
-start-at-requires : tie.Need-start-at-requires Inv-loop μ-loop
-start-at-requires c κs = search needs
+header-at-requires : tie.Need-header-at-requires Inv-loop μ-loop
+header-at-requires c κs = search needs
 
-enum-known-header : tie.Need-enum-known-header Inv-loop μ-loop
-enum-known-header c = search needs
-
-enum-told : tie.Need-enum-told Inv-loop μ-loop
-enum-told c = search needs
+mul-size : tie.Need-mul-size Inv-loop μ-loop
+mul-size c = omega (arith, c .before .header-at .ensures .1)
 
 returns : tie.Need-returns Inv-loop μ-loop
 returns c =
-    let l = c .before .before .before .before in
-    let h = c .before .before .before .loop-test .taken in
-    sym (walking-nothing (l .loop .inv) (omega arith) (sym (c .before .before .start-at .ensures) ∙ c .enum-told .given .1))
+    let h = c .before .before in
+    sym (walking-long (h .before .before .loop .inv) (read h) (h .before .loop-test .taken) (c .if1 .taken))
 
 returns-2 : tie.Need-returns-2 Inv-loop μ-loop
 returns-2 c =
-    let h = c .before .before .before in
-    let l = h .before .before .before .before in
-    sym (walking-back (l .loop .inv) (found h) (λ e. omega arith))
-
-mul-size : tie.Need-mul-size Inv-loop μ-loop
-mul-size c =
-    let h = c .before .before .before .before in
-    let i = fits h in
-    omega (arith, h .before .before .before .before .loop .inv .inside)
+    let l = c .before .before in
+    let h = l .before .before in
+    sym (walking-back (h .before .before .loop .inv) (read h) (h .before .loop-test .taken) (l .if1 .left) (λ e. omega arith))
 
 visit-requires : tie.Need-visit-requires Inv-loop μ-loop
-visit-requires c κs = c .before .before .before .before .before .before .before .before .before .before .loop .inv .ready
+visit-requires c κs = c .before .before .before .before .before .before .before .before .loop .inv .ready
 
 -- the visit, by its answer
-abbrev header : tie.After-visit Inv-loop μ-loop → tie.After-header Inv-loop μ-loop
-header c = c .before .before .before .before .before .before .before
+abbrev fitting : tie.After-visit Inv-loop μ-loop → tie.Else1 Inv-loop μ-loop
+fitting c = c .before .before .before .before .before
+
+abbrev header : tie.After-visit Inv-loop μ-loop → tie.After-header-at Inv-loop μ-loop
+header c = fitting c .before .before
 
 abbrev turn : tie.After-visit Inv-loop μ-loop → tie.At-loop Inv-loop μ-loop
-turn c = header c .before .before .before .before
+turn c = header c .before .before
 
 abbrev Answers : tie.After-visit Inv-loop μ-loop → Bool → Type 0
 Answers c t =
     let a = turn c .before .before .args in
-    let h = header c .header .given .0 .0 in
+    let h = header c .header-at .result in
     Visited (a .last) (h .serial) (8 * h .size) (turn c .loop .before) (a .next .now) (a .heads .now) (turn c .loop .keys) (turn c .loop .owed) t (c .visit .last .0) (c .visit .last .1 .1 .1 .0)
 
 visited : (c : tie.After-visit Inv-loop μ-loop) (t : Bool) → c .visit .result ≡ t → Answers c t
@@ -87,30 +75,33 @@ visited c t e = subst (Answers c) e (c .visit .ensures)
 returns-3 : tie.Need-returns-3 Inv-loop μ-loop
 returns-3 c =
     let v = c .before in
-    sym (walking-fails (turn v .loop .inv) (found (header v)) (visited v false (not-true _ (c .if2 .taken))))
+    let h = header v in
+    sym (walking-fails (turn v .loop .inv) (read h) (h .before .loop-test .taken) (fitting v .if1 .left) (omega arith) (visited v false (not-true _ (c .if3 .taken))))
 
 sub-rest : tie.Need-sub-rest Inv-loop μ-loop
-sub-rest c = fits (c .before .before .before .before .before .before .before .before) .1
+sub-rest c = fitting (c .before) .if1 .left
 
 part-rest-start : tie.Need-part-rest-start Inv-loop μ-loop
-part-rest-start c = let i = fits (c .before .before .before .before .before .before .before .before) in search needs
+part-rest-start c = search needs
 
 part-rest-end : tie.Need-part-rest-end Inv-loop μ-loop
-part-rest-end c = let i = fits (c .before .before .before .before .before .before .before .before) in search needs
+part-rest-end c = search needs
 
+-- the block has a size
 loop-less : tie.Need-loop-less Inv-loop μ-loop
-loop-less c = let i = fits (c .before .before .before .before .before .before .before .before .before) in omega (arith, c .rest .given .2)
+loop-less c = let w = visited (c .before .before) true (not-false _ (c .before .if3 .left)) in omega (arith, c .rest .given .2, w .0)
 
 loop-again : tie.Need-loop-again Inv-loop μ-loop
 loop-again c =
     let v = c .before .before in
     let h = header v in
-    walking-on (turn v .loop .inv) (found h) (visited v true (not-false _ (c .before .if2 .left))) (omega arith) (part-to-end (bytes h) (8 * h .header .given .0 .0 .size))
+    walking-on (turn v .loop .inv) (read h) (h .before .loop-test .taken) (fitting v .if1 .left) (omega arith)
+    (visited v true (not-false _ (c .before .if3 .left))) (part-to-end (bytes h) (8 * h .header-at .result .size))
 
 returns-4 : tie.Need-returns-4 Inv-loop μ-loop
 returns-4 c =
     let l = c .before .before in
-    sym (walking-short (l .loop .inv) (c .if3 .taken) (omega arith))
+    sym (walking-short (l .loop .inv) (c .if4 .taken) (omega arith))
 
 is-struck-requires : tie.Need-is-struck-requires Inv-loop μ-loop
 is-struck-requires c κs = c .before .before .before .loop .inv .ready .long
@@ -120,8 +111,8 @@ returns-5 c =
     let k = c .before in
     let l = k .before .before .before .before in
     sym
-    (walking-end (l .loop .inv) (k .before .before .if3 .left)
-    ∙ ap (λ (x : Bool). x && all-zero (l .loop .owed)) (sym (k .is-struck .ensures) ∙ not-true _ (c .if4 .taken)))
+    (walking-end (l .loop .inv) (k .before .before .if4 .left)
+    ∙ ap (λ (x : Bool). x && all-zero (l .loop .owed)) (sym (k .is-struck .ensures) ∙ not-true _ (c .if5 .taken)))
 
 is-paid-requires : tie.Need-is-paid-requires Inv-loop μ-loop
 is-paid-requires c κs = c .before .before .before .before .before .before .loop .inv .ready .owed-long
@@ -132,8 +123,8 @@ returns-6 c =
     let l = k .before .before .before .before in
     c .is-paid .ensures
     ∙ sym
-    (walking-end (l .loop .inv) (k .before .before .if3 .left)
-    ∙ ap (λ (x : Bool). x && all-zero (l .loop .owed)) (sym (k .is-struck .ensures) ∙ not-false _ (c .before .before .if4 .left)))
+    (walking-end (l .loop .inv) (k .before .before .if4 .left)
+    ∙ ap (λ (x : Bool). x && all-zero (l .loop .owed)) (sym (k .is-struck .ensures) ∙ not-false _ (c .before .before .if5 .left)))
 
 pub walk-spec : {M : Type 1} → statement M
 walk-spec =
@@ -142,12 +133,10 @@ walk-spec =
     Inv-loop
     μ-loop
     loop-holds
-    start-at-requires
-    enum-known-header
-    enum-told
+    header-at-requires
+    mul-size
     returns
     returns-2
-    mul-size
     visit-requires
     returns-3
     sub-rest
