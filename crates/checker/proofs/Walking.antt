@@ -87,19 +87,21 @@ module _ {s keys₀ next heads owed₀ : List ℕ} {last : ℕ} {keys owed : Lis
           ∙ ap (λ (x : ℕ). audit-parsed last (cut (h .size) (drop (8 * h .size) rest)) (visit last (read-block rest .serial) x (behind before keys owed))) (size-at 0 rest h f)
           ∙ ap (λ (b : Block). audit-parsed last (cut (h .size) (drop (8 * h .size) rest)) (visit last (b .serial) (8 * h .size) (behind before keys owed))) (block-at 0 rest h f)
 
-      module _ (q : h .back ≡ back) where
-        pub walking-fails : (8 ≤ 8 * h .size → visit last (h .serial) (8 * h .size) (behind before keys owed) ≡ none) → audit-parsed last (parse s) (some (begin keys₀ owed₀)) ≡ false
-        walking-fails w =
-            by-size
-            (λ p.
-            step p q ∙ ap (λ (t : Option State). audit-parsed last (cut (h .size) (drop (8 * h .size) rest)) t) (w (omega arith))
-            ∙ parsed-none last (cut (h .size) (drop (8 * h .size) rest)))
+      pub walking-fails : (8 ≤ 8 * h .size → visit last (h .serial) (8 * h .size) (behind before keys owed) ≡ none) → audit-parsed last (parse s) (some (begin keys₀ owed₀)) ≡ false
+      walking-fails w =
+          by-eq (h .back) back
+          (λ q.
+          by-size
+          (λ p.
+          step p q ∙ ap (λ (t : Option State). audit-parsed last (cut (h .size) (drop (8 * h .size) rest)) t) (w (omega arith))
+          ∙ parsed-none last (cut (h .size) (drop (8 * h .size) rest))))
+          (λ n. walking-back n)
 
-        pub walking-on : {keys′ owed′ : List ℕ} → Visited last (h .serial) (8 * h .size) before next heads keys owed true keys′ owed′
-            → {rest′ : List ℕ} → rest′ ≡ drop (8 * h .size) rest → Walking s keys₀ next heads owed₀ last keys′ owed′ (h .serial) (h .size) rest′
-        walking-on w p =
-            record {
-              inside = rw (p, length-drop (8 * h .size) rest) (omega (arith, g .inside));
-              ready = w .1;
-              same = rw p (step (omega (arith, w .0)) q ∙ ap (λ (t : Option State). audit-parsed last (cut (h .size) (drop (8 * h .size) rest)) t) (w .2));
-            }
+      pub walking-on : {keys′ owed′ : List ℕ} → Visited last (h .serial) (8 * h .size) before next heads keys owed true keys′ owed′
+          → h .back ≡ back → {rest′ : List ℕ} → rest′ ≡ drop (8 * h .size) rest → Walking s keys₀ next heads owed₀ last keys′ owed′ (h .serial) (h .size) rest′
+      walking-on w q p =
+          record {
+            inside = rw (p, length-drop (8 * h .size) rest) (omega (arith, g .inside));
+            ready = w .1;
+            same = rw p (step (omega (arith, w .0)) q ∙ ap (λ (t : Option State). audit-parsed last (cut (h .size) (drop (8 * h .size) rest)) t) (w .2));
+          }

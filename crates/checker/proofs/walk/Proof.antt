@@ -76,7 +76,7 @@ returns-3 : tie.Need-returns-3 Inv-loop μ-loop
 returns-3 c =
     let v = c .before in
     let h = header v in
-    sym (walking-fails (turn v .loop .inv) (read h) (h .before .loop-test .taken) (fitting v .if1 .left) (omega arith) (visited v false (not-true _ (c .if3 .taken))))
+    sym (walking-fails (turn v .loop .inv) (read h) (h .before .loop-test .taken) (fitting v .if1 .left) (visited v false (not-true _ (c .if3 .taken))))
 
 sub-rest : tie.Need-sub-rest Inv-loop μ-loop
 sub-rest c = fitting (c .before) .if1 .left
@@ -95,8 +95,8 @@ loop-again : tie.Need-loop-again Inv-loop μ-loop
 loop-again c =
     let v = c .before .before in
     let h = header v in
-    walking-on (turn v .loop .inv) (read h) (h .before .loop-test .taken) (fitting v .if1 .left) (omega arith)
-    (visited v true (not-false _ (c .before .if3 .left))) (part-to-end (bytes h) (8 * h .header-at .result .size))
+    walking-on (turn v .loop .inv) (read h) (h .before .loop-test .taken) (fitting v .if1 .left)
+    (visited v true (not-false _ (c .before .if3 .left))) (omega arith) (part-to-end (bytes h) (8 * h .header-at .result .size))
 
 returns-4 : tie.Need-returns-4 Inv-loop μ-loop
 returns-4 c =
