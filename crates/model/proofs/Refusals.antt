@@ -1,5 +1,5 @@
--- Refusals (document 01, "Refusal numbers, checked in this order"): a number is given exactly when its line holds and no earlier line of the
--- call does; the lines of each call are the table's column for it; and a refused call hands back what came in.
+-- Refusals (rules 7.2 and 7.5): a call is refused by a number exactly if that line of it holds and none in front does; which lines each call has;
+-- and a refused call hands back what came in.
 -- The search is by induction on the lines. Every call is `unless` over its lines, with an outcome that answers no refusal where none is due,
 -- so that what is shown of `unless` once holds of every call.
 -- Assumes nothing.
