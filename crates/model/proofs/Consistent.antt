@@ -27,7 +27,7 @@ use Rattle.model.specs.declared.Handle.{Handle}
 use Rattle.model.proofs.Bools.{and-left, and-right, and-both, or-cases, or-left, or-right, implies, implied, fails}
 use Rattle.model.proofs.Lists.{all-member, member-all, none-member, all-exactly, any-exactly, any-and, unrelated, unrelated-places, places-unrelated}
 
--- the seven tests, in the paragraph's order
+-- the seven tests, for rules 5.2 to 5.8 in their order
 pub record Tests (bs : List Block) (k : Accounts) : Type 0 where
   pub cut : well-cut bs ≡ true
   pub differ : serials-differ (objects bs) ≡ true
@@ -37,7 +37,7 @@ pub record Tests (bs : List Block) (k : Accounts) : Type 0 where
   pub recorded : all (λ o. held (k .holds) (o .serial)) (objects bs) ≡ true
   pub balance : balanced-from (objects bs) (k .holds) 0 (k .quotas) ≡ true
 
--- what a used record has: a live object's serial, a quota below 8 and a count of at least 1
+-- rule 5.5, of one record: the serial is a live object's, the quota exists, and the count is not 0
 abbrev pub Valid : List Handle → Hold → Type 0
 Valid os h = (o : Handle) × (List·Memᴰ o os) × (o .serial ≡ h .serial) × (h .quota < QUOTAS) × (1 ≤ h .count)
 

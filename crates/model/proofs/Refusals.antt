@@ -75,7 +75,7 @@ unfolding line-1 line-2 line-3 line-4 line-5 line-6 line-7 line-8 line-9 line-10
 tables = tt
 
 module _ (unit : ℕ → ℕ) (s : List ℕ) (k : Accounts) (q : ℕ) (h : Handle) (n : ℕ) where
-  -- the table's column "which calls", read by calls
+  -- rule 7.2: the lines of each call
   pub columns : (map line-number (open-lines s) ≡ 1 ∷ [])
       × (map line-number (check-lines s k) ≡ 1 ∷ 2 ∷ [])
       × (map line-number (quota-lines s k q) ≡ 1 ∷ 2 ∷ 3 ∷ [])
