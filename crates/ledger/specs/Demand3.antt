@@ -38,6 +38,10 @@ in-live-block i os = any (λ o. leb (o .base) (i + 8) && ltb i (o .base + o .len
 abbrev pub objects-in : Ledger → List Handle
 objects-in l = map (λ (e : Entry). e .object) (l .entries)
 
+-- some quota has a hold on the object with this serial
+abbrev pub HeldIn : ℕ → Ledger → Type 0
+HeldIn serial l = (e : Entry) × (q : ℕ) × List·Memᴰ e (l .entries) × (e .object .serial ≡ serial) × (0 < holds-of q e)
+
 -- "A suitable run is the bytes from b - 8 to b + object length, the request's as rounded, inside the heap, with b a multiple of the unit"
 pub record SuitableRun (unit : ℕ → ℕ) (s : List ℕ) (n b : ℕ) : Type 0 where
   pub low : 8 ≤ b
@@ -75,8 +79,9 @@ pub record Holds (unit : ℕ → ℕ) (run : Run) (grants : List ℕ) (front bac
   pub recorded-live : (o : Handle) → List·Memᴰ o (objects-in (ledger-of grants (back ++ front))) → List·Memᴰ o (objects-of s)
   pub live-once : serials-differ (objects-of s) ≡ true
   pub recorded-once : serials-differ (objects-in (ledger-of grants (back ++ front))) ≡ true
-  -- "Each stays, at its place and length, until each quota has dropped every hold that the ledger gives it"
-  pub stays : (o : Handle) → ((late early : List Event) → back ≡ late ++ early → List·Memᴰ o (objects-in (ledger-of grants (early ++ front)))) → List·Memᴰ o (objects-of s)
+  -- an object that the ledger had after the front, and whose serial some quota has held at every point since, is live, with the same base, length and serial
+  pub stays : (o : Handle) → List·Memᴰ o (objects-in (ledger-of grants front))
+      → ((late early : List Event) → back ≡ late ++ early → HeldIn (o .serial) (ledger-of grants (early ++ front))) → List·Memᴰ o (objects-of s)
   -- "They never overlap each other or a header": no two of them, at two places of the list, and none with a header, its own among them
   pub apart : (i j : ℕ) → i < j → j < length (objects-in (ledger-of grants (back ++ front)))
       → (at : ℕ) → Within at (getD (objects-in (ledger-of grants (back ++ front))) i zero-handle)
