@@ -4,6 +4,7 @@ pub mod Agreement
 pub mod Matching
 pub mod Places
 pub mod Writing
+pub mod LentParts
 pub mod Opening
 pub mod Steps
 pub mod Fields
