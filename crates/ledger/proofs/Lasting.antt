@@ -1,6 +1,6 @@
--- An object stays while its serial is held. A change of holds keeps each entry's object, and the only object that a call adds has the serial after
--- the last one, which is above every live one. So an entry that has the object's serial after a call had it before, and serials differ: it is the
--- object's own.
+-- Rule 10.5: an object stays while its serial is held. A change of holds keeps each entry's object, and the only object that a call adds has the
+-- serial after the last one, which is above every live one. So an entry that has the object's serial after a call had it before, and serials
+-- differ: it is the object's own.
 -- Assumes nothing.
 use Prim.Native.Nat.{ℕ, zero, suc, _+_, _-_, _*_}
 use native.Mathlib.Omega.{arith}

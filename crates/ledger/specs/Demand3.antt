@@ -79,7 +79,8 @@ pub record Holds (unit : ℕ → ℕ) (run : Run) (grants : List ℕ) (front bac
   pub recorded-live : (o : Handle) → List·Memᴰ o (objects-in (ledger-of grants (back ++ front))) → List·Memᴰ o (objects-of s)
   pub live-once : serials-differ (objects-of s) ≡ true
   pub recorded-once : serials-differ (objects-in (ledger-of grants (back ++ front))) ≡ true
-  -- an object that the ledger had after the front, and whose serial some quota has held at every point since, is live, with the same base, length and serial
+  -- rule 10.5: an object that the ledger had after the front, and whose serial some quota has held at every point since, is live, with the same base,
+  -- length and serial
   pub stays : (o : Handle) → List·Memᴰ o (objects-in (ledger-of grants front))
       → ((late early : List Event) → back ≡ late ++ early → HeldIn (o .serial) (ledger-of grants (early ++ front))) → List·Memᴰ o (objects-of s)
   -- "They never overlap each other or a header": no two of them, at two places of the list, and none with a header, its own among them

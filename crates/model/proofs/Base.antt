@@ -209,7 +209,7 @@ bytes-suitable H bs n b s =
     let out = bytes-outside (b - 8) (b + n) 0 bs (omega arith) (λ i l h. s .clear i (omega arith) h) in
     rw (le-leb 8 b low, le-leb (b + n) H (s .high)) out
 
--- the whole of it, in the rules' terms: b may be the base of n bytes
+-- rule 8.6 as one law: b may be the base of n bytes
 pub record Possible (H : ℕ) (bs : List Block) (a n b : ℕ) : Type 0 where
   pub multiple : b % a ≡ 0
   pub suits : Suits H bs n b

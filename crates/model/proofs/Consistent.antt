@@ -312,7 +312,7 @@ consistent-apart s k e = and-right (all long-enough (blocks-of s)) _ (tests-exac
 pub consistent-facts : (s : List ℕ) (k : Accounts) → consistent s k ≡ true → Facts (blocks-of s) k
 consistent-facts s k e = facts-exactly (blocks-of s) k .0 (consistent-cut s k e .1)
 
--- the whole of it, in the rules' terms: the heap's bytes are blocks, each behind a header with its size, the size before it and its serial, to the heap's
+-- rules 5.1 to 5.8 as one law: the heap's bytes are blocks, each behind a header with its size, the size before it and its serial, to the heap's
 -- end; sizes are whole units and fit their fields; and the facts hold of these blocks and the accounts
 pub record Consistent (s : List ℕ) (k : Accounts) : Type 0 where
   pub blocks : List Block
