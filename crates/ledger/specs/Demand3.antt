@@ -38,6 +38,10 @@ in-live-block i os = any (λ o. leb (o .base) (i + 8) && ltb i (o .base + o .len
 abbrev pub objects-in : Ledger → List Handle
 objects-in l = map (λ (e : Entry). e .object) (l .entries)
 
+-- some quota has a hold on the object with this serial
+abbrev pub HeldIn : ℕ → Ledger → Type 0
+HeldIn serial l = (e : Entry) × (q : ℕ) × List·Memᴰ e (l .entries) × (e .object .serial ≡ serial) × (0 < holds-of q e)
+
 -- what rule 8.6 asks of a base b, for a request of n bytes
 pub record SuitableRun (unit : ℕ → ℕ) (s : List ℕ) (n b : ℕ) : Type 0 where
   pub low : 8 ≤ b
@@ -75,8 +79,10 @@ pub record Holds (unit : ℕ → ℕ) (run : Run) (grants : List ℕ) (front bac
   pub recorded-live : (o : Handle) → List·Memᴰ o (objects-in (ledger-of grants (back ++ front))) → List·Memᴰ o (objects-of s)
   pub live-once : serials-differ (objects-of s) ≡ true
   pub recorded-once : serials-differ (objects-in (ledger-of grants (back ++ front))) ≡ true
-  -- rule 10.5: an object of the ledger, after each event of the back, is live at the end
-  pub stays : (o : Handle) → ((late early : List Event) → back ≡ late ++ early → List·Memᴰ o (objects-in (ledger-of grants (early ++ front)))) → List·Memᴰ o (objects-of s)
+  -- rule 10.5: an object that the ledger had after the front, and whose serial some quota has held at every point since, is live, with the same base,
+  -- length and serial
+  pub stays : (o : Handle) → List·Memᴰ o (objects-in (ledger-of grants front))
+      → ((late early : List Event) → back ≡ late ++ early → HeldIn (o .serial) (ledger-of grants (early ++ front))) → List·Memᴰ o (objects-of s)
   -- rule 10.6: no two of them, at two places of the list, have a byte in common, nor has one with a header, its own among them
   pub apart : (i j : ℕ) → i < j → j < length (objects-in (ledger-of grants (back ++ front)))
       → (at : ℕ) → Within at (getD (objects-in (ledger-of grants (back ++ front))) i zero-handle)

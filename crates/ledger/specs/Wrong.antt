@@ -83,3 +83,9 @@ unfoldable pub invented-refund : Call → List ℕ → Accounts → Outcome
 invented-refund c s k =
     let t = step unit c s k in
     at-release (λ q h. record { heap = t .heap; accounts = refund q 1 (t .accounts); values = amount-of (t .values .amount + 1) }) c t
+
+-- it frees an object that is still held: the first release drops all of the quota's holds, and answers as a release does
+unfoldable pub frees-early : Call → List ℕ → Accounts → Outcome
+frees-early c s k =
+    let t = step unit c s k in
+    at-release (λ q h. (let u = step unit (FreeAll q) s k in record { heap = u .heap; accounts = u .accounts; values = t .values })) c t

@@ -18,7 +18,9 @@ use Rattle.accounts.specs.declared.Quota.{Quota}
 use Rattle.accounts.specs.declared.Hold.{Hold}
 use Rattle.accounts.specs.declared.Accounts.{Accounts}
 use Rattle.accounts.specs.Accounts.{QUOTAS, zero-quota, zero-hold, used, is-for}
-use Rattle.layout.specs.Blocks.{Block, size, live, parse}
+use Rattle.layout.specs.Bytes.{Octets}
+use Rattle.layout.specs.Blocks.{Block, size, live, render, parse, AllWritable}
+use Rattle.layout.proofs.Parse.{parse-is}
 use Rattle.model.specs.Lists.{all, any, or-else}
 use Rattle.model.specs.Answers.{zero-handle}
 use Rattle.model.specs.Objects.{objects, blocks-of}
@@ -309,3 +311,20 @@ consistent-apart s k e = and-right (all long-enough (blocks-of s)) _ (tests-exac
 
 pub consistent-facts : (s : List ℕ) (k : Accounts) → consistent s k ≡ true → Facts (blocks-of s) k
 consistent-facts s k e = facts-exactly (blocks-of s) k .0 (consistent-cut s k e .1)
+
+-- rules 5.1 to 5.8 as one law: the heap's bytes are blocks, each behind a header with its size, the size before it and its serial, to the heap's
+-- end; sizes are whole units and fit their fields; and the facts hold of these blocks and the accounts
+pub record Consistent (s : List ℕ) (k : Accounts) : Type 0 where
+  pub blocks : List Block
+  pub cut : render blocks ≡ s
+  pub writable : AllWritable blocks
+  pub facts : Facts blocks k
+
+pub consistent-is : (s : List ℕ) (k : Accounts) → Octets s → (consistent s k ≡ true) ↔ Consistent s k
+consistent-is s k o = (
+  λ e.
+      (let r = consistent-exactly s k .0 e in
+      let p = parse-is s (r .0) o .0 (r .1) in
+      record { blocks = r .0; cut = p .0; writable = p .1; facts = facts-exactly (r .0) k .0 (r .2) }),
+  λ c. consistent-exactly s k .1 (c .blocks, parse-is s (c .blocks) o .1 (c .cut, c .writable), facts-exactly (c .blocks) k .1 (c .facts)),
+)

@@ -131,7 +131,7 @@ unfolding all tables check
 check-by-lines s k = record { done = _; outcome = refl; accepts = refl; numbered = refl }
 
 -- what holds of the outcome that is due and of every refusal holds of `unless`
-unless-has : (P : Outcome → Type 0) (n : ℕ) (s : List ℕ) (k : Accounts) (done : Outcome) → P done
+pub unless-has : (P : Outcome → Type 0) (n : ℕ) (s : List ℕ) (k : Accounts) (done : Outcome) → P done
     → ((m : ℕ) → P (unchanged s k (refused (suc m)))) → P (unless n s k done)
 unfolding unless
 unless-has P zero s k done d r = d
