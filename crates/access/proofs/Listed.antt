@@ -23,7 +23,7 @@ use Rattle.model.proofs.Consistent.{blocks-parsed}
 use Rattle.model.proofs.Listing.{listed-at, block-at, block-at-from, list-block-step, walk-on, walk, walk-all}
 use Rattle.finder.proofs.Parsed.{met-of, met-parsed, total-parsed}
 use Rattle.access.specs.Results.{outcome}
-use Rattle.access.specs.Listing.{starts-at, answered, find-block, place-after}
+use Rattle.access.specs.Listing.{starts-at, answered, find-block, place-after, Stepped}
 
 -- among the blocks from a place on
 listing-met : (at from back : ℕ) (bs : List Block) → block-values (answered (first (starts-at at) (met-of from back bs))) ≡ listed (block-at-from from bs at)
@@ -86,15 +86,15 @@ module _ (s : List ℕ) (k : Accounts) (at : ℕ) (r : BlockAnswer) (told : outc
   given-block : list-block s k at .values .block ≡ block-values r .block
   given-block = sym (ap (λ (o : Outcome). o .values .block) told)
 
-  pub after-some : (b : ListedBlock) → r ≡ Listed b → (b .offset + b .size ≤ length s) × (b .offset + b .size ≡ place-after s k at)
+  pub after-some : (b : ListedBlock) → r ≡ Listed b → (b .offset + b .size ≤ length s) × Stepped s k at (Listed b) (b .offset + b .size)
   unfolding block-values place-after
   after-some b e =
       let g : list-block s k at .values .block ≡ some b = given-block ∙ ap (λ (x : BlockAnswer). block-values x .block) e in
-      (given-inside s k at b g, rw g)
+      (given-inside s k at b g, (rw e at told, rw g))
 
-  pub after-none : block-values r .block ≡ none → at ≡ place-after s k at
+  pub after-none : block-values r .block ≡ none → Stepped s k at r at
   unfolding place-after
-  after-none e = rw (given-block, e)
+  after-none e = (told, rw (given-block, e))
 
 -- the blocks that a walker gives from a place on, each step from where the last one left it, until none is given; at most `fuel` blocks
 unfoldable pub given-on : Option ListedBlock → List ListedBlock → List ListedBlock

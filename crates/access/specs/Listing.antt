@@ -1,17 +1,20 @@
 -- The listing's walk, on any bytes: the first block that the walk meets at a place.
 use Prim.Native.Nat.{ℕ, _+_}
+use mathlib.Core.Path.{_≡_}
 use mathlib.Core.List.{List}
 use mathlib.Core.Bool.{Bool}
 use mathlib.Core.Option.{Option, none, some}
 use lib.Dec.{eqb}
 use Rattle.accounts.specs.declared.Accounts.{Accounts}
 use Rattle.model.specs.Lists.{first}
+use Rattle.model.specs.Answers.{block-values}
 use Rattle.model.specs.Calls.{list-block}
 use Rattle.model.specs.declared.ListedBlock.{ListedBlock}
 use Rattle.model.specs.declared.BlockAnswer.{BlockAnswer}
 use Rattle.model.specs.declared.BlockAnswer.the-variants.{Listed, NoBlock}
 use Rattle.finder.specs.declared.Met.{Met}
 use Rattle.finder.specs.Walk.{met}
+use Rattle.access.specs.Results.{outcome}
 
 -- a block that was met starts at a place
 abbrev pub starts-at : ℕ → Met → Bool
@@ -36,3 +39,7 @@ end-of at (some b) = b .offset + b .size
 -- the place behind the block that the listing gives at a place
 unfoldable pub place-after : List ℕ → Accounts → ℕ → ℕ
 place-after s k at = end-of at (list-block s k at .values .block)
+
+-- a step from a place gives the listing's answer there, and the place behind
+abbrev pub Stepped : List ℕ → Accounts → ℕ → BlockAnswer → ℕ → Type 0
+Stepped s k at answer after = (outcome s k (block-values answer) ≡ list-block s k at) × (after ≡ place-after s k at)
