@@ -162,6 +162,9 @@ module _ {M : Type 1} (𝓤 : URA M) (H : Heap 𝓤) (A : Atoms 𝓤) (W : Given
   next-said : (r : Walker) (t : Step) → ent 𝓤 (ensured 𝓤 H A next.ended (next.clauses 𝓤 H A mem run) (κ, tt) (r, (b, tt)) tt t) (fact 𝓤 (Moved r t))
   next-said r t = exE 𝓤 _ (λ ws. snd∗ 𝓤 (sem 𝓤 H A (lasts next.ended (κ, tt) (r, (b, tt)) ws)) (fact 𝓤 (Moved r t)))
 
+  answer-is : (t : Step) (u : Val) → Is (BZ (κ, tt)) t (u ∷ []) → Is S.the-row (t .answer) (EL.vals S.the-type S′.the-laws (t .answer))
+  answer-is t u is = LL.owed (Z.the-type αᵉ) (Z′.the-laws αᵉ) t _ is .1 .1 .0
+
   exits : (t : BlockAnswer) → Is S.the-row t (EL.vals S.the-type S′.the-laws t) → Says t
       → ent 𝓤 (⋆ 𝓤 H A ((‵ (flft κ q) ⊛ ‵ ftrue) ∷ (‵ Own ⊛ ‵ OwnK) ∷ [])) (Post (EL.val S.the-type S′.the-laws t))
   exits t answers e =
@@ -205,15 +208,14 @@ module _ {M : Type 1} (𝓤 : URA M) (H : Heap 𝓤) (A : Atoms 𝓤) (W : Given
         split ! $ move ! (1 ∷ []) $ use1 W (raw (fact 𝓤 (Moved r t))) (next-said r t) $ heard ! (Moved r t) (λ e′. split ! $ move ! (1 ∷ []) $
         -- [what the step owns; the token; what s and the accounts own; _5; …; room for _4; …; _3; …; _2; …; _1; …; room for _0; …]
         peeks ! (BZ (κ, tt)) (Is (BZ (κ, tt))) (shows 𝓤 H A (BZ (κ, tt))) t (u′ ∷ []) (λ is′.
-        let answers = LL.owed (Z.the-type αᵉ) (Z′.the-laws αᵉ) t _ is′ .1 .1 .0 in
         land ! (from ! (stop !)) (init ! 5 refl (LL.lawful (Z.the-type αᵉ) (Z′.the-laws αᵉ) 𝓤 H A W .typed t _ is′ .0)) $
         rewrite ! 5 (λ (x : Val). ‵ (fat fullShare (Z′.mir erased) l₄ 0 x)) (ap only (LL.tells (Z.the-type αᵉ) (Z′.the-laws αᵉ) t _ is′)) refl $
         assigns ! (of-opd ! (load ! (from ! (fld ! refl (stop !))) (look-in ! 5 (sub ! 2 refl (whole !))))) (from ! (stop !))
-        (init ! 13 refl (EL.lawful S.the-type S′.the-laws 𝓤 H A W tt .typed (t .answer) _ answers .0)) $
+        (init ! 13 refl (EL.lawful S.the-type S′.the-laws 𝓤 H A W tt .typed (t .answer) _ (answer-is t u′ is′) .0)) $
         returns ! (look ! 13 refl) $ forget ! 3 refl $ forget ! 5 refl $ forget ! 7 refl $ forget ! 9 refl $ forget ! 11 refl $ forget ! 13 refl $
         move ! (13 ∷ 14 ∷ []) $ free1 ! $ move ! (11 ∷ 12 ∷ []) $ free1 ! $ move ! (9 ∷ 10 ∷ []) $ free1 ! $
         move ! (7 ∷ 8 ∷ []) $ free1 ! $ move ! (5 ∷ 6 ∷ []) $ free1 ! $ move ! (3 ∷ 4 ∷ []) $ free1 ! $ free0 ! $
-        drop ! $ by ! (exits (t .answer) answers (rw (e .0, e .1) at (e′ .1 .0)))))))))))))))))
+        drop ! $ by ! (exits (t .answer) (answer-is t u′ is′) (rw (e .0, e .1) at (e′ .1 .0)))))))))))))))))
 
 module _ {M : Type 1} (𝓤 : URA M) (H : Heap 𝓤) (A : Atoms 𝓤) (W : Given 𝓤 H A) (mem : Memory → SProp 𝓤) (run : Routine → Fun 𝓤) where
   first-walks : (C : Calls 𝓤 H) (Λ : Loops 𝓤 H) → FmC 𝓤 H (W .laws) C
@@ -229,9 +231,10 @@ first-meets : {M : Type 1} (𝓤 : URA M) (H : Heap 𝓤) (A : Atoms 𝓤) (W : 
     → Triple 𝓤 (𝓣 .C #walker·place) (Place 𝓤 H A mem run) → Triple 𝓤 (𝓣 .C #walker·next) (Next 𝓤 H A mem run)
     → Meets 𝓤 H A first.signature (WpFn 𝓤 H (𝓣 .C) (𝓣 .Λ) code.function) (first.spec 𝓤 H A mem run)
 first-meets 𝓤 H A W mem run 𝓣 known-place known-next =
-    walk-meets 𝓤 H A first.ended stayed W
-    (goes-none-slice 𝓤 H A W 1 (0 ∷ []) tt (plain (λ _. u8)) yes,
-    (goes-none 𝓤 H A W 1 (λ _. K.the-row) yes (λ κs x f. refl), (goes-none 𝓤 H A W 1 (λ _. usize) yes (λ κs x f. refl), tt)))
+    walk-meets 𝓤 H A first.ended stayed W (
+      goes-none-slice 𝓤 H A W 1 (0 ∷ []) tt (plain (λ _. u8)) yes,
+      (goes-none 𝓤 H A W 1 (λ _. K.the-row) yes (λ κs x f. refl), (goes-none 𝓤 H A W 1 (λ _. usize) yes (λ κs x f. refl), tt)),
+    )
     (first.clauses 𝓤 H A mem run) (WpFn 𝓤 H (𝓣 .C) (𝓣 .Λ) code.function) (WpFn-mono 𝓤 H (W .laws) 𝓣 code.function)
     (first-walks 𝓤 H A W mem run (𝓣 .C) (𝓣 .Λ) (fmOf 𝓤 H (W .laws) 𝓣) known-place known-next)
 

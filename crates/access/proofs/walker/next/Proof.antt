@@ -170,9 +170,21 @@ module _ {M : Type 1} (𝓤 : URA M) (H : Heap 𝓤) (A : Atoms 𝓤) (W : Given
   said : (r : Found) → ent 𝓤 (ensured 𝓤 H A step.ended (step.clauses 𝓤 H A mem run) (κ, tt) (d .heap, (b, (d .at, tt))) tt r) (fact 𝓤 (Says r))
   said r = exE 𝓤 _ (λ ws. snd∗ 𝓤 (sem 𝓤 H A (lasts step.ended (κ, tt) (d .heap, (b, (d .at, tt))) ws)) (fact 𝓤 (Says r)))
 
-  exits : (r : Found) → Is S.the-row (r .answer) (EL.vals S.the-type S′.the-laws (r .answer)) → r .at < 2 ^ 64 → Says r
+  -- what the callee gives has an answer and a place, and so the result has its type
+  answer-is : (r : Found) (u : Val) → Is G.the-row r (u ∷ []) → Is S.the-row (r .answer) (EL.vals S.the-type S′.the-laws (r .answer))
+  answer-is r u is = LL.owed G.the-type G′.the-laws r _ is .0
+
+  place-is : (r : Found) (u : Val) → Is G.the-row r (u ∷ []) → Is usize (r .at) (vint w64 (r .at) ∷ [])
+  place-is r u is = LL.owed G.the-type G′.the-laws r _ is .1 .0
+
+  made-typed : (r : Found) (u : Val) → Is (B (κ, tt)) d (mach ∷ []) → Is G.the-row r (u ∷ [])
+      → Holds (hasTy (Z′.mir (named 0)) (LL.val E LE (made r))) × WT (LL.val E LE (made r))
+  made-typed r u p is =
+      LL.lawful E LE 𝓤 H A W .typed (made r) _ (LL.owes E LE (made r) (LL.owed D L d _ p .0, (place-is r u is, (answer-is r u is, tt)))) .0
+
+  exits : (r : Found) (u : Val) → Is G.the-row r (u ∷ []) → Says r
       → ent 𝓤 (⋆ 𝓤 H A ((‵ (flft κ q) ⊛ ‵ ftrue) ∷ (‵ Own ⊛ ‵ OwnK) ∷ [])) (Post (LL.val E LE (made r)))
-  exits r answers fits e =
+  exits r u is e =
       qed W ((‵ (flft κ q) ⊛ ‵ ftrue) ∷ (‵ Own ⊛ ‵ OwnK) ∷ []) ∵
       suffices ! _ (ends-at 𝓤 H A next.ended stayed (next.clauses 𝓤 H A mem run) W (((κ, tt), (q, tt), tt, (d, (b, tt)), at), tt)
       (LL.val E LE (made r)) (made r) (tt, (tt, tt)) (tt, (tt, tt))) $ says ! (refl, e) $
@@ -181,15 +193,14 @@ module _ {M : Type 1} (𝓤 : URA M) (H : Heap 𝓤) (A : Atoms 𝓤) (W : Given
       nothing ! $ move ! (3 ∷ 0 ∷ []) $ fjoin ! $ move ! (1 ∷ 0 ∷ []) $ fjoin ! $ frame ! $
       -- [what the struct owns]: what heap owns, the place's facts and the answer's are what the result owns
       use1 W (‵ (ownAt (D .parts) L 0 (d .heap))) heap-out $
-      nothing ! $ owned ! S.the-row (Is S.the-row) (EL.makes S.the-type S′.the-plain 𝓤 H A) (r .answer) _ answers $ fjoin ! $
-      owned ! usize (Is usize) (uint-makes 𝓤 H A W w64) (r .at) _ (refl, fits) $ fjoin ! $ move ! (1 ∷ 0 ∷ []) $ fjoin ! $
+      nothing ! $ owned ! S.the-row (Is S.the-row) (EL.makes S.the-type S′.the-plain 𝓤 H A) (r .answer) _ (answer-is r u is) $ fjoin ! $
+      owned ! usize (Is usize) (uint-makes 𝓤 H A W w64) (r .at) _ (place-is r u is) $ fjoin ! $ move ! (1 ∷ 0 ∷ []) $ fjoin ! $
       by ! (own-shut 𝓤 H A W E LE (d .heap, (r .at, (r .answer, tt))))
 
   module _ (C : Calls 𝓤 H) (Λ : Loops 𝓤 H) (fm : FmC 𝓤 H (W .laws) C) (known : Triple 𝓤 (C #walker·step-from) (StepFrom 𝓤 H A mem run)) where
-    walk : Is (B (κ, tt)) d (mach ∷ []) → Holds (hasTy K′.mir accounts) × WT accounts
+    walk : Is (B (κ, tt)) d (mach ∷ []) → Holds (hasTy (T′.mir (named 0)) mach) × WT mach → Holds (hasTy K′.mir accounts) × WT accounts
         → ent 𝓤 (onEntry 𝓤 H A next.signature (κ, tt) (q, tt) (d, (b, tt)) at) (WpFn 𝓤 H C Λ code.function (mach ∷ accounts ∷ []) Post)
-    walk p wb =
-        let wt = LL.lawful D L 𝓤 H A W .typed d _ p .0 in
+    walk p wt wb =
         qed W (raw (onEntry 𝓤 H A next.signature (κ, tt) (q, tt) (d, (b, tt)) at) ∷ []) ∵ enter ! C Λ code.function (mach ∷ accounts ∷ []) _ $
         alloc1 ! (λ l₀. alloc1 ! (λ l₁. alloc1 ! (λ l₂. alloc1 ! (λ l₃. alloc1 ! (λ l₄. alloc1 ! (λ l₅. alloc1 ! (λ l₆. alloc0 ! $
         params1 ! $ pass1 ! (init ! 10 refl wt) $ pass1 ! (init ! 8 refl wb) $ pass0 ! $
@@ -204,19 +215,17 @@ module _ {M : Type 1} (𝓤 : URA M) (H : Heap 𝓤) (A : Atoms 𝓤) (W : Given
         split ! $ move ! (1 ∷ []) $ use1 W (raw (fact 𝓤 (Says r))) (said r) $ heard ! (Says r) (λ e. split ! $ move ! (1 ∷ []) $
         -- [what the callee gives; the token; what the struct and the accounts own; _6; …; _5; …; _4; …; _3; …; _2; …; _1; …; room for _0; …]
         peeks ! G.the-row (Is G.the-row) (shows 𝓤 H A G.the-row) r (u ∷ []) (λ is.
-        let fields = LL.owed G.the-type G′.the-laws r _ is in
-        let is-made : Is (Z.the-row (namedLft 1 0 tt (κ, tt))) (made r) (LL.vals E LE (made r)) = LL.owes E LE (made r) (LL.owed D L d _ p .0, (fields .1 .0, (fields .0, tt))) in
         land ! (from ! (stop !)) (init ! 9 refl (LL.lawful G.the-type G′.the-laws 𝓤 H A W .typed r _ is .0)) $
         rewrite ! 9 (λ (x : Val). ‵ (fat fullShare G′.mir l₃ 0 x)) (ap only (LL.tells G.the-type G′.the-laws r _ is)) refl $
         assigns ! (of-opd ! (load ! (from ! (fld ! refl (stop !))) (look-in ! 13 (sub ! 0 refl (whole !))))) (from ! (stop !)) (init ! 3 refl (tt, wt .1 .0)) $
         assigns ! (agg ! (and-then ! (load ! (from ! (stop !)) (look ! 3 refl))
         (and-then ! (load ! (from ! (fld ! refl (stop !))) (look-in ! 9 (sub ! 1 refl (whole !))))
         (and-then ! (load ! (from ! (fld ! refl (stop !))) (look-in ! 9 (sub ! 0 refl (whole !)))) (no-more !)))))
-        (from ! (stop !)) (init ! 15 refl (LL.lawful E LE 𝓤 H A W .typed (made r) _ is-made .0)) $
+        (from ! (stop !)) (init ! 15 refl (made-typed r u p is)) $
         returns ! (look ! 15 refl) $ forget ! 3 refl $ forget ! 5 refl $ forget ! 7 refl $ forget ! 9 refl $ forget ! 11 refl $ forget ! 13 refl $ forget ! 15 refl $
         move ! (15 ∷ 16 ∷ []) $ free1 ! $ move ! (13 ∷ 14 ∷ []) $ free1 ! $ move ! (11 ∷ 12 ∷ []) $ free1 ! $ move ! (9 ∷ 10 ∷ []) $ free1 ! $
         move ! (7 ∷ 8 ∷ []) $ free1 ! $ move ! (5 ∷ 6 ∷ []) $ free1 ! $ move ! (3 ∷ 4 ∷ []) $ free1 ! $ free0 ! $
-        drop ! $ by ! (exits r (fields .0) (fields .1 .0 .1) e))))))))))))
+        drop ! $ by ! (exits r u is e))))))))))))
 
 module _ {M : Type 1} (𝓤 : URA M) (H : Heap 𝓤) (A : Atoms 𝓤) (W : Given 𝓤 H A) (mem : Memory → SProp 𝓤) (run : Routine → Fun 𝓤) where
   next-walks : (C : Calls 𝓤 H) (Λ : Loops 𝓤 H) → FmC 𝓤 H (W .laws) C → Triple 𝓤 (C #walker·step-from) (StepFrom 𝓤 H A mem run)
@@ -225,7 +234,8 @@ module _ {M : Type 1} (𝓤 : URA M) (H : Heap 𝓤) (A : Atoms 𝓤) (W : Given
       (λ κs. (LL.vals (T.the-type (namedLft 1 0 tt κs)) (T′.the-laws (namedLft 1 0 tt κs)), (LL.vals K.the-type K′.the-laws, tt)))
       (λ κs. (LL.tells (T.the-type (namedLft 1 0 tt κs)) (T′.the-laws (namedLft 1 0 tt κs)), (LL.tells K.the-type K′.the-laws, tt)))
       (λ κs qs bounds a g are. via 𝓤 _ (fst∗ 𝓤 _ (emp 𝓤)) (walk 𝓤 H A W mem run (κs .0) (qs .0) (a .0) (a .1 .0) C Λ fm known
-      (are .0) (LL.lawful K.the-type K′.the-laws 𝓤 H A W .typed (a .1 .0) _ (are .1 .0) .0)))
+      (are .0) (LL.lawful (T.the-type (namedLft 1 0 tt κs)) (T′.the-laws (namedLft 1 0 tt κs)) 𝓤 H A W .typed (a .0) _ (are .0) .0)
+      (LL.lawful K.the-type K′.the-laws 𝓤 H A W .typed (a .1 .0) _ (are .1 .0) .0)))
 
 next-meets : {M : Type 1} (𝓤 : URA M) (H : Heap 𝓤) (A : Atoms 𝓤) (W : Given 𝓤 H A) (mem : Memory → SProp 𝓤) (run : Routine → Fun 𝓤) (𝓣 : Tables 𝓤 H)
     → Triple 𝓤 (𝓣 .C #walker·step-from) (StepFrom 𝓤 H A mem run)
