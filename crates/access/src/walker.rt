@@ -41,13 +41,6 @@ fn step_from(heap: &[u8], accounts: Accounts, at: usize) -> Given
     }
 }
 
-// A walker at a place.
-fn place<'a>(heap: &'a [u8], at: usize) -> Walker<'a>
-    ensures { λ r. ⌜ (r .heap ≡ heap .entry) × (r .at ≡ at) ⌝ }
-{
-    Walker { heap, at }
-}
-
 // A walker at the first block.
 pub fn walk<'a>(heap: &'a [u8]) -> Walker<'a>
     ensures { λ r. ⌜ (r .heap ≡ heap .entry) × (r .at ≡ 0) ⌝ }
@@ -71,5 +64,5 @@ pub fn next<'a>(walker: Walker<'a>, accounts: Accounts) -> Step<'a>
 pub fn list_from(heap: &[u8], accounts: Accounts, at: usize) -> BlockAnswer
     ensures { λ r. ⌜ outcome (now (heap .entry)) accounts (block-values r) ≡ list-block (now (heap .entry)) accounts at ⌝ }
 {
-    next(place(heap, at), accounts).answer
+    next(Walker { heap, at }, accounts).answer
 }
