@@ -93,7 +93,7 @@ pub fn perform(heap: &mut [u8], accounts: Accounts, call: Call) -> Performed
         Call::ListBlock { at } => {
             unchanged(
                 accounts,
-                Answer::Block(access::list_block(heap, accounts, at)),
+                Answer::Block(access::list_from(heap, accounts, at)),
             )
         }
     }

@@ -26,7 +26,7 @@ fn put_blocks(heap: &[u8], accounts: Accounts, output: &mut [u8], at: usize) -> 
     let mut place: usize = 0;
     let mut next = at;
     loop {
-        let BlockAnswer::Listed(block) = heap::list_block(heap, accounts, place) else {
+        let BlockAnswer::Listed(block) = heap::list_from(heap, accounts, place) else {
             return next;
         };
         next = answers::put_block(output, next, block);

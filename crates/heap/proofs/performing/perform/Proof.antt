@@ -94,8 +94,8 @@ unchanged-requires-3 c κs = search needs
 enum-known-call-10 : tie.Need-enum-known-call-10
 enum-known-call-10 c = search needs
 
-list-block-requires : tie.Need-list-block-requires
-list-block-requires c κs = search needs
+list-from-requires : tie.Need-list-from-requires
+list-from-requires c κs = search needs
 
 unchanged-requires-4 : tie.Need-unchanged-requires-4
 unchanged-requires-4 c κs = search needs
@@ -188,7 +188,7 @@ returns-10 : tie.Need-returns-10
 unfolding step answer-values
 returns-10 c =
     let a = c .before .before .before .before .before .before .before .args in
-    by-answer _ _ _ _ _ _ (c .unchanged4 .ensures) refl (c .before .list-block .ensures) ∙ sym (ap (λ (x : Call). step unit x (a .heap .now) (a .accounts)) (c .before .before .before .before .call10 .given .1))
+    by-answer _ _ _ _ _ _ (c .unchanged4 .ensures) refl (c .before .list-from .ensures) ∙ sym (ap (λ (x : Call). step unit x (a .heap .now) (a .accounts)) (c .before .before .before .before .call10 .given .1))
 
 pub perform-spec : {M : Type 1} → statement M
 perform-spec =
@@ -222,7 +222,7 @@ perform-spec =
     can-release-requires
     unchanged-requires-3
     enum-known-call-10
-    list-block-requires
+    list-from-requires
     unchanged-requires-4
     same-length
     returns
