@@ -1,8 +1,8 @@
 /*
  * Lokhazim: a heap that parts of a firmware share without trusting each other.
  *
- * Each part has a quota. An object's length is the request rounded up to a
- * multiple of 8, from 8,192 on of 16, from 16,384 on of 32; it costs that plus
+ * Each part has a quota. A request is rounded up: to a multiple of 8, from 8,192
+ * on of 16, from 16,384 on of 32. An object costs its rounded length plus
  * LOKHAZIM_HEADER, and a part may hold an object that another part made. Every
  * call but open checks the whole heap and its accounts for itself, on any bytes
  * and any numbers. A call answers, or gives one of eleven refusals and changes

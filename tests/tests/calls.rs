@@ -14,7 +14,7 @@ use lokhazim_tests::unsound;
 const SEED: u64 = 20_260_102;
 
 /// The least number of calls of each test: histories from an opening in two tests, histories from
-/// a sound state, damage alone, damage together, noise, and heap lengths.
+/// a consistent state, damage alone, damage together, noise, and heap lengths.
 const HISTORIES: u64 = 60_000;
 const SOUND_STATES: u64 = 80_000;
 const ALONE: u64 = 40_000;

@@ -1,4 +1,4 @@
-// The listing: the block that starts at a place, found by the walk from offset 0.
+// The listing (rules 8.32 and 8.33): the block that starts at a place, found by the walk from offset 0.
 use accounts::Accounts;
 use layout::Start;
 use model::BlockAnswer;

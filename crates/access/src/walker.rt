@@ -1,4 +1,4 @@
-// A walker over the heap's blocks: it holds the heap and a place, and gives the blocks in order.
+// A walker over the heap's blocks (rule 8.34): it has the heap and a place, and its steps give the blocks in order.
 use crate::listing::list_block;
 use accounts::Accounts;
 use model::BlockAnswer;

@@ -1,4 +1,4 @@
-// The accounting state of a shared heap: quotas and hold records, a state that goes in by value and comes back changed.
+// The accounts of a shared heap: quotas, the last serial and hold records, taken by value and given back by value (rules, section 3).
 ghost use mathlib.Core.Path.{_≡_};
 ghost use Rattle.accounts.specs.Accounts.{zero-hold, zero-accounts, charged, refunded, used, is-for, dropped, opened, remaining, spent, charge, refund, with-holds, with-last-serial};
 ghost use Rattle.accounts.specs.Accounts.{find-hold, lowest-unused, hold-at, put-hold, drop-hold, drop-records};
@@ -16,7 +16,7 @@ pub struct Quota {
     pub remainder: u32,
 }
 
-// A hold record: how often a quota holds the object with a serial. An unused record is all zero.
+// A hold record: how often a quota holds the object with a serial (rule 3.4). An unused record is all zero.
 #[repr(C)]
 pub struct Hold {
     pub serial: u32,

@@ -1,6 +1,6 @@
--- Release among records and blocks: what one claim less leaves of the records, and so of the blocks.
+-- Release among records and blocks: what one hold less leaves of the records, and so of the blocks.
 -- Only the record at the place that was found changes. While its count is above 1 it stays a record of the same object, so every object is still
--- held. The last claim makes it zero, so every other object is still held, and the object is held exactly if some other record is for it. If none
+-- held. The last hold makes it zero, so every other object is still held, and the object is held exactly if some other record is for it. If none
 -- is, its block alone is vacated, since no other live block has its serial.
 -- Assumes nothing.
 use Prim.Native.Nat.{ℕ, zero, suc, _+_, _-_, _≤_, _<_, _^_}
@@ -53,7 +53,7 @@ any-set p [] i h e = refl
 any-set p (g ∷ hs) zero h e = rw e
 any-set p (g ∷ hs) (suc i) h e = rw (any-set p hs i h e)
 
--- one claim less of several is a record of the same object; the last one leaves none
+-- one hold less of several is a record of the same object; the last one leaves none
 pub fewer-of : (h : Hold) (t : ℕ) → 1 < h .count → is-of t (with-count (h .count - 1) h) ≡ is-of t h
 unfolding is-of used
 fewer-of h t l =
@@ -247,7 +247,7 @@ module _ (s : List ℕ) (k : Accounts) (o : Octets s) (ok : consistent s k ≡ t
         ap (λ (x : Accounts). outcome s (with-holds (set (k .holds) i w) x) (amount-of 0)) (sym (refund-nothing q k))
         ∙ dropped-is w (rw a) 0 (rw (counted, a)) s g
 
-    -- the last claim leaves the record unused
+    -- the last hold leaves the record unused
     pub left-holds : (n : ℕ) → drop-hold i (refund q n k) .holds ≡ set (k .holds) i zero-hold
     unfolding drop-hold put-hold
     left-holds n = ap (λ (l : List Hold). set l i zero-hold) (refund-kept q n k .same-holds)
@@ -270,14 +270,14 @@ module _ (s : List ℕ) (k : Accounts) (o : Octets s) (ok : consistent s k ≡ t
           let a = eq-eqb (hold-at i k .count - 1) 0 (omega arith) in
           ap (λ (x : Accounts). outcome s′ x (amount-of n)) (left-accounts n) ∙ dropped-is zero-hold (rw a) n (rw (counted, a)) s′ se
 
-      -- while another quota claims the object, no byte changes
+      -- while another quota holds the object, no byte changes
       pub still-held : held (drop-hold i (refund q (m .size - 8 + 8) k) .holds) (m .serial) ≡ true
           → outcome s (drop-hold i (refund q (m .size - 8 + 8) k)) (amount-of (m .size - 8 + 8)) ≡ claim-dropped s k q (object-met m)
       still-held y =
           let v : held (set (k .holds) i zero-hold) (m .serial) ≡ true = rw (left-holds (m .size - 8 + 8)) at y in
           last-outcome s (same-bytes (set (k .holds) i zero-hold) held-others v)
 
-      -- an object that no quota claims is freed
+      -- an object that no quota holds is freed
       pub no-longer-held : held (drop-hold i (refund q (m .size - 8 + 8) k) .holds) (m .serial) ≡ false
           → outcome (free-block m s) (drop-hold i (refund q (m .size - 8 + 8) k)) (amount-of (m .size - 8 + 8)) ≡ claim-dropped s k q (object-met m)
       no-longer-held y =

@@ -1,4 +1,4 @@
-// Allocation: the refusals in their order, then an object is cut out of a free block and its quota pays.
+// Allocation (rules 8.5 to 8.12): the refusals in their order, then an object is cut out of a free block and its quota pays.
 use crate::HandleResult;
 use accounts::Accounts;
 use accounts::Hold;
@@ -34,7 +34,7 @@ fn given(accounts: Accounts, base: usize, length: u32, serial: u32) -> HandleRes
     }
 }
 
-// The accounts after a quota has paid for a new object and holds it once.
+// Rules 8.9 and 8.10: the accounts after a quota has paid for a new object and holds it once.
 fn booked(accounts: Accounts, quota: u8, charge: u32, place: usize, serial: u32) -> Accounts
     ensures { λ r.
         ⌜ r ≡ charge-to quota charge (put-hold place (record { serial = serial; quota = quota; count = 1 }) (with-last-serial serial accounts)) ⌝ }
@@ -102,7 +102,7 @@ pub fn allocate(heap: &mut [u8], accounts: Accounts, quota: u32, length: u32) ->
     allocate_wide(heap, accounts, quota, length as u64)
 }
 
-// A new object for `count` elements of `size` bytes: as allocate, with the true product.
+// Rule 8.12: a new object for `count` elements of `size` bytes.
 pub fn allocate_array(
     heap: &mut [u8],
     accounts: Accounts,

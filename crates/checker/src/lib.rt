@@ -31,7 +31,7 @@ ghost use Rattle.checker.specs.Holders.{held-each, has-key, Chained};
 // The number of slots: so many that a chain is seldom longer than one record.
 const SLOTS: usize = 4 * HOLDS;
 
-// Whether a heap may have this length.
+// Rule 2.1: whether a heap may have this length.
 fn is_allowed(len: usize) -> bool
     ensures { λ r. ⌜ r ≡ allowed len ⌝ }
 {
@@ -341,7 +341,7 @@ fn walk(
     is_paid(owed)
 }
 
-// The verdict on a heap and its accounting state: refused for its length, refused as inconsistent, or accepted.
+// Rule 8.35, the verdict on a heap and its accounting state: refused for its length, refused as inconsistent, or accepted.
 pub fn check(heap: &[u8], accounts: Accounts) -> Verdict
     ensures { λ r. ⌜ verdict-values r ≡ check-of (now (heap .entry)) accounts .values ⌝ }
 {

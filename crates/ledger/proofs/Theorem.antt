@@ -1,5 +1,5 @@
--- Demand 3, entire: it holds of `step`, for every table of units.
--- Along a history ledger, heap and accounts agree: an opening does, and each call and each write keeps it. What the claim says of a history is what
+-- Demand 3 (rules 10.3 to 10.11), entire: it holds of `step`, for every table of units.
+-- Along a history ledger, heap and accounts agree: an opening does, and each call and each write keeps it. What demand 3 says of a history is what
 -- agreement says of its end.
 -- Assumes nothing.
 use Prim.Native.Nat.{ℕ, _<_}
@@ -76,7 +76,7 @@ module _ (unit : ℕ → ℕ) (units : Units unit) where
       (step-agrees unit units c (ledger-of grants es) (h .0) (h .1) (history-agrees grants es (h .0) (h .1) (h .2)))
   history-agrees grants (Wrote ∷ es) s k h = written-agrees (ledger-of grants es) (h .0) s k (history-agrees grants es (h .0) k (h .1)) (h .2)
 
-  -- what the claim says of a history is what agreement says of its end
+  -- what demand 3 says of a history is what agreement says of its end
   holds-after : (grants : List ℕ) (front back : List Event) (s : List ℕ) (k : Accounts) → ledger-of grants (back ++ front) .grants ≡ grants
       → Agrees (ledger-of grants (back ++ front)) s k → Holds unit (step unit) grants front back s k
   holds-after grants front back s k same a =
@@ -112,6 +112,6 @@ module _ (unit : ℕ → ℕ) (units : Units unit) where
             holds-after grants front back s k (ledger-grants grants (back ++ front)) (history-agrees grants (back ++ front) s k h);
       }
 
--- and so of document 01's table
+-- and so of the table of rule 6.1
 pub demand-3 : Demand3 unit (step unit)
 demand-3 = demand-3-of unit unit-is

@@ -1,4 +1,4 @@
--- Demand 3 does not hold of the wrong heaps: each is refuted by a short list of calls that is computed, at the field that document 01 names for it.
+-- Demand 3 does not hold of the wrong heaps: each is refuted by a short list of calls that is computed, at a field that rule 10.13 names for it.
 -- Assumes nothing.
 use Prim.Native.Nat.{ℕ, zero, suc, _-_, _<_, _^_}
 use native.Mathlib.Omega.{arith}

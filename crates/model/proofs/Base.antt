@@ -1,4 +1,4 @@
--- The base of a new object is document 01's: the lowest multiple of the alignment whose bytes lie in the heap outside every occupied block.
+-- The base of a new object is that of rule 8.6: the lowest multiple of the alignment whose bytes lie in the heap and in no occupied block.
 -- The search goes through the multiples in order, so what it finds passes and nothing before it does; it ends at H, and above H nothing fits.
 -- Two ranges of bytes that overlap share the later of their two starts, so comparing ends is the same as looking at every byte.
 -- Assumes nothing.
@@ -188,7 +188,7 @@ pub record Suits (H : ℕ) (bs : List Block) (n b : ℕ) : Type 0 where
   pub high : b + n ≤ H
   pub clear : (i : ℕ) → b ≤ i + 8 → i < b + n → in-occupied i 0 bs ≡ false
 
--- suitable is the paper's sentence, byte by byte
+-- suitable is the condition of rule 8.6, byte by byte
 pub suitable-bytes : (H : ℕ) (bs : List Block) (n b : ℕ) → suitable H bs n b ≡ true → Suits H bs n b
 unfolding suitable
 suitable-bytes H bs n b e =
@@ -200,7 +200,7 @@ suitable-bytes H bs n b e =
       clear = λ i l h. outside-bytes (b - 8) (b + n) 0 bs (and-right (leb (b + n) H) (outside-occupied (b - 8) (b + n) 0 bs) e₂) i (omega arith) h;
     }
 
--- and the sentence, byte by byte, is suitable
+-- and the condition, byte by byte, is suitable
 pub bytes-suitable : (H : ℕ) (bs : List Block) (n b : ℕ) → Suits H bs n b → suitable H bs n b ≡ true
 unfolding suitable
 bytes-suitable H bs n b s =

@@ -1,4 +1,4 @@
--- What a call answers: for each answer type, the paper's number and values of each of its cases.
+-- What a call answers: for each answer type, the refusal's number and the values of each of its cases (rules 7.1, 7.6 and 7.7).
 use Prim.Native.Nat.{ℕ}
 use mathlib.Core.Option.{Option, none, some}
 use Rattle.model.specs.declared.Handle.{Handle}
@@ -19,7 +19,7 @@ use Rattle.model.specs.declared.BlockAnswer.the-variants.{Listed, NoBloc
 use Rattle.model.specs.declared.Answer.{Answer}
 use Rattle.model.specs.declared.Answer.the-variants.{Verdict as OfVerdict, Handle as OfHandle, Amount as OfAmount, Range as OfRange, Block as OfBlock}
 
--- document 01, "Refusal numbers"
+-- rule 7.1
 abbrev pub refusal-number : Refusal → ℕ
 refusal-number HeapLength = 1
 refusal-number Inconsistent = 2
@@ -47,10 +47,11 @@ zero-handle = record { base = 0; length = 0; serial = 0 }
 abbrev pub zero-range : Range
 zero-range = record { start = 0; end = 0 }
 
--- a refused call hands back zeros and an empty part
+-- rule 7.6: a refused call hands back zeros and an empty range
 abbrev pub refused : ℕ → Values
 refused n = record { refusal = n; handle = zero-handle; amount = 0; range = zero-range; block = none }
 
+-- rule 7.7
 abbrev pub accepted : Values
 accepted = refused 0
 

@@ -1,4 +1,4 @@
--- Further runs that the definitions are held to: what document 01's marked run does not reach. That they give this is `proofs/Cases.antt`.
+-- Further runs that the definitions are held to, rules 12.3 to 12.7 among them: what the run M does not reach. That they give this is `proofs/Cases.antt`.
 use Prim.Native.Nat.{ℕ, _-_}
 use mathlib.Core.List.{List, [], _∷_, _++_}
 use mathlib.Core.Option.{none, some}

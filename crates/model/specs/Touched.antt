@@ -1,4 +1,4 @@
--- Which bytes of a heap the calls change; every other byte stays as it was (document 01, "bytes of the heap that no rule names stay as they were").
+-- Which bytes of a heap the calls change; every other byte keeps its value (rule 8.1).
 use Prim.Native.Nat.{ℕ, _+_, _-_, min}
 use mathlib.Core.List.{List, [], _∷_}
 use mathlib.Core.Bool.{Bool, false, not, cond, _&&_, _||_}

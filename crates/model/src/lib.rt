@@ -3,7 +3,7 @@ use accounts::Accounts;
 ghost use mathlib.Core.Path.{_≡_};
 ghost use Rattle.model.specs.Answers.{refusal-number};
 
-// An object's place, length and serial. It names an object where a live block's object has all three the same.
+// Base, length and serial. They name the object that has all three (rule 4.3).
 #[repr(C)]
 pub struct Handle {
     pub base: u32,
@@ -26,7 +26,7 @@ pub struct ListedBlock {
     pub serial: u32,
 }
 
-// The eleven refusals, in the order in which they are checked.
+// The eleven refusals, in the order in which they are checked (rule 7.1).
 pub enum Refusal {
     HeapLength,
     Inconsistent,

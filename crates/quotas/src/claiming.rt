@@ -16,7 +16,7 @@ ghost use Rattle.model.specs.Calls.{claim as claim-of};
 ghost use Rattle.quotas.specs.Results.{amount-outcome};
 ghost use Rattle.quotas.specs.Claims.{claim-again, claim-first};
 
-// The record at a place counts once more, at no charge.
+// Rule 8.13: the record at a place counts once more.
 fn claim_again(accounts: Accounts, at: usize, length: u32) -> AmountResult
     ensures { λ r. ⌜ r ≡ claim-again at length accounts ⌝ }
 {
@@ -35,7 +35,7 @@ fn claim_again(accounts: Accounts, at: usize, length: u32) -> AmountResult
     }
 }
 
-// The quota pays for an object of this length, and the lowest unused record becomes its hold.
+// Rule 8.14: the quota pays for an object of this length, and the lowest unused record becomes its hold.
 fn claim_first(accounts: Accounts, quota: u32, hold: Hold, length: u32) -> AmountResult
     requires { ⌜ (quota < QUOTAS) × (length ≤ 32760) ⌝ }
     ensures { λ r. ⌜ r ≡ claim-first quota hold length accounts ⌝ }
@@ -54,7 +54,7 @@ fn claim_first(accounts: Accounts, quota: u32, hold: Hold, length: u32) -> Amoun
     }
 }
 
-// A quota that has a record for the object raises its count; another pays and takes the lowest unused record. The answer is the object's length.
+// Rules 8.13 to 8.15: a quota holds an object once more, or pays and holds it for the first time. The answer is the object's length.
 pub fn claim(heap: &[u8], accounts: Accounts, quota: u32, handle: Handle) -> AmountResult
     ensures { λ r. ⌜ amount-outcome (now (heap .entry)) r ≡ claim-of (now (heap .entry)) accounts quota handle ⌝ }
 {

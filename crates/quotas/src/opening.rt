@@ -1,4 +1,4 @@
-// Opening a heap: its bytes are cleared, and its accounts begin.
+// Opening a heap (rules 8.2 to 8.4): its bytes are cleared, and its accounts begin.
 use crate::Opened;
 use accounts::Accounts;
 use accounts::QUOTAS;
@@ -26,7 +26,7 @@ fn is_allowed(len: usize) -> bool
     len <= 32768
 }
 
-// All bytes become zero, then the header of one block that covers the heap is written.
+// Rule 8.2: zeros everywhere, and at offset 0 the header of one free block.
 fn clear(heap: &mut [u8], len: usize)
     ensures { λ _.
         ⌜ now (heap .exit) ≡ write-header 0 (record { size = len / 8; back = 0; serial = 0 }) (zero-part 0 len (now (heap .entry))) ⌝ }

@@ -1,4 +1,4 @@
--- The table of units, computed at both ends of each row, with the object's lengths and source document 002's alignment there.
+-- The table of units, computed at both ends of each row, with the object's lengths and the hardware's alignment there (rules 6.1 to 6.4).
 -- Assumes nothing.
 use mathlib.Core.Path.{_≡_, refl}
 use mathlib.Core.List.{[], _∷_, map}
@@ -19,7 +19,7 @@ pub longer-rows : map (object-length unit) (8192 ∷ 8193 ∷ 16383 ∷ 16384 �
 unfolding unit object-length
 longer-rows = refl
 
--- source document 002's alignment at the ends of the rows from 4 KiB on
+-- the hardware's alignment at the ends of the rows from 4 KiB on
 pub formula-rows : map representable-alignment (4096 ∷ 8191 ∷ 8192 ∷ 16383 ∷ 16384 ∷ 32767 ∷ []) ≡ 8 ∷ 8 ∷ 16 ∷ 16 ∷ 32 ∷ 32 ∷ []
 unfolding leading-zeros exponent representable-alignment
 formula-rows = refl

@@ -1,4 +1,4 @@
-// Carving: an object is cut out of a free block, and what is left in front and behind becomes free blocks.
+// Carving (rules 8.7 and 8.8): an object is cut out of a free block, whose two ends stay free.
 use crate::writing::put_next;
 use crate::writing::put_object;
 use finder::Met;

@@ -1,4 +1,4 @@
-// Freeing: a live block becomes free and joins its free neighbours.
+// Freeing (rules 8.18 and 8.19): a live block becomes free and joins its free neighbours.
 use crate::writing::put_next;
 use crate::writing::put_object;
 use finder::Met;

@@ -1,4 +1,4 @@
--- `calls::drop_claim` meets its contract. The record is known by its place: a count above 1 goes down, and the last claim is refunded and makes the
+-- `calls::drop_claim` meets its contract. The record is known by its place: a count above 1 goes down, and the last hold is refunded and makes the
 -- record zero. The object is then freed exactly where no record is for it: its serial is not 0, so any record with that serial is used. The loop's
 -- invariant: no record before place `at` has the serial; the measure is what is left of the table. The block lies in the heap, so the charge is a small number.
 -- Assumes nothing.
