@@ -1,4 +1,5 @@
-// The calls that leave blocks and accounts as they are: remaining, can release, lend and the write of a byte, and the listing. Each checks heap and accounts for itself.
+// The calls that leave blocks and accounts as they are: remaining, can release, lend and the write of a byte, and the listing. Each checks heap and
+// accounts for itself.
 mod lending;
 mod listing;
 mod query;

@@ -104,8 +104,8 @@ fn is_inside(heap: &[u8], block: Met) -> bool
     front.free <= block.at
 }
 
-// A live block becomes free and joins its free neighbours, and the end of the free block that this makes is given; nothing is written, and 0 is given, where the block does not
-// lie in the heap.
+// A live block becomes free and joins its free neighbours, and the end of the free block that this makes is given; nothing is written, and 0 is given,
+// where the block does not lie in the heap.
 pub fn free_block(heap: &mut [u8], block: Met) -> usize
     ensures frees { λ _. ⌜ now (heap .exit) ≡ free-in block (now (heap .entry)) ⌝ }
     ensures ends { λ r. ⌜ r ≡ free-end-in block (now (heap .entry)) ⌝ }

@@ -1,5 +1,8 @@
--- `access::advance` meets its contract: a walk of its MIR, by hand. The struct is taken apart, `place_after` is called on the slice, the accounts and the number, and the struct is made anew with the place that it answers. All that the proof knows of `place_after` is that it meets its contract.
--- The struct and the accounts are Copy: what each owns is had twice. What heap owns, and what the accounts own, goes to the callee, beside the lifetime's token, which comes back. The copy that is kept is had twice again: for the exit, and, with the facts of the new place in the place of at's, for the result.
+-- `access::advance` meets its contract: a walk of its MIR, by hand. The struct is taken apart, `place_after` is called on the slice, the accounts and the
+-- number, and the struct is made anew with the place that it answers. All that the proof knows of `place_after` is that it meets its contract.
+-- The struct and the accounts are Copy: what each owns is had twice. What heap owns, and what the accounts own, goes to the callee, beside the lifetime's
+-- token, which comes back. The copy that is kept is had twice again: for the exit, and, with the facts of the new place in the place of at's, for the
+-- result.
 -- Assumes nothing.
 use mathlib.Core.Path.{_≡_, refl, ap}
 use Prim.Native.Nat.{ℕ, _<_, _^_}

@@ -1,5 +1,7 @@
--- `access::next` meets its contract: a walk of its MIR, by hand. The struct is taken apart, and `list_block` is called on the slice, the number and the accounts. All that the proof knows of `list_block` is that it meets its contract.
--- The struct and the accounts are Copy: what each owns is had twice, one copy is kept whole for the exit, and of the other what heap owns, and what the accounts own, goes to the callee, beside the lifetime's token, which comes back.
+-- `access::next` meets its contract: a walk of its MIR, by hand. The struct is taken apart, and `list_block` is called on the slice, the number and the
+-- accounts. All that the proof knows of `list_block` is that it meets its contract.
+-- The struct and the accounts are Copy: what each owns is had twice, one copy is kept whole for the exit, and of the other what heap owns, and what the
+-- accounts own, goes to the callee, beside the lifetime's token, which comes back.
 -- Assumes nothing.
 use mathlib.Core.Path.{_≡_, refl}
 use Prim.Native.Nat.{_<_, _^_}
