@@ -256,7 +256,7 @@ impl Accounts {
     }
 
     // Another record at a place; a place out of range changes nothing.
-    pub fn add_hold(mut self, at: usize, hold: Hold) -> Accounts
+    pub fn put_hold(mut self, at: usize, hold: Hold) -> Accounts
         ensures { λ r. ⌜ r ≡ put-hold at hold self ⌝ }
     {
         if at < HOLDS {
@@ -269,7 +269,7 @@ impl Accounts {
     pub fn drop_hold(self, at: usize) -> Accounts
         ensures { λ r. ⌜ r ≡ drop-hold at self ⌝ }
     {
-        self.add_hold(at, Hold::zero())
+        self.put_hold(at, Hold::zero())
     }
 
     // Every record of a quota becomes unused.

@@ -45,7 +45,7 @@ fn booked(accounts: Accounts, quota: u8, charge: u32, place: usize, serial: u32)
         count: 1,
     };
     let numbered = accounts.with_last_serial(serial);
-    let held = numbered.add_hold(place, hold);
+    let held = numbered.put_hold(place, hold);
     held.charge(quota as u32, charge)
 }
 

@@ -30,7 +30,7 @@ fn claim_again(accounts: Accounts, at: usize, length: u32) -> AmountResult
         count: hold.count + 1,
     };
     AmountResult {
-        accounts: accounts.add_hold(at, raised),
+        accounts: accounts.put_hold(at, raised),
         answer: AmountAnswer::Amount(length),
     }
 }
@@ -49,7 +49,7 @@ fn claim_first(accounts: Accounts, quota: u32, hold: Hold, length: u32) -> Amoun
     };
     let paid = accounts.charge(quota, charge);
     AmountResult {
-        accounts: paid.add_hold(at, hold),
+        accounts: paid.put_hold(at, hold),
         answer: AmountAnswer::Amount(length),
     }
 }
