@@ -9,6 +9,9 @@ pub const QUOTAS: usize = 8;
 // The number of hold records.
 pub const HOLDS: usize = 128;
 
+// The greatest number of 32 bits, which a remainder can be.
+pub const GREATEST_NUMBER: u32 = 4294967295;
+
 // What a quota was granted at the opening, and what remains of it.
 #[repr(C)]
 pub struct Quota {
@@ -56,7 +59,7 @@ impl Quota {
     fn refunded(self, amount: u32) -> Quota
         ensures { λ r. ⌜ r ≡ refunded amount self ⌝ }
     {
-        if 4294967295 - amount < self.remainder {
+        if GREATEST_NUMBER - amount < self.remainder {
             return self;
         }
         Quota {

@@ -8,14 +8,14 @@ use Rattle.accounts.specs.declared.Quota.{Quota}
 use Rattle.accounts.specs.declared.Hold.{Hold}
 use Rattle.accounts.specs.declared.Accounts.{Accounts}
 use Rattle.accounts.specs.Accounts.{QUOTAS, used, is-for}
-use Rattle.layout.specs.Blocks.{Block, size, live, parse}
+use Rattle.layout.specs.Blocks.{Block, size, live, parse, greatest-heap}
 use Rattle.model.specs.Lists.{all, any, total}
 use Rattle.model.specs.Objects.{objects}
 use Rattle.model.specs.declared.Handle.{Handle}
 
 -- a heap length that is allowed: a multiple of 8, 64 to 32,768
 unfoldable pub allowed : ℕ → Bool
-allowed H = eqb (H % 8) 0 && (leb 64 H && leb H 32768)
+allowed H = eqb (H % 8) 0 && (leb 64 H && leb H greatest-heap)
 
 -- "A free block may be 8 bytes long, a live one is at least 16"
 unfoldable pub long-enough : Block → Bool

@@ -3,6 +3,15 @@ use accounts::Accounts;
 ghost use mathlib.Core.Path.{_≡_};
 ghost use Rattle.model.specs.Answers.{refusal-number};
 
+// The greatest length of a request.
+pub const GREATEST_LENGTH: u32 = 32760;
+
+// The greatest count of a record.
+pub const GREATEST_COUNT: u8 = 255;
+
+// The greatest serial.
+pub const GREATEST_SERIAL: u32 = 4294967295;
+
 // An object's place, length and serial. It names an object where a live block's object has all three the same.
 #[repr(C)]
 pub struct Handle {
