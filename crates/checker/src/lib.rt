@@ -33,7 +33,7 @@ ghost use Rattle.checker.specs.Holders.{held-each, has-key, Chained};
 const SLOTS: usize = 4 * HOLDS;
 
 // Whether a heap may have this length.
-fn is_allowed(len: usize) -> bool
+pub fn is_allowed(len: usize) -> bool
     ensures { λ r. ⌜ r ≡ allowed len ⌝ }
 {
     if len % 8 != 0 {
