@@ -57,8 +57,9 @@ zero-range = record { start = 0; end = 0 }
 abbrev pub refused : ℕ → Values
 refused n = record { refusal = n; handle = zero-handle; amount = 0; range = zero-range; block = none }
 
+-- an accepted call that gives nothing else
 abbrev pub accepted : Values
-accepted = refused 0
+accepted = record { refusal = 0; handle = zero-handle; amount = 0; range = zero-range; block = none }
 
 abbrev pub given : Handle → Values
 given h = record { refusal = 0; handle = h; amount = 0; range = zero-range; block = none }
