@@ -15,9 +15,12 @@ use borrow.Author.Tests.{ne-eqb, eqb-true}
 use Rattle.accounts.specs.declared.Accounts.{Accounts}
 use Rattle.model.specs.Lists.{all}
 use Rattle.model.specs.Refusals.{Line, _when_, line-number, first-refusal}
-use Rattle.model.specs.Calls.{Outcome, unless, allocate, allocate-array, claim, release, free-all, reallocate, lend, remaining-of, can-release, list-block}
+use Rattle.model.specs.Calls.{Outcome, unless}
+use Rattle.model.specs.Calls.{allocate, allocate-array, claim, release, free-all, reallocate, lend, remaining-of, can-release, list-block}
 use Rattle.model.specs.Step.{Answered, step, performed}
-use Rattle.model.specs.Answers.{Values, refusal-number, zero-handle, zero-range, refused, accepted, listed, verdict-values, handle-values, amount-values, range-values, block-values, answer-values, refusals, refusal-at, answer-from, verdict-from, handle-from, amount-from, range-from, listed-from, block-from, answer-of}
+use Rattle.model.specs.Answers.{Values, refusal-number, zero-handle, zero-range, refused, accepted, listed}
+use Rattle.model.specs.Answers.{verdict-values, handle-values, amount-values, range-values, block-values, answer-values}
+use Rattle.model.specs.Answers.{refusals, refusal-at, answer-from, verdict-from, handle-from, amount-from, range-from, listed-from, block-from, answer-of}
 use Rattle.model.proofs.Bools.{and-left, and-right}
 use Rattle.model.proofs.Refusals.{lines-of, tables}
 use Rattle.model.specs.declared.ListedBlock.{ListedBlock}
@@ -205,11 +208,14 @@ answer-of-values unit (AllocateArray q count size) s k =
 answer-of-values unit (Claim q h) s k = faithful (λ v. OfAmount (amount-from v)) amount-refuses s k _ refl _ (lines-are-refusals unit (Claim q h) s k)
 answer-of-values unit (Release q h) s k = faithful (λ v. OfAmount (amount-from v)) amount-refuses s k _ refl _ (lines-are-refusals unit (Release q h) s k)
 answer-of-values unit (FreeAll q) s k = faithful (λ v. OfAmount (amount-from v)) amount-refuses s k _ refl _ (lines-are-refusals unit (FreeAll q) s k)
-answer-of-values unit (Reallocate q h n) s k = faithful (λ v. OfHandle (handle-from v)) handle-refuses s k _ refl _ (lines-are-refusals unit (Reallocate q h n) s k)
+answer-of-values unit (Reallocate q h n) s k =
+    faithful (λ v. OfHandle (handle-from v)) handle-refuses s k _ refl _ (lines-are-refusals unit (Reallocate q h n) s k)
 answer-of-values unit (Lend h) s k = faithful (λ v. OfRange (range-from v)) range-refuses s k _ refl _ (lines-are-refusals unit (Lend h) s k)
 answer-of-values unit (Remaining q) s k = faithful (λ v. OfAmount (amount-from v)) amount-refuses s k _ refl _ (lines-are-refusals unit (Remaining q) s k)
-answer-of-values unit (CanRelease q h) s k = faithful (λ v. OfVerdict (verdict-from v)) verdict-refuses s k _ refl _ (lines-are-refusals unit (CanRelease q h) s k)
-answer-of-values unit (ListBlock at) s k = faithful (λ v. OfBlock (block-from v)) block-refuses s k _ (block-lists _) _ (lines-are-refusals unit (ListBlock at) s k)
+answer-of-values unit (CanRelease q h) s k =
+    faithful (λ v. OfVerdict (verdict-from v)) verdict-refuses s k _ refl _ (lines-are-refusals unit (CanRelease q h) s k)
+answer-of-values unit (ListBlock at) s k =
+    faithful (λ v. OfBlock (block-from v)) block-refuses s k _ (block-lists _) _ (lines-are-refusals unit (ListBlock at) s k)
 
 -- so answers to a call tell apart what `step` gives to it, here and there
 pub answer-of-injective : (unit : ℕ → ℕ) (c : Call) (s s′ : List ℕ) (k k′ : Accounts)

@@ -95,6 +95,7 @@ block-values (Listed b) = listed (some b)
 block-values NoBlock = listed none
 block-values (NotListed r) = refused (refusal-number r)
 
+-- any answer; answers of two types can have the same values, and the call tells which one it is (`answer-of`)
 unfoldable pub answer-values : Answer → Values
 answer-values (OfVerdict v) = verdict-values v
 answer-values (OfHandle a) = handle-values a
@@ -105,7 +106,8 @@ answer-values (OfBlock a) = block-values a
 -- the refusals in the table's order, and the one with a number; a number that no refusal has stands for the first
 abbrev pub refusals : List Refusal
 refusals =
-    HeapLength ∷ Inconsistent ∷ QuotaNumber ∷ ObjectLength ∷ NoSuchObject ∷ NotHeld ∷ CountLimit ∷ QuotaExceeded ∷ HoldsExhausted ∷ SerialsExhausted ∷ NoSpace ∷ []
+    HeapLength ∷ Inconsistent ∷ QuotaNumber ∷ ObjectLength ∷ NoSuchObject ∷ NotHeld ∷ CountLimit ∷ QuotaExceeded
+    ∷ HoldsExhausted ∷ SerialsExhausted ∷ NoSpace ∷ []
 
 abbrev pub refusal-at : ℕ → Refusal
 refusal-at n = getD refusals (n - 1) HeapLength

@@ -47,7 +47,8 @@ free-end m s = m .at + m .size + room-at (m .at + m .size) s .free
 unfoldable pub is-inside : Met → List ℕ → Bool
 is-inside m s =
     leb 8 (m .size)
-    && (leb (8 * m .back) (m .at) && (leb (room-at (m .at - 8 * m .back) s .free) (m .at) && (leb (m .at + m .size) (length s) && leb (length s) greatest-heap)))
+    && (leb (8 * m .back) (m .at) && (leb (room-at (m .at - 8 * m .back) s .free) (m .at)
+    && (leb (m .at + m .size) (length s) && leb (length s) greatest-heap)))
 
 unfoldable pub free-in : Met → List ℕ → List ℕ
 free-in m s = cond (is-inside m s) (free-block m s) s

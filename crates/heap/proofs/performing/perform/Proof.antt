@@ -108,7 +108,8 @@ unfolding step performed answer-of
 returns c =
     let made = c .before .before .before in
     let a = made .before .before .before .before .before .before .args in
-    by-call (a .heap .now) (a .accounts) _ _ _ (made .before .before .before .call .given .1) (by-handle _ _ _ _ (c .of-handle .ensures) (made .allocate .ensures))
+    by-call (a .heap .now) (a .accounts) _ _ _ (made .before .before .before .call .given .1)
+    (by-handle _ _ _ _ (c .of-handle .ensures) (made .allocate .ensures))
 
 same-length-2 : tie.Need-same-length-2
 same-length-2 c = search needs
@@ -118,7 +119,8 @@ unfolding step performed answer-of
 returns-2 c =
     let made = c .before .before .before in
     let a = made .before .before .before .before .before .before .args in
-    by-call (a .heap .now) (a .accounts) _ _ _ (made .before .before .before .call2 .given .1) (by-handle _ _ _ _ (c .of-handle2 .ensures) (made .allocate-array .ensures))
+    by-call (a .heap .now) (a .accounts) _ _ _ (made .before .before .before .call2 .given .1)
+    (by-handle _ _ _ _ (c .of-handle2 .ensures) (made .allocate-array .ensures))
 
 same-length-3 : tie.Need-same-length-3
 same-length-3 c = search needs
@@ -128,7 +130,8 @@ unfolding step performed answer-of
 returns-3 c =
     let made = c .before in
     let a = made .before .before .before .before .before .before .args in
-    by-call (a .heap .now) (a .accounts) _ _ _ (made .before .before .before .call3 .given .1) (by-amount _ _ _ _ (c .of-amount .ensures) (made .claim .ensures))
+    by-call (a .heap .now) (a .accounts) _ _ _ (made .before .before .before .call3 .given .1)
+    (by-amount _ _ _ _ (c .of-amount .ensures) (made .claim .ensures))
 
 same-length-4 : tie.Need-same-length-4
 same-length-4 c = search needs
@@ -138,7 +141,8 @@ unfolding step performed answer-of
 returns-4 c =
     let made = c .before .before .before in
     let a = made .before .before .before .before .before .before .args in
-    by-call (a .heap .now) (a .accounts) _ _ _ (made .before .before .before .call4 .given .1) (by-amount _ _ _ _ (c .of-amount2 .ensures) (made .release .ensures))
+    by-call (a .heap .now) (a .accounts) _ _ _ (made .before .before .before .call4 .given .1)
+    (by-amount _ _ _ _ (c .of-amount2 .ensures) (made .release .ensures))
 
 same-length-5 : tie.Need-same-length-5
 same-length-5 c = search needs
@@ -148,7 +152,8 @@ unfolding step performed answer-of
 returns-5 c =
     let made = c .before .before .before in
     let a = made .before .before .before .before .before .before .args in
-    by-call (a .heap .now) (a .accounts) _ _ _ (made .before .before .before .call5 .given .1) (by-amount _ _ _ _ (c .of-amount3 .ensures) (made .free-all .ensures))
+    by-call (a .heap .now) (a .accounts) _ _ _ (made .before .before .before .call5 .given .1)
+    (by-amount _ _ _ _ (c .of-amount3 .ensures) (made .free-all .ensures))
 
 same-length-6 : tie.Need-same-length-6
 same-length-6 c = search needs
@@ -158,7 +163,8 @@ unfolding step performed answer-of
 returns-6 c =
     let made = c .before .before .before in
     let a = made .before .before .before .before .before .before .args in
-    by-call (a .heap .now) (a .accounts) _ _ _ (made .before .before .before .call6 .given .1) (by-handle _ _ _ _ (c .of-handle3 .ensures) (made .reallocate .ensures))
+    by-call (a .heap .now) (a .accounts) _ _ _ (made .before .before .before .call6 .given .1)
+    (by-handle _ _ _ _ (c .of-handle3 .ensures) (made .reallocate .ensures))
 
 same-length-7 : tie.Need-same-length-7
 same-length-7 c = search needs
@@ -169,7 +175,8 @@ returns-7 c =
     let made = c .before in
     let a = made .before .before .before .before .before .before .args in
     by-call (a .heap .now) (a .accounts) _ _ _ (made .before .before .before .call7 .given .1)
-    (by-answer _ _ _ (λ v. OfRange (range-from v)) _ _ _ (c .unchanged .ensures) (ap OfRange (range-back (made .object-range .result))) (made .object-range .ensures))
+    (by-answer _ _ _ (λ v. OfRange (range-from v)) _ _ _
+    (c .unchanged .ensures) (ap OfRange (range-back (made .object-range .result))) (made .object-range .ensures))
 
 same-length-8 : tie.Need-same-length-8
 same-length-8 c = search needs
@@ -180,7 +187,8 @@ returns-8 c =
     let made = c .before in
     let a = made .before .before .before .before .before .before .args in
     by-call (a .heap .now) (a .accounts) _ _ _ (made .before .before .before .call8 .given .1)
-    (by-answer _ _ _ (λ v. OfAmount (amount-from v)) _ _ _ (c .unchanged2 .ensures) (ap OfAmount (amount-back (made .remaining .result))) (made .remaining .ensures))
+    (by-answer _ _ _ (λ v. OfAmount (amount-from v)) _ _ _
+    (c .unchanged2 .ensures) (ap OfAmount (amount-back (made .remaining .result))) (made .remaining .ensures))
 
 same-length-9 : tie.Need-same-length-9
 same-length-9 c = search needs
@@ -191,7 +199,8 @@ returns-9 c =
     let made = c .before in
     let a = made .before .before .before .before .before .before .args in
     by-call (a .heap .now) (a .accounts) _ _ _ (made .before .before .before .call9 .given .1)
-    (by-answer _ _ _ (λ v. OfVerdict (verdict-from v)) _ _ _ (c .unchanged3 .ensures) (ap OfVerdict (verdict-back (made .can-release .result))) (made .can-release .ensures))
+    (by-answer _ _ _ (λ v. OfVerdict (verdict-from v)) _ _ _
+    (c .unchanged3 .ensures) (ap OfVerdict (verdict-back (made .can-release .result))) (made .can-release .ensures))
 
 same-length-10 : tie.Need-same-length-10
 same-length-10 c = search needs
@@ -202,7 +211,8 @@ returns-10 c =
     let made = c .before in
     let a = made .before .before .before .before .before .before .args in
     by-call (a .heap .now) (a .accounts) _ _ _ (made .before .before .before .call10 .given .1)
-    (by-answer _ _ _ (λ v. OfBlock (block-from v)) _ _ _ (c .unchanged4 .ensures) (ap OfBlock (block-back (made .list-block .result))) (made .list-block .ensures))
+    (by-answer _ _ _ (λ v. OfBlock (block-from v)) _ _ _
+    (c .unchanged4 .ensures) (ap OfBlock (block-back (made .list-block .result))) (made .list-block .ensures))
 
 pub perform-spec : {M : Type 1} → statement M
 perform-spec =

@@ -24,7 +24,8 @@ returns c =
     let r = t .before .before .before in
     let a = r .before .before .args in
     c .no-opening .ensures
-    ∙ ap opening-line (opening-not (slice (a .from) (a .to) (a .input .now)) (r .read-line .result) (r .read-line .ensures) (not-true (r .read-line .result .ok) (t .if1 .taken)))
+    ∙ ap opening-line
+    (opening-not (slice (a .from) (a .to) (a .input .now)) (r .read-line .result) (r .read-line .ensures) (not-true (r .read-line .result .ok) (t .if1 .taken)))
 
 no-opening-requires-2 : tie.Need-no-opening-requires-2
 no-opening-requires-2 c κs = search needs
@@ -73,7 +74,8 @@ returns-4 c =
     let r = o .before .before .before in
     let a = r .before .before .args in
     let l = r .read-line .result in
-    ap opening-line (opens-is (l .name) (l .count) (l .values) (c .behind-first .result) (sym (n .opens .ensures) ∙ not-false (n .opens .result) (t .if3 .left)) (m .if2 .left) (r .read-line .ensures .kept) (c .behind-first .ensures)
+    let named = sym (n .opens .ensures) ∙ not-false (n .opens .result) (t .if3 .left) in
+    ap opening-line (opens-is (l .name) (l .count) (l .values) (c .behind-first .result) named (m .if2 .left) (r .read-line .ensures .kept) (c .behind-first .ensures)
     ∙ opening-is (slice (a .from) (a .to) (a .input .now)) l (r .read-line .ensures) (not-false (l .ok) (o .if1 .left)))
 
 pub read-opening-spec : {M : Type 1} → statement M

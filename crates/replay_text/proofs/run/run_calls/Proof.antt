@@ -102,7 +102,8 @@ not-a-call t =
 -- a call that was made, as a step
 stepped : (q : tie.After-perform Inv-loop μ-loop)
     → let l = q .before .before .before .before .before .before .before .before in
-    outcome (q .perform .last .0) (q .perform .result .accounts) (answer-values (q .perform .result .answer)) ≡ step unit (q .before .before .before .call .given .0 .0) (l .loop .heap) (l .loop .current)
+    outcome (q .perform .last .0) (q .perform .result .accounts) (answer-values (q .perform .result .answer))
+    ≡ step unit (q .before .before .before .call .given .0 .0) (l .loop .heap) (l .loop .current)
 stepped q =
     let l = q .before .before .before .before .before .before .before .before in
     performed-step unit (q .before .before .before .call .given .0 .0) (l .loop .heap) (l .loop .current) _ (q .perform .ensures)
@@ -128,7 +129,8 @@ made q =
     let l = f .before in
     let a = l .before .before .before .before .args in
     run-next (l .loop .start) (a .input .now) (l .loop .heap) (l .loop .current) (f .find-mark .result) (f .find-mark .ensures) (before-end (r .before)) (v .call .given .0 .0)
-    (q .perform .last .0) (q .perform .result .accounts) (answer-values (q .perform .result .answer)) (sym (r .read-call .ensures) ∙ ap asked-call (v .call .given .1)) (stepped q)
+    (q .perform .last .0) (q .perform .result .accounts) (answer-values (q .perform .result .answer))
+    (sym (r .read-call .ensures) ∙ ap asked-call (v .call .given .1)) (stepped q)
 
 loop-holds : tie.Need-loop-holds Inv-loop μ-loop
 loop-holds c =
