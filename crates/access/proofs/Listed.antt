@@ -25,17 +25,18 @@ use Rattle.model.proofs.Lists.{total-append}
 use Rattle.model.proofs.Listing.{listed-at, block-at, block-at-from, list-block-step, step-at, step-end}
 use Rattle.finder.proofs.Parsed.{met-of, met-parsed, total-parsed}
 use Rattle.access.specs.Results.{outcome}
-use Rattle.access.specs.Listing.{starts-at, answered, find-block, end-of, place-after, Stepped, Walks, in-steps}
+use Rattle.finder.specs.Walk.{stands-at}
+use Rattle.access.specs.Listing.{answered, find-block, end-of, place-after, Stepped, Walks, in-steps}
 
 -- among the blocks from a place on
-listing-met : (at from back : ℕ) (bs : List Block) → block-values (answered (first (starts-at at) (met-of from back bs))) ≡ listed (block-at-from from bs at)
+listing-met : (at from back : ℕ) (bs : List Block) → block-values (answered (first (stands-at at) (met-of from back bs))) ≡ listed (block-at-from from bs at)
 unfolding first met-of listing-from block-values
 listing-met at from back [] = refl
 listing-met at from back (b ∷ bs) = go (eqb from at) refl (listing-met at (from + size b) (units b) bs)
   where
     go : (x : Bool) → eqb from at ≡ x
-        → block-values (answered (first (starts-at at) (met-of (from + size b) (units b) bs))) ≡ listed (block-at-from (from + size b) bs at)
-        → block-values (answered (first (starts-at at) (met-of from back (b ∷ bs)))) ≡ listed (block-at-from from (b ∷ bs) at)
+        → block-values (answered (first (stands-at at) (met-of (from + size b) (units b) bs))) ≡ listed (block-at-from (from + size b) bs at)
+        → block-values (answered (first (stands-at at) (met-of from back (b ∷ bs)))) ≡ listed (block-at-from from (b ∷ bs) at)
     go true e ih = rw e
     go false e ih = rw e ih
 

@@ -2,9 +2,7 @@
 use Prim.Native.Nat.{ℕ, zero, suc, _+_}
 use mathlib.Core.Path.{_≡_}
 use mathlib.Core.List.{List, [], _∷_}
-use mathlib.Core.Bool.{Bool}
 use mathlib.Core.Option.{Option, none, some}
-use lib.Dec.{eqb}
 use Rattle.accounts.specs.declared.Accounts.{Accounts}
 use Rattle.model.specs.Lists.{first}
 use Rattle.model.specs.Answers.{block-values}
@@ -13,12 +11,8 @@ use Rattle.model.specs.declared.ListedBlock.{ListedBlock}
 use Rattle.model.specs.declared.BlockAnswer.{BlockAnswer}
 use Rattle.model.specs.declared.BlockAnswer.the-variants.{Listed, NoBlock}
 use Rattle.finder.specs.declared.Met.{Met}
-use Rattle.finder.specs.Walk.{met}
+use Rattle.finder.specs.Walk.{met, stands-at}
 use Rattle.access.specs.Results.{outcome}
-
--- a block that was met starts at a place
-abbrev pub starts-at : ℕ → Met → Bool
-starts-at at m = eqb (m .at) at
 
 -- a block that was met, as the listing gives it
 abbrev pub listed-met : Met → ListedBlock
@@ -29,7 +23,7 @@ answered none = NoBlock
 answered (some m) = Listed (listed-met m)
 
 unfoldable pub find-block : ℕ → List ℕ → BlockAnswer
-find-block at s = answered (first (starts-at at) (met s))
+find-block at s = answered (first (stands-at at) (met s))
 
 -- the end of a block that was given; where none was, the place itself
 abbrev pub end-of : ℕ → Option ListedBlock → ℕ

@@ -30,7 +30,7 @@ fn span_of(heap: &[u8], accounts: Accounts, handle: Handle) -> Span
     }
     let Lookup::Found(block) = finder::find_object(heap, handle) else {
         return Span {
-            refusal: 5,
+            refusal: Refusal::NoSuchObject.number(),
             start: 0,
             end: 0,
         };

@@ -9,6 +9,9 @@ pub const QUOTAS: usize = 8;
 // The number of hold records.
 pub const HOLDS: usize = 128;
 
+// The greatest number of 32 bits, which a remainder can be.
+pub const GREATEST_NUMBER: u32 = 4294967295;
+
 // What a quota was granted at the opening, and what remains of it.
 #[repr(C)]
 pub struct Quota {
@@ -56,7 +59,7 @@ impl Quota {
     fn refunded(self, amount: u32) -> Quota
         ensures { λ r. ⌜ r ≡ refunded amount self ⌝ }
     {
-        if 4294967295 - amount < self.remainder {
+        if GREATEST_NUMBER - amount < self.remainder {
             return self;
         }
         Quota {
@@ -256,7 +259,7 @@ impl Accounts {
     }
 
     // Another record at a place; a place out of range changes nothing.
-    pub fn add_hold(mut self, at: usize, hold: Hold) -> Accounts
+    pub fn put_hold(mut self, at: usize, hold: Hold) -> Accounts
         ensures { λ r. ⌜ r ≡ put-hold at hold self ⌝ }
     {
         if at < HOLDS {
@@ -269,7 +272,7 @@ impl Accounts {
     pub fn drop_hold(self, at: usize) -> Accounts
         ensures { λ r. ⌜ r ≡ drop-hold at self ⌝ }
     {
-        self.add_hold(at, Hold::zero())
+        self.put_hold(at, Hold::zero())
     }
 
     // Every record of a quota becomes unused.

@@ -7,6 +7,7 @@ use accounts::Place;
 use accounts::QUOTAS;
 use finder::Lookup;
 use finder::Met;
+use model::GREATEST_LENGTH;
 use model::Handle;
 use model::HandleAnswer;
 use model::Refusal;
@@ -91,7 +92,7 @@ pub fn reallocate(
     if length == 0 {
         return HandleResult::refused(accounts, Refusal::ObjectLength);
     }
-    if 32760 < length {
+    if GREATEST_LENGTH < length {
         return HandleResult::refused(accounts, Refusal::ObjectLength);
     }
     exchange(heap, accounts, quota, handle, length)

@@ -35,7 +35,7 @@ pub(crate) fn drop_claim(
             quota: hold.quota,
             count: hold.count - 1,
         };
-        return AmountResult::given(accounts.add_hold(place, fewer), 0);
+        return AmountResult::given(accounts.put_hold(place, fewer), 0);
     }
     let length = (block.size - 8) as u32;
     let charge = length + 8;

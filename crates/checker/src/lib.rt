@@ -7,6 +7,7 @@ use accounts::HOLDS;
 use accounts::Hold;
 use accounts::QUOTAS;
 use accounts::Quota;
+use layout::GREATEST_HEAP;
 use model::Refusal;
 use model::Verdict;
 use std::num::wrapping_sub_usize;
@@ -32,7 +33,7 @@ ghost use Rattle.checker.specs.Holders.{held-each, has-key, Chained};
 const SLOTS: usize = 4 * HOLDS;
 
 // Rule 2.1: whether a heap may have this length.
-fn is_allowed(len: usize) -> bool
+pub fn is_allowed(len: usize) -> bool
     ensures { λ r. ⌜ r ≡ allowed len ⌝ }
 {
     if len % 8 != 0 {
@@ -41,7 +42,7 @@ fn is_allowed(len: usize) -> bool
     if len < 64 {
         return false;
     }
-    len <= 32768
+    len <= GREATEST_HEAP
 }
 
 // Whether a record without a serial is unused.

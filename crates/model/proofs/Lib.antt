@@ -8,6 +8,7 @@ pub mod Blocks
 pub mod Carve
 pub mod Join
 pub mod Settle
+pub mod Touched
 pub mod Frame
 pub mod StepFrame
 pub mod Refusals

@@ -69,7 +69,7 @@ pub accepted-exactly : (ls : List Line) → Numbered ls → (first-refusal ls �
 accepted-exactly ls p = (none-holds ls p, no-refusal ls)
 
 -- the table and each call's lines of it, under one name
-tables : Unit {0}
+unfoldable pub tables : Unit {0}
 unfolding line-1 line-2 line-3 line-4 line-5 line-6 line-7 line-8 line-9 line-10 line-11 only-if
     open-lines check-lines quota-lines lend-lines release-lines claim-lines allocate-lines reallocate-lines
 tables = tt

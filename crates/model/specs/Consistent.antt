@@ -8,14 +8,14 @@ use Rattle.accounts.specs.declared.Quota.{Quota}
 use Rattle.accounts.specs.declared.Hold.{Hold}
 use Rattle.accounts.specs.declared.Accounts.{Accounts}
 use Rattle.accounts.specs.Accounts.{QUOTAS, used, is-for}
-use Rattle.layout.specs.Blocks.{Block, size, live, parse}
+use Rattle.layout.specs.Blocks.{Block, size, live, parse, greatest-heap}
 use Rattle.model.specs.Lists.{all, any, total}
 use Rattle.model.specs.Objects.{objects}
 use Rattle.model.specs.declared.Handle.{Handle}
 
 -- rule 2.1: a heap length that is allowed
 unfoldable pub allowed : ℕ → Bool
-allowed H = eqb (H % 8) 0 && (leb 64 H && leb H 32768)
+allowed H = eqb (H % 8) 0 && (leb 64 H && leb H greatest-heap)
 
 -- rule 5.2, live blocks: 16 bytes or more
 unfoldable pub long-enough : Block → Bool

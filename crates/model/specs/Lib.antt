@@ -10,4 +10,3 @@ pub mod Step
 pub mod Marked
 pub mod Cases
 pub mod Joining
-pub mod Touched

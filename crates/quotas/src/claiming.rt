@@ -6,12 +6,14 @@ use accounts::Place;
 use accounts::QUOTAS;
 use finder::Lookup;
 use model::AmountAnswer;
+use model::GREATEST_COUNT;
 use model::Handle;
 use model::Refusal;
 use model::Verdict;
 ghost use mathlib.Core.Path.{_≡_};
 ghost use Prim.Native.Nat.{_≤_, _<_};
 ghost use Rattle.accounts.specs.Accounts.{QUOTAS};
+ghost use Rattle.model.specs.Refusals.{greatest-length};
 ghost use Rattle.model.specs.Calls.{claim as claim-of};
 ghost use Rattle.quotas.specs.Results.{amount-outcome};
 ghost use Rattle.quotas.specs.Claims.{claim-again, claim-first};
@@ -21,7 +23,7 @@ fn claim_again(accounts: Accounts, at: usize, length: u32) -> AmountResult
     ensures { λ r. ⌜ r ≡ claim-again at length accounts ⌝ }
 {
     let hold = accounts.hold_at(at);
-    if hold.count == 255 {
+    if hold.count == GREATEST_COUNT {
         return AmountResult::refused(accounts, Refusal::CountLimit);
     }
     let raised = Hold {
@@ -30,14 +32,14 @@ fn claim_again(accounts: Accounts, at: usize, length: u32) -> AmountResult
         count: hold.count + 1,
     };
     AmountResult {
-        accounts: accounts.add_hold(at, raised),
+        accounts: accounts.put_hold(at, raised),
         answer: AmountAnswer::Amount(length),
     }
 }
 
 // Rule 8.14: the quota pays for an object of this length, and the lowest unused record becomes its hold.
 fn claim_first(accounts: Accounts, quota: u32, hold: Hold, length: u32) -> AmountResult
-    requires { ⌜ (quota < QUOTAS) × (length ≤ 32760) ⌝ }
+    requires { ⌜ (quota < QUOTAS) × (length ≤ greatest-length) ⌝ }
     ensures { λ r. ⌜ r ≡ claim-first quota hold length accounts ⌝ }
 {
     let charge = length + 8;
@@ -49,7 +51,7 @@ fn claim_first(accounts: Accounts, quota: u32, hold: Hold, length: u32) -> Amoun
     };
     let paid = accounts.charge(quota, charge);
     AmountResult {
-        accounts: paid.add_hold(at, hold),
+        accounts: paid.put_hold(at, hold),
         answer: AmountAnswer::Amount(length),
     }
 }

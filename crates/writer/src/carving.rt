@@ -2,6 +2,7 @@
 use crate::writing::put_next;
 use crate::writing::put_object;
 use finder::Met;
+use layout::GREATEST_HEAP;
 use layout::Header;
 ghost use mathlib.Core.Path.{_≡_};
 ghost use Prim.Native.Nat.{_+_};
@@ -54,10 +55,10 @@ fn cut(heap: &mut [u8], block: Met, base: usize, length: usize, serial: u32)
 fn has_room(block: Met, base: usize, length: usize) -> bool
     ensures { λ r. ⌜ r ≡ has-room block base length ⌝ }
 {
-    if 32768 < block.at {
+    if GREATEST_HEAP < block.at {
         return false;
     }
-    if 32768 - block.at < block.size {
+    if GREATEST_HEAP - block.at < block.size {
         return false;
     }
     if base < block.at + 8 {

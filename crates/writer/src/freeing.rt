@@ -2,6 +2,7 @@
 use crate::writing::put_next;
 use crate::writing::put_object;
 use finder::Met;
+use layout::GREATEST_HEAP;
 use layout::Header;
 use layout::Start;
 ghost use mathlib.Core.Path.{_≡_};
@@ -85,7 +86,7 @@ fn is_inside(heap: &[u8], block: Met) -> bool
     ensures { λ r. ⌜ r ≡ is-inside block (now (heap .entry)) ⌝ }
 {
     let len = heap.len();
-    if 32768 < len {
+    if GREATEST_HEAP < len {
         return false;
     }
     if len < block.at {

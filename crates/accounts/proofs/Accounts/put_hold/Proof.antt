@@ -1,4 +1,4 @@
--- `accounts::Accounts::add_hold` meets its contract: past the table the definition stores nothing.
+-- `accounts::Accounts::put_hold` meets its contract: past the table the definition stores nothing.
 -- Assumes nothing.
 use borrow.Author.Needs.{needs}
 use native.Mathlib.Omega.{arith}
@@ -6,8 +6,8 @@ use mathlib.Core.Path.{_≡_, refl, sym}
 use lib.ListN.{length, length-map}
 use Rattle.accounts.specs.Accounts.{HOLDS, put-hold}
 use Rattle.accounts.proofs.Laws.{put-out}
-use Rattle.accounts.proofs.Accounts.add_hold.Statement.{statement}
-use Rattle.accounts.proofs.Accounts.add_hold.Tie as tie
+use Rattle.accounts.proofs.Accounts.put_hold.Statement.{statement}
+use Rattle.accounts.proofs.Accounts.put_hold.Tie as tie
 
 mul-hold : tie.Need-mul-hold
 mul-hold c = search needs
@@ -25,5 +25,5 @@ returns-2 c =
     let long : length (a .t1 .holds) ≡ HOLDS = simp length-map at (c .before .good .0 .1 .1 .1 .1 .0 .1 .0 .1) in
     sym (put-out (a .at) (a .hold) (a .t1) (omega arith))
 
-pub add-hold-spec : {M : Type 1} → statement M
-add-hold-spec = tie.close (tie.spec mul-hold element-set-from-hold returns returns-2)
+pub put-hold-spec : {M : Type 1} → statement M
+put-hold-spec = tie.close (tie.spec mul-hold element-set-from-hold returns returns-2)
