@@ -7,7 +7,7 @@ use lib.ListN.{replicate}
 use Rattle.accounts.specs.declared.Hold.{Hold}
 use Rattle.accounts.specs.declared.Accounts.{Accounts}
 use Rattle.accounts.specs.declared.Place.the-variants.{At, Nothing}
-use Rattle.accounts.specs.Accounts.{QUOTAS, HOLDS, opened, remaining, spent, set-remaining, charge, refund, used, unused, is-for, first-from, find-hold, lowest-unused, put-hold, drop-hold, drop-records}
+use Rattle.accounts.specs.Accounts.{QUOTAS, HOLDS, opened, remaining, spent, set-remaining, less-paid, paid-back, charge, refund, used, unused, is-for, first-from, find-hold, lowest-unused, put-hold, drop-hold, drop-records}
 
 -- every quota has 5
 unfoldable pub five : Accounts
@@ -22,17 +22,17 @@ held = put-hold 2 holder five
 
 -- a charge up to what remains is paid, one more is not, and a quota that is not there pays nothing
 pub charge-rows : (map (λ n. remaining 1 (charge 1 n five)) (0 ∷ 4 ∷ 5 ∷ 6 ∷ []) ≡ 5 ∷ 1 ∷ 0 ∷ 5 ∷ []) × (charge QUOTAS 1 five ≡ five)
-unfolding five opened remaining set-remaining charge
+unfolding five opened remaining set-remaining less-paid charge
 charge-rows = (refl, refl)
 
 -- a refund is paid up to 32 bits, one more is not
 pub refund-rows : (map (λ n. remaining 1 (refund 1 n five)) (1 ∷ 4294967290 ∷ 4294967291 ∷ []) ≡ 6 ∷ 4294967295 ∷ 5 ∷ []) × (refund QUOTAS 1 five ≡ five)
-unfolding five opened remaining set-remaining refund
+unfolding five opened remaining set-remaining paid-back refund
 refund-rows = (refl, refl)
 
 -- what was charged is spent, nothing where more remains than was granted, and nothing of a quota that is not there
 pub spent-rows : (map (λ n. spent 1 (charge 1 n five)) (0 ∷ 4 ∷ 5 ∷ []) ≡ 0 ∷ 4 ∷ 5 ∷ []) × (spent 1 (refund 1 1 five) ≡ 0) × (spent QUOTAS five ≡ 0)
-unfolding five opened remaining spent set-remaining charge refund
+unfolding five opened remaining spent set-remaining less-paid paid-back charge refund
 spent-rows = (refl, refl, refl)
 
 -- each number of a record makes it used
