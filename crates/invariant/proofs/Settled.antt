@@ -55,7 +55,7 @@ cost-less : (n : ℕ) (o : Handle) → 0 < n → cost n o ≡ cost (n - 1) o + c
 cost-less n o p = go (eqb n 1) refl
   where
     go : (x : Bool) → eqb n 1 ≡ x → cost n o ≡ cost (n - 1) o + cond x (charge-of (o .length)) 0
-    go true e = rw (eqb-true n 1 e) refl
+    go true e = rw (eqb-true n 1 e) (omega arith)
     go false e = let f = eqb-false n 1 e in omega (arith, cost-some n o p, cost-some (n - 1) o (omega (arith, f)))
 
 -- an object that is there is released by a quota that has a record for it
