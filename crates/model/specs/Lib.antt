@@ -8,6 +8,7 @@ pub mod Refusals
 pub mod Calls
 pub mod Step
 pub mod Marked
+pub mod Tables
 pub mod Cases
 pub mod Joining
 pub mod Touched
