@@ -10,5 +10,6 @@ pub mod Step
 pub mod Marked
 pub mod Tables
 pub mod Cases
+pub mod Lines
 pub mod Joining
 pub mod Touched
