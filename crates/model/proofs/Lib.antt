@@ -2,6 +2,7 @@ pub mod Computing
 pub mod Marked
 pub mod Cases
 pub mod Lines
+pub mod Unsound
 pub mod Bools
 pub mod Lists
 pub mod Base
