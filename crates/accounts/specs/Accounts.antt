@@ -65,20 +65,26 @@ spent q k = quota-at q k .grant - remaining q k
 unfoldable pub set-remaining : ℕ → ℕ → Accounts → Accounts
 set-remaining q n k = with-quotas (set (k .quotas) q (with-remainder n (quota-at q k))) k
 
--- a quota after it has paid, as it is where it has less than that; and after it was paid back, as it is where the sum needs more than 32 bits
+-- what is left of a remainder r after a payment of n, r where that is less than n; and after n was paid back, r where the sum needs more than 32 bits
+unfoldable pub less-paid : ℕ → ℕ → ℕ
+less-paid n r = cond (leb n r) (r - n) r
+
+unfoldable pub paid-back : ℕ → ℕ → ℕ
+paid-back n r = cond (ltb (r + n) (2 ^ 32)) (r + n) r
+
+-- a quota after it has paid, and after it was paid back
 abbrev pub charged : ℕ → Quota → Quota
-charged n x = cond (leb n (x .remainder)) (with-remainder (x .remainder - n) x) x
+charged n x = with-remainder (less-paid n (x .remainder)) x
 
 abbrev pub refunded : ℕ → Quota → Quota
-refunded n x = cond (ltb (x .remainder + n) (2 ^ 32)) (with-remainder (x .remainder + n) x) x
+refunded n x = with-remainder (paid-back n (x .remainder)) x
 
--- the quota pays; where there is no such quota, or it has less than that, nothing changes
+-- the quota with a number pays, and is paid back; where there is no such quota nothing changes
 unfoldable pub charge : ℕ → ℕ → Accounts → Accounts
-charge q n k = cond (ltb q QUOTAS && leb n (remaining q k)) (set-remaining q (remaining q k - n) k) k
+charge q n k = cond (ltb q QUOTAS) (set-remaining q (less-paid n (remaining q k)) k) k
 
--- the quota is paid back; where there is no such quota, or the sum needs more than 32 bits, nothing changes
 unfoldable pub refund : ℕ → ℕ → Accounts → Accounts
-refund q n k = cond (ltb q QUOTAS && ltb (remaining q k + n) (2 ^ 32)) (set-remaining q (remaining q k + n) k) k
+refund q n k = cond (ltb q QUOTAS) (set-remaining q (paid-back n (remaining q k)) k) k
 
 -- rule 3.3: a record is used if one of its numbers is not 0
 unfoldable pub used : Hold → Bool

@@ -2,7 +2,7 @@
 -- The accounts are changed by `charge`, `refund` and the changes of records alone, and each of these keeps all but one quota or one record.
 -- Assumes nothing.
 use mathlib.Core.Path.{_≡_, refl, ap, sym, _∙_}
-use Prim.Native.Nat.{ℕ, zero, suc, _+_, _-_, _<_, _^_, suc-le-suc}
+use Prim.Native.Nat.{ℕ, zero, suc, _+_, _<_, suc-le-suc}
 use native.Mathlib.Nat.{not-suc-le-zero, le-of-suc-le-suc}
 use native.Mathlib.Omega.{arith}
 use mathlib.Core.List.{List, [], _∷_, map}
@@ -10,12 +10,12 @@ use mathlib.Core.Bool.{Bool, true, false, not, cond, _&&_, false≢true}
 use mathlib.Core.Logic.{_↔_}
 use lib.ListN.{length, getD, List·getD-map, length-map}
 use lib.Seq.{getD-set-other, map-set-same}
-use lib.Dec.{leb, ltb, eqb}
+use lib.Dec.{ltb, eqb}
 use borrow.Author.Tests.{not-true, eqb-false}
 use Rattle.accounts.specs.declared.Quota.{Quota}
 use Rattle.accounts.specs.declared.Hold.{Hold}
 use Rattle.accounts.specs.declared.Accounts.{Accounts}
-use Rattle.accounts.specs.Accounts.{QUOTAS, zero-quota, zero-hold, with-remainder, quota-at, remaining, set-remaining, charge, refund, with-holds, used, unused, is-for, drop-records}
+use Rattle.accounts.specs.Accounts.{QUOTAS, zero-quota, zero-hold, with-remainder, quota-at, remaining, set-remaining, less-paid, paid-back, charge, refund, with-holds, used, unused, is-for, drop-records}
 use Rattle.model.specs.Lists.{change-first}
 use Rattle.model.specs.Holds.{with-count, take-record, raise-count, less-one, lower-count}
 use Rattle.model.specs.Refusals.{claims-first}
@@ -69,11 +69,11 @@ module _ (q : ℕ) (p : ℕ → Bool) (k : Accounts) where
 
   pub charge-keeps : (n : ℕ) → Kept (eqb q) p k (charge q n k)
   unfolding charge
-  charge-keeps n = when-keeps (ltb q QUOTAS && leb n (remaining q k)) (remaining q k - n)
+  charge-keeps n = when-keeps (ltb q QUOTAS) (less-paid n (remaining q k))
 
   pub refund-keeps : (n : ℕ) → Kept (eqb q) p k (refund q n k)
   unfolding refund
-  refund-keeps n = when-keeps (ltb q QUOTAS && ltb (remaining q k + n) (2 ^ 32)) (remaining q k + n)
+  refund-keeps n = when-keeps (ltb q QUOTAS) (paid-back n (remaining q k))
 
 -- a place is the first whose record passes a test
 unfoldable pub first-at : (Hold → Bool) → List Hold → ℕ → Bool

@@ -1,6 +1,8 @@
 pub mod Computing
 pub mod Marked
 pub mod Cases
+pub mod Lines
+pub mod Unsound
 pub mod Bools
 pub mod Lists
 pub mod Base

@@ -2,14 +2,14 @@
 -- A refused call changes nothing; an accepted one changes what `proofs/Frame.antt` shows of its definition.
 -- Assumes nothing.
 use mathlib.Core.Path.{_≡_, refl, sym}
-use Prim.Native.Nat.{ℕ, zero, suc, _+_, _*_, _-_, _^_}
+use Prim.Native.Nat.{ℕ, zero, suc, _+_, _*_}
 use native.Mathlib.Nat.{add-zero}
 use mathlib.Core.List.{List}
-use mathlib.Core.Bool.{Bool, true, false, cond, _&&_}
+use mathlib.Core.Bool.{Bool, true, false, cond}
 use lib.ListN.{length}
-use lib.Dec.{leb, ltb, eqb}
+use lib.Dec.{ltb, eqb}
 use Rattle.accounts.specs.declared.Accounts.{Accounts}
-use Rattle.accounts.specs.Accounts.{QUOTAS, remaining, set-remaining, charge, refund, with-holds}
+use Rattle.accounts.specs.Accounts.{QUOTAS, remaining, set-remaining, less-paid, paid-back, charge, refund, with-holds}
 use Rattle.model.specs.Objects.{objects-of, lookup, lookup-whole, found}
 use Rattle.model.specs.Consistent.{charge-of, charges}
 use Rattle.model.specs.Holds.{take-record, raise-count}
@@ -86,11 +86,11 @@ set-serial false q n k = refl
 
 refund-serial : (q n : ℕ) (k : Accounts) → refund q n k .«last_serial» ≡ k .«last_serial»
 unfolding refund
-refund-serial q n k = set-serial (ltb q QUOTAS && ltb (remaining q k + n) (2 ^ 32)) q (remaining q k + n) k
+refund-serial q n k = set-serial (ltb q QUOTAS) q (paid-back n (remaining q k)) k
 
 charge-serial : (q n : ℕ) (k : Accounts) → charge q n k .«last_serial» ≡ k .«last_serial»
 unfolding charge
-charge-serial q n k = set-serial (ltb q QUOTAS && leb n (remaining q k)) q (remaining q k - n) k
+charge-serial q n k = set-serial (ltb q QUOTAS) q (less-paid n (remaining q k)) k
 
 claimed-serial : (q : ℕ) (o : Handle) (k : Accounts) → claimed q o k .«last_serial» ≡ k .«last_serial»
 unfolding claimed

@@ -68,7 +68,7 @@ claimed q o k =
 
 -- Release, rules 8.16 to 8.18: what is given back, and the state after it
 unfoldable pub given-back : ℕ → Handle → Accounts → ℕ
-given-back q o k = cond (eqb (count-of (o .serial) q (k .holds) - 1) 0) (charge-of (o .length)) 0
+given-back q o k = cond (eqb (count-of (o .serial) q (k .holds)) 1) (charge-of (o .length)) 0
 
 unfoldable pub released : ℕ → Handle → State → State
 released q o t =

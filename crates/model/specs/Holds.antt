@@ -24,7 +24,7 @@ raise-count serial q hs = change-first (is-for serial q) (λ h. with-count (h .c
 
 -- rules 8.16 and 8.17: one hold less; the last one leaves a record of zeros
 unfoldable pub less-one : Hold → Hold
-less-one h = cond (eqb (h .count - 1) 0) zero-hold (with-count (h .count - 1) h)
+less-one h = cond (eqb (h .count) 1) zero-hold (with-count (h .count - 1) h)
 
 unfoldable pub lower-count : ℕ → ℕ → List Hold → List Hold
 lower-count serial q hs = change-first (is-for serial q) less-one hs

@@ -2,7 +2,7 @@
 -- Assumes nothing.
 use mathlib.Core.Path.{_≡_, refl}
 use mathlib.Core.List.{[], _∷_, map}
-use Rattle.rounding.specs.Rounding.{unit, object-length, leading-zeros, exponent, representable-alignment}
+use Rattle.rounding.specs.Rounding.{unit, object-length, alignment, leading-zeros, exponent, representable-alignment}
 
 -- the unit at both ends of each row
 pub unit-rows : map unit (1 ∷ 8191 ∷ 8192 ∷ 16383 ∷ 16384 ∷ 32767 ∷ []) ≡ 8 ∷ 8 ∷ 16 ∷ 16 ∷ 32 ∷ 32 ∷ []
@@ -18,6 +18,11 @@ length-rows = refl
 pub longer-rows : map (object-length unit) (8192 ∷ 8193 ∷ 16383 ∷ 16384 ∷ 32736 ∷ 32737 ∷ 32760 ∷ []) ≡ 8192 ∷ 8208 ∷ 16384 ∷ 16384 ∷ 32736 ∷ 32768 ∷ 32768 ∷ []
 unfolding unit object-length
 longer-rows = refl
+
+-- the base's alignment goes by the request
+pub alignment-rows : map (alignment unit) (1 ∷ 8185 ∷ 8191 ∷ 8192 ∷ 16383 ∷ 16384 ∷ 32760 ∷ []) ≡ 8 ∷ 8 ∷ 8 ∷ 16 ∷ 16 ∷ 32 ∷ 32 ∷ []
+unfolding unit alignment
+alignment-rows = refl
 
 -- the hardware's alignment at the ends of the rows from 4 KiB on
 pub formula-rows : map representable-alignment (4096 ∷ 8191 ∷ 8192 ∷ 16383 ∷ 16384 ∷ 32767 ∷ []) ≡ 8 ∷ 8 ∷ 16 ∷ 16 ∷ 32 ∷ 32 ∷ []

@@ -1,0 +1,23 @@
+-- Which states are consistent, of the definition: each table is one theorem, by computation.
+-- Assumes nothing.
+use mathlib.Core.Path.{_≡_, refl}
+use mathlib.Core.List.{map}
+use Rattle.model.specs.Tables.{parts, books}
+use Rattle.model.specs.Unsound.{given-refusal, stated-refusal, four, good-heap, good-books, with-records, with-quotas, nothing-held, consistent-states, broken-cuts, broken-records, broken-balances}
+use Rattle.model.proofs.Computing.{computing}
+
+pub consistent-states-run : map given-refusal consistent-states ≡ map stated-refusal consistent-states
+unfolding computing parts books given-refusal stated-refusal four good-heap good-books with-records with-quotas nothing-held consistent-states
+consistent-states-run = refl
+
+pub broken-cuts-run : map given-refusal broken-cuts ≡ map stated-refusal broken-cuts
+unfolding computing parts books given-refusal stated-refusal four good-heap good-books broken-cuts
+broken-cuts-run = refl
+
+pub broken-records-run : map given-refusal broken-records ≡ map stated-refusal broken-records
+unfolding computing parts books given-refusal stated-refusal four good-heap good-books with-records broken-records
+broken-records-run = refl
+
+pub broken-balances-run : map given-refusal broken-balances ≡ map stated-refusal broken-balances
+unfolding computing parts books given-refusal stated-refusal four good-heap good-books with-quotas broken-balances
+broken-balances-run = refl
