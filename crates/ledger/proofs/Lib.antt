@@ -16,3 +16,4 @@ pub mod Contents
 pub mod Staying
 pub mod Bytes
 pub mod NewBytes
+pub mod Rejoining
