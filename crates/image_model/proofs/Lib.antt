@@ -1,3 +1,7 @@
 -- The rows that the definitions are held to, and laws of images.
 pub mod Computing
 pub mod Rows
+pub mod Items
+pub mod Parts
+pub mod Places
+pub mod Entries
