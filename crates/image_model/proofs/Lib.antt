@@ -5,3 +5,5 @@ pub mod Items
 pub mod Parts
 pub mod Places
 pub mod Entries
+pub mod Cuts
+pub mod Heads
