@@ -7,3 +7,4 @@ pub mod Places
 pub mod Entries
 pub mod Cuts
 pub mod Heads
+pub mod Written
