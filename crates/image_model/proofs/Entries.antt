@@ -22,7 +22,7 @@ use Rattle.image_model.proofs.Parts.{part-here, part-behind, number-her
 use Rattle.image_model.proofs.Places.{tail-length, tail-tested, tail-back, tail-again, tail-keeps}
 
 -- a number of at most four bytes
-four-below : (s : List ℕ) → Octets s → number (take 4 s) < 2 ^ 32
+pub four-below : (s : List ℕ) → Octets s → number (take 4 s) < 2 ^ 32
 four-below s o =
     let l : length (take 4 s) ≤ 4 = simp length-take (omega arith) in
     let a = number-below (take 4 s) (octets-take 4 s o) in

@@ -8,3 +8,4 @@ pub mod Entries
 pub mod Cuts
 pub mod Heads
 pub mod Written
+pub mod Again
