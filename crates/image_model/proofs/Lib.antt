@@ -1,6 +1,7 @@
 -- The rows that the definitions are held to, and laws of images.
 pub mod Computing
 pub mod Rows
+pub mod Refusals
 pub mod Items
 pub mod Parts
 pub mod Places
@@ -9,3 +10,4 @@ pub mod Cuts
 pub mod Heads
 pub mod Written
 pub mod Again
+pub mod Read
