@@ -11,3 +11,5 @@ pub mod Heads
 pub mod Written
 pub mod Again
 pub mod Read
+pub mod Trips
+pub mod Answers

@@ -127,6 +127,7 @@ refused =
     ∷ (take 1024 image into 64 is 22)
     ∷ (set (but 0 2) 1535 9 into 64 is 22)
     -- 23: another form in each byte, a byte behind it, also where the heap's length is wrong
+    ∷ (but 0 0 into 64 is 23)
     ∷ (but 0 2 into 64 is 23)
     ∷ (but 1 1 into 64 is 23)
     ∷ (but 2 1 into 64 is 23)
