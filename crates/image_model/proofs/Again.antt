@@ -1,12 +1,12 @@
 -- A stream whose bytes are right is the stream of the heap and the accounts that it says.
 -- The parts are put back from the last to the first: each, with what stands behind it, is what stands at its place.
 -- Assumes nothing.
-use mathlib.Core.Path.{_≡_, refl, ap, sym, _∙_}
-use mathlib.Core.List.{List, [], _∷_, _++_, append-assoc}
-use mathlib.Core.Bool.{true, _&&_}
-use Prim.Native.Nat.{ℕ, _+_, _*_, _-_, _≤_, _<_, _^_}
+use mathlib.Core.Path.{_≡_}
+use mathlib.Core.List.{List, _++_, append-assoc}
+use mathlib.Core.Bool.{true}
+use Prim.Native.Nat.{ℕ, _+_, _*_, _≤_}
 use native.Mathlib.Omega.{arith}
-use lib.ListN.{length, take, drop, length-append, length-drop, length-take}
+use lib.ListN.{length, take, drop, length-append, length-drop}
 use lib.Seq.{take-at, drop-drop}
 use lib.Dec.{lit<}
 use Rattle.accounts.specs.declared.Quota.{Quota}
@@ -16,17 +16,16 @@ use Rattle.accounts.specs.Accounts.{QUOTAS, HOLDS, zero-quota, zero-hold}
 use Rattle.layout.specs.Bytes.{bytes, number, Octets}
 use Rattle.layout.proofs.Numbers.{octets-take, octets-drop, part-length}
 use Rattle.model.proofs.Bools.{and-left, and-right}
-use Rattle.framing.specs.Frames.{padded}
 use Rattle.framing.proofs.Padding.{length-padded}
 use Rattle.image_model.specs.Items.{many, each, every}
-use Rattle.image_model.specs.Stream.{marks-of, marks-right, with-marks, blank, carries, entry-bytes, record-bytes, entry-width, record-width, entries-at, records-at, head-length, head-of, stream, Typed}
+use Rattle.image_model.specs.Stream.{marks-of, marks-right, blank, entry-bytes, record-bytes, entry-width, record-width, entries-at, records-at, head-length, head-of, stream, Typed}
 use Rattle.image_model.specs.Reading.{entry-of, entry-right, record-of, record-right, marks-in, length-in, accounts-of, heap-of, items-right}
 use Rattle.image_model.specs.declared.Form.{Form}
 use Rattle.image_model.proofs.Items.{All, all-places, all-drop, all-both, all-same, each-length, each-all, many-each}
 use Rattle.image_model.proofs.Parts.{split, bytes-split-here}
-use Rattle.image_model.proofs.Places.{Known, Shaped, known-shaped, marks-again, marks-keep, blank-lengths, blank-zero}
+use Rattle.image_model.proofs.Places.{Known, known-shaped, marks-again, marks-keep, blank-lengths, blank-zero}
 use Rattle.image_model.proofs.Entries.{EntryFits, RecordFits, four-below, entry-again, entry-fits, record-again, record-fits}
-use Rattle.image_model.proofs.Cuts.{padded-take, padded-octets}
+use Rattle.image_model.proofs.Cuts.{padded-take}
 
 -- what is read is of the accounts' type, whatever the bytes
 module _ (f : Form) (t : List ℕ) where

@@ -11,7 +11,6 @@ use lib.Dec.{eqb, ltb}
 use borrow.Author.Tests.{ne-eqb, lt-ltb}
 use Rattle.accounts.specs.declared.Accounts.{Accounts}
 use Rattle.model.specs.Answers.{refusal-number}
-use Rattle.model.specs.declared.Refusal.{Refusal}
 use Rattle.model.proofs.Answers.{refusal-at, refusal-number-is}
 use Rattle.image_model.specs.Answers.{Imaged, Restored-to, image-refusal-number, imaged, restored-to}
 use Rattle.image_model.specs.declared.ImageRefusal.{ImageRefusal}
@@ -89,7 +88,8 @@ imaged-injective o p a c e = (sym (image-is o a) ∙ ap (λ (w : Imaged). w .ima
 pub restored-to-injective : (s t : List ℕ) (k l : Accounts) (a c : ReadAnswer) → restored-to s k a ≡ restored-to t l c → (s ≡ t) × (k ≡ l) × (a ≡ c)
 restored-to-injective s t k l a c e =
     let x = state-is s k a in
-    let y = state-is t l c in
-    (sym (x .0) ∙ ap (λ (r : Restored-to). r .heap) e ∙ y .0,
-    sym (x .1) ∙ ap (λ (r : Restored-to). r .accounts) e ∙ y .1,
-    sym (read-back s k a) ∙ ap read-from e ∙ read-back t l c)
+    let y = state-is t l c in (
+      sym (x .0) ∙ ap (λ (r : Restored-to). r .heap) e ∙ y .0,
+      sym (x .1) ∙ ap (λ (r : Restored-to). r .accounts) e ∙ y .1,
+      sym (read-back s k a) ∙ ap read-from e ∙ read-back t l c,
+    )

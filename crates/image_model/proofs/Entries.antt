@@ -1,9 +1,9 @@
 -- An entry and a record: their lengths, and that each is had back from its bytes, and the bytes from it.
 -- Assumes nothing.
 use mathlib.Core.Path.{_≡_, refl, ap, sym, _∙_}
-use mathlib.Core.List.{List, [], _∷_, _++_}
+use mathlib.Core.List.{List, _++_}
 use mathlib.Core.Bool.{true}
-use Prim.Native.Nat.{ℕ, _+_, _*_, _%_, _≤_, _<_, _^_}
+use Prim.Native.Nat.{ℕ, _%_, _≤_, _<_, _^_}
 use native.Mathlib.Omega.{arith}
 use native.Mathlib.Nat.{mod-eq-of-lt, pow-le-pow-right}
 use lib.ListN.{length, take, drop, getD, replicate, length-append, length-take, length-drop}
@@ -12,13 +12,11 @@ use Rattle.accounts.specs.declared.Quota.{Quota}
 use Rattle.accounts.specs.declared.Hold.{Hold}
 use Rattle.layout.specs.Bytes.{bytes, number, Octets}
 use Rattle.layout.proofs.Numbers.{bytes-length, number-below, octets-take, octets-drop}
-use Rattle.model.specs.Lists.{all}
-use Rattle.image_model.specs.Items.{all-zero}
-use Rattle.image_model.specs.Stream.{entry-tail, tail-width, tail-of, entry-bytes, entry-width, record-bytes}
+use Rattle.image_model.specs.Stream.{entry-tail, tail-of, entry-bytes, entry-width, record-bytes}
 use Rattle.image_model.specs.Reading.{entry-of, entry-right, record-of, record-right}
 use Rattle.image_model.specs.declared.Form.{Form}
 use Rattle.image_model.proofs.Items.{zeros-are, are-zeros}
-use Rattle.image_model.proofs.Parts.{part-here, part-behind, number-here, bytes-split-here, one-at}
+use Rattle.image_model.proofs.Parts.{part-behind, number-here, bytes-split-here, one-at}
 use Rattle.image_model.proofs.Places.{tail-length, tail-tested, tail-back, tail-again, tail-keeps}
 
 -- a number of at most four bytes

@@ -1,29 +1,26 @@
 -- A stream that was written, read: each part of the head is found at its place, and the accounts and the heap are had back.
 -- The places follow one another: what stands behind one part is where the next begins.
 -- Assumes nothing.
-use mathlib.Core.Path.{_≡_, refl, ap, sym, _∙_}
-use mathlib.Core.List.{List, [], _∷_, _++_, append-assoc}
-use mathlib.Core.Bool.{true, _&&_}
-use mathlib.Core.Option.{some}
-use Prim.Native.Nat.{ℕ, _+_, _*_, _≤_, _<_, _^_}
+use mathlib.Core.Path.{_≡_, refl, ap, _∙_}
+use mathlib.Core.List.{List, _++_, append-assoc}
+use mathlib.Core.Bool.{true}
+use Prim.Native.Nat.{ℕ, _+_, _*_, _<_, _^_}
 use native.Mathlib.Omega.{arith}
-use lib.ListN.{length, take, drop, getD, length-append}
+use lib.ListN.{length, take, drop, length-append}
 use lib.Seq.{length-take-le, take-at}
 use Rattle.accounts.specs.declared.Quota.{Quota}
 use Rattle.accounts.specs.declared.Hold.{Hold}
 use Rattle.accounts.specs.declared.Accounts.{Accounts}
-use Rattle.accounts.specs.Accounts.{QUOTAS, HOLDS, zero-quota, zero-hold}
+use Rattle.accounts.specs.Accounts.{zero-quota, zero-hold}
 use Rattle.layout.specs.Bytes.{bytes, number}
 use Rattle.layout.proofs.Numbers.{bytes-length}
-use Rattle.model.proofs.Bools.{and-both}
-use Rattle.framing.specs.Frames.{padded}
 use Rattle.image_model.specs.Items.{many, each, every}
-use Rattle.image_model.specs.Stream.{form-numbered, marks-of, with-marks, carries, blank, entry-bytes, record-bytes, entry-width, record-width, entries-at, records-at, head-length, head-of, stream, Typed}
+use Rattle.image_model.specs.Stream.{marks-of, with-marks, carries, blank, entry-bytes, record-bytes, entry-width, record-width, entries-at, records-at, head-length, head-of, stream, Typed}
 use Rattle.image_model.specs.Reading.{entry-of, entry-right, record-of, record-right, marks-in, length-in, accounts-of, heap-of, items-right}
 use Rattle.image_model.specs.declared.Form.{Form}
 use Rattle.image_model.proofs.Items.{All, places-all, all-take, many-length, each-many, every-many}
 use Rattle.image_model.proofs.Parts.{part-here, part-behind, number-here}
-use Rattle.image_model.proofs.Places.{Known, Shaped, known-shaped, marks-length, marks-back, quotas-whole, holds-whole}
+use Rattle.image_model.proofs.Places.{Known, known-shaped, marks-length, marks-back, quotas-whole, holds-whole}
 use Rattle.image_model.proofs.Entries.{EntryFits, RecordFits, entry-length, entry-back, entry-tested, record-length, record-back, record-tested}
 use Rattle.image_model.proofs.Cuts.{padded-take}
 

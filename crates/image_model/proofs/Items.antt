@@ -1,9 +1,9 @@
 -- Items of one width: their lengths, that what was written is read again, and that what is right is written again.
 -- Each law is an induction over the items.
 -- Assumes nothing.
-use mathlib.Core.Path.{_≡_, refl, ap, sym, _∙_}
+use mathlib.Core.Path.{_≡_, refl, ap}
 use mathlib.Core.List.{List, [], _∷_, _++_, append-assoc}
-use mathlib.Core.Bool.{Bool, true, _&&_}
+use mathlib.Core.Bool.{Bool, true}
 use Prim.Native.Nat.{ℕ, zero, suc, _+_, _*_, _≤_}
 use native.Mathlib.Omega.{arith}
 use native.Mathlib.Nat.{suc-mul, zero-mul}
@@ -14,7 +14,7 @@ use borrow.Author.Tests.{eqb-true}
 use Rattle.layout.specs.Bytes.{Octets}
 use Rattle.layout.proofs.Numbers.{octets-take, octets-drop}
 use Rattle.model.specs.Lists.{all}
-use Rattle.model.proofs.Bools.{and-left, and-right, and-both}
+use Rattle.model.proofs.Bools.{and-left, and-right}
 use Rattle.image_model.specs.Items.{many, each, every, all-zero}
 
 -- P holds of every item

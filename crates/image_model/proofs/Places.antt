@@ -4,8 +4,8 @@
 use mathlib.Core.Path.{_≡_, refl, ap, sym, _∙_}
 use mathlib.Core.List.{List, [], _∷_, _++_, append-nil}
 use mathlib.Core.Bool.{Bool, true, false, cond}
-use mathlib.Core.Option.{Option, none, some}
-use Prim.Native.Nat.{ℕ, _+_, _*_, _≤_, _<_, _^_}
+use mathlib.Core.Option.{none, some}
+use Prim.Native.Nat.{ℕ, _≤_, _<_, _^_}
 use native.Mathlib.Omega.{arith}
 use lib.ListN.{length, take, drop, replicate}
 use lib.Seq.{take-all}
@@ -15,7 +15,6 @@ use Rattle.accounts.specs.declared.Quota.{Quota}
 use Rattle.accounts.specs.declared.Accounts.{Accounts}
 use Rattle.accounts.specs.Accounts.{QUOTAS, HOLDS, zero-quota, zero-hold}
 use Rattle.layout.specs.Bytes.{Octets}
-use Rattle.image_model.specs.Items.{all-zero}
 use Rattle.image_model.specs.Stream.{form-1, form-numbered, entry-tail, tail-width, tail-of, tail-right, marks-of, marks-right, with-marks, carries, blank, head-length, Typed}
 use Rattle.image_model.specs.declared.Form.{Form}
 use Rattle.image_model.proofs.Items.{zeros-are, are-zeros}

@@ -2,29 +2,27 @@
 -- That none of the reader's lines holds says what the image's parts are; cutting them again gives the image.
 -- Assumes nothing.
 use mathlib.Core.Path.{_≡_, refl, ap, sym, _∙_}
-use mathlib.Core.List.{List, [], _∷_, _++_}
-use mathlib.Core.Bool.{Bool, true, false, not, _&&_, _||_, true≢false}
+use mathlib.Core.List.{List, _++_}
+use mathlib.Core.Bool.{true, false, not, _||_, true≢false}
 use mathlib.Core.Option.{Option, none, some}
-use Prim.Native.Nat.{ℕ, zero, suc, _+_, _*_, _-_, _/_, _%_, _≤_, _<_}
+use Prim.Native.Nat.{ℕ, _+_, _*_, _-_, _/_, _%_, _≤_}
 use native.Mathlib.Omega.{arith}
-use lib.ListN.{length, take, drop, replicate, length-drop}
-use lib.Dec.{leb, eqb}
+use lib.ListN.{length, take, drop, length-drop}
+use lib.Dec.{eqb}
 use borrow.Author.Tests.{eqb-true, not-false}
-use Rattle.accounts.specs.declared.Accounts.{Accounts}
 use Rattle.layout.specs.Bytes.{Octets, number}
 use Rattle.layout.proofs.Numbers.{octets-drop}
-use Rattle.model.specs.Lists.{all, any, is-none, or-else}
+use Rattle.model.specs.Lists.{any, is-none, or-else}
 use Rattle.model.specs.Consistent.{allowed, consistent}
-use Rattle.model.specs.Refusals.{Line, line-holds, first-refusal}
+use Rattle.model.specs.Refusals.{line-holds}
 use Rattle.model.proofs.Bools.{and-left, and-right, or-neither}
-use Rattle.framing.specs.Frames.{padded, frames-for, cut-from, cut, uncut, stream-of, frames-right}
+use Rattle.framing.specs.Frames.{padded, frames-for, cut-from, cut, stream-of, frames-right}
 use Rattle.framing.proofs.Padding.{length-padded, padded-whole}
 use Rattle.framing.proofs.Cut.{cut-uncut}
 use Rattle.image_model.specs.Items.{all-zero}
-use Rattle.image_model.specs.Stream.{form-1, form-numbered, marks-right, carries, head-length, stream, image-of}
-use Rattle.image_model.specs.Reading.{marks-in, length-in, form-in, form-of, size-in, accounts-in, heap-in, contents-right, accounts-of, heap-of, items-right}
-use Rattle.image_model.specs.Answers.{Restored-to}
-use Rattle.image_model.specs.Images.{line-21, line-22, line-23, line-24, line-25, line-26, shape-lines, read-lines, unless-read, read-image, Accepts}
+use Rattle.image_model.specs.Stream.{form-1, marks-right, carries, head-length, stream, image-of}
+use Rattle.image_model.specs.Reading.{marks-in, length-in, form-in, form-of, size-in, accounts-in, heap-in, contents-right, heap-of, items-right}
+use Rattle.image_model.specs.Images.{line-21, line-22, line-23, line-24, line-25, line-26, shape-lines, read-lines, read-image, Accepts}
 use Rattle.image_model.specs.declared.Form.{Form}
 use Rattle.image_model.proofs.Refusals.{read-accepted-exactly}
 use Rattle.image_model.proofs.Items.{zeros-are}
@@ -106,9 +104,8 @@ module _ (i h : List ℕ) (o : Octets i) (r : Right i h) where
   parts =
       let a = r .contents in
       let b = and-right (allowed (size-in i)) _ a in
-      let c = and-right (eqb (length i / 512) (frames-for (head-length (form-of i) + size-in i))) _ b in
-      (and-left (allowed (size-in i)) _ a, eqb-true (length i / 512) (frames-for (head-length (form-of i) + size-in i)) (and-left (eqb (length i / 512) (frames-for (head-length (form-of i) + size-in i))) _ b),
-      and-left (all-zero (drop (head-length (form-of i) + size-in i) (stream-of i))) _ c, and-right (all-zero (drop (head-length (form-of i) + size-in i) (stream-of i))) _ c)
+      let c = and-right (eqb n (frames-for L)) _ b in
+      (and-left (allowed (size-in i)) _ a, eqb-true n (frames-for L) (and-left (eqb n (frames-for L)) _ b), and-left (all-zero (drop L t)) _ c, and-right (all-zero (drop L t)) _ c)
 
   fits : L ≤ length t
   unfolding frames-for

@@ -2,7 +2,7 @@
 -- papers' order, and a refusal leaves what was lent as it was and hands back accounts of zeros.
 -- The search over lines is model's; what is shown here is that both outcomes follow it.
 -- Assumes nothing.
-use mathlib.Core.Path.{_≡_, refl, ap, sym, _∙_}
+use mathlib.Core.Path.{_≡_, refl, sym, _∙_}
 use mathlib.Core.List.{List, [], _∷_, map}
 use mathlib.Core.Bool.{false}
 use mathlib.Core.Logic.{_↔_}
@@ -16,7 +16,6 @@ use Rattle.model.specs.Refusals.{line-number, line-holds, first-refusal, line-1
 use Rattle.model.proofs.Refusals.{Numbered, FirstToHold, refused-exactly, accepted-exactly}
 use Rattle.image_model.specs.Stream.{image-of, image-length}
 use Rattle.image_model.specs.Reading.{heap-in, accounts-in}
-use Rattle.image_model.specs.Answers.{Imaged, Restored-to}
 use Rattle.image_model.specs.Images.{put-lines, write-lines, line-21, line-22, line-23, line-24, line-25, line-26, shape-lines, read-lines, unless-written, unless-read, write-image, read-image}
 use Rattle.image_model.specs.declared.Form.{Form}
 

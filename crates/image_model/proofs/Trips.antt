@@ -2,14 +2,14 @@
 -- was written; and what it accepted is written again, byte for byte.
 -- Assumes nothing.
 use mathlib.Core.Path.{_≡_, refl, ap, sym, _∙_}
-use mathlib.Core.List.{List, [], _∷_, _++_}
-use mathlib.Core.Bool.{Bool, true, false, not, _||_}
+use mathlib.Core.List.{List, _++_}
+use mathlib.Core.Bool.{true, false, not}
 use mathlib.Core.Logic.{_↔_}
-use Prim.Native.Nat.{ℕ, _+_, _≤_}
+use Prim.Native.Nat.{ℕ, _≤_}
 use native.Mathlib.Omega.{arith}
 use native.Mathlib.Nat.{zero-add}
 use lib.ListN.{length, take, drop}
-use lib.Seq.{take-at, drop-at, take-length}
+use lib.Seq.{take-at, drop-at}
 use lib.Dec.{ltb}
 use borrow.Author.Tests.{ltb-false, le-ltb, not-false}
 use Rattle.accounts.specs.declared.Accounts.{Accounts}
@@ -17,11 +17,11 @@ use Rattle.layout.specs.Bytes.{Octets, overwrite}
 use Rattle.layout.proofs.Overwrite.{overwrite-fits}
 use Rattle.model.specs.Lists.{any}
 use Rattle.model.specs.Consistent.{allowed, consistent}
-use Rattle.model.specs.Refusals.{line-holds, first-refusal, line-1, line-2}
+use Rattle.model.specs.Refusals.{line-holds, line-1, line-2}
 use Rattle.model.proofs.Bools.{or-neither}
 use Rattle.image_model.specs.Stream.{carries, image-of, image-length, Typed}
 use Rattle.image_model.specs.Reading.{form-of, heap-in, accounts-in}
-use Rattle.image_model.specs.Answers.{Imaged, Restored-to}
+use Rattle.image_model.specs.Answers.{Restored-to}
 use Rattle.image_model.specs.Images.{put-lines, write-lines, write-image, read-image, Accepts}
 use Rattle.image_model.specs.declared.Form.{Form}
 use Rattle.image_model.proofs.Places.{Known}
@@ -32,9 +32,10 @@ use Rattle.image_model.proofs.Read.{read-written}
 -- the reader accepts exactly the images of what can be written, into a heap of that length
 pub accepts-exactly : (i h : List ℕ) → Octets i
     → (read-image i h .refusal ≡ 0) ↔ ((f : Form) × (s : List ℕ) × (k : Accounts) × Accepts f s k × (i ≡ image-of f s k) × (length h ≡ length s))
-accepts-exactly i h o =
-    (λ e. let w = read-written i h o e in (form-of i, heap-in i, accounts-in i, w .0, sym (w .1), w .2),
-    λ x. rw (x .4) (ap (λ (r : Restored-to). r .refusal) (written-read (x .0) (x .1) (x .2) (x .3) h (x .5))))
+accepts-exactly i h o = (
+  λ e. let w = read-written i h o e in (form-of i, heap-in i, accounts-in i, w .0, sym (w .1), w .2),
+  λ x. rw (x .4) (ap (λ (r : Restored-to). r .refusal) (written-read (x .0) (x .1) (x .2) (x .3) h (x .5))),
+)
 
 module _ (f : Form) (o s : List ℕ) (k : Accounts) where
   -- no line of the writer holds exactly if the length is allowed, the state is consistent and the lent image has room

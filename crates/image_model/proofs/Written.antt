@@ -1,31 +1,30 @@
 -- What was written is read: no line of the reader holds of an image that the writer made of consistent accounts, and it gives back the heap and
 -- the accounts that were written.
 -- Assumes nothing.
-use mathlib.Core.Path.{_≡_, refl, ap, sym, _∙_}
-use mathlib.Core.List.{List, [], _∷_, _++_}
-use mathlib.Core.Bool.{Bool, true, false, not, _&&_, _||_}
-use mathlib.Core.Option.{none, some}
-use Prim.Native.Nat.{ℕ, zero, suc, _+_, _*_, _-_, _/_, _%_, _≤_, _<_, _^_}
+use mathlib.Core.Path.{_≡_, ap, _∙_}
+use mathlib.Core.List.{List, _++_}
+use mathlib.Core.Bool.{true, false, _&&_}
+use mathlib.Core.Option.{some}
+use Prim.Native.Nat.{ℕ, _+_, _*_, _-_, _/_, _%_, _≤_, _<_, _^_}
 use native.Mathlib.Omega.{arith}
-use lib.ListN.{length, take, drop, replicate}
+use lib.ListN.{length, drop, replicate}
 use lib.Dec.{leb, eqb}
 use borrow.Author.Tests.{leb-true, eq-eqb, ne-eqb}
 use Rattle.accounts.specs.declared.Accounts.{Accounts}
-use Rattle.layout.specs.Bytes.{Octets, number}
 use Rattle.model.specs.Lists.{is-none, or-else}
 use Rattle.model.specs.Consistent.{allowed, consistent}
 use Rattle.model.specs.Refusals.{_when_, first-refusal}
-use Rattle.model.proofs.Bools.{and-left, and-right}
+use Rattle.model.proofs.Bools.{and-right}
 use Rattle.framing.specs.Frames.{frames-for, cut, stream-of, frames-right}
 use Rattle.framing.proofs.Cut.{cut-right}
 use Rattle.image_model.specs.Items.{all-zero}
-use Rattle.image_model.specs.Stream.{form-numbered, marks-of, marks-right, carries, head-length, stream, image-of, image-length, Typed}
-use Rattle.image_model.specs.Reading.{marks-in, length-in, form-in, form-of, size-in, accounts-in, heap-in, contents-right, items-right}
+use Rattle.image_model.specs.Stream.{form-numbered, marks-right, head-length, stream, image-of, image-length, Typed}
+use Rattle.image_model.specs.Reading.{marks-in, form-in, form-of, size-in, accounts-in, heap-in, contents-right}
 use Rattle.image_model.specs.Images.{line-21, line-22, line-23, line-24, line-25, line-26, shape-lines, read-lines, unless-read, read-image, Accepts}
 use Rattle.image_model.specs.declared.Form.{Form}
 use Rattle.image_model.proofs.Items.{are-zeros}
-use Rattle.image_model.proofs.Places.{Known, Shaped, known-shaped, marks-tested}
-use Rattle.image_model.proofs.Cuts.{cut-length, cut-frames, cut-stream}
+use Rattle.image_model.proofs.Places.{Known, known-shaped, marks-tested}
+use Rattle.image_model.proofs.Cuts.{cut-length, cut-stream}
 use Rattle.image_model.proofs.Heads.{stream-length, at-end, number-read, marks-read, length-read, accounts-read, heap-read, items-tested}
 
 -- an allowed length is at most 32,768

@@ -2,7 +2,7 @@
 use Prim.Native.Nat.{ℕ, zero, suc, _/_, _%_}
 use mathlib.Core.Path.{_≡_}
 use mathlib.Core.List.{List, [], _∷_, _++_}
-use mathlib.Core.Bool.{Bool, true, not, _||_}
+use mathlib.Core.Bool.{true, not, _||_}
 use mathlib.Core.Option.{some}
 use lib.ListN.{length}
 use lib.Dec.{ltb, eqb}

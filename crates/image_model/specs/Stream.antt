@@ -2,7 +2,7 @@
 -- One definition serves every form. What the forms differ in beyond their three numbers stands in four places, which are named here.
 use Prim.Native.Nat.{ℕ, _+_, _*_, _<_, _^_}
 use mathlib.Core.Path.{_≡_}
-use mathlib.Core.List.{List, [], _∷_, _++_}
+use mathlib.Core.List.{List, [], _++_}
 use mathlib.Core.Bool.{Bool, true, cond}
 use mathlib.Core.Option.{Option, none, some}
 use lib.ListN.{length, take, replicate, getD}
