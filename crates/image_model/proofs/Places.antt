@@ -17,6 +17,7 @@ use Rattle.accounts.specs.Accounts.{QUOTAS, HOLDS, zero-quota, zero-hold}
 use Rattle.layout.specs.Bytes.{Octets}
 use Rattle.image_model.specs.Stream.{form-1, form-numbered, entry-tail, tail-width, tail-of, tail-right, marks-of, marks-right, with-marks, carries, blank, head-length, Typed}
 use Rattle.image_model.specs.declared.Form.{Form}
+use Rattle.image_model.proofs.Rows.{head-row}
 use Rattle.image_model.proofs.Items.{zeros-are, are-zeros}
 
 -- f is a form that has a number
@@ -51,8 +52,8 @@ pub record Shaped (f : Form) : Type 0 where
   pub most : head-length f ≤ 8192
 
 shaped-1 : Shaped form-1
-unfolding form-1 head-length tail-width
-shaped-1 = record { number = omega arith; quotas = omega arith; records = omega arith; least = omega arith; most = omega arith }
+unfolding form-1
+shaped-1 = let h = head-row in record { number = omega arith; quotas = omega arith; records = omega arith; least = omega arith; most = omega arith }
 
 pub known-shaped : (f : Form) → Known f → Shaped f
 known-shaped f e = rw (only-form (f .number) f e .1) shaped-1

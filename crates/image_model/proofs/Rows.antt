@@ -60,10 +60,14 @@ held-image : image-of form-1 heap accounts
 unfolding small
 held-image = refl
 
--- the head's length, and images of the shortest and the longest heap
-lengths : (head-length form-1 ≡ 1100) × (image-length form-1 64 ≡ 1536) × (image-length form-1 412 ≡ 1536) × (image-length form-1 413 ≡ 2048) × (image-length form-1 32768 ≡ 34816)
+-- the head's length, and the lengths of images on both sides of a frame more
+pub head-row : head-length form-1 ≡ 1100
 unfolding small
-lengths = (refl, refl, refl, refl, refl)
+head-row = refl
+
+lengths : (image-length form-1 64 ≡ 1536) × (image-length form-1 412 ≡ 1536) × (image-length form-1 413 ≡ 2048) × (image-length form-1 32768 ≡ 34816)
+unfolding small
+lengths = (refl, refl, refl, refl)
 
 -- a lent buffer with bytes of its own
 lent : ℕ → List ℕ
