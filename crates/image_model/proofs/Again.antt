@@ -18,7 +18,8 @@ use Rattle.layout.proofs.Numbers.{octets-take, octets-drop, part-length}
 use Rattle.model.proofs.Bools.{and-left, and-right}
 use Rattle.framing.proofs.Padding.{length-padded}
 use Rattle.image_model.specs.Items.{many, each, every}
-use Rattle.image_model.specs.Stream.{marks-of, marks-right, blank, entry-bytes, record-bytes, entry-width, record-width, entries-at, records-at, head-length, head-of, stream, Typed}
+use Rattle.image_model.specs.Stream.{marks-of, marks-right, blank, entry-bytes, record-bytes, entry-width, record-width, entries-at, records-at}
+use Rattle.image_model.specs.Stream.{head-length, head-of, stream, Typed}
 use Rattle.image_model.specs.Reading.{entry-of, entry-right, record-of, record-right, marks-in, length-in, accounts-of, heap-of, items-right}
 use Rattle.image_model.specs.declared.Form.{Form}
 use Rattle.image_model.proofs.Items.{All, all-places, all-drop, all-both, all-same, each-length, each-all, many-each}
@@ -36,9 +37,15 @@ module _ (f : Form) (t : List ℕ) where
   read-holds = each record-of record-width (f .records) (drop (records-at f) t)
 
   read-accounts : Accounts
-  read-accounts = record { quotas = read-quotas ++ drop (f .quotas) (blank f .quotas); «last_serial» = number (take 4 (drop 8 t)); holds = read-holds ++ drop (f .records) (blank f .holds) }
+  read-accounts =
+      record {
+        quotas = read-quotas ++ drop (f .quotas) (blank f .quotas);
+        «last_serial» = number (take 4 (drop 8 t));
+        holds = read-holds ++ drop (f .records) (blank f .holds);
+      }
 
-  keeps : (accounts-of f t .quotas ≡ read-accounts .quotas) × (accounts-of f t .«last_serial» ≡ read-accounts .«last_serial») × (accounts-of f t .holds ≡ read-accounts .holds)
+  keeps : (accounts-of f t .quotas ≡ read-accounts .quotas) × (accounts-of f t .«last_serial» ≡ read-accounts .«last_serial»)
+      × (accounts-of f t .holds ≡ read-accounts .holds)
   unfolding accounts-of read-accounts
   keeps = marks-keep f (marks-in t) read-accounts
 
@@ -92,33 +99,39 @@ module _ (f : Form) (e : Known f) (t : List ℕ) (o : Octets t) (fits : head-len
   module _ (right : items-right f t ≡ true) where
     entries-right : every (entry-right f) (entry-width f) (f .quotas) (drop entries-at t) ≡ true
     unfolding items-right
-    entries-right = and-left (every (entry-right f) (entry-width f) (f .quotas) (drop entries-at t)) (every record-right record-width (f .records) (drop (records-at f) t)) right
+    entries-right = and-left (every (entry-right f) (entry-width f) (f .quotas) (drop entries-at t)) _ right
 
     records-right : every record-right record-width (f .records) (drop (records-at f) t) ≡ true
     unfolding items-right
-    records-right = and-right (every (entry-right f) (entry-width f) (f .quotas) (drop entries-at t)) (every record-right record-width (f .records) (drop (records-at f) t)) right
+    records-right = and-right (every (entry-right f) (entry-width f) (f .quotas) (drop entries-at t)) _ right
 
     quotas-carried : take (f .quotas) (k .quotas) ≡ read-quotas f t
     unfolding k read-accounts
-    quotas-carried = rw (keeps f t .0) (take-at (read-quotas f t) (drop (f .quotas) (blank f .quotas)) (f .quotas) (each-length (entry-of f) (entry-width f) (f .quotas) (drop entries-at t)))
+    quotas-carried =
+        let l = each-length (entry-of f) (entry-width f) (f .quotas) (drop entries-at t) in
+        rw (keeps f t .0) (take-at (read-quotas f t) (drop (f .quotas) (blank f .quotas)) (f .quotas) l)
 
     holds-carried : take (f .records) (k .holds) ≡ read-holds f t
     unfolding k read-accounts
-    holds-carried = rw (keeps f t .2) (take-at (read-holds f t) (drop (f .records) (blank f .holds)) (f .records) (each-length record-of record-width (f .records) (drop (records-at f) t)))
+    holds-carried =
+        let l = each-length record-of record-width (f .records) (drop (records-at f) t) in
+        rw (keeps f t .2) (take-at (read-holds f t) (drop (f .records) (blank f .holds)) (f .records) l)
 
     records-back : many record-bytes (take (f .records) (k .holds)) ++ drop (head-length f) t ≡ drop (records-at f) t
     unfolding head-length
     records-back =
-        let l : f .records * record-width ≤ length (drop (records-at f) t) = simp length-drop (omega arith) in
+        let d = drop (records-at f) t in
+        let l : f .records * record-width ≤ length d = simp length-drop (omega arith) in
         rw (holds-carried, ← drop-drop (f .records * record-width) (records-at f) t)
-        (many-each record-bytes record-of record-width record-right record-again (f .records) (drop (records-at f) t) (octets-drop (records-at f) t o) l records-right)
+        (many-each record-bytes record-of record-width record-right record-again (f .records) d (octets-drop (records-at f) t o) l records-right)
 
     entries-back : many (entry-bytes f) (take (f .quotas) (k .quotas)) ++ drop (records-at f) t ≡ drop entries-at t
     unfolding head-length
     entries-back =
-        let l : f .quotas * entry-width f ≤ length (drop entries-at t) = simp length-drop (omega arith) in
+        let d = drop entries-at t in
+        let l : f .quotas * entry-width f ≤ length d = simp length-drop (omega arith) in
         rw (quotas-carried, ← drop-drop (f .quotas * entry-width f) entries-at t)
-        (many-each (entry-bytes f) (entry-of f) (entry-width f) (entry-right f) (entry-again f) (f .quotas) (drop entries-at t) (octets-drop entries-at t o) l entries-right)
+        (many-each (entry-bytes f) (entry-of f) (entry-width f) (entry-right f) (entry-again f) (f .quotas) d (octets-drop entries-at t o) l entries-right)
 
     serial-back : bytes 4 (k .«last_serial») ++ drop entries-at t ≡ drop 8 t
     unfolding k read-accounts head-length

@@ -63,7 +63,8 @@ pub uncut-octets : (k : ℕ) (i : List ℕ) → Octets i → Octets (uncut k i)
 unfolding uncut
 uncut-octets zero i o = λ j. zero-byte
 uncut-octets (suc k) i o =
-    octets-append (take 504 (drop 4 i)) (uncut k (drop 512 i)) (octets-take 504 (drop 4 i) (octets-drop 4 i o)) (uncut-octets k (drop 512 i) (octets-drop 512 i o))
+    let a = octets-take 504 (drop 4 i) (octets-drop 4 i o) in
+    octets-append (take 504 (drop 4 i)) (uncut k (drop 512 i)) a (uncut-octets k (drop 512 i) (octets-drop 512 i o))
 
 -- a stream in its frames, and back
 module _ (t : List ℕ) where

@@ -15,7 +15,8 @@ use Rattle.accounts.specs.Accounts.{zero-quota, zero-hold}
 use Rattle.layout.specs.Bytes.{bytes, number}
 use Rattle.layout.proofs.Numbers.{bytes-length}
 use Rattle.image_model.specs.Items.{many, each, every}
-use Rattle.image_model.specs.Stream.{marks-of, with-marks, carries, blank, entry-bytes, record-bytes, entry-width, record-width, entries-at, records-at, head-length, head-of, stream, Typed}
+use Rattle.image_model.specs.Stream.{marks-of, with-marks, carries, blank, entry-bytes, record-bytes, entry-width, record-width, entries-at, records-at}
+use Rattle.image_model.specs.Stream.{head-length, head-of, stream, Typed}
 use Rattle.image_model.specs.Reading.{entry-of, entry-right, record-of, record-right, marks-in, length-in, accounts-of, heap-of, items-right}
 use Rattle.image_model.specs.declared.Form.{Form}
 use Rattle.image_model.proofs.Items.{All, places-all, all-take, many-length, each-many, every-many}
@@ -129,7 +130,8 @@ module _ (f : Form) (e : Known f) (s : List ℕ) (k : Accounts) (y : Typed k) (t
   quotas-read : carries f k ≡ true → each (entry-of f) (entry-width f) (f .quotas) (drop entries-at t) ++ drop (f .quotas) (blank f .quotas) ≡ k .quotas
   quotas-read c =
       let n = carried-lengths f e k y .0 in
-      let r = each-many (entry-bytes f) (entry-width f) (entry-length f) EntryFits (entry-of f) (entry-back f) (carried-quotas f k) behind-entries (entries-fit f e k y) in
+      let fit = entries-fit f e k y in
+      let r = each-many (entry-bytes f) (entry-width f) (entry-length f) EntryFits (entry-of f) (entry-back f) (carried-quotas f k) behind-entries fit in
       rw (at-12, rw n at r) (quotas-whole f e k y c)
 
   holds-read : carries f k ≡ true → each record-of record-width (f .records) (drop (records-at f) t) ++ drop (f .records) (blank f .holds) ≡ k .holds
@@ -155,6 +157,7 @@ module _ (f : Form) (e : Known f) (s : List ℕ) (k : Accounts) (y : Typed k) (t
   unfolding items-right
   items-tested =
       let n = carried-lengths f e k y in
-      let a = every-many (entry-bytes f) (entry-width f) (entry-length f) EntryFits (entry-right f) (entry-tested f) (carried-quotas f k) behind-entries (entries-fit f e k y) in
+      let fit = entries-fit f e k y in
+      let a = every-many (entry-bytes f) (entry-width f) (entry-length f) EntryFits (entry-right f) (entry-tested f) (carried-quotas f k) behind-entries fit in
       let b = every-many record-bytes record-width record-length RecordFits record-right record-tested (carried-holds f k) (s ++ q) (records-fit f e k y) in
       rw (at-12, at-records, rw (n .0) at a, rw (n .1) at b)

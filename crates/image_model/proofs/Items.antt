@@ -72,19 +72,26 @@ module _ {A : Type 0} (f : A → List ℕ) (w : ℕ) (long : (x : A) → length 
       suc-times : (n : ℕ) → w + n * w ≡ suc n * w
       suc-times n = omega (arith, suc-mul n w)
 
+  -- the first item, and those behind it
+  first-item : (x : A) (xs : List A) (q : List ℕ) → take w ((f x ++ many f xs) ++ q) ≡ f x
+  first-item x xs q = rw (append-assoc (f x) (many f xs) q) (take-at (f x) (many f xs ++ q) w (long x))
+
+  next-items : (x : A) (xs : List A) (q : List ℕ) → drop w ((f x ++ many f xs) ++ q) ≡ many f xs ++ q
+  next-items x xs q = rw (append-assoc (f x) (many f xs) q) (drop-at (f x) (many f xs ++ q) w (long x))
+
   -- written and read
-  pub each-many : (P : A → Type 0) (g : List ℕ → A) → ((x : A) → P x → g (f x) ≡ x) → (xs : List A) (q : List ℕ) → All P xs → each g w (length xs) (many f xs ++ q) ≡ xs
+  pub each-many : (P : A → Type 0) (g : List ℕ → A) → ((x : A) → P x → g (f x) ≡ x) → (xs : List A) (q : List ℕ) → All P xs
+      → each g w (length xs) (many f xs ++ q) ≡ xs
   unfolding many each
   each-many P g back [] q a = refl
-  each-many P g back (x ∷ xs) q a =
-      rw (append-assoc (f x) (many f xs) q, take-at (f x) (many f xs ++ q) w (long x), drop-at (f x) (many f xs ++ q) w (long x), back x (a .0), each-many P g back xs q (a .1))
+  each-many P g back (x ∷ xs) q a = rw (first-item x xs q, next-items x xs q, back x (a .0), each-many P g back xs q (a .1))
 
   -- written and tested
-  pub every-many : (P : A → Type 0) (t : List ℕ → Bool) → ((x : A) → P x → t (f x) ≡ true) → (xs : List A) (q : List ℕ) → All P xs → every t w (length xs) (many f xs ++ q) ≡ true
+  pub every-many : (P : A → Type 0) (t : List ℕ → Bool) → ((x : A) → P x → t (f x) ≡ true) → (xs : List A) (q : List ℕ) → All P xs
+      → every t w (length xs) (many f xs ++ q) ≡ true
   unfolding many every
   every-many P t right [] q a = refl
-  every-many P t right (x ∷ xs) q a =
-      rw (append-assoc (f x) (many f xs) q, take-at (f x) (many f xs ++ q) w (long x), drop-at (f x) (many f xs ++ q) w (long x), right x (a .0), every-many P t right xs q (a .1))
+  every-many P t right (x ∷ xs) q a = rw (first-item x xs q, next-items x xs q, right x (a .0), every-many P t right xs q (a .1))
 
 -- read and written: so many items that are right, in front of what is behind them
 pub many-each : {A : Type 0} (f : A → List ℕ) (g : List ℕ → A) (w : ℕ) (t : List ℕ → Bool) → ((c : List ℕ) → Octets c → length c ≡ w → t c ≡ true → f (g c) ≡ c)

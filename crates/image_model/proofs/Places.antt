@@ -15,7 +15,8 @@ use Rattle.accounts.specs.declared.Quota.{Quota}
 use Rattle.accounts.specs.declared.Accounts.{Accounts}
 use Rattle.accounts.specs.Accounts.{QUOTAS, HOLDS, zero-quota, zero-hold}
 use Rattle.layout.specs.Bytes.{Octets}
-use Rattle.image_model.specs.Stream.{form-1, form-numbered, entry-tail, tail-width, tail-of, tail-right, marks-of, marks-right, with-marks, carries, blank, head-length, Typed}
+use Rattle.image_model.specs.Stream.{form-1, form-numbered, entry-tail, tail-width, tail-of, tail-right, marks-of, marks-right, with-marks, carries}
+use Rattle.image_model.specs.Stream.{blank, head-length, Typed}
 use Rattle.image_model.specs.declared.Form.{Form}
 use Rattle.image_model.proofs.Rows.{head-row}
 use Rattle.image_model.proofs.Items.{zeros-are, are-zeros}

@@ -105,7 +105,8 @@ module _ (i h : List ℕ) (o : Octets i) (r : Right i h) where
       let a = r .contents in
       let b = and-right (allowed (size-in i)) _ a in
       let c = and-right (eqb n (frames-for L)) _ b in
-      (and-left (allowed (size-in i)) _ a, eqb-true n (frames-for L) (and-left (eqb n (frames-for L)) _ b), and-left (all-zero (drop L t)) _ c, and-right (all-zero (drop L t)) _ c)
+      let d = eqb-true n (frames-for L) (and-left (eqb n (frames-for L)) _ b) in
+      (and-left (allowed (size-in i)) _ a, d, and-left (all-zero (drop L t)) _ c, and-right (all-zero (drop L t)) _ c)
 
   fits : L ≤ length t
   unfolding frames-for

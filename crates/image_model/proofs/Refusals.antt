@@ -16,7 +16,8 @@ use Rattle.model.specs.Refusals.{line-number, line-holds, first-refusal, line-1
 use Rattle.model.proofs.Refusals.{Numbered, FirstToHold, refused-exactly, accepted-exactly}
 use Rattle.image_model.specs.Stream.{image-of, image-length}
 use Rattle.image_model.specs.Reading.{heap-in, accounts-in}
-use Rattle.image_model.specs.Images.{put-lines, write-lines, line-21, line-22, line-23, line-24, line-25, line-26, shape-lines, read-lines, unless-written, unless-read, write-image, read-image}
+use Rattle.image_model.specs.Images.{put-lines, write-lines, line-21, line-22, line-23, line-24, line-25, line-26, shape-lines, read-lines}
+use Rattle.image_model.specs.Images.{unless-written, unless-read, write-image, read-image}
 use Rattle.image_model.specs.declared.Form.{Form}
 
 -- the lines, in this order

@@ -72,7 +72,8 @@ module _ (f : Form) (o s : List ℕ) (k : Accounts) where
       let l = image-has-length f s k n y in
       let r = room (write-accepted-exactly f o s k .0 e) .2 in
       let m = image-length f (length s) in
-      let w : overwrite 0 (image-of f s k) o ≡ image-of f s k ++ drop m o = overwrite-fits 0 (image-of f s k) o (omega arith) ∙ rw (zero-add (length (image-of f s k)), l) in
+      let w : overwrite 0 (image-of f s k) o ≡ image-of f s k ++ drop m o =
+      overwrite-fits 0 (image-of f s k) o (omega arith) ∙ rw (zero-add (length (image-of f s k)), l) in
       rw (accepted-write f o s k e, w)
       (l, take-at (image-of f s k) (drop m o) m l, drop-at (image-of f s k) (drop m o) m l)
 
