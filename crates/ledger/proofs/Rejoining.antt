@@ -2,7 +2,7 @@
 -- events before the image and those since, and the ledger read off the state says what the ledger said when the image was written.
 -- The first goes along the events. The second holds since both ledgers agree with one state.
 -- Assumes nothing.
-use mathlib.Core.Path.{_≡_, sym, _∙_}
+use mathlib.Core.Path.{_≡_, sym, _∙_, subst}
 use mathlib.Core.List.{List, [], _∷_, _++_, List·Memᴰ}
 use mathlib.Core.Logic.{_↔_}
 use Prim.Native.Nat.{ℕ}
@@ -13,10 +13,10 @@ use Rattle.model.specs.Step.{step}
 use Rattle.model.specs.declared.Handle.{Handle}
 use Rattle.ledger.specs.Ledger.{Entry, Ledger, Event, Called, Wrote, Saved, Restored, holds-of, read-ledger, record-event, ledger-of}
 use Rattle.ledger.specs.History.{Run, Restorable, History}
-use Rattle.ledger.specs.Demand3.{objects-in}
+use Rattle.ledger.specs.Demand3.{objects-in, Holds}
 use Rattle.ledger.proofs.Agreement.{Agrees}
 use Rattle.ledger.proofs.Opening.{restored-agrees}
-use Rattle.ledger.proofs.Theorem.{history-agrees}
+use Rattle.ledger.proofs.Theorem.{history-agrees, demand-3-of}
 
 -- of anything that performs calls
 module _ (run : Run) (begun : Ledger) (early : List Event) (s₁ : List ℕ) (k₁ : Accounts) where
@@ -69,3 +69,11 @@ module _ (unit : ℕ → ℕ) (units : Units unit) (begun : Ledger) where
       → Same (ledger-of begun (Restored s₁ k₁ ∷ (mid ++ (Saved s₁ k₁ ∷ early)))) (ledger-of begun early)
   unfolding ledger-of record-event
   rejoined-ledger early mid s₁ k₁ s k h = history-read early s₁ k₁ (saved-history (step unit) begun early s₁ k₁ mid s k h)
+
+  -- and demand 3 speaks of the events before the image and those since, at every split of them
+  pub rejoined-holds : (early mid since : List Event) (s₁ : List ℕ) (k₁ : Accounts) (s : List ℕ) (k : Accounts)
+      → History (step unit) begun (since ++ (Restored s₁ k₁ ∷ (mid ++ (Saved s₁ k₁ ∷ early)))) s k
+      → (front back : List Event) → since ++ early ≡ back ++ front → Holds unit (step unit) begun front back s k
+  rejoined-holds early mid since s₁ k₁ s k h front back e =
+      demand-3-of unit units .always begun front back s k
+      (subst (λ (es : List Event). History (step unit) begun es s k) e (rejoins (step unit) begun early s₁ k₁ mid since s k h))
