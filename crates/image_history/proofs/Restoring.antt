@@ -14,6 +14,7 @@ use Rattle.model.specs.Step.{step}
 use Rattle.ledger.specs.Ledger.{Ledger, Event, Saved, Restored, read-ledger, ledger-of}
 use Rattle.ledger.specs.History.{Run, Restorable, Restoring, History}
 use Rattle.ledger.specs.Demand3.{Holds}
+use Rattle.ledger.proofs.Lengths.{saved-as-long}
 use Rattle.ledger.proofs.Rejoining.{saved-history, Same, history-restorable, rejoined-ledger, rejoined-holds}
 use Rattle.image_model.specs.declared.Form.{Form}
 use Rattle.image_model.specs.Stream.{Typed}
@@ -22,7 +23,7 @@ use Rattle.image_model.specs.Reading.{heap-in, accounts-in}
 use Rattle.image_model.specs.Images.{write-image, read-image}
 use Rattle.image_model.proofs.Places.{Known}
 use Rattle.image_model.proofs.Refusals.{refused-read, accepted-read}
-use Rattle.image_model.proofs.Read.{accepted-right, read-written}
+use Rattle.image_model.proofs.Read.{read-written}
 use Rattle.image_model.proofs.Trips.{write-then-read}
 
 -- the bytes that the writer wrote
@@ -84,19 +85,13 @@ module _ (f : Form) (o s : List ℕ) (k : Accounts) (known : Known f) (typed : T
       → read-image (written-image f o s k) h ≡ record { heap = s; accounts = k; refusal = 0 }
   saved-restored h e = accepted-read (written-image f o s k) h e ∙ (λ j. record { heap = says .0 j; accounts = says .1 j; refusal = 0 })
 
-  -- the lent heap was as long
-  saved-length : (h : List ℕ) → read-image (written-image f o s k) h .refusal ≡ 0 → length s ≡ length h
-  saved-length h e =
-      let own = ap (λ (x : Restored-to). x .refusal) (write-then-read f o s k s saved known octets typed refl) in
-      accepted-right (written-image f o s k) s own .room ∙ sym (accepted-right (written-image f o s k) h e .room)
-
 -- a written image is an event of the history, and changes nothing
 pub saved-goes-on : (run : Run) (begun : Ledger) (es : List Event) (s : List ℕ) (k : Accounts) → History run begun es s k
     → History run begun (Saved s k ∷ es) s k
 saved-goes-on run begun es s k past = (past, refl, refl)
 
--- what a read that is accepted leaves, of an image that was written in the history: the heap and the accounts written; a history with the restore in it; the
--- image's own history again; and a ledger that says what it said when the image was written
+-- what a read of an image leaves that was written in the history: the heap and the accounts written; a history with the restore in it; the image's own
+-- history again; and a ledger that says what it said when the image was written
 pub record Continues (unit : ℕ → ℕ) (begun : Ledger) (early mid : List Event) (s₁ : List ℕ) (k₁ : Accounts) (r : Restored-to) : Type 0 where
   pub state : r ≡ record { heap = s₁; accounts = k₁; refusal = 0 }
   pub goes-on : History (step unit) begun (Restored (r .heap) (r .accounts) ∷ (mid ++ (Saved s₁ k₁ ∷ early))) (r .heap) (r .accounts)
@@ -104,17 +99,18 @@ pub record Continues (unit : ℕ → ℕ) (begun : Ledger) (early mid : List Eve
   pub ledger : Same (ledger-of begun (Restored (r .heap) (r .accounts) ∷ (mid ++ (Saved s₁ k₁ ∷ early)))) (ledger-of begun early)
 
 module _ (unit : ℕ → ℕ) (units : Units unit) (begun : Ledger) (early mid : List Event) (s₁ : List ℕ) (k₁ : Accounts) where
+  -- at any later point of the history the image is accepted
   pub restore-continues : (s : List ℕ) (k : Accounts) → History (step unit) begun (mid ++ (Saved s₁ k₁ ∷ early)) s k
-      → (f : Form) (o : List ℕ) → Known f → Typed k₁ → write-image f o s₁ k₁ .refusal ≡ 0 → read-image (written-image f o s₁ k₁) s .refusal ≡ 0
+      → (f : Form) (o : List ℕ) → Known f → Typed k₁ → write-image f o s₁ k₁ .refusal ≡ 0
       → Continues unit begun early mid s₁ k₁ (read-image (written-image f o s₁ k₁) s)
-  restore-continues s k past f o known typed saved accepted =
+  restore-continues s k past f o known typed saved =
       let own = saved-history (step unit) begun early s₁ k₁ mid s k past in
       let fit = history-restorable unit units begun early s₁ k₁ own in
-      let e = saved-restored f o s₁ k₁ known typed saved (fit .octets) s accepted in
-      subst (Continues unit begun early mid s₁ k₁) (sym e)
+      let long = saved-as-long unit units begun early s₁ k₁ mid s k past in
+      subst (Continues unit begun early mid s₁ k₁) (sym (write-then-read f o s₁ k₁ s saved known (fit .octets) typed long))
       (record {
         state = refl;
-        goes-on = (s, k, past, saved-length f o s₁ k₁ known typed saved (fit .octets) s accepted, fit, refl, refl);
+        goes-on = (s, k, past, sym long, fit, refl, refl);
         again = own;
         ledger = rejoined-ledger unit units begun early mid s₁ k₁ s k past;
       })

@@ -17,3 +17,4 @@ pub mod Staying
 pub mod Bytes
 pub mod NewBytes
 pub mod Rejoining
+pub mod Lengths
