@@ -56,12 +56,24 @@ struct lokhazim_restore_reply {
     uint32_t refusal;
 };
 
+/* The reply of examining an image; all zero but the refusal where it is refused. */
+struct lokhazim_examine_reply {
+    uint32_t refusal;
+    uint32_t form;
+    size_t heap_length;
+};
+
 static_assert(sizeof(struct lokhazim_image_reply) == 16, "the size of struct lokhazim_image_reply is not 16");
 static_assert(offsetof(struct lokhazim_image_reply, refusal) == 0, "struct lokhazim_image_reply: the offset of refusal is not 0");
 static_assert(offsetof(struct lokhazim_image_reply, length) == 8, "struct lokhazim_image_reply: the offset of length is not 8");
 static_assert(sizeof(struct lokhazim_restore_reply) == 1096, "the size of struct lokhazim_restore_reply is not 1096");
 static_assert(offsetof(struct lokhazim_restore_reply, accounts) == 0, "struct lokhazim_restore_reply: the offset of accounts is not 0");
 static_assert(offsetof(struct lokhazim_restore_reply, refusal) == 1092, "struct lokhazim_restore_reply: the offset of refusal is not 1092");
+
+static_assert(sizeof(struct lokhazim_examine_reply) == 16, "the size of struct lokhazim_examine_reply is not 16");
+static_assert(offsetof(struct lokhazim_examine_reply, refusal) == 0, "struct lokhazim_examine_reply: the offset of refusal is not 0");
+static_assert(offsetof(struct lokhazim_examine_reply, form) == 4, "struct lokhazim_examine_reply: the offset of form is not 4");
+static_assert(offsetof(struct lokhazim_examine_reply, heap_length) == 8, "struct lokhazim_examine_reply: the offset of heap_length is not 8");
 
 /* ---- The library's functions: accounts by value ---- */
 
@@ -75,6 +87,9 @@ struct lokhazim_image_reply lokhazim_image_write(
 /* Reads an image into a heap of the same length, and gives its accounts. */
 struct lokhazim_restore_reply lokhazim_image_read(
     const uint8_t *image, size_t image_length, uint8_t *heap, size_t length);
+
+/* Tells the image's form and the length of the heap in it, by refusals 21 to 24; whether heap and accounts agree is told by reading. */
+struct lokhazim_examine_reply lokhazim_image_examine(const uint8_t *image, size_t image_length);
 
 /* ---- The same with the accounts by pointer; each gives its refusal ---- */
 

@@ -25,6 +25,41 @@ pub fn image_length(heap_length: usize) -> Option<usize> {
     }
 }
 
+/// What an image says of itself before it is read.
+#[derive(Clone, Copy, Debug, PartialEq, Eq, Hash)]
+pub struct ImageFacts {
+    /// The number of its form.
+    pub form: u32,
+    /// The length of the heap that it holds, which is the length of the bytes to read it into.
+    pub heap_length: usize,
+}
+
+/// Tells the form of an image and the length of the heap in it, where its frames and its shape are
+/// right. Whether heap and accounts agree is told by reading it.
+///
+/// # Errors
+///
+/// Refusals 21 to 24.
+///
+/// ```
+/// use lokhazim::{examine_image, Heap, ImageRefusal};
+///
+/// let mut memory = [0; 128];
+/// let heap = Heap::open(&mut memory, [100; 8])?;
+/// let mut image = [0; 1_536];
+/// heap.save(&mut image)?;
+/// assert_eq!(examine_image(&image)?.heap_length, 128);
+/// assert_eq!(examine_image(&image[..100]), Err(ImageRefusal::ImageLength));
+/// # Ok::<(), Box<dyn std::error::Error>>(())
+/// ```
+pub fn examine_image(image: &[u8]) -> Result<ImageFacts, ImageRefusal> {
+    let reply = raw::image_examine(image);
+    verdict(reply.refusal).map(|()| ImageFacts {
+        form: reply.form,
+        heap_length: reply.heap_length,
+    })
+}
+
 /// Why an image is not written or not read; then nothing is changed.
 ///
 /// ```

@@ -151,6 +151,17 @@ pub struct RestoreReply {
     pub refusal: u32,
 }
 
+/// The reply of examining an image.
+#[repr(C)]
+pub struct ExamineReply {
+    /// The refusal's number.
+    pub refusal: u32,
+    /// The number of the image's form.
+    pub form: u32,
+    /// The length of the heap in it.
+    pub heap_length: usize,
+}
+
 /// Holds a struct to its size and to the offset of each field, when the crate is compiled.
 macro_rules! lies {
     ($type:ty, $size:literal: $($field:ident at $offset:literal),+) => {
@@ -174,3 +185,4 @@ lies!(RangeReply, 24: refusal at 0, start at 8, end at 16);
 lies!(BlockReply, 32: refusal at 0, found at 4, offset at 8, size at 16, serial at 24);
 lies!(ImageReply, 16: refusal at 0, length at 8);
 lies!(RestoreReply, 1096: accounts at 0, refusal at 1092);
+lies!(ExamineReply, 16: refusal at 0, form at 4, heap_length at 8);

@@ -68,7 +68,7 @@ mod refusal;
 
 pub use blocks::{Block, Blocks};
 pub use heap::Heap;
-pub use image::{image_length, ImageRefusal, IMAGE_MAX};
+pub use image::{examine_image, image_length, ImageFacts, ImageRefusal, IMAGE_MAX};
 pub use layout::{Accounts, Handle, Hold, Quota, HOLDS, QUOTAS};
 pub use refusal::Refusal;
 

@@ -6,8 +6,8 @@
 //! a slice is. The memory of a `&[u8]` is not written.
 
 use crate::layout::{
-    Accounts, Amount, AmountReply, BlockReply, Grants, Handle, HandleReply, ImageReply, OpenReply,
-    RangeReply, RestoreReply,
+    Accounts, Amount, AmountReply, BlockReply, ExamineReply, Grants, Handle, HandleReply,
+    ImageReply, OpenReply, RangeReply, RestoreReply,
 };
 
 extern "C" {
@@ -93,6 +93,7 @@ extern "C" {
         length: usize,
         accounts: Accounts,
     ) -> ImageReply;
+    fn lokhazim_image_examine(image: *const u8, image_length: usize) -> ExamineReply;
     fn lokhazim_image_read(
         image: *const u8,
         image_length: usize,
@@ -145,6 +146,11 @@ pub fn image_write(image: &mut [u8], heap: &[u8], accounts: &Accounts) -> ImageR
     let (at, room) = (image.as_mut_ptr(), image.len());
     // SAFETY: pointers and lengths are those of two slices that are borrowed for the call.
     unsafe { lokhazim_image_write(at, room, heap.as_ptr(), heap.len(), accounts.clone()) }
+}
+
+pub fn image_examine(image: &[u8]) -> ExamineReply {
+    // SAFETY: pointer and length are those of a slice that is borrowed for the call.
+    unsafe { lokhazim_image_examine(image.as_ptr(), image.len()) }
 }
 
 pub fn image_read(image: &[u8], heap: &mut [u8]) -> RestoreReply {

@@ -12,8 +12,8 @@ use std::mem::MaybeUninit;
 use std::slice;
 
 use layout::{
-    Accounts, Amount, AmountReply, BlockReply, Grants, Handle, HandleReply, Hold, ImageReply,
-    OpenReply, Quota, RangeReply, RestoreReply,
+    Accounts, Amount, AmountReply, BlockReply, ExamineReply, Grants, Handle, HandleReply, Hold,
+    ImageReply, OpenReply, Quota, RangeReply, RestoreReply,
 };
 use support::{compile, run};
 
@@ -160,6 +160,14 @@ impl Fields for RestoreReply {
     }
 }
 
+impl Fields for ExamineReply {
+    fn visit(&mut self, visitor: &mut Visitor) {
+        visitor.visit32(&mut self.refusal);
+        visitor.visit32(&mut self.form);
+        visitor.visit_size(&mut self.heap_length);
+    }
+}
+
 /// Takes the bytes of a struct from the front, visits its fields where they lie, and puts the bytes
 /// behind what is there.
 fn exchange<T: Fields>(visitor: &mut Visitor, bytes: &mut Vec<u8>) {
@@ -190,6 +198,7 @@ fn exchange_all(visitor: &mut Visitor, bytes: &mut Vec<u8>) {
     exchange::<BlockReply>(visitor, bytes);
     exchange::<ImageReply>(visitor, bytes);
     exchange::<RestoreReply>(visitor, bytes);
+    exchange::<ExamineReply>(visitor, bytes);
 }
 
 /// The bytes of all structs as Rust sets them, and the number that each field got.

@@ -143,6 +143,13 @@ static void visit_restore_reply(struct lokhazim_restore_reply *it)
     visit32(&it->refusal);
 }
 
+static void visit_examine_reply(struct lokhazim_examine_reply *it)
+{
+    visit32(&it->refusal);
+    visit32(&it->form);
+    visit_size(&it->heap_length);
+}
+
 /* Stops where fewer bytes could be read or written than a struct has. */
 static void need(size_t done)
 {
@@ -182,5 +189,6 @@ int main(int count, char **words)
     EXCHANGE(block_reply);
     EXCHANGE(image_reply);
     EXCHANGE(restore_reply);
+    EXCHANGE(examine_reply);
     return EXIT_SUCCESS;
 }
