@@ -48,11 +48,16 @@ pub fn left_by<T>(
     let mut answers = printed.text.lines();
     let mut lines = script.split(|byte| *byte == b'\n').map(numbers);
     let (_, opening) = lines.next().unwrap_or_default();
-    let mut memory = vec![0; opening.first().copied().unwrap_or(0) as usize];
-    let grants: [u32; QUOTAS] = opening[1..].try_into().map_err(|_| differs(name, 1))?;
-    let mut heap = Heap::open(&mut memory, grants)
-        .map_err(|refusal| Failure::Refused(format!("{name}: the opening: {refusal}")))?;
-    answers.next();
+    let refused = |refusal| Failure::Refused(format!("{name}: the opening: {refusal}"));
+    if answers.next() != Some("ok") {
+        return Err(refused(Refusal::HeapLength));
+    }
+    let [length, grants @ ..] = opening.as_slice() else {
+        return Err(differs(name, 1));
+    };
+    let grants: [u32; QUOTAS] = grants.try_into().map_err(|_| differs(name, 1))?;
+    let mut memory = vec![0; *length as usize];
+    let mut heap = Heap::open(&mut memory, grants).map_err(refused)?;
     for (line, (word, values)) in (2..).zip(lines.filter(|(word, _)| !word.is_empty())) {
         let answer = answer(&mut heap, &word, &values).ok_or_else(|| differs(name, line))?;
         if answers.next() != Some(answer.as_str()) {
@@ -77,13 +82,13 @@ fn answer(heap: &mut Heap, word: &str, values: &[u32]) -> Option<String> {
         length: l,
         serial: s,
     };
-    Some(match (word, *values) {
-        ("alloc", [q, n]) => of_handle(heap.allocate(q, n)),
-        ("array", [q, n, s]) => of_handle(heap.allocate_array(q, n, s)),
-        ("claim", [q, b, l, s]) => of_amount(heap.claim(q, handle(b, l, s))),
-        ("free", [q, b, l, s]) => of_amount(heap.release(q, handle(b, l, s))),
-        ("all", [q]) => of_amount(heap.free_all(q)),
-        ("realloc", [q, b, l, s, n]) => of_handle(heap.reallocate(q, handle(b, l, s), n)),
+    Some(match (word, values) {
+        ("alloc", &[q, n]) => of_handle(heap.allocate(q, n)),
+        ("array", &[q, n, s]) => of_handle(heap.allocate_array(q, n, s)),
+        ("claim", &[q, b, l, s]) => of_amount(heap.claim(q, handle(b, l, s))),
+        ("free", &[q, b, l, s]) => of_amount(heap.release(q, handle(b, l, s))),
+        ("all", &[q]) => of_amount(heap.free_all(q)),
+        ("realloc", &[q, b, l, s, n]) => of_handle(heap.reallocate(q, handle(b, l, s), n)),
         _ => return None,
     })
 }
