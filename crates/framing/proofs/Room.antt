@@ -9,6 +9,7 @@ use lib.ListN.{length, length-append}
 use lib.Dec.{leb, ltb}
 use borrow.Author.Tests.{lt-ltb, le-ltb, le-leb, lt-leb}
 use Rattle.layout.specs.Bytes.{overwrite}
+use Rattle.framing.proofs.Rows
 use Rattle.framing.specs.declared.FrameAnswer.the-variants.{Written, NoRoom}
 use Rattle.framing.specs.Frames.{cut, cut-from, frames-for, has-room, Framed, write-frames}
 
