@@ -1,0 +1,35 @@
+-- Assumes nothing.
+use native.Mathlib.Omega.{arith}
+use mathlib.Core.Path.{_≡_, refl, ap, sym, _∙_}
+use borrow.Author.Needs.{needs}
+use Rattle.image.proofs.records.read_record.Statement.{statement}
+use Rattle.image.proofs.records.read_record.Tie as tie
+
+read-quad-requires : tie.Need-read-quad-requires
+read-quad-requires c κs = search needs
+
+add-stream-at : tie.Need-add-stream-at
+add-stream-at c = search needs
+
+stream-at-requires : tie.Need-stream-at-requires
+stream-at-requires c κs = search needs
+
+add-stream-at-2 : tie.Need-add-stream-at-2
+add-stream-at-2 c = search needs
+
+stream-at-requires-2 : tie.Need-stream-at-requires-2
+stream-at-requires-2 c κs = search needs
+
+returns : tie.Need-returns
+returns c = ?
+
+pub read-record-spec : {M : Type 1} → statement M
+read-record-spec =
+    tie.close
+    (tie.spec
+    read-quad-requires
+    add-stream-at
+    stream-at-requires
+    add-stream-at-2
+    stream-at-requires-2
+    returns)

@@ -1,0 +1,18 @@
+-- Assumes nothing.
+use native.Mathlib.Omega.{arith}
+use mathlib.Core.Path.{_≡_, refl, ap, sym, _∙_}
+use borrow.Author.Needs.{needs}
+use Rattle.image.proofs.records.write_byte.Statement.{statement}
+use Rattle.image.proofs.records.write_byte.Tie as tie
+
+slice-write-head : tie.Need-slice-write-head
+slice-write-head c = search needs
+
+same-length : tie.Need-same-length
+same-length c = search needs
+
+returns : tie.Need-returns
+returns c = ?
+
+pub write-byte-spec : {M : Type 1} → statement M
+write-byte-spec = tie.close (tie.spec slice-write-head same-length returns)
