@@ -63,7 +63,8 @@ pub(crate) fn read_records(image: &[u8], at: usize, count: usize) -> [Hold; HOLD
     requires { ⌜ (count ≤ HOLDS) × (at < 65536) ⌝ }
     ensures { λ r. ⌜ ((f : Form) → r ≡ each record-of record-width count (drop at (stream-of (now (image .entry)))) ++ drop count (blank f .holds)) ⌝ }
 {
-    let mut holds = [Hold::zero(); HOLDS];
+    let zero = Hold::zero();
+    let mut holds = [zero; HOLDS];
     let mut i: usize = 0;
     while i < count {
         holds[i] = read_record(image, at + i * 8);
@@ -74,7 +75,7 @@ pub(crate) fn read_records(image: &[u8], at: usize, count: usize) -> [Hold; HOLD
 
 // Whether so many records from a place of the stream on have zeros in their spare bytes.
 pub(crate) fn spares_right(image: &[u8], at: usize, count: usize) -> bool
-    requires { ⌜ (count ≤ HOLDS) × (at + count * 8 ≤ length (stream-of (now image))) × (at < 65536) ⌝ }
+    requires { ⌜ (count ≤ HOLDS) × (at < 65536) ⌝ }
     ensures { λ r. ⌜ r ≡ every record-right record-width count (drop at (stream-of (now (image .entry)))) ⌝ }
 {
     let mut i: usize = 0;

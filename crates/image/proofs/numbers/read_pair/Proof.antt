@@ -1,7 +1,10 @@
+-- The two bytes are the number, the lowest first (`pair-at`).
 -- Assumes nothing.
 use native.Mathlib.Omega.{arith}
 use mathlib.Core.Path.{_≡_, refl, ap, sym, _∙_}
 use borrow.Author.Needs.{needs}
+use Rattle.framing.specs.Frames.{stream-of}
+use Rattle.image.proofs.Decoding.{pair-at}
 use Rattle.image.proofs.numbers.read_pair.Statement.{statement}
 use Rattle.image.proofs.numbers.read_pair.Tie as tie
 
@@ -27,7 +30,10 @@ add-result : tie.Need-add-result
 add-result c = search needs
 
 returns : tie.Need-returns
-returns c = ?
+returns c =
+    let a = c .before .before .before .before .before .args in
+    let p = pair-at (a .at) (stream-of (a .image .now)) in
+    (omega arith, omega arith)
 
 pub read-pair-spec : {M : Type 1} → statement M
 read-pair-spec =

@@ -1,7 +1,10 @@
+-- Two numbers of two bytes are the number of four (`quad-at`).
 -- Assumes nothing.
 use native.Mathlib.Omega.{arith}
 use mathlib.Core.Path.{_≡_, refl, ap, sym, _∙_}
 use borrow.Author.Needs.{needs}
+use Rattle.framing.specs.Frames.{stream-of}
+use Rattle.image.proofs.Decoding.{quad-at}
 use Rattle.image.proofs.numbers.read_quad.Statement.{statement}
 use Rattle.image.proofs.numbers.read_quad.Tie as tie
 
@@ -21,7 +24,10 @@ add-result : tie.Need-add-result
 add-result c = search needs
 
 returns : tie.Need-returns
-returns c = ?
+returns c =
+    let a = c .before .before .before .args in
+    let p = quad-at (a .at) (stream-of (a .image .now)) in
+    omega arith
 
 pub read-quad-spec : {M : Type 1} → statement M
 read-quad-spec =

@@ -1,0 +1,39 @@
+-- Assumes nothing.
+use native.Mathlib.Omega.{arith}
+use mathlib.Core.Path.{_≡_, refl, ap, sym, _∙_}
+use borrow.Author.Needs.{needs}
+use Rattle.image.proofs.writing.put_image.Statement.{statement}
+use Rattle.image.proofs.writing.put_image.Tie as tie
+
+heap-at-requires : tie.Need-heap-at-requires
+heap-at-requires c κs = search needs
+
+head-space-requires : tie.Need-head-space-requires
+head-space-requires c κs = search needs
+
+array-borrow-prefix-head : tie.Need-array-borrow-prefix-head
+array-borrow-prefix-head c = search needs
+
+slice-aggregate-put-with : tie.Need-slice-aggregate-put-with
+slice-aggregate-put-with c = ?
+
+put-with-requires : tie.Need-put-with-requires
+put-with-requires c κs = ?
+
+same-length : tie.Need-same-length
+same-length c = search needs
+
+returns : tie.Need-returns
+returns c = search needs
+
+pub put-image-spec : {M : Type 1} → statement M
+put-image-spec =
+    tie.close
+    (tie.spec
+    heap-at-requires
+    head-space-requires
+    array-borrow-prefix-head
+    slice-aggregate-put-with
+    put-with-requires
+    same-length
+    returns)
