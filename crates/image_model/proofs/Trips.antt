@@ -26,7 +26,7 @@ use Rattle.image_model.specs.Images.{put-lines, write-lines, write-image
 use Rattle.image_model.specs.declared.Form.{Form}
 use Rattle.image_model.proofs.Places.{Known}
 use Rattle.image_model.proofs.Refusals.{write-accepted-exactly, accepted-write}
-use Rattle.image_model.proofs.Written.{image-has-length, written-read}
+use Rattle.image_model.proofs.Written.{image-has-length, written-read, image-says}
 use Rattle.image_model.proofs.Read.{read-written}
 
 -- the reader accepts exactly the images of what can be written, into a heap of that length
@@ -36,6 +36,13 @@ accepts-exactly i h o = (
   λ e. let w = read-written i h o e in (form-of i, heap-in i, accounts-in i, w .0, sym (w .1), w .2),
   λ x. rw (x .4) (ap (λ (r : Restored-to). r .refusal) (written-read (x .0) (x .1) (x .2) (x .3) h (x .5))),
 )
+
+-- two states have the same image only if they are the same, in the same form
+pub image-told-apart : (f g : Form) (s u : List ℕ) (k l : Accounts) → Accepts f s k → Accepts g u l → image-of f s k ≡ image-of g u l → (f ≡ g) × (s ≡ u) × (k ≡ l)
+image-told-apart f g s u k l a b e =
+    let x = image-says f s k a in
+    let y = image-says g u l b in
+    (sym (x .0) ∙ ap form-of e ∙ y .0, sym (x .1) ∙ ap heap-in e ∙ y .1, sym (x .2) ∙ ap accounts-in e ∙ y .2)
 
 module _ (f : Form) (o s : List ℕ) (k : Accounts) where
   -- no line of the writer holds exactly if the length is allowed, the state is consistent and the lent image has room
