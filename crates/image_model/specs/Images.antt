@@ -1,8 +1,8 @@
--- Writing and reading images (rules 13.3 to 13.8): the lines of each, and what each leaves and answers.
+-- Writing and reading images (rules 13.5 to 13.9): the lines of each, and what each leaves and answers.
 use Prim.Native.Nat.{ℕ, zero, suc, _/_, _%_}
 use mathlib.Core.Path.{_≡_}
 use mathlib.Core.List.{List, [], _∷_, _++_}
-use mathlib.Core.Bool.{Bool, true, not, _||_}
+use mathlib.Core.Bool.{true, not, _||_}
 use mathlib.Core.Option.{some}
 use lib.ListN.{length}
 use lib.Dec.{ltb, eqb}

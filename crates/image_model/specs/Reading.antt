@@ -1,4 +1,4 @@
--- What the bytes of an image say (rule 13.1, read backwards), on any bytes. A number that is no form's is read as form 1, so that each of these
+-- What the bytes of an image say (rule 13.2, read backwards), on any bytes. A number that is no form's is read as form 1, so that each of these
 -- is there for every image; line 23 refuses it.
 use Prim.Native.Nat.{ℕ, _+_, _/_}
 use mathlib.Core.List.{List, _++_}
@@ -14,7 +14,8 @@ use Rattle.model.specs.Lists.{or-else}
 use Rattle.model.specs.Consistent.{allowed}
 use Rattle.framing.specs.Frames.{padded, frames-for, stream-of}
 use Rattle.image_model.specs.Items.{each, every, all-zero}
-use Rattle.image_model.specs.Stream.{form-1, form-numbered, tail-of, tail-right, with-marks, blank, entry-width, record-width, entries-at, records-at, head-length}
+use Rattle.image_model.specs.Stream.{form-1, form-numbered, tail-of, tail-right, with-marks, blank, entry-width, record-width, entries-at, records-at}
+use Rattle.image_model.specs.Stream.{head-length}
 use Rattle.image_model.specs.declared.Form.{Form}
 
 -- an entry and a record from their bytes, and whether the bytes that carry nothing are right
@@ -71,8 +72,8 @@ accounts-in i = accounts-of (form-of i) (stream-of i)
 unfoldable pub heap-in : List ℕ → List ℕ
 heap-in i = heap-of (form-of i) (stream-of i)
 
--- the heap's length is allowed, the frames are as many as it needs, and every byte that carries nothing is zero: behind the heap, in entries
--- and in records (rule 13.6)
+-- the heap's length is allowed, the frames are as many as it needs, and every byte that carries nothing is right: behind the heap, in entries
+-- and in records (rule 13.7, line 24)
 unfoldable pub contents-right : List ℕ → Bool
 contents-right i =
     let f = form-of i in

@@ -1,8 +1,9 @@
--- What an image carries (rules 13.1 and 13.2): a head with the accounts, then the heap, as one stream of bytes; and the stream in frames.
--- One definition serves every form. What the forms differ in beyond their three numbers stands in four places, which are named here.
+-- What an image carries (rules 13.2 to 13.4): a head with the accounts, then the heap, as one stream of bytes; and the stream in frames.
+-- One definition is to serve every form. What forms differ in beyond their three numbers stands in four places, each marked below; form 1 has
+-- nothing in the first three.
 use Prim.Native.Nat.{ℕ, _+_, _*_, _<_, _^_}
 use mathlib.Core.Path.{_≡_}
-use mathlib.Core.List.{List, [], _∷_, _++_}
+use mathlib.Core.List.{List, [], _++_}
 use mathlib.Core.Bool.{Bool, true, cond}
 use mathlib.Core.Option.{Option, none, some}
 use lib.ListN.{length, take, replicate, getD}
@@ -23,7 +24,7 @@ form-1 = record { number = 1; quotas = 8; records = 128 }
 unfoldable pub form-numbered : ℕ → Option Form
 form-numbered n = cond (eqb n 1) (some form-1) none
 
--- First place: what an entry has behind grant and remainder. The bytes, how many, the quota that they say, and whether they are right
+-- First place: what an entry has behind grant and remainder. Its bytes, how many they are, the quota with what they say, and whether they are right
 unfoldable pub entry-tail : Form → Quota → List ℕ
 entry-tail f q = []
 
@@ -36,7 +37,7 @@ tail-of f s q = q
 unfoldable pub tail-right : Form → List ℕ → Bool
 tail-right f s = true
 
--- Second place: the two bytes behind the form's number. The bytes, whether they are right, and the accounts that they say
+-- Second place: the two bytes behind the form's number. The bytes, whether they are right, and the accounts with what they say
 unfoldable pub marks-of : Form → Accounts → List ℕ
 marks-of f k = replicate 2 0
 
@@ -46,11 +47,11 @@ marks-right f m = all-zero m
 unfoldable pub with-marks : Form → List ℕ → Accounts → Accounts
 with-marks f m k = k
 
--- Third place: whether the form can carry these accounts
+-- Third place: whether the form has room for everything in these accounts
 unfoldable pub carries : Form → Accounts → Bool
 carries f k = true
 
--- Fourth place: what the accounts have where the form carries nothing
+-- Fourth place: what accounts have wherever the form carries nothing of them
 unfoldable pub blank : Form → Accounts
 blank f = zero-accounts
 
