@@ -7,11 +7,12 @@ use Prim.Native.Nat.{ℕ, zero, suc, _+_, _*_, _-_, _≤_, _<_}
 use native.Mathlib.Omega.{arith}
 use native.Mathlib.Nat.{suc-mul, zero-mul, sub-zero}
 use native.Mathlib.Numerals.{add-one}
-use lib.ListN.{length, take, drop, getD, set, length-append}
+use lib.ListN.{length, take, drop, getD, set}
 use lib.Seq.{take-suc, drop-cons, set-at, drop-drop, append-snoc, length-take-le}
 use Rattle.layout.specs.Bytes.{overwrite}
 use Rattle.layout.proofs.Overwrite.{overwrite-nil, overwrite-two}
 use Rattle.image_model.specs.Items.{many, each, every}
+use Rattle.image_model.proofs.Items.{many-length, each-length}
 
 module _ {A : Type 0} (f : A → List ℕ) where
   many-append : (xs ys : List A) → many f (xs ++ ys) ≡ many f xs ++ many f ys
@@ -24,11 +25,6 @@ module _ {A : Type 0} (f : A → List ℕ) where
   many-more xs i d h = ap (many f) (take-suc xs i d h) ∙ many-append (take i xs) (getD xs i d ∷ []) ∙ rw append-nil
 
   module _ (w : ℕ) (long : (x : A) → length (f x) ≡ w) where
-    pub length-many : (xs : List A) → length (many f xs) ≡ length xs * w
-    unfolding many
-    length-many [] = sym (zero-mul w)
-    length-many (x ∷ xs) = simp (length-append, long, length-many xs) (omega (arith, suc-mul (length xs) w))
-
     -- no item is written yet
     pub written-none : (at : ℕ) (xs : List A) (s : List ℕ) → s ≡ overwrite at (many f (take 0 xs)) s
     unfolding many
@@ -40,17 +36,12 @@ module _ {A : Type 0} (f : A → List ℕ) where
     written-more at i xs d s₀ s s′ h l e g =
         let m = many f (take i xs) in
         let y = f (getD xs i d) in
-        let n : length m ≡ i * w = length-many (take i xs) ∙ ap (λ (k : ℕ). k * w) (length-take-le i xs (omega arith)) in
+        let n : length m ≡ i * w = many-length f w long (take i xs) ∙ ap (λ (k : ℕ). k * w) (length-take-le i xs (omega arith)) in
         let k = long (getD xs i d) in
         let two : overwrite (at + length m) y (overwrite at m s₀) ≡ overwrite at (m ++ y) s₀ = overwrite-two at m y s₀ (omega arith) in
         g ∙ rw (e, ← n, two, add-one i, many-more xs i d h)
 
 module _ {A : Type 0} (g : List ℕ → A) (w : ℕ) where
-  pub length-each : (n : ℕ) (s : List ℕ) → length (each g w n s) ≡ n
-  unfolding each
-  length-each zero s = refl
-  length-each (suc n) s = ap suc (length-each n (drop w s))
-
   each-more : (n : ℕ) (s : List ℕ) → each g w (suc n) s ≡ each g w n s ++ (g (take w (drop (n * w) s)) ∷ [])
   unfolding each
   each-more zero s = rw (zero-mul w)
@@ -62,7 +53,7 @@ module _ {A : Type 0} (g : List ℕ → A) (w : ℕ) where
   pub read-more : (i : ℕ) (s : List ℕ) (xs bs : List A) (y d : A) → i < length bs → xs ≡ each g w i s ++ drop i bs → y ≡ g (take w (drop (i * w) s))
       → set xs i y ≡ each g w (i + 1) s ++ drop (i + 1) bs
   read-more i s xs bs y d h e f =
-      rw (e, drop-cons bs i d h, set-at (each g w i s) (getD bs i d) (drop (suc i) bs) y i (length-each i s), add-one i, each-more i s, f)
+      rw (e, drop-cons bs i d h, set-at (each g w i s) (getD bs i d) (drop (suc i) bs) y i (each-length g w i s), add-one i, each-more i s, f)
       (sym (append-snoc (each g w i s) (g (take w (drop (i * w) s))) (drop (suc i) bs)))
 
 module _ (t : List ℕ → Bool) (w : ℕ) where

@@ -1,5 +1,8 @@
--- Laws of the code: numbers of a stream, items one by one, zeros, the head, and the lines.
+-- Laws of the code: numbers of a stream, items one by one, zeros, the head, the writer, the image's own bytes, the reader.
+pub mod Zeros
 pub mod Decoding
 pub mod Items
-pub mod Zeros
 pub mod Heads
+pub mod Puts
+pub mod Parses
+pub mod Restores

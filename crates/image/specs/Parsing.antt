@@ -23,7 +23,7 @@ use Rattle.image.specs.declared.Shape.the-variants.{Image, Refused}
 use Rattle.image.specs.declared.Parsed.{Parsed}
 
 -- a form that the library's arrays have room for
-pub record Shaped (f : Form) : Type 0 where
+pub record FormFits (f : Form) : Type 0 where
   pub quotas : f .quotas ≤ QUOTAS
   pub records : f .records ≤ HOLDS
 

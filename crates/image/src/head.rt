@@ -5,13 +5,14 @@ use crate::records::write_records;
 use accounts::Accounts;
 use image_model::Form;
 ghost use mathlib.Core.Path.{_≡_};
+ghost use Prim.Native.Nat.{_+_, _*_};
 ghost use lib.ListN.{length};
-ghost use Rattle.image_model.specs.Stream.{head-of, head-length};
-ghost use Rattle.image.specs.Parsing.{Shaped};
+ghost use Rattle.image_model.specs.Stream.{head-of};
+ghost use Rattle.image.specs.Parsing.{FormFits};
 
 // The head of a heap of so many bytes and its accounts, in place of bytes that are as many.
 pub(crate) fn write_head(head: &mut [u8], form: Form, size: u32, accounts: Accounts)
-    requires { ⌜ Shaped form × (length (now head) ≡ head-length form) ⌝ }
+    requires { ⌜ FormFits form × (length (now head) ≡ 12 + form .quotas * 8 + form .records * 8) ⌝ }
     ensures { λ _. ⌜ now (head .exit) ≡ head-of form size accounts ⌝ }
 {
     let count = form.quotas;

@@ -21,7 +21,7 @@ ghost use Rattle.framing.specs.Frames.{stream-of};
 ghost use Rattle.image_model.specs.Items.{all-zero};
 ghost use Rattle.image_model.specs.Reading.{accounts-of, contents-right, form-of, length-in};
 ghost use Rattle.image.specs.declared.Shape.the-variants.{Refused};
-ghost use Rattle.image.specs.Parsing.{Shaped, parts-in, parts-of};
+ghost use Rattle.image.specs.Parsing.{FormFits, parts-in, parts-of};
 
 // Whether all bytes of the stream from a place on are zero.
 fn zero_from(image: &[u8], from: usize) -> bool
@@ -53,7 +53,7 @@ fn is_allowed(size: usize) -> bool
 
 // Whether the heap's length is allowed, the frames are as many as it needs, and the bytes that carry nothing are right.
 fn contents_right(image: &[u8], form: Form, size: usize) -> bool
-    requires { ⌜ Shaped form × (form ≡ form-of (now image)) × (size ≡ length-in (stream-of (now image))) ⌝ }
+    requires { ⌜ FormFits form × (form ≡ form-of (now image)) × (size ≡ length-in (stream-of (now image))) ⌝ }
     ensures { λ r. ⌜ r ≡ contents-right (now (image .entry)) ⌝ }
 {
     let quotas = form.quotas;
@@ -73,7 +73,7 @@ fn contents_right(image: &[u8], form: Form, size: usize) -> bool
 
 // The accounts that an image of a form says.
 fn read_accounts(image: &[u8], form: Form) -> Accounts
-    requires { ⌜ Shaped form ⌝ }
+    requires { ⌜ FormFits form ⌝ }
     ensures { λ r. ⌜ r ≡ accounts-of form (stream-of (now (image .entry))) ⌝ }
 {
     let quotas = form.quotas;

@@ -18,7 +18,7 @@ ghost use Rattle.image_model.specs.declared.ReadAnswer.the-variants.{Refused};
 ghost use Rattle.image_model.specs.Stream.{head-length};
 ghost use Rattle.image_model.specs.Answers.{restored-to};
 ghost use Rattle.image_model.specs.Images.{read-image};
-ghost use Rattle.image.specs.Parsing.{Shaped, restore};
+ghost use Rattle.image.specs.Parsing.{FormFits, restore};
 
 // Bytes for the longest heap.
 fn heap_space() -> [u8; 32768] {
@@ -58,7 +58,7 @@ fn refused(refusal: ImageRefusal) -> ReadResult
 
 // The heap of an image of a form goes into the lent one, where that has its length and the state is consistent.
 fn restore(image: &[u8], heap: &mut [u8], form: Form, size: usize, accounts: Accounts) -> ReadResult
-    requires { ⌜ Shaped form × (allowed size ≡ true) ⌝ }
+    requires { ⌜ FormFits form × (allowed size ≡ true) ⌝ }
     ensures { λ r. ⌜ restored-to (now (heap .exit)) (r .accounts) (r .answer) ≡ restore form size (stream-of (now (image .entry))) (now (heap .entry)) accounts ⌝ }
 {
     let from = heap_at(form.quotas, form.records) as u32;

@@ -10,12 +10,12 @@ use image_model::ImageRefusal;
 use image_model::WriteAnswer;
 use model::Verdict;
 ghost use mathlib.Core.Path.{_≡_};
-ghost use Prim.Native.Nat.{_≤_};
+ghost use Prim.Native.Nat.{_+_, _*_, _≤_};
 ghost use lib.ListN.{length};
-ghost use Rattle.image_model.specs.Stream.{form-1, head-length};
+ghost use Rattle.image_model.specs.Stream.{form-1};
 ghost use Rattle.image_model.specs.Answers.{imaged};
 ghost use Rattle.image_model.specs.Images.{write-image};
-ghost use Rattle.image.specs.Parsing.{Shaped, put-image};
+ghost use Rattle.image.specs.Parsing.{FormFits, put-image};
 
 // Bytes for the longest head.
 fn head_space() -> [u8; HEAD] {
@@ -30,7 +30,7 @@ fn put_with(
     heap: &[u8],
     accounts: Accounts,
 ) -> WriteAnswer
-    requires { ⌜ Shaped form × (length (now head) ≡ head-length form) × (length (now heap) ≤ 32768) ⌝ }
+    requires { ⌜ FormFits form × (length (now head) ≡ 12 + form .quotas * 8 + form .records * 8) × (length (now heap) ≤ 32768) ⌝ }
     ensures { λ r. ⌜ imaged (now (image .exit)) r ≡ put-image form (now (image .entry)) (now (heap .entry)) accounts ⌝ }
 {
     write_head(head, form, heap.len() as u32, accounts);
@@ -42,7 +42,7 @@ fn put_with(
 
 // The image of a heap and its accounts in a form, where there is room.
 fn put_image(image: &mut [u8], form: Form, heap: &[u8], accounts: Accounts) -> WriteAnswer
-    requires { ⌜ Shaped form × (length (now heap) ≤ 32768) ⌝ }
+    requires { ⌜ FormFits form × (length (now heap) ≤ 32768) ⌝ }
     ensures { λ r. ⌜ imaged (now (image .exit)) r ≡ put-image form (now (image .entry)) (now (heap .entry)) accounts ⌝ }
 {
     let end = heap_at(form.quotas, form.records);

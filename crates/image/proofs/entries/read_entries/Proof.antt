@@ -59,7 +59,7 @@ loop-again c =
       omega arith,
       simp length-set (at .loop .inv .1),
       λ (f : Form). read-more (entry-of f) (entry-width f) i (drop 12 t) (at .loop .quotas) (blank f .quotas) (c .read-entry .result) zero-quota (omega arith) (at .loop .inv .2 f)
-      (c .read-entry .ensures f ∙ ap (λ (s : List ℕ). entry-of f (take 8 s)) (sym (drop-drop (i * 8) 12 t))),
+          (c .read-entry .ensures f ∙ ap (λ (s : List ℕ). entry-of f (take 8 s)) (sym (drop-drop (i * 8) 12 t))),
     )
 
 returns : tie.Need-returns Inv-loop μ-loop

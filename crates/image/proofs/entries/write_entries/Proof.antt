@@ -9,11 +9,11 @@ use Rattle.accounts.specs.Accounts.{QUOTAS, zero-quota}
 use Rattle.layout.specs.Bytes.{overwrite}
 use Rattle.layout.proofs.Overwrite.{length-overwrite}
 use Rattle.image_model.specs.Items.{many}
-use Rattle.image_model.specs.Stream.{entry-bytes, entries-at}
+use Rattle.image_model.specs.Stream.{tail-width, entry-bytes}
 use Rattle.image_model.specs.declared.Form.{Form}
 use Rattle.image_model.specs.Stream.{form-1}
 use Rattle.image.proofs.Items.{written-none, written-more}
-use Rattle.image.proofs.Heads.{length-entry}
+use Rattle.image_model.proofs.Entries.{entry-length}
 use Rattle.image.proofs.entries.write_entries.Statement.{statement}
 use Rattle.image.proofs.entries.write_entries.Tie as tie
 
@@ -30,7 +30,8 @@ len c =
     ap length (c .loop .inv .1 form-1) ∙ length-overwrite 12 (many (entry-bytes form-1) (take (c .loop .i) (a .t2))) (a .head .now)
 
 loop-holds : tie.Need-loop-holds Inv-loop μ-loop
-loop-holds c = let a = c .before .args in (omega arith, λ (f : Form). written-none (entry-bytes f) 8 (length-entry f) 12 (a .t2) (a .head .now))
+unfolding tail-width
+loop-holds c = let a = c .before .args in (omega arith, λ (f : Form). written-none (entry-bytes f) 8 (entry-length f) 12 (a .t2) (a .head .now))
 
 mul-write-entry : tie.Need-mul-write-entry Inv-loop μ-loop
 mul-write-entry c = search needs
@@ -54,13 +55,14 @@ loop-less : tie.Need-loop-less Inv-loop μ-loop
 loop-less c = omega arith
 
 loop-again : tie.Need-loop-again Inv-loop μ-loop
+unfolding tail-width
 loop-again c =
     let w = c .before .before in
     let at = w .before .before .before .before in
     let start = at .before .before in
     let a = start .args in
     let l : length (a .t2) ≡ QUOTAS = start .good .1 .0 .1 .0 .1 in
-    (omega arith, λ (f : Form). written-more (entry-bytes f) 8 (length-entry f) 12 (at .loop .i) (a .t2) zero-quota (a .head .now) (at .loop .head) (w .write-entry .last .0) (omega arith) (omega arith) (at .loop .inv .1 f) (w .write-entry .ensures f))
+    (omega arith, λ (f : Form). written-more (entry-bytes f) 8 (entry-length f) 12 (at .loop .i) (a .t2) zero-quota (a .head .now) (at .loop .head) (w .write-entry .last .0) (omega arith) (omega arith) (at .loop .inv .1 f) (w .write-entry .ensures f))
 
 same-length : tie.Need-same-length Inv-loop μ-loop
 same-length c = len (c .before)

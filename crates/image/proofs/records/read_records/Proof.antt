@@ -63,7 +63,7 @@ loop-again c =
       omega arith,
       simp length-set (at .loop .inv .1),
       λ (f : Form). read-more record-of record-width i (drop (a .at) t) (at .loop .holds) (blank f .holds) (c .read-record .result) zero-hold (omega arith) (at .loop .inv .2 f)
-      (c .read-record .ensures ∙ ap (λ (s : List ℕ). record-of (take 8 s)) (sym (drop-drop (i * 8) (a .at) t))),
+          (c .read-record .ensures ∙ ap (λ (s : List ℕ). record-of (take 8 s)) (sym (drop-drop (i * 8) (a .at) t))),
     )
 
 returns : tie.Need-returns Inv-loop μ-loop

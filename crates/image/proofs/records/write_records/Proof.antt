@@ -11,7 +11,7 @@ use Rattle.layout.proofs.Overwrite.{length-overwrite}
 use Rattle.image_model.specs.Items.{many}
 use Rattle.image_model.specs.Stream.{record-bytes}
 use Rattle.image.proofs.Items.{written-none, written-more}
-use Rattle.image.proofs.Heads.{length-record}
+use Rattle.image_model.proofs.Entries.{record-length}
 use Rattle.image.proofs.records.write_records.Statement.{statement}
 use Rattle.image.proofs.records.write_records.Tie as tie
 
@@ -28,7 +28,7 @@ len c =
     ap length (c .loop .inv .1) ∙ length-overwrite (a .at) (many record-bytes (take (c .loop .i) (a .t3))) (a .head .now)
 
 loop-holds : tie.Need-loop-holds Inv-loop μ-loop
-loop-holds c = let a = c .before .args in (omega arith, written-none record-bytes 8 length-record (a .at) (a .t3) (a .head .now))
+loop-holds c = let a = c .before .args in (omega arith, written-none record-bytes 8 record-length (a .at) (a .t3) (a .head .now))
 
 mul-write-record : tie.Need-mul-write-record Inv-loop μ-loop
 mul-write-record c = search needs
@@ -58,7 +58,7 @@ loop-again c =
     let start = at .before .before in
     let a = start .args in
     let l : length (a .t3) ≡ HOLDS = start .good .1 .1 .0 .1 .0 .1 in
-    (omega arith, written-more record-bytes 8 length-record (a .at) (at .loop .i) (a .t3) zero-hold (a .head .now) (at .loop .head) (w .write-record .last .0) (omega arith) (omega arith) (at .loop .inv .1) (w .write-record .ensures))
+    (omega arith, written-more record-bytes 8 record-length (a .at) (at .loop .i) (a .t3) zero-hold (a .head .now) (at .loop .head) (w .write-record .last .0) (omega arith) (omega arith) (at .loop .inv .1) (w .write-record .ensures))
 
 same-length : tie.Need-same-length Inv-loop μ-loop
 same-length c = len (c .before)
