@@ -198,3 +198,6 @@ found-allowed i f n k w =
     let c = or-neither (line-holds (line-23 i)) _ (b .1) in
     let d = or-neither (line-holds (line-24 i)) false (c .1) in
     ap allowed (w .size) ∙ and-left (allowed (size-in i)) _ (not-false (contents-right i) (d .0))
+
+pub found-fits : (i : List ℕ) (f : Form) (n : ℕ) (k : Accounts) → Found i f n k → FormFits f
+found-fits i f n k w = rw (w .form) (form-of-fits i)
