@@ -26,7 +26,7 @@ use Rattle.image_model.specs.Reading.{entry-right, record-right, marks-in, leng
 use Rattle.image_model.specs.Answers.{image-refusal-number}
 use Rattle.image_model.specs.Images.{line-21, line-22, line-23, line-24, shape-lines}
 use Rattle.image_model.proofs.Places.{form-is-known, known-shaped}
-use Rattle.image_model.proofs.Answers.{image-refusal-is}
+use Rattle.image_model.proofs.Answers.{image-refusal-is, image-answer, image-answer-refused}
 use Rattle.image.specs.declared.Shape.{Shape}
 use Rattle.image.specs.declared.Shape.the-variants.{Image, Refused}
 use Rattle.image.specs.declared.Parsed.{Parsed}
@@ -201,3 +201,23 @@ found-allowed i f n k w =
 
 pub found-fits : (i : List ℕ) (f : Form) (n : ℕ) (k : Accounts) → Found i f n k → FormFits f
 found-fits i f n k w = rw (w .form) (form-of-fits i)
+
+-- no two answers come to the same parts
+shape-from : Parts → Shape
+shape-from x = image-answer (Image (x .form) (x .size)) Refused (x .refusal)
+
+shape-back : (s : Shape) (k : Accounts) → shape-from (shape-parts s k) ≡ s
+unfolding shape-from shape-parts
+shape-back (Image f n) k = refl
+shape-back (Refused r) k = image-answer-refused (Image form-1 0) Refused r
+
+accounts-back : (s : Shape) (k : Accounts) → shape-parts s k .accounts ≡ k
+unfolding shape-parts
+accounts-back (Image f n) k = refl
+accounts-back (Refused r) k = refl
+
+pub parts-of-injective : (p q : Parsed) → parts-of p ≡ parts-of q → p ≡ q
+parts-of-injective p q e =
+    let s = sym (shape-back (p .shape) (p .accounts)) ∙ ap shape-from e ∙ shape-back (q .shape) (q .accounts) in
+    let k = sym (accounts-back (p .shape) (p .accounts)) ∙ ap (λ (x : Parts). x .accounts) e ∙ accounts-back (q .shape) (q .accounts) in
+    λ i. record { accounts = k i; shape = s i }

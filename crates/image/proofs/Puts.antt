@@ -15,6 +15,7 @@ use Rattle.model.specs.declared.Verdict.{Verdict}
 use Rattle.model.specs.declared.Verdict.the-variants.{Accepted, Refused}
 use Rattle.model.specs.Answers.{refusal-number, verdict-values}
 use Rattle.model.specs.Refusals.{Line, _when_, first-refusal, line-1, line-2}
+use Rattle.model.specs.Consistent.{allowed}
 use Rattle.model.specs.Calls.{check}
 use Rattle.access.proofs.Lines.{check-refuses, check-accepts, number-some}
 use Rattle.framing.specs.declared.FrameAnswer.{FrameAnswer}
@@ -23,10 +24,10 @@ use Rattle.framing.specs.Frames.{cut, frames-for, has-room, Framed, write-frame
 use Rattle.image_model.specs.declared.Form.{Form}
 use Rattle.image_model.specs.declared.ImageRefusal.the-variants.{Call, Room}
 use Rattle.image_model.specs.declared.WriteAnswer.the-variants.{Written, Refused as NotWritten}
-use Rattle.image_model.specs.Stream.{head-length, head-of, stream, image-of, image-length}
+use Rattle.image_model.specs.Stream.{form-1, head-length, head-of, stream, image-of, image-length}
 use Rattle.image_model.specs.Answers.{Imaged, imaged}
 use Rattle.image_model.specs.Images.{put-lines, write-lines, unless-written, write-image}
-use Rattle.image.specs.Parsing.{FormFits, put-image}
+use Rattle.image.specs.Parsing.{FormFits, length-for, put-image}
 use Rattle.image.proofs.Heads.{head-extent}
 
 -- what the frames answer, as an image
@@ -85,3 +86,12 @@ module _ (f : Form) (o s : List ℕ) (k : Accounts) (v : Verdict) (told : verdic
   pub write-accepted : v ≡ Accepted → put-image f o s k ≡ write-image f o s k
   unfolding put-image write-image write-lines
   write-accepted e = rw (check-accepts s k v told (put-lines f o s k) e)
+
+-- the length of an image, where a heap has that length and where none has
+pub length-none : (n : ℕ) → allowed n ≡ false → 0 ≡ length-for n
+unfolding length-for
+length-none n a = rw a
+
+pub length-some : (f : Form) (n at : ℕ) → f ≡ form-1 → allowed n ≡ true → at ≡ 12 + f .quotas * 8 + f .records * 8 → 512 * ((at + n + 503) / 504) ≡ length-for n
+unfolding length-for image-length frames-for
+length-some f n at e a l = rw (a, l ∙ sym (head-extent f), e)

@@ -1,14 +1,14 @@
 -- What the tests of an image alone find, those before the lent heap and its consistency are looked at.
 use Prim.Native.Nat.{ℕ, zero, suc, _≤_}
 use mathlib.Core.List.{List, [], _∷_}
-use mathlib.Core.Bool.{not}
+use mathlib.Core.Bool.{not, cond}
 use lib.ListN.{length, drop}
 use lib.Dec.{eqb}
 use mathlib.Core.Option.{Option, none, some}
 use Rattle.accounts.specs.declared.Accounts.{Accounts}
 use Rattle.accounts.specs.Accounts.{QUOTAS, HOLDS, zero-accounts}
 use Rattle.layout.specs.Bytes.{overwrite}
-use Rattle.model.specs.Consistent.{consistent}
+use Rattle.model.specs.Consistent.{allowed, consistent}
 use Rattle.model.specs.Refusals.{_when_, first-refusal}
 use Rattle.framing.specs.Frames.{padded}
 use Rattle.image_model.specs.declared.Form.{Form}
@@ -52,6 +52,10 @@ unless-parts (suc n) parts = record { refusal = suc n; form = form-1; size = 0; 
 
 unfoldable pub parts-in : List ℕ → Parts
 parts-in i = unless-parts (first-refusal (shape-lines i)) (record { refusal = 0; form = form-of i; size = size-in i; accounts = accounts-in i })
+
+-- the length of an image of a heap of so many bytes, 0 where no heap has that length
+unfoldable pub length-for : ℕ → ℕ
+length-for n = cond (allowed n) (image-length form-1 n) 0
 
 -- what is left of writing once heap and accounts are known to be consistent
 unfoldable pub put-image : Form → List ℕ → List ℕ → Accounts → Imaged

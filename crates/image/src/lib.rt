@@ -15,6 +15,7 @@ mod writing;
 
 pub use parsing::parse_image;
 pub use reading::read_image;
+pub use writing::image_length;
 pub use writing::write_image;
 
 // The form with a number, if there is one.

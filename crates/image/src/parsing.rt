@@ -5,6 +5,7 @@ use crate::Shape;
 use crate::entries::read_entries;
 use crate::forms::form_numbered;
 use crate::forms::heap_at;
+use crate::forms::is_allowed;
 use crate::forms::records_at;
 use crate::numbers::read_pair;
 use crate::numbers::read_quad;
@@ -16,7 +17,6 @@ use image_model::ImageRefusal;
 ghost use mathlib.Core.Path.{_≡_};
 ghost use lib.ListN.{drop};
 ghost use Rattle.accounts.specs.Accounts.{zero-accounts};
-ghost use Rattle.model.specs.Consistent.{allowed};
 ghost use Rattle.framing.specs.Frames.{stream-of};
 ghost use Rattle.image_model.specs.Items.{all-zero};
 ghost use Rattle.image_model.specs.Reading.{accounts-of, contents-right, form-of, length-in};
@@ -36,19 +36,6 @@ fn zero_from(image: &[u8], from: usize) -> bool
         at += 1;
     }
     true
-}
-
-// Whether a heap may have this length.
-fn is_allowed(size: usize) -> bool
-    ensures { λ r. ⌜ r ≡ allowed size ⌝ }
-{
-    if size % 8 != 0 {
-        return false;
-    }
-    if size < 64 {
-        return false;
-    }
-    size <= 32768
 }
 
 // Whether the heap's length is allowed, the frames are as many as it needs, and the bytes that carry nothing are right.

@@ -2,6 +2,7 @@
 use crate::forms::HEAD;
 use crate::forms::form_1;
 use crate::forms::heap_at;
+use crate::forms::is_allowed;
 use crate::head::write_head;
 use accounts::Accounts;
 use framing::FrameAnswer;
@@ -15,7 +16,7 @@ ghost use lib.ListN.{length};
 ghost use Rattle.image_model.specs.Stream.{form-1};
 ghost use Rattle.image_model.specs.Answers.{imaged};
 ghost use Rattle.image_model.specs.Images.{write-image};
-ghost use Rattle.image.specs.Parsing.{FormFits, put-image};
+ghost use Rattle.image.specs.Parsing.{FormFits, length-for, put-image};
 
 // Bytes for the longest head.
 fn head_space() -> [u8; HEAD] {
@@ -48,6 +49,18 @@ fn put_image(image: &mut [u8], form: Form, heap: &[u8], accounts: Accounts) -> W
     let end = heap_at(form.quotas, form.records);
     let mut head = head_space();
     put_with(image, &mut head[..end], form, heap, accounts)
+}
+
+// The length of an image of a heap of so many bytes, 0 where no heap has that length.
+pub fn image_length(size: usize) -> usize
+    ensures { λ r. ⌜ r ≡ length-for size ⌝ }
+{
+    if !is_allowed(size) {
+        return 0;
+    }
+    let form = form_1();
+    let end = heap_at(form.quotas, form.records) + size;
+    512 * ((end + 503) / 504)
 }
 
 // The image of a heap and its accounts, written at the front of a lent one; its other bytes stay.

@@ -4,8 +4,8 @@ use native.Mathlib.Omega.{arith}
 use Prim.Native.Nat.{_%_}
 use borrow.Author.Tests.{le-leb, lt-leb, eq-eqb, ne-eqb}
 use Rattle.model.specs.Consistent.{allowed}
-use Rattle.image.proofs.parsing.is_allowed.Statement.{statement}
-use Rattle.image.proofs.parsing.is_allowed.Tie as tie
+use Rattle.image.proofs.forms.is_allowed.Statement.{statement}
+use Rattle.image.proofs.forms.is_allowed.Tie as tie
 
 returns : tie.Need-returns
 unfolding allowed
