@@ -116,7 +116,12 @@ image-written-as : (i h : List ℕ) → Octets i → read-image i h .refusal ≡
 image-written-as i h b e =
     let w = read-written i h b e .0 in
     let again : overwrite 0 i i ≡ i = overwrite-fits 0 i i (omega arith) ∙ rw (zero-add (length i), drop-length i) (append-nil i) in
-    record { known = w .known; octets = w .octets; typed = w .typed; writes = read-then-write i h i b e (omega arith) ∙ (λ j. record { image = again j; refusal = 0; length = length i }) }
+    record {
+      known = w .known;
+      octets = w .octets;
+      typed = w .typed;
+      writes = read-then-write i h i b e (omega arith) ∙ (λ j. record { image = again j; refusal = 0; length = length i });
+    }
 
 -- the reader accepts exactly what the writer writes, into a heap of the length written
 pub reads-what-is-written : (i h : List ℕ) → Octets i
