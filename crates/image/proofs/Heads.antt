@@ -20,6 +20,7 @@ use Rattle.image.specs.Parsing.{FormFits}
 use Rattle.image_model.specs.Stream.{entry-tail, tail-width, marks-of, record-bytes, entry-bytes, entry-width, entries-at, records-at, head-length, head-of}
 use Rattle.image_model.proofs.Items.{many-length}
 use Rattle.image_model.proofs.Entries.{entry-length, record-length}
+use Rattle.image.proofs.Rows
 
 -- two parts, the second behind k bytes
 pub beside : (at k : ℕ) (a b s s′ s″ : List ℕ) → length a ≡ k → at + (k + length b) ≤ length s → s′ ≡ overwrite at a s → s″ ≡ overwrite (at + k) b s′

@@ -13,6 +13,7 @@ use Rattle.layout.specs.Bytes.{overwrite}
 use Rattle.layout.proofs.Overwrite.{overwrite-nil, overwrite-two}
 use Rattle.image_model.specs.Items.{many, each, every}
 use Rattle.image_model.proofs.Items.{many-length, each-length}
+use Rattle.image.proofs.Rows
 
 module _ {A : Type 0} (f : A → List ℕ) where
   many-append : (xs ys : List A) → many f (xs ++ ys) ≡ many f xs ++ many f ys

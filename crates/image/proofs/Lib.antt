@@ -1,4 +1,5 @@
--- Laws of the code: numbers of a stream, items one by one, zeros, the head, the writer, the image's own bytes, the reader.
+-- Computed rows, and laws of the code: numbers of a stream, items one by one, zeros, the head, the writer, the image's own bytes, the reader.
+pub mod Rows
 pub mod Zeros
 pub mod Decoding
 pub mod Items

@@ -14,6 +14,7 @@ use Rattle.layout.specs.Bytes.{number}
 use Rattle.model.specs.Lists.{all}
 use Rattle.model.proofs.Bools.{and-no}
 use Rattle.image_model.specs.Items.{all-zero}
+use Rattle.image.proofs.Rows
 
 pub zeros-number : (s : List ℕ) → number s ≡ 0 → all-zero s ≡ true
 unfolding number all-zero all

@@ -1,2 +1,3 @@
--- Laws of replies.
+-- Computed rows, and laws of replies.
+pub mod Rows
 pub mod Told

@@ -6,6 +6,7 @@ use mathlib.Core.Path.{_≡_, refl}
 use mathlib.Core.List.{List}
 use Rattle.image_api.specs.declared.ImageReply.{ImageReply}
 use Rattle.image_api.specs.declared.RestoreReply.{RestoreReply}
+use Rattle.image_api.proofs.Rows
 use Rattle.image_api.specs.Replies.{image-reply, restore-reply, numbers-unless}
 
 pub image-reply-injective : (o p : List ℕ) (a b : ImageReply) → image-reply o a ≡ image-reply p b → (o ≡ p) × (a ≡ b)

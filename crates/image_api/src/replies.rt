@@ -10,6 +10,7 @@ use image_model::WriteAnswer;
 ghost use mathlib.Core.Path.{_≡_};
 ghost use Prim.Native.Nat.{ℕ};
 ghost use mathlib.Core.List.{List};
+ghost use Rattle.accounts.specs.declared.Accounts.{Accounts};
 ghost use Rattle.image_model.specs.Answers.{imaged, restored-to};
 ghost use Rattle.image.specs.Parsing.{parts-of};
 ghost use Rattle.image_api.specs.Replies.{image-reply, restore-reply, examine-reply};
@@ -30,21 +31,25 @@ pub(crate) fn reply_of_write(answer: WriteAnswer) -> ImageReply
     }
 }
 
+// The refusal's number, 0 where there is none.
+fn number_of(answer: ReadAnswer) -> u32
+    ensures { λ r. ⌜ ((s : List ℕ) (k : Accounts) → record { heap = s; accounts = k; refusal = r } ≡ restored-to s k answer) ⌝ }
+{
+    match answer {
+        ReadAnswer::Restored => 0,
+        ReadAnswer::Refused(refusal) => refusal.number(),
+    }
+}
+
 // The reply of the reader.
 pub(crate) fn reply_of_read(result: ReadResult) -> RestoreReply
     ensures { λ r. ⌜ ((s : List ℕ) → restore-reply s r ≡ restored-to s (result .accounts) (result .answer)) ⌝ }
 {
     let accounts = result.accounts;
     let answer = result.answer;
-    match answer {
-        ReadAnswer::Restored => RestoreReply {
-            accounts: accounts,
-            refusal: 0,
-        },
-        ReadAnswer::Refused(refusal) => RestoreReply {
-            accounts: accounts,
-            refusal: refusal.number(),
-        },
+    RestoreReply {
+        accounts: accounts,
+        refusal: number_of(answer),
     }
 }
 
