@@ -155,3 +155,9 @@ pub written-read : (f : Form) (s : List ℕ) (k : Accounts) → Accepts f s k �
     → read-image (image-of f s k) h ≡ record { heap = s; accounts = k; refusal = 0 }
 unfolding i
 written-read f s k a h l = reads f s k a h l
+
+-- what an image says is what it was made of
+pub image-says : (f : Form) (s : List ℕ) (k : Accounts) → Accepts f s k
+    → (form-of (image-of f s k) ≡ f) × (heap-in (image-of f s k) ≡ s) × (accounts-in (image-of f s k) ≡ k)
+unfolding i
+image-says f s k a = (form-is f s k a, heap-is f s k a, accounts-is f s k a)

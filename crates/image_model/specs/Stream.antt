@@ -1,6 +1,6 @@
 -- What an image carries (rules 13.2 to 13.4): a head with the accounts, then the heap, as one stream of bytes; and the stream in frames.
 -- One definition is to serve every form. What forms differ in beyond their three numbers stands in four places, each marked below; form 1 has
--- nothing in the first three.
+-- nothing in them but two zero bytes.
 use Prim.Native.Nat.{ℕ, _+_, _*_, _<_, _^_}
 use mathlib.Core.Path.{_≡_}
 use mathlib.Core.List.{List, [], _++_}
