@@ -154,7 +154,9 @@ pub const HARMS: [(&str, Harm); 18] = [
         }
     }),
     ("a heap byte", |seed, image, heap| {
-        let place = HEAD + seed.place(heap.len());
+        // A first harm may have lent another heap than the image's.
+        let carried = image.len() / FRAME * PIECE;
+        let place = HEAD + seed.place(heap.len().min(carried - HEAD));
         image[place_of(place)] = seed.byte();
         seal(image);
     }),
