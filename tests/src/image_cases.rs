@@ -231,7 +231,7 @@ pub fn harmed(pair: &mut Pair, seed: u64, n: u64) -> Result<(), Failure> {
     let mut image = image_of(pair, &state)?;
     let mut heap = state.heap;
     harm(&mut numbers, &mut image, &mut heap);
-    if numbers.percent(25) && image.len() > 2 * FRAME && heap.len() >= 64 {
+    if numbers.percent(25) && image.len() >= 3 * FRAME && heap.len() >= 64 {
         let (_, second) = HARMS[numbers.place(HARMS.len())];
         second(&mut numbers, &mut image, &mut heap);
     }
