@@ -2,7 +2,7 @@ pub mod Computing
 pub mod Marked
 pub mod Cases
 pub mod Lines
-pub mod Unsound
+pub mod Inconsistent
 pub mod Bools
 pub mod Lists
 pub mod Base

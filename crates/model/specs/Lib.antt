@@ -11,5 +11,5 @@ pub mod Marked
 pub mod Tables
 pub mod Cases
 pub mod Lines
-pub mod Unsound
+pub mod Inconsistent
 pub mod Joining

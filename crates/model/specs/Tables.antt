@@ -1,5 +1,5 @@
 -- How the definitions are held to tables: a case has a state, calls, their answers and what they leave, heap bytes and the whole accounts.
--- The tables are `Cases`, `Lines` and `Unsound`; that the definitions give them is proved by computing, in the proofs of these names.
+-- The tables are `Cases`, `Lines` and `Inconsistent`; that the definitions give them is proved by computing, in the proofs of these names.
 use Prim.Native.Nat.{ℕ, _-_, _/_, _%_}
 use mathlib.Core.List.{List, [], _∷_, _++_}
 use lib.ListN.{length, take, drop, replicate}
@@ -56,8 +56,8 @@ abbrev pub hold : ℕ → ℕ → ℕ → Hold
 hold s q n = record { serial = s; quota = q; count = n }
 
 -- accounts whose tables begin with these quotas and these records, with zeros behind them
-unfoldable pub books : List Quota → ℕ → List Hold → Accounts
-books qs last hs =
+unfoldable pub accounts-of : List Quota → ℕ → List Hold → Accounts
+accounts-of qs last hs =
     record {
       quotas = qs ++ replicate (QUOTAS - length qs) zero-quota;
       «last_serial» = last;
