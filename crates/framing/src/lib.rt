@@ -2,7 +2,7 @@
 use std::num::wrapping_add_u32;
 ghost use mathlib.Core.Path.{_≡_};
 ghost use mathlib.Core.List.{_++_};
-ghost use Prim.Native.Nat.{_+_, _*_, _/_, _%_, _^_, _≤_, _<_};
+ghost use Prim.Native.Nat.{_+_, _*_, _/_, _^_, _≤_, _<_};
 ghost use lib.ListN.{length, drop, getD};
 ghost use Rattle.layout.specs.Bytes.{overwrite};
 ghost use Rattle.framing.specs.Frames.{padded, check-of, frame-of, cut-from, stream-of, frame-right, frames-right, write-frames};
