@@ -137,7 +137,7 @@ releases =
     ∷ case several (Release 0 (handle 40 8 3) ∷ []) (amount-of 16 ∷ [])
     0 (parts (head 2 0 1 ∷ replicate 8 9 ∷ head 2 2 2 ∷ replicate 8 9 ∷ head 4 2 0 ∷ zeros 24 ∷ []))
     (accounts-of (quota 100 68 ∷ quota 100 84 ∷ []) 3 (hold 1 0 2 ∷ hold 2 0 1 ∷ zero-hold ∷ hold 2 1 1 ∷ []))
-    -- free-all: nothing for a quota without a record; else every record of the quota, whatever its count, and only what nobody else holds is freed
+    -- free-all: nothing for a quota without a record; else all its records go, also one with a count of 2, and only what nobody else holds is freed
     ∷ case several (FreeAll 2 ∷ FreeAll 0 ∷ FreeAll 0 ∷ []) (amount-of 0 ∷ amount-of 48 ∷ amount-of 0 ∷ [])
     0 (parts (head 2 0 0 ∷ zeros 8 ∷ head 2 2 2 ∷ replicate 8 9 ∷ head 4 2 0 ∷ zeros 24 ∷ []))
     (accounts-of (quota 100 100 ∷ quota 100 84 ∷ []) 3 (zero-hold ∷ zero-hold ∷ zero-hold ∷ hold 2 1 1 ∷ []))

@@ -1,6 +1,6 @@
 -- How the definitions are held to tables: a case has a state, calls, their answers and what they leave, heap bytes and the whole accounts.
 -- The tables are `Cases`, `Lines` and `Inconsistent`; that the definitions give them is proved by computing, in the proofs of these names.
-use Prim.Native.Nat.{ℕ, _-_, _/_, _%_}
+use Prim.Native.Nat.{ℕ, _-_}
 use mathlib.Core.List.{List, [], _∷_, _++_}
 use lib.ListN.{length, take, drop, replicate}
 use Rattle.accounts.specs.declared.Quota.{Quota}
@@ -37,9 +37,9 @@ module _ (units : ℕ → ℕ) where
 unfoldable pub wanted : Case → List Values × List ℕ × Accounts
 wanted (case t cs vs at bytes k) = (vs, bytes, k)
 
--- a header as its eight bytes, of a block below 256 units behind one of such a size and with a serial of two bytes; and zeros
+-- a header as its eight bytes, where each number is below 256; and zeros
 abbrev pub head : ℕ → ℕ → ℕ → List ℕ
-head size back serial = size ∷ 0 ∷ back ∷ 0 ∷ serial % 256 ∷ serial / 256 ∷ 0 ∷ 0 ∷ []
+head size back serial = size ∷ 0 ∷ back ∷ 0 ∷ serial ∷ 0 ∷ 0 ∷ 0 ∷ []
 
 abbrev pub zeros : ℕ → List ℕ
 zeros n = replicate n 0
