@@ -5,24 +5,48 @@ use std::env;
 use std::path::{Path, PathBuf};
 
 /// Tells cargo where the library is. Where it is missing, the crate says so itself when it is
-/// built; lints and documentation need no library.
+/// built, and where it was looked for; lints and documentation need no library.
 fn main() {
-    let library = folder().join("liblokhazim.a");
+    let folders = folders();
+    let found = folders
+        .iter()
+        .find(|folder| library_in(folder).is_file())
+        .unwrap_or(&folders[0]);
+    let library = library_in(found);
     println!("cargo:rerun-if-env-changed=LOKHAZIM_LIB_DIR");
-    println!("cargo:rerun-if-changed={}", library.display());
+    for folder in &folders {
+        println!("cargo:rerun-if-changed={}", library_in(folder).display());
+    }
     println!("cargo:rustc-env=LOKHAZIM_LIBRARY={}", library.display());
     println!("cargo:rustc-check-cfg=cfg(library_missing)");
     if library.is_file() {
-        println!("cargo:rustc-link-search=native={}", folder().display());
+        println!("cargo:rustc-link-search=native={}", found.display());
         println!("cargo:rustc-link-lib=static=lokhazim");
     } else {
+        let looked: Vec<String> = folders.iter().map(|f| f.display().to_string()).collect();
+        println!("cargo:rustc-env=LOKHAZIM_LOOKED={}", looked.join(" and "));
         println!("cargo:rustc-cfg=library_missing");
     }
 }
 
-/// The folder that has the library.
-fn folder() -> PathBuf {
-    let crate_folder = env::var("CARGO_MANIFEST_DIR").expect("cargo names the crate's folder");
-    let named = env::var_os("LOKHAZIM_LIB_DIR").map(PathBuf::from);
-    named.unwrap_or_else(|| Path::new(&crate_folder).join("../../build/lib"))
+/// The library's file in a folder.
+fn library_in(folder: &Path) -> PathBuf {
+    folder.join("liblokhazim.a")
+}
+
+/// The folders that may have the library, the first that has it is taken. A relative
+/// `LOKHAZIM_LIB_DIR` counts from the folder in which cargo was started, and else from this crate's.
+fn folders() -> Vec<PathBuf> {
+    let this_crate =
+        PathBuf::from(env::var_os("CARGO_MANIFEST_DIR").expect("cargo names the crate's folder"));
+    let Some(named) = env::var_os("LOKHAZIM_LIB_DIR").map(PathBuf::from) else {
+        return vec![this_crate.join("../../build/lib")];
+    };
+    if named.is_absolute() {
+        return vec![named];
+    }
+    println!("cargo:rerun-if-env-changed=PWD");
+    let started = env::var_os("PWD").map(|folder| PathBuf::from(folder).join(&named));
+    let beside = this_crate.join(&named);
+    started.into_iter().chain([beside]).collect()
 }

@@ -1,7 +1,7 @@
 //! Reference implementation of a small shared heap with quotas and claims.
 //!
-//! It is written from the rules alone and serves as the second program against
-//! which another implementation is compared. Every call decodes the heap into a
+//! It is written from the rules alone, which are in `docs/RULES.md`, and serves as the second
+//! program against which another implementation is compared. Every call decodes the heap into a
 //! map of live objects, works on that map and writes the headers again from it.
 //!
 //! Every call accepts any heap bytes of any length, any accounts and any

@@ -1,4 +1,4 @@
-//! Undamaged histories: lists of calls from an opening or from a sound state, with the caller's
+//! Undamaged histories: lists of calls from an opening or from a consistent state, with the caller's
 //! writes between them, compared call by call and checked against the ledger.
 
 use lokhazim_reference::{Accounts, Handle, HOLDS, QUOTAS};
@@ -22,7 +22,7 @@ pub enum Beginning {
     Opening,
     /// By an accepted opening, many small objects, and claims until no record is unused.
     Crowd,
-    /// By a sound state that was made directly.
+    /// By a consistent state that was made directly.
     SoundState,
 }
 
@@ -69,7 +69,7 @@ pub fn run(
     Ok(())
 }
 
-/// Makes one call on a state, and checks the sentences about the ledger if the state is sound.
+/// Makes one call on a state, and checks the rules about the ledger if the state is consistent.
 pub fn once(pair: &mut Pair, state: State, call: Call) -> Result<Answer, Failure> {
     if !broken(&state).is_empty() {
         return pair.call(&mut state.clone(), call);
@@ -139,7 +139,7 @@ impl History<'_> {
         self.call(call)
     }
 
-    /// Makes a call, records it in the ledger and checks every sentence.
+    /// Makes a call, records it in the ledger and checks every rule.
     fn call(&mut self, call: Call) -> Result<Answer, Failure> {
         let (before, ledger_before) = (self.state.clone(), self.ledger.clone());
         let answer = self.pair.call(&mut self.state, call)?;

@@ -43,7 +43,7 @@
 //! ```
 //!
 //! `make lib` writes the library to `build/lib/`, where this crate looks for it; the variable
-//! `LOKHAZIM_LIB_DIR` names another folder. The crate is for x86-64; it needs `memcpy`, `memmove` and
+//! `LOKHAZIM_LIB_DIR` names another folder, from the root or from where cargo is started. The crate is for x86-64; it needs `memcpy`, `memmove` and
 //! `memset`, no operating system and no memory of its own.
 
 #![no_std]
@@ -51,9 +51,11 @@
 #![deny(unsafe_code)]
 
 #[cfg(all(library_missing, not(clippy), not(doc)))]
-compile_error!(
-    "liblokhazim.a is missing: run 'make lib' in the repository, or name its folder in LOKHAZIM_LIB_DIR, then build again"
-);
+compile_error!(concat!(
+    "liblokhazim.a is missing in ",
+    env!("LOKHAZIM_LOOKED"),
+    ": run 'make lib' in the repository, or name its folder in LOKHAZIM_LIB_DIR, then build again"
+));
 
 mod blocks;
 mod heap;

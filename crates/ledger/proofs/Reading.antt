@@ -1,5 +1,5 @@
--- Every consistent state agrees with the ledger that is read off it: its objects are the live ones, and each quota's holds are its record's count. So a state that no
--- history led to can be a beginning.
+-- Every consistent state agrees with the ledger that is read off it: its objects are the live ones, and each quota's holds are its record's count. So a
+-- state that no history led to can be a beginning.
 -- Assumes nothing.
 use Prim.Native.Nat.{ℕ, zero, suc, _+_, _≤_, _<_, _^_}
 use native.Mathlib.Nat.{not-suc-le-zero}

@@ -1,4 +1,4 @@
--- The ledger of short lists of events, computed: what each sentence of document 01's ledger does to it.
+-- The ledger of short lists of events, computed: what rules 9.2 to 9.5 make of them.
 -- Assumes nothing.
 use Prim.Native.Nat.{ℕ}
 use mathlib.Core.Path.{_≡_, refl}

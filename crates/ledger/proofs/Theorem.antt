@@ -1,11 +1,11 @@
--- Demand 3, entire: it holds of `step`, for every table of units.
--- Along a history ledger, heap and accounts agree: an opening does, and each call and each write keeps it. What the claim says of a history is what
+-- Demand 3 (rules 10.3 to 10.11), entire: it holds of `step`, for every table of units.
+-- Along a history ledger, heap and accounts agree: an opening does, and each call and each write keeps it. What demand 3 says of a history is what
 -- agreement says of its end.
 -- Assumes nothing.
 use Prim.Native.Nat.{ℕ, _<_}
 use native.Mathlib.Omega.{arith}
 use mathlib.Core.Path.{_≡_, refl, subst, ap, _∙_}
-use mathlib.Core.List.{List, [], _∷_, _++_}
+use mathlib.Core.List.{List, [], _∷_, _++_, List·Memᴰ}
 use mathlib.Core.Bool.{Bool, true, false, cond}
 use lib.ListN.{length, getD}
 use lib.Dec.{eqb}
@@ -23,13 +23,14 @@ use Rattle.model.specs.declared.Call.{Call}
 use Rattle.model.specs.declared.Call.the-variants.{Allocate, AllocateArray, Claim, Release, FreeAll, Reallocate, Lend, Remaining, CanRelease, ListBlock}
 use Rattle.ledger.specs.Ledger.{Ledger, Event, Called, Wrote, empty, leave, add-object, add-hold, take-hold, take-all, record-accepted, record-call, record-event, ledger-of}
 use Rattle.ledger.specs.History.{History}
-use Rattle.ledger.specs.Demand3.{Within, objects-in, Holds, Demand3}
+use Rattle.ledger.specs.Demand3.{Within, objects-in, HeldIn, Holds, Demand3}
 use Rattle.ledger.proofs.Agreement.{Agrees}
 use Rattle.ledger.proofs.Opening.{opening-agrees}
 use Rattle.ledger.proofs.Writing.{written-agrees}
 use Rattle.ledger.proofs.Steps.{step-agrees}
 use Rattle.ledger.proofs.Fields.{live-once-of, apart-of, off-headers-of, inside-of, record-held-of, hold-recorded-of, records-once-of, balanced-of, answered-of}
 use Rattle.ledger.proofs.Space.{space-decided}
+use Rattle.ledger.proofs.Lasting.{step-lasts}
 use Rattle.ledger.proofs.Wrong
 
 -- no two objects of the ledger, at two places, share a byte: their serials differ, and each is the object of a live block
@@ -66,6 +67,16 @@ ledger-grants grants [] = refl
 ledger-grants grants (Called c v ∷ es) = recorded-grants (eqb (v .refusal) 0) c v (ledger-of grants es) ∙ ledger-grants grants es
 ledger-grants grants (Wrote ∷ es) = ledger-grants grants es
 
+-- a serial is held at every point since the front
+abbrev Since : List ℕ → List Event → List Event → ℕ → Type 0
+Since grants front back serial = (late early : List Event) → back ≡ late ++ early → HeldIn serial (ledger-of grants (early ++ front))
+
+-- an object of the ledger after the front, whose serial is held ever since, is one of its objects now
+abbrev Lasts : List ℕ → List Event → List Event → Type 0
+Lasts grants front back =
+    (o : Handle) → List·Memᴰ o (objects-in (ledger-of grants front)) → Since grants front back (o .serial)
+    → List·Memᴰ o (objects-in (ledger-of grants (back ++ front)))
+
 module _ (unit : ℕ → ℕ) (units : Units unit) where
   -- along a history ledger, heap and accounts agree
   pub history-agrees : (grants : List ℕ) (es : List Event) (s : List ℕ) (k : Accounts) → History (step unit) grants es s k → Agrees (ledger-of grants es) s k
@@ -76,10 +87,24 @@ module _ (unit : ℕ → ℕ) (units : Units unit) where
       (step-agrees unit units c (ledger-of grants es) (h .0) (h .1) (history-agrees grants es (h .0) (h .1) (h .2)))
   history-agrees grants (Wrote ∷ es) s k h = written-agrees (ledger-of grants es) (h .0) s k (history-agrees grants es (h .0) k (h .1)) (h .2)
 
-  -- what the claim says of a history is what agreement says of its end
+  -- an event takes away no object whose serial is held after it
+  history-lasts : (grants : List ℕ) (front back : List Event) (s : List ℕ) (k : Accounts) → History (step unit) grants (back ++ front) s k
+      → Lasts grants front back
+  unfolding ledger-of record-event
+  history-lasts grants front [] s k h o m f = m
+  history-lasts grants front (Called c v ∷ es) s k h o m f =
+      let l = ledger-of grants (es ++ front) in
+      let sooner : Since grants front es (o .serial) = λ late early e. f (Called c v ∷ late) early (ap (λ (x : List Event). Called c v ∷ x) e) in
+      let before = history-lasts grants front es (h .0) (h .1) (h .2) o m sooner in
+      subst (λ (t : Outcome). HeldIn (o .serial) (record-call c (t .values) l) → List·Memᴰ o (objects-in (record-call c (t .values) l))) (h .3)
+      (step-lasts unit l (h .0) (h .1) c (history-agrees grants (es ++ front) (h .0) (h .1) (h .2)) o before) (f [] (Called c v ∷ es) refl)
+  history-lasts grants front (Wrote ∷ es) s k h o m f =
+      history-lasts grants front es (h .0) k (h .1) o m (λ late early e. f (Wrote ∷ late) early (ap (λ (x : List Event). Wrote ∷ x) e))
+
+  -- what demand 3 says of a history is what agreement says of its end
   holds-after : (grants : List ℕ) (front back : List Event) (s : List ℕ) (k : Accounts) → ledger-of grants (back ++ front) .grants ≡ grants
-      → Agrees (ledger-of grants (back ++ front)) s k → Holds unit (step unit) grants front back s k
-  holds-after grants front back s k same a =
+      → Lasts grants front back → Agrees (ledger-of grants (back ++ front)) s k → Holds unit (step unit) grants front back s k
+  holds-after grants front back s k same lasts a =
       let l = ledger-of grants (back ++ front) in
       record {
         as-defined = λ c. refl;
@@ -87,7 +112,7 @@ module _ (unit : ℕ → ℕ) (units : Units unit) where
         recorded-live = λ o. a .matches .objects o .1;
         live-once = live-once-of l s k a;
         recorded-once = a .matches .once;
-        stays = λ o f. a .matches .objects o .1 (f [] back refl);
+        stays = λ o m f. a .matches .objects o .1 (lasts o m f);
         apart = apart-places l s k a;
         off-headers = λ o b m. off-headers-of l s k a o b (a .matches .objects o .1 m);
         inside = λ o m. inside-of l s k a o (a .matches .objects o .1 m);
@@ -109,9 +134,10 @@ module _ (unit : ℕ → ℕ) (units : Units unit) where
       record {
         always =
             λ grants front back s k h.
-            holds-after grants front back s k (ledger-grants grants (back ++ front)) (history-agrees grants (back ++ front) s k h);
+            holds-after grants front back s k (ledger-grants grants (back ++ front)) (history-lasts grants front back s k h)
+            (history-agrees grants (back ++ front) s k h);
       }
 
--- and so of document 01's table
+-- and so of the table of rule 6.1
 pub demand-3 : Demand3 unit (step unit)
 demand-3 = demand-3-of unit unit-is

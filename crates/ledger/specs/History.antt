@@ -1,4 +1,4 @@
--- Histories: every list of calls, refused ones included, from an accepted opening of one heap, with writes inside live objects in between.
+-- Histories (rule 10.1): every list of calls, refused ones included, from an accepted opening of one heap, with writes inside live objects in between.
 use Prim.Native.Nat.{ℕ, _+_, _<_, _^_}
 use mathlib.Core.Path.{_≡_}
 use mathlib.Core.List.{List, [], _∷_}

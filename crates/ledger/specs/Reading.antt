@@ -1,4 +1,4 @@
--- The ledger that is read off a state: its live objects, its records' counts as the holds so far, and its grants as opened.
+-- The ledger that is read off a state: an entry for each live object, with the counts of its records as holds, and the grants of the accounts.
 use Prim.Native.Nat.{ℕ, zero, suc}
 use mathlib.Core.List.{List, [], _∷_, map}
 use Rattle.accounts.specs.declared.Quota.{Quota}
