@@ -1,40 +1,49 @@
-//! Finds `liblokhazim.a`: in the folder that `LOKHAZIM_LIB_DIR` names, else where `make lib`
-//! writes it.
+//! Finds `liblokhazim.a` and `liblokhazim_image.a`: in the folder that `LOKHAZIM_LIB_DIR` names, else
+//! where `make lib` writes them.
 
 use std::env;
 use std::path::{Path, PathBuf};
 
-/// Tells cargo where the library is. Where it is missing, the crate says so itself when it is
+/// The libraries, as the linker names them.
+const LIBRARIES: [&str; 2] = ["lokhazim", "lokhazim_image"];
+
+/// Tells cargo where the libraries are. Where one is missing, the crate says so itself when it is
 /// built, and where it was looked for; lints and documentation need no library.
 fn main() {
     let folders = folders();
-    let found = folders
-        .iter()
-        .find(|folder| library_in(folder).is_file())
-        .unwrap_or(&folders[0]);
-    let library = library_in(found);
+    let found = folders.iter().find(|folder| has_all(folder));
     println!("cargo:rerun-if-env-changed=LOKHAZIM_LIB_DIR");
     for folder in &folders {
-        println!("cargo:rerun-if-changed={}", library_in(folder).display());
+        for name in LIBRARIES {
+            println!("cargo:rerun-if-changed={}", file(folder, name).display());
+        }
     }
-    println!("cargo:rustc-env=LOKHAZIM_LIBRARY={}", library.display());
     println!("cargo:rustc-check-cfg=cfg(library_missing)");
-    if library.is_file() {
-        println!("cargo:rustc-link-search=native={}", found.display());
-        println!("cargo:rustc-link-lib=static=lokhazim");
-    } else {
+    let Some(folder) = found else {
         let looked: Vec<String> = folders.iter().map(|f| f.display().to_string()).collect();
+        println!("cargo:rustc-env=LOKHAZIM_LIBRARIES=");
         println!("cargo:rustc-env=LOKHAZIM_LOOKED={}", looked.join(" and "));
         println!("cargo:rustc-cfg=library_missing");
+        return;
+    };
+    println!("cargo:rustc-env=LOKHAZIM_LIBRARIES={}", folder.display());
+    println!("cargo:rustc-link-search=native={}", folder.display());
+    for name in LIBRARIES {
+        println!("cargo:rustc-link-lib=static={name}");
     }
 }
 
-/// The library's file in a folder.
-fn library_in(folder: &Path) -> PathBuf {
-    folder.join("liblokhazim.a")
+/// A library's file in a folder.
+fn file(folder: &Path, name: &str) -> PathBuf {
+    folder.join(format!("lib{name}.a"))
 }
 
-/// The folders that may have the library, the first that has it is taken. A relative
+/// Whether a folder has every library.
+fn has_all(folder: &Path) -> bool {
+    LIBRARIES.iter().all(|name| file(folder, name).is_file())
+}
+
+/// The folders that may have the libraries; the first that has them is taken. A relative
 /// `LOKHAZIM_LIB_DIR` counts from the folder in which cargo was started, and else from this crate's.
 fn folders() -> Vec<PathBuf> {
     let this_crate =

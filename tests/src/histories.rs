@@ -8,6 +8,7 @@ use crate::choice::{choose, grants, Habits, Weights, GROWING, MIXED, SHARING, SH
 use crate::compare::{call_failure, Failure};
 use crate::cut::blocks;
 use crate::forged::View;
+use crate::image_cases::image_of;
 use crate::judge::broken;
 use crate::ledger::Ledger;
 use crate::seed::Seed;
@@ -165,6 +166,22 @@ impl History<'_> {
         Ok(answer)
     }
 
+    /// Writes an image of the state, reads it back into other bytes, and goes on with what was read.
+    fn go_through_an_image(&mut self, seed: &mut Seed) -> Result<(), Failure> {
+        let image = image_of(self.pair, &self.state)?;
+        let mut other = self.state.heap.clone();
+        other.fill_with(|| seed.byte());
+        let (refusal, restored) = self.pair.read_image(&image, &other)?;
+        if refusal != 0 || restored != self.state {
+            return Err(Failure(format!(
+                "{}: the image of a history is not read back",
+                self.pair.origin
+            )));
+        }
+        self.state = restored;
+        Ok(())
+    }
+
     /// Does now and then what a single call does not.
     fn now_and_then(&mut self, seed: &mut Seed) -> Result<(), Failure> {
         match seed.below(400) {
@@ -172,6 +189,7 @@ impl History<'_> {
             12..=17 => self.list_and_ask()?,
             18 => self.claim_to_the_end(seed)?,
             19..=21 => self.fill_records(seed)?,
+            22..=25 => self.go_through_an_image(seed)?,
             _ => {}
         }
         Ok(())

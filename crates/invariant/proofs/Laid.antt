@@ -179,7 +179,7 @@ module _ (serial : ℕ) (new : List ℕ) where
   copy-all p f (b ∷ bs) = rw (f b (put serial new b) (put-serial b) (put-length b), copy-all p f bs)
 
   -- the sum of the sizes
-  copy-total : (bs : List Block) → total size (copy-into serial new bs) ≡ total size bs
+  pub copy-total : (bs : List Block) → total size (copy-into serial new bs) ≡ total size bs
   unfolding total copy-into put
   copy-total [] = refl
   copy-total (b ∷ bs) = rw (put-length b, copy-total bs)

@@ -18,7 +18,7 @@ use Rattle.model.specs.declared.Handle.{Handle}
 use Rattle.model.specs.declared.Range.{Range}
 use Rattle.model.proofs.Refusals.{unless-has}
 use Rattle.model.proofs.Lookup.{lookup-exactly}
-use Rattle.ledger.specs.Ledger.{Event, Wrote}
+use Rattle.ledger.specs.Ledger.{Ledger, Event, Wrote}
 use Rattle.ledger.specs.History.{Run, in-object, Written, History}
 use Rattle.ledger.proofs.Writing.{outside-exactly}
 
@@ -51,6 +51,6 @@ module _ (s : List ℕ) (k : Accounts) (h : Handle) where
   part-written s′ l o f = record { same-length = l; octets = o; inside = λ i e. f i (lent-inside i e) }
 
   -- so a history goes on with it
-  pub part-history : (run : Run) (grants : List ℕ) (es : List Event) (s′ : List ℕ) → History run grants es s k → length s′ ≡ length s → Octets s′
-      → ((i : ℕ) → (InRange i (lend s k h .values .range) → ⊥) → getD s′ i 0 ≡ getD s i 0) → History run grants (Wrote ∷ es) s′ k
-  part-history run grants es s′ past l o f = (s, past, part-written s′ l o f)
+  pub part-history : (run : Run) (begun : Ledger) (es : List Event) (s′ : List ℕ) → History run begun es s k → length s′ ≡ length s → Octets s′
+      → ((i : ℕ) → (InRange i (lend s k h .values .range) → ⊥) → getD s′ i 0 ≡ getD s i 0) → History run begun (Wrote ∷ es) s′ k
+  part-history run begun es s′ past l o f = (s, past, part-written s′ l o f)

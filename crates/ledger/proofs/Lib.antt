@@ -16,3 +16,5 @@ pub mod Contents
 pub mod Staying
 pub mod Bytes
 pub mod NewBytes
+pub mod Rejoining
+pub mod Lengths

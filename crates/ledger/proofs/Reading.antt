@@ -21,8 +21,7 @@ use Rattle.model.specs.Consistent.{allowed, consistent}
 use Rattle.model.specs.Holds.{count-of}
 use Rattle.model.specs.Calls.{state-of}
 use Rattle.model.specs.declared.Handle.{Handle}
-use Rattle.ledger.specs.Ledger.{Entry, holds-of}
-use Rattle.ledger.specs.Reading.{values-from, read-entry, read-ledger}
+use Rattle.ledger.specs.Ledger.{Entry, holds-of, values-from, read-entry, read-ledger}
 use Rattle.invariant.proofs.Good.{Ordered}
 use Rattle.ledger.proofs.Agreement.{Agrees}
 use Rattle.invariant.proofs.Heaps.{heap-good, good-ordered}

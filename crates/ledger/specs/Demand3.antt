@@ -23,7 +23,7 @@ use Rattle.model.specs.declared.Handle.{Handle}
 use Rattle.model.specs.declared.ListedBlock.{ListedBlock}
 use Rattle.model.specs.declared.Call.{Call}
 use Rattle.model.specs.declared.Call.the-variants.{Allocate, AllocateArray, Claim, Release, FreeAll, Reallocate, Lend, Remaining, CanRelease, ListBlock}
-use Rattle.ledger.specs.Ledger.{Entry, Ledger, Event, holds-of, cost-to, ledger-of}
+use Rattle.ledger.specs.Ledger.{Entry, Ledger, Event, holds-of, cost-to, unrestored, ledger-of}
 use Rattle.ledger.specs.History.{Run, History}
 
 -- a byte of an object (rule 4.1)
@@ -71,34 +71,36 @@ unfoldable pub passes-others : List Line → Bool
 passes-others ls = not (any line-holds (keep (λ l. not (eqb (line-number l) 11)) ls))
 
 -- what holds after a history: the events of the back came after those of the front
-pub record Holds (unit : ℕ → ℕ) (run : Run) (grants : List ℕ) (front back : List Event) (s : List ℕ) (k : Accounts) : Type 0 where
+pub record Holds (unit : ℕ → ℕ) (run : Run) (begun : Ledger) (front back : List Event) (s : List ℕ) (k : Accounts) : Type 0 where
   -- rule 10.3: each call of a list is the next one after a shorter list
   pub as-defined : (c : Call) → run c s k ≡ step unit c s k
   -- rule 10.4: live objects and the ledger's objects are the same, each once
-  pub live-recorded : (o : Handle) → List·Memᴰ o (objects-of s) → List·Memᴰ o (objects-in (ledger-of grants (back ++ front)))
-  pub recorded-live : (o : Handle) → List·Memᴰ o (objects-in (ledger-of grants (back ++ front))) → List·Memᴰ o (objects-of s)
+  pub live-recorded : (o : Handle) → List·Memᴰ o (objects-of s) → List·Memᴰ o (objects-in (ledger-of begun (back ++ front)))
+  pub recorded-live : (o : Handle) → List·Memᴰ o (objects-in (ledger-of begun (back ++ front))) → List·Memᴰ o (objects-of s)
   pub live-once : serials-differ (objects-of s) ≡ true
-  pub recorded-once : serials-differ (objects-in (ledger-of grants (back ++ front))) ≡ true
+  pub recorded-once : serials-differ (objects-in (ledger-of begun (back ++ front))) ≡ true
   -- rule 10.5: an object that the ledger had after the front, and whose serial some quota has held at every point since, is live, with the same base,
-  -- length and serial
-  pub stays : (o : Handle) → List·Memᴰ o (objects-in (ledger-of grants front))
-      → ((late early : List Event) → back ≡ late ++ early → HeldIn (o .serial) (ledger-of grants (early ++ front))) → List·Memᴰ o (objects-of s)
+  -- length and serial. No image was read since: it may give the serial to another object
+  pub stays : unrestored back ≡ true → (o : Handle) → List·Memᴰ o (objects-in (ledger-of begun front))
+      → ((late early : List Event) → back ≡ late ++ early → HeldIn (o .serial) (ledger-of begun (early ++ front))) → List·Memᴰ o (objects-of s)
   -- rule 10.6: no two of them, at two places of the list, have a byte in common, nor has one with a header, its own among them
-  pub apart : (i j : ℕ) → i < j → j < length (objects-in (ledger-of grants (back ++ front)))
-      → (at : ℕ) → Within at (getD (objects-in (ledger-of grants (back ++ front))) i zero-handle)
-      → Within at (getD (objects-in (ledger-of grants (back ++ front))) j zero-handle) → ⊥
-  pub off-headers : (o : Handle) (b : ListedBlock) → List·Memᴰ o (objects-in (ledger-of grants (back ++ front)))
+  pub apart : (i j : ℕ) → i < j → j < length (objects-in (ledger-of begun (back ++ front)))
+      → (at : ℕ) → Within at (getD (objects-in (ledger-of begun (back ++ front))) i zero-handle)
+      → Within at (getD (objects-in (ledger-of begun (back ++ front))) j zero-handle) → ⊥
+  pub off-headers : (o : Handle) (b : ListedBlock) → List·Memᴰ o (objects-in (ledger-of begun (back ++ front)))
       → List·Memᴰ b (listing-from 0 (blocks-of s)) → (at : ℕ) → Within at o → b .offset ≤ at → at < b .offset + 8 → ⊥
-  pub inside : (o : Handle) → List·Memᴰ o (objects-in (ledger-of grants (back ++ front))) → o .base + o .length ≤ length s
+  pub inside : (o : Handle) → List·Memᴰ o (objects-in (ledger-of begun (back ++ front))) → o .base + o .length ≤ length s
   -- rule 10.7: used records and the ledger's holds are the same, each once
   pub record-held : (h : Hold) → List·Memᴰ h (k .holds) → used h ≡ true
-      → (e : Entry) × List·Memᴰ e (ledger-of grants (back ++ front) .entries) × (e .object .serial ≡ h .serial) × (holds-of (h .quota) e ≡ h .count) × (0 < h .count)
-  pub hold-recorded : (e : Entry) (q : ℕ) → List·Memᴰ e (ledger-of grants (back ++ front) .entries) → 0 < holds-of q e
+      → (e : Entry) × List·Memᴰ e (ledger-of begun (back ++ front) .entries) × (e .object .serial ≡ h .serial) × (holds-of (h .quota) e ≡ h .count) × (0 < h .count)
+  pub hold-recorded : (e : Entry) (q : ℕ) → List·Memᴰ e (ledger-of begun (back ++ front) .entries) → 0 < holds-of q e
       → List·Memᴰ (record { serial = e .object .serial; quota = q; count = holds-of q e }) (k .holds)
   pub records-once : records-differ (k .holds) ≡ true
-  -- rule 10.8: the grants of the opening are remainders and costs, and remaining answers the remainder
-  pub grants-kept : map (λ (x : Quota). x .grant) (k .quotas) ≡ grants
-  pub balanced : (q : ℕ) → q < QUOTAS → remaining q k + total (cost-to q) (ledger-of grants (back ++ front) .entries) ≡ getD grants q 0
+  -- rule 10.8: the ledger's grants, which are those of the beginning unless an image was read, are remainders and costs, and remaining answers the remainder
+  pub grants-kept : map (λ (x : Quota). x .grant) (k .quotas) ≡ ledger-of begun (back ++ front) .grants
+  pub grants-begun : unrestored (back ++ front) ≡ true → ledger-of begun (back ++ front) .grants ≡ begun .grants
+  pub balanced : (q : ℕ) → q < QUOTAS
+      → remaining q k + total (cost-to q) (ledger-of begun (back ++ front) .entries) ≡ getD (ledger-of begun (back ++ front) .grants) q 0
   pub answered : (q : ℕ) → q < QUOTAS → run (Remaining q) s k .values ≡ amount-of (remaining q k)
   -- rule 10.9: for a call for a new object that only line 11 can refuse, 11 says that there is no base; with a base it is accepted
   pub no-space : (c : Call) (r : Request) → request-of unit c s k ≡ some r → passes-others (r .lines) ≡ true
@@ -110,4 +112,4 @@ pub record Holds (unit : ℕ → ℕ) (run : Run) (grants : List ℕ) (front bac
   pub kept-consistent : consistent s k ≡ true
 
 pub record Demand3 (unit : ℕ → ℕ) (run : Run) : Type 0 where
-  pub always : (grants : List ℕ) (front back : List Event) (s : List ℕ) (k : Accounts) → History run grants (back ++ front) s k → Holds unit run grants front back s k
+  pub always : (begun : Ledger) (front back : List Event) (s : List ℕ) (k : Accounts) → History run begun (back ++ front) s k → Holds unit run begun front back s k

@@ -1,9 +1,15 @@
--- The ledger (rules, section 9), worked out from grants, arguments and answers alone (rule 9.1).
-use Prim.Native.Nat.{ℕ, _+_, _-_}
+-- The ledger (rules, section 9), worked out from grants, arguments and answers alone (rule 9.1); an image that is read gives its own (rule 13.16).
+use Prim.Native.Nat.{ℕ, zero, suc, _+_, _-_}
 use mathlib.Core.List.{List, [], _∷_, map}
-use mathlib.Core.Bool.{Bool, cond}
+use mathlib.Core.Bool.{Bool, true, false, cond}
 use lib.ListN.{length, getD, set, replicate}
 use lib.Dec.{ltb, eqb}
+use Rattle.accounts.specs.declared.Quota.{Quota}
+use Rattle.accounts.specs.declared.Hold.{Hold}
+use Rattle.accounts.specs.declared.Accounts.{Accounts}
+use Rattle.accounts.specs.Accounts.{QUOTAS}
+use Rattle.model.specs.Objects.{objects-of}
+use Rattle.model.specs.Holds.{count-of}
 use Rattle.model.specs.Lists.{any, keep}
 use Rattle.model.specs.Answers.{Values}
 use Rattle.model.specs.declared.Handle.{Handle}
@@ -75,19 +81,44 @@ record-accepted (ListBlock at) v l = l
 unfoldable pub record-call : Call → Values → Ledger → Ledger
 record-call c v l = cond (eqb (v .refusal) 0) (record-accepted c v l) l
 
--- an event: a call and its answer, or a write of bytes inside live objects
+-- the values of a function at from, from + 1, .., so many
+unfoldable pub values-from : (ℕ → ℕ) → ℕ → ℕ → List ℕ
+values-from f from zero = []
+values-from f from (suc count) = f from ∷ values-from f (suc from) count
+
+-- the ledger that is read off a state: an entry for each live object, with the counts of its records as holds, and the grants of the accounts
+unfoldable pub read-entry : List Hold → Handle → Entry
+read-entry hs o = record { object = o; holds = values-from (λ q. count-of (o .serial) q hs) 0 QUOTAS }
+
+unfoldable pub read-ledger : List ℕ → Accounts → Ledger
+read-ledger s k = record { grants = map (λ (x : Quota). x .grant) (k .quotas); entries = map (read-entry (k .holds)) (objects-of s) }
+
+-- an event: a call and its answer; a write of bytes inside live objects; an image written of a heap and its accounts; an image read, which gave back a
+-- heap and accounts
 pub data Event : Type 0 where
   Called : Call → Values → Event
   Wrote : Event
+  Saved : List ℕ → Accounts → Event
+  Restored : List ℕ → Accounts → Event
 
 unfoldable pub record-event : Event → Ledger → Ledger
 record-event (Called c v) l = record-call c v l
 record-event Wrote l = l
+record-event (Saved s k) l = l
+record-event (Restored s k) l = read-ledger s k
 
--- the ledger of the grants at the opening and of the events since, the newest first
-unfoldable pub ledger-of : List ℕ → List Event → Ledger
-ledger-of grants [] = empty grants
-ledger-of grants (e ∷ es) = record-event e (ledger-of grants es)
+-- none of these events is an image read
+unfoldable pub unrestored : List Event → Bool
+unrestored [] = true
+unrestored (Called c v ∷ es) = unrestored es
+unrestored (Wrote ∷ es) = unrestored es
+unrestored (Saved s k ∷ es) = unrestored es
+unrestored (Restored s k ∷ es) = false
+
+-- the ledger at the beginning, changed by the events since, the newest first
+unfoldable pub ledger-of : Ledger → List Event → Ledger
+ledger-of begun [] = begun
+ledger-of begun (e ∷ es) = record-event e (ledger-of begun es)
 
 -- rule 9.6: what an entry costs a quota
 unfoldable pub cost-to : ℕ → Entry → ℕ

@@ -19,7 +19,7 @@ use Rattle.model.specs.Calls.{Outcome}
 use Rattle.model.specs.Step.{step}
 use Rattle.model.specs.declared.Handle.{Handle}
 use Rattle.model.proofs.Refusals.{unless-has}
-use Rattle.ledger.specs.Ledger.{Event, Wrote}
+use Rattle.ledger.specs.Ledger.{Ledger, Event, Wrote}
 use Rattle.ledger.specs.History.{in-object, Written, History}
 use Rattle.ledger.proofs.LentParts.{found-inside}
 use Rattle.ledger.proofs.Theorem.{history-agrees}
@@ -63,8 +63,8 @@ module _ (s : List ℕ) (k : Accounts) (h : Handle) (at byte : ℕ) where
     write-written = unless-has (λ (t : Outcome). Written s (t .heap)) (first-refusal (lend-lines s k h)) s k _ byte-written (λ n. same)
 
 -- a history goes on with a write, accepted or refused
-module _ (unit : ℕ → ℕ) (units : Units unit) (grants : List ℕ) (es : List Event) (s : List ℕ) (k : Accounts) (past : History (step unit) grants es s k) where
+module _ (unit : ℕ → ℕ) (units : Units unit) (begun : Ledger) (es : List Event) (s : List ℕ) (k : Accounts) (past : History (step unit) begun es s k) where
   pub write-history : (h : Handle) (at byte : ℕ) → byte < 256
-      → History (step unit) grants (Wrote ∷ es) (write-object s k h at byte .heap) (write-object s k h at byte .accounts)
+      → History (step unit) begun (Wrote ∷ es) (write-object s k h at byte .heap) (write-object s k h at byte .accounts)
   write-history h at byte small =
-      (s, rw (write-accounts s k h at byte) past, write-written s k h at byte (history-agrees unit units grants es s k past .octets) small)
+      (s, rw (write-accounts s k h at byte) past, write-written s k h at byte (history-agrees unit units begun es s k past .octets) small)

@@ -1,11 +1,13 @@
 //! The exported boundary of the proved calls: its declarations and one safe function over them.
 //!
-//! This is the only file with unsafe code. The structs have the layout of the crate `c_api`: all
+//! This folder alone has unsafe code. The structs have the layout of the crate `c_api`: all
 //! `repr(C)`, passed by value; a lent heap is a pointer and a length.
 
 use lokhazim_reference::{Accounts, Handle, Hold, Quota, HOLDS, QUOTAS};
 
 use crate::state::{Answer, Call};
+
+pub mod images;
 
 /// A quota as it crosses the boundary.
 #[repr(C)]
