@@ -1,0 +1,2 @@
+-- The rows that the definitions are held to, and laws of comparing.
+pub mod Runs

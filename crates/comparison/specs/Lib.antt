@@ -1,0 +1,5 @@
+-- The crate's definitions.
+pub mod Differences
+pub mod Positions
+pub mod Compare
+pub mod Listing
