@@ -1,2 +1,4 @@
 -- The rows that the definitions are held to, and laws of comparing.
+pub mod Lists
 pub mod Runs
+pub mod Longest
