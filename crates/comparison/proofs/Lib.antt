@@ -2,3 +2,5 @@
 pub mod Lists
 pub mod Runs
 pub mod Longest
+pub mod Items
+pub mod Differences

@@ -4,6 +4,7 @@ use mathlib.Core.Path.{_≡_}
 use mathlib.Core.List.{List}
 use mathlib.Core.Logic.{_⊎_, _≢_}
 use lib.ListN.{length, getD}
+use Rattle.comparison.specs.Differences.{State}
 use Rattle.comparison.specs.declared.Difference.{Difference}
 use Rattle.comparison.specs.declared.Difference.the-variants.{LastSerial, Quota, Record, Bytes}
 
@@ -38,3 +39,9 @@ pub record Longest (s t : List ℕ) (at n : ℕ) : Type 0 where
   pub inside : (k : ℕ) → at ≤ k → k < at + n → getD s k 0 ≢ getD t k 0
   pub left : (k : ℕ) → suc k ≡ at → getD s k 0 ≡ getD t k 0
   pub right : at + n < length s → getD s (at + n) 0 ≡ getD t (at + n) 0
+
+-- two states of one size: as many heap bytes, quotas and records
+pub record OneSize (a b : State) : Type 0 where
+  pub heap : length (a .heap) ≡ length (b .heap)
+  pub quotas : length (a .accounts .quotas) ≡ length (b .accounts .quotas)
+  pub holds : length (a .accounts .holds) ≡ length (b .accounts .holds)
