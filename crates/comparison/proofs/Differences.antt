@@ -23,7 +23,7 @@ use Rattle.comparison.specs.Listing.{part-of, start-of, Before, Longest,
 use Rattle.comparison.specs.declared.Difference.{Difference}
 use Rattle.comparison.specs.declared.Difference.the-variants.{LastSerial, Quota as QuotaAt, Record as RecordAt, Bytes}
 use Rattle.comparison.proofs.Lists.{all-imply, all-member, all-map, Sorted, sorted-both, parts-rise, sorted-places, not-before-itself}
-use Rattle.comparison.proofs.Runs.{no-runs, runs-split}
+use Rattle.comparison.proofs.Runs.{Split, no-runs, runs-split}
 use Rattle.comparison.proofs.Longest.{runs-sorted, runs-exact, bytes-exact}
 use Rattle.comparison.proofs.Items.{differing-all, differing-sorted, none-differing, differing-none, items-exact}
 
@@ -150,3 +150,111 @@ module _ (a b : State) where
       (parts-rise 2 records bytes (record-in (a .accounts .holds) (b .accounts .holds)) (bytes-above 2 (omega arith))))
       (parts-rise 1 quotas (records ++ bytes) (quota-in (a .accounts .quotas) (b .accounts .quotas)) (records-above 1 (omega arith))))
       (parts-rise 0 serials (quotas ++ (records ++ bytes)) (serial-in (a .accounts .«last_serial») (b .accounts .«last_serial»)) quotas-above)
+
+  -- asked for two, the one with the lower number comes before the other; so nothing is listed twice
+  pub in-order : (m n : ℕ) (d e : Difference) → m < n → getElem? (differences a b) m ≡ some d → getElem? (differences a b) n ≡ some e → Before d e
+  in-order = sorted-places (differences a b) sorted
+
+  pub listed-once : (m n : ℕ) (d : Difference) → getElem? (differences a b) m ≡ some d → getElem? (differences a b) n ≡ some d → m ≡ n
+  listed-once m n d p q =
+      let x : n < suc m = lt-of-not-le (λ l. not-before-itself d (in-order m n d d l p q)) in
+      let y : m < suc n = lt-of-not-le (λ l. not-before-itself d (in-order n m d d l q p)) in
+      omega arith
+
+  -- what is listed is exactly what differs
+  pub serial-exact : List·Memᴰ LastSerial (differences a b) ↔ (a .accounts .«last_serial» ≢ b .accounts .«last_serial»)
+  unfolding differences serials quotas records bytes
+  serial-exact = then (only-part LastSerial 0 serials (quotas ++ (records ++ bytes)) quotas-above refl) (serial-is (a .accounts .«last_serial») (b .accounts .«last_serial»))
+
+  behind-serial : (d : Difference) → 0 < part-of d → List·Memᴰ d (differences a b) ↔ List·Memᴰ d (quotas ++ (records ++ bytes))
+  unfolding differences serials quotas records bytes
+  behind-serial d l = skip-part d 0 serials (quotas ++ (records ++ bytes)) (serial-in (a .accounts .«last_serial») (b .accounts .«last_serial»)) l
+
+  behind-quotas : (d : Difference) → 1 < part-of d → List·Memᴰ d (differences a b) ↔ List·Memᴰ d (records ++ bytes)
+  unfolding quotas
+  behind-quotas d l =
+      then (behind-serial d (omega arith)) (skip-part d 1 quotas (records ++ bytes) (quota-in (a .accounts .quotas) (b .accounts .quotas)) l)
+
+  behind-records : (d : Difference) → 2 < part-of d → List·Memᴰ d (differences a b) ↔ List·Memᴰ d bytes
+  unfolding records
+  behind-records d l = then (behind-quotas d (omega arith)) (skip-part d 2 records bytes (record-in (a .accounts .holds) (b .accounts .holds)) l)
+
+  module _ (w : OneSize a b) where
+    pub quota-exact : (q : ℕ) → List·Memᴰ (QuotaAt q) (differences a b)
+        ↔ (getD (a .accounts .quotas) q zero-quota ≢ getD (b .accounts .quotas) q zero-quota)
+    unfolding quotas quota-part
+    quota-exact q =
+        then (behind-serial (QuotaAt q) (omega arith))
+        (then (only-part (QuotaAt q) 1 quotas (records ++ bytes) (records-above 1 (omega arith)) refl)
+        (items-exact same-quota QuotaAt (λ j k e. ap start-of e) same-quota-self same-quota-is zero-quota (a .accounts .quotas) (b .accounts .quotas) (w .quotas) q))
+
+    pub record-exact : (p : ℕ) → List·Memᴰ (RecordAt p) (differences a b)
+        ↔ (getD (a .accounts .holds) p zero-hold ≢ getD (b .accounts .holds) p zero-hold)
+    unfolding records record-part
+    record-exact p =
+        then (behind-quotas (RecordAt p) (omega arith))
+        (then (only-part (RecordAt p) 2 records bytes (bytes-above 2 (omega arith)) refl)
+        (items-exact same-record RecordAt (λ j k e. ap start-of e) same-record-self same-record-is zero-hold (a .accounts .holds) (b .accounts .holds) (w .holds) p))
+
+    -- runs: exactly the longest ones; and a byte differs exactly if it is in one of them
+    pub run-exact : (at n : ℕ) → List·Memᴰ (Bytes at n) (differences a b) ↔ Longest (a .heap) (b .heap) at n
+    unfolding bytes
+    run-exact at n = then (behind-records (Bytes at n) (omega arith)) (runs-exact (a .heap) (b .heap) (w .heap) at n)
+
+    pub byte-exact : (k : ℕ) → (getD (a .heap) k 0 ≢ getD (b .heap) k 0)
+        ↔ ((at : ℕ) × (n : ℕ) × List·Memᴰ (Bytes at n) (differences a b) × (at ≤ k) × (k < at + n))
+    unfolding bytes
+    byte-exact k =
+        let e = bytes-exact (a .heap) (b .heap) (w .heap) k in
+        let m : (at n : ℕ) → List·Memᴰ (Bytes at n) (differences a b) ↔ List·Memᴰ (Bytes at n) bytes = λ at n. behind-records (Bytes at n) (omega arith) in (
+          λ d. let x = e .0 d in (x .0, x .1, m (x .0) (x .1) .1 (x .2), x .3, x .4),
+          λ x. e .1 (x .0, x .1, m (x .0) (x .1) .0 (x .2), x .3, x .4),
+        )
+
+-- the list is empty exactly for equal states
+no-front : (xs ys : List Difference) → xs ++ ys ≡ [] → (xs ≡ []) × (ys ≡ [])
+no-front [] ys e = (refl, e)
+no-front (x ∷ xs) ys e = let no : _≡_ {A = ℕ} 0 1 = cc in absurd (omega arith)
+
+serial-none : (x y : ℕ) → serial-part x y ≡ [] → x ≡ y
+unfolding serial-part
+serial-none x y e = go (eqb x y) refl e
+  where
+    go : (b : Bool) → eqb x y ≡ b → cond b [] (LastSerial ∷ []) ≡ [] → x ≡ y
+    go true q z = eqb-true x y q
+    go false q z = let no : _≡_ {A = ℕ} 0 1 = cc in absurd (omega arith)
+
+bytes-none : (s t : List ℕ) → length s ≡ length t → byte-part 0 s t ≡ [] → s ≡ t
+unfolding byte-part
+bytes-none s t l e = go (runs 0 s t) (runs-split s t 0) e
+  where
+    go : (rs : List Run) → Split s t 0 rs → map bytes-of rs ≡ [] → s ≡ t
+    go [] w z = ext-getD 0 s t l (λ k h. eqb-true (getD s k 0) (getD t k 0) (w k (omega arith) (omega arith)))
+    go (r ∷ rs) w z = let no : _≡_ {A = ℕ} 0 1 = cc in absurd (omega arith)
+
+none-bytes : (s : List ℕ) → byte-part 0 s s ≡ []
+unfolding byte-part
+none-bytes s = ap (map bytes-of) (no-runs s s 0 (λ k l h. eq-eqb (getD s k 0) (getD s k 0) refl))
+
+pub differences-self : (a : State) → differences a a ≡ []
+unfolding differences serial-part quota-part record-part
+differences-self a =
+    rw (eq-eqb (a .accounts .«last_serial») (a .accounts .«last_serial») refl,
+    none-differing same-quota QuotaAt same-quota-self 0 (a .accounts .quotas),
+    none-differing same-record RecordAt same-record-self 0 (a .accounts .holds),
+    none-bytes (a .heap))
+
+pub differences-empty : (a b : State) → OneSize a b → (differences a b ≡ []) ↔ (a ≡ b)
+unfolding differences quota-part record-part
+differences-empty a b w = (there, λ e. rw e (differences-self b))
+  where
+    there : differences a b ≡ [] → a ≡ b
+    there e =
+        let x = no-front (serial-part (a .accounts .«last_serial») (b .accounts .«last_serial»)) _ e in
+        let y = no-front (quota-part 0 (a .accounts .quotas) (b .accounts .quotas)) _ (x .1) in
+        let z = no-front (record-part 0 (a .accounts .holds) (b .accounts .holds)) _ (y .1) in
+        let n = serial-none (a .accounts .«last_serial») (b .accounts .«last_serial») (x .0) in
+        let q = differing-none same-quota QuotaAt same-quota-is 0 (a .accounts .quotas) (b .accounts .quotas) (w .quotas) (y .0) in
+        let h = differing-none same-record RecordAt same-record-is 0 (a .accounts .holds) (b .accounts .holds) (w .holds) (z .0) in
+        let s = bytes-none (a .heap) (b .heap) (w .heap) (z .1) in
+        λ i. record { heap = s i; accounts = record { quotas = q i; «last_serial» = n i; holds = h i } }
