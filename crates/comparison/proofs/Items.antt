@@ -5,13 +5,13 @@ use mathlib.Core.Path.{_≡_, refl, ap, sym, _∙_}
 use mathlib.Core.List.{List, [], _∷_, _++_, List·Memᴰ, List·Memᴰ·head, List·Memᴰ·tail, List·Memᴰ·not-nil, List·Memᴰ·cases-cons, Memᴰ·cast}
 use mathlib.Core.Bool.{Bool, true, false, cond, true≢false}
 use mathlib.Core.Logic.{_⊎_, inl, inr, ⊎-elim, _↔_, _≢_}
-use Prim.Native.Nat.{ℕ, zero, suc, _+_, _≤_, _<_}
+use Prim.Native.Nat.{ℕ, zero, suc, _+_, _≤_, _<_, min}
 use native.Mathlib.Nat.{lt-of-not-le}
 use native.Mathlib.Omega.{arith}
 use lib.ListN.{length, drop, getD, drop-of-length-le, List·getD-eq-default}
 use lib.Seq.{drop-cons}
-use lib.Dec.{ltb}
-use borrow.Author.Tests.{ltb-true, ltb-false}
+use lib.Dec.{leb, ltb}
+use borrow.Author.Tests.{leb-true, leb-false, ltb-true, ltb-false}
 use Rattle.image_model.proofs.Items.{All}
 use Rattle.model.proofs.Bools.{fails}
 use Rattle.comparison.specs.Differences.{differing}
@@ -114,29 +114,43 @@ module _ {A : Type 0} (same : A → A → Bool) (name : ℕ → Difference) wher
           let z : 0 + q ≡ q = omega arith in
           rw z at (is-listed d 0 q xs ys h (omega arith) (fails (same (getD xs q d) (getD ys q d)) (λ e. f (s (getD xs q d) (getD ys q d) e))))
 
-  -- the list from a number on, where the lists have one length
-  module _ (d : A) (xs ys : List A) (l : length xs ≡ length ys) where
+  -- the list from a number on, up to the end of the shorter list
+  module _ (d : A) (xs ys : List A) where
     abbrev pub from : ℕ → List Difference
     from n = differing same name n (drop n xs) (drop n ys)
 
-    pub from-step : (n : ℕ) → n < length xs → (b : Bool) → same (getD xs n d) (getD ys n d) ≡ b → from n ≡ cond b (from (suc n)) (name n ∷ from (suc n))
-    unfolding differing
-    from-step n h b e = rw (drop-cons xs n d h, drop-cons ys n d (omega arith), e)
+    abbrev pub end : ℕ
+    end = min (length xs) (length ys)
 
-    pub from-end : (n : ℕ) → length xs ≤ n → from n ≡ []
+    pub from-step : (n : ℕ) → n < end → (b : Bool) → same (getD xs n d) (getD ys n d) ≡ b → from n ≡ cond b (from (suc n)) (name n ∷ from (suc n))
     unfolding differing
-    from-end n h = rw (drop-of-length-le xs {i = n} h)
+    from-step n h b e = rw (drop-cons xs n d (omega arith), drop-cons ys n d (omega arith), e)
 
-    go-on-by : (f n : ℕ) → length xs ≤ n + f → (e : Difference) (es : List Difference) → from n ≡ e ∷ es → (q : ℕ) × (e ≡ name q) × (from (suc q) ≡ es)
-    go-on-by zero n h e es p = let z = from-end n (omega arith) in let no : _≡_ {A = ℕ} 0 1 = cc in absurd (omega arith)
-    go-on-by (suc f) n h e es p = go (ltb n (length xs)) refl (same (getD xs n d) (getD ys n d)) refl (go-on-by f (suc n) (omega arith) e es)
+    differing-nil : (n : ℕ) (zs : List A) → differing same name n zs [] ≡ []
+    unfolding differing
+    differing-nil n [] = refl
+    differing-nil n (z ∷ zs) = refl
+
+    pub from-end : (n : ℕ) → end ≤ n → from n ≡ []
+    unfolding differing
+    from-end n h = go (leb (length xs) n) refl
       where
-        go : (x : Bool) → ltb n (length xs) ≡ x → (b : Bool) → same (getD xs n d) (getD ys n d) ≡ b
+        go : (x : Bool) → leb (length xs) n ≡ x → from n ≡ []
+        go true q = rw (drop-of-length-le xs {i = n} (leb-true (length xs) n q))
+        go false q =
+            let l : length ys ≤ n = omega (arith, leb-false (length xs) n q) in
+            rw (drop-of-length-le ys {i = n} l) (differing-nil n (drop n xs))
+
+    go-on-by : (f n : ℕ) → end ≤ n + f → (e : Difference) (es : List Difference) → from n ≡ e ∷ es → (q : ℕ) × (e ≡ name q) × (from (suc q) ≡ es)
+    go-on-by zero n h e es p = let z = from-end n (omega arith) in let no : _≡_ {A = ℕ} 0 1 = cc in absurd (omega arith)
+    go-on-by (suc f) n h e es p = go (ltb n end) refl (same (getD xs n d) (getD ys n d)) refl (go-on-by f (suc n) (omega arith) e es)
+      where
+        go : (x : Bool) → ltb n end ≡ x → (b : Bool) → same (getD xs n d) (getD ys n d) ≡ b
             → (from (suc n) ≡ e ∷ es → (q : ℕ) × (e ≡ name q) × (from (suc q) ≡ es)) → (q : ℕ) × (e ≡ name q) × (from (suc q) ≡ es)
-        go false t b s ih = let z = from-end n (ltb-false n (length xs) t) in let no : _≡_ {A = ℕ} 0 1 = cc in absurd (omega arith)
-        go true t true s ih = ih (sym (from-step n (ltb-true n (length xs) t) true s) ∙ p)
-        go true t false s ih = let z = from-step n (ltb-true n (length xs) t) false s in (n, cc, cc)
+        go false t b s ih = let z = from-end n (ltb-false n end t) in let no : _≡_ {A = ℕ} 0 1 = cc in absurd (omega arith)
+        go true t true s ih = ih (sym (from-step n (ltb-true n end t) true s) ∙ p)
+        go true t false s ih = let z = from-step n (ltb-true n end t) false s in (n, cc, cc)
 
     -- what is behind the first is the list from the next number on
     pub items-go-on : (n : ℕ) (e : Difference) (es : List Difference) → from n ≡ e ∷ es → (q : ℕ) × (e ≡ name q) × (from (suc q) ≡ es)
-    items-go-on n = go-on-by (length xs) n (omega arith)
+    items-go-on n = go-on-by end n (omega arith)

@@ -4,3 +4,4 @@ pub mod Runs
 pub mod Longest
 pub mod Items
 pub mod Differences
+pub mod Positions
