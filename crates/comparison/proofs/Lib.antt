@@ -5,3 +5,4 @@ pub mod Longest
 pub mod Items
 pub mod Differences
 pub mod Positions
+pub mod Compare
