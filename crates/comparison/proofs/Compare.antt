@@ -4,7 +4,7 @@ use mathlib.Core.Path.{_≡_, refl, ap, sym, _∙_}
 use mathlib.Core.List.{List, [], _∷_}
 use mathlib.Core.Bool.{Bool, true, false, cond}
 use mathlib.Core.Logic.{_↔_, _≢_}
-use mathlib.Core.Option.{Option, none, some}
+use mathlib.Core.Option.{Option, none, some, Option·some-ne-none}
 use Prim.Native.Nat.{ℕ, zero, suc, _≤_}
 use native.Mathlib.Omega.{arith}
 use lib.ListN.{length, getElem?}
@@ -109,3 +109,48 @@ module _ (i j : List ℕ) (o : Octets i) (p : Octets j) (a : Accepted i) (b : Ac
           let q = differences-empty (state-in i) (state-in j) one-size .0 z in
           let f = one-form (form-of i) (form-of j) (says i o a .0 .known) (says j p b .0 .known) in
           sym (says i o a .1) ∙ (λ k. image-of (f k) (q k .heap) (q k .accounts)) ∙ says j p b .1
+
+-- what is compared: both images are accepted and the heaps have one length
+pub compared-exactly : (i j : List ℕ) (n : ℕ) → (compare-of i j n .refusal ≡ 0) ↔ (Accepted i × Accepted j × (size-in i ≡ size-in j))
+compared-exactly i j n = (there, λ w. ap refusal-of (nth-given i j n (w .0) (w .1) (w .2)))
+  where
+    refusal-of : Compared → ℕ
+    refusal-of c = c .refusal
+
+    first : compare-of i j n .refusal ≡ 0 → (r : ℕ) → first-refusal (examine-lines i) ≡ r → Accepted i
+    first e zero q = q
+    first e (suc r) q = absurd (omega (arith, ap refusal-of (first-refused i j n r q), e))
+
+    second : compare-of i j n .refusal ≡ 0 → Accepted i → (r : ℕ) → first-refusal (examine-lines j) ≡ r → Accepted j
+    second e a zero q = q
+    second e a (suc r) q = absurd (omega (arith, ap refusal-of (second-refused i j n a r q), e))
+
+    third : compare-of i j n .refusal ≡ 0 → Accepted i → Accepted j → (x : Bool) → eqb (size-in i) (size-in j) ≡ x → size-in i ≡ size-in j
+    third e a b true q = eqb-true (size-in i) (size-in j) q
+    third e a b false q = absurd (omega (arith, ap refusal-of (lengths-refused i j n a b (eqb-false (size-in i) (size-in j) q)), e))
+
+    there : compare-of i j n .refusal ≡ 0 → Accepted i × Accepted j × (size-in i ≡ size-in j)
+    there e =
+        let a = first e (first-refusal (examine-lines i)) refl in
+        let b = second e a (first-refusal (examine-lines j)) refl in
+        (a, b, third e a b (eqb (size-in i) (size-in j)) refl)
+
+-- asked for the first difference of two images, the answer is that there is none exactly if the first is accepted and the second is the same bytes
+pub nothing-exactly : (i j : List ℕ) → Octets i → Octets j → (compare-of i j 0 ≡ compared Nothing) ↔ (Accepted i × (i ≡ j))
+unfolding compared
+nothing-exactly i j o p = (there, back)
+  where
+    empty : (xs : List Difference) → getElem? xs 0 ≡ none → xs ≡ []
+    empty [] e = refl
+    empty (x ∷ xs) e = absurd (Option·some-ne-none x e)
+
+    there : compare-of i j 0 ≡ record { refusal = 0; which = Neither; found = none } → Accepted i × (i ≡ j)
+    there e =
+        let w = compared-exactly i j 0 .0 (ap (λ (c : Compared). c .refusal) e) in
+        let g = ap (λ (c : Compared). c .found) (sym (nth-given i j 0 (w .0) (w .1) (w .2)) ∙ e) in
+        (w .0, images-alike i j o p (w .0) (w .1) (w .2) .0 (empty (differences (state-in i) (state-in j)) g))
+
+    back : Accepted i × (i ≡ j) → compare-of i j 0 ≡ record { refusal = 0; which = Neither; found = none }
+    back w =
+        let b : Accepted j = rw (w .1) at (w .0) in
+        nth-given i j 0 (w .0) b (ap size-in (w .1)) ∙ (rw (w .1, differences-self (state-in j)))
