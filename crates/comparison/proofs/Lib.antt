@@ -1,4 +1,6 @@
 -- The rows that the definitions are held to, and laws of comparing.
+pub mod Computing
+pub mod Rows
 pub mod Lists
 pub mod Runs
 pub mod Longest
