@@ -9,6 +9,7 @@ use lib.Seq.{drop-nil}
 use lib.ListN.{length, take, drop, getD, replicate}
 use lib.Dec.{lit<}
 use Rattle.layout.specs.Bytes.{Octets, overwrite}
+use Rattle.framing.proofs.Rows
 use Rattle.framing.specs.Frames.{padded}
 
 pub length-padded : (k : ℕ) (s : List ℕ) → length (padded k s) ≡ k

@@ -18,13 +18,18 @@ use Rattle.framing.specs.Frames.{padded, uncut, stream-of}
 use Rattle.framing.proofs.Padding.{length-padded}
 use Rattle.framing.proofs.Fills.{fill-more}
 
-uncut-length : (k : ℕ) (i : List ℕ) → length (uncut k i) ≤ 504 * k
+uncut-whole : (k : ℕ) (i : List ℕ) → 512 * k ≤ length i → length (uncut k i) ≡ 504 * k
 unfolding uncut
-uncut-length zero i = omega arith
-uncut-length (suc k) i =
-    let ih = uncut-length k (drop 512 i) in
-    let l = length-take 504 (drop 4 i) in
+uncut-whole zero i h = refl
+uncut-whole (suc k) i h =
+    let ih = uncut-whole k (drop 512 i) (simp length-drop (omega arith)) in
+    let l = part-length 504 4 i (omega arith) in
     simp length-append (omega arith)
+
+-- the stream is as long as its frames make it
+pub stream-length : (i : List ℕ) → length (stream-of i) ≡ 504 * (length i / 512)
+unfolding stream-of
+stream-length i = uncut-whole (length i / 512) i (omega arith)
 
 uncut-at : (k at : ℕ) (i : List ℕ) → 512 * k ≤ length i → at / 504 < k → getD (uncut k i) at 0 ≡ getD i (512 * (at / 504) + 4 + at % 504) 0
 unfolding uncut
@@ -58,8 +63,7 @@ unfolding stream-of
 stream-inside i at h = sym (uncut-at (length i / 512) at i (omega arith) h)
 
 pub stream-past : (i : List ℕ) (at : ℕ) → length i / 512 ≤ at / 504 → 0 ≡ getD (stream-of i) at 0
-unfolding stream-of
-stream-past i at h = let l = uncut-length (length i / 512) i in sym (List·getD-eq-default (uncut (length i / 512) i) 0 (omega arith))
+stream-past i at h = let l = stream-length i in sym (List·getD-eq-default (stream-of i) 0 (omega arith))
 
 -- a copy: one byte more, and all of them
 pub copy-more : (from i x : ℕ) (s out now : List ℕ) → i < length out → now ≡ overwrite 0 (padded i (drop from s)) out → x ≡ getD s (from + i) 0

@@ -12,6 +12,7 @@ use lib.Seq.{drop-drop}
 use lib.Dec.{eqb}
 use borrow.Author.Tests.{le-leb, eq-eqb, ne-eqb}
 use Rattle.layout.specs.Bytes.{number, read-number}
+use Rattle.framing.proofs.Rows
 use Rattle.framing.specs.Frames.{check-of, frame-right, frames-right}
 
 module _ (at : ℕ) (i : List ℕ) (h : at + 512 ≤ length i) where
@@ -58,3 +59,11 @@ right-more b n i h =
 pub right-none : (b n : ℕ) (i : List ℕ) → n ≤ b → true ≡ right-from b n i
 unfolding frames-right
 right-none b n i h = let e : n - b ≡ 0 = omega arith in rw e
+
+-- a frame that is not right, and one that is: what is found of the frames behind it is found of all
+module _ (b n : ℕ) (i : List ℕ) (r : Bool) (l : b < n) (e : r ≡ frame-right b n (drop (512 * b) i)) (all : right-from b n i ≡ frames-right n 0 n i) where
+  pub right-stops : r ≡ false → false ≡ frames-right n 0 n i
+  right-stops f = sym (rw (sym e ∙ f) at (sym all ∙ right-more b n i l))
+
+  pub right-goes-on : r ≡ true → right-from (b + 1) n i ≡ frames-right n 0 n i
+  right-goes-on f = rw (sym e ∙ f) at (sym (right-more b n i l) ∙ all)

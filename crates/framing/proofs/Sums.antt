@@ -11,6 +11,7 @@ use lib.Seq.{drop-drop, take-append-le, drop-append-le}
 use lib.Dec.{leb}
 use borrow.Author.Tests.{le-leb}
 use Rattle.layout.specs.Bytes.{number, read-number}
+use Rattle.framing.proofs.Rows
 use Rattle.framing.specs.Frames.{word-sum}
 
 pub word-sum-more : (n : ℕ) (s : List ℕ) → word-sum (suc n) s ≡ word-sum n s + number (take 4 (drop (4 * n) s))

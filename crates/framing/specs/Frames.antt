@@ -2,10 +2,12 @@
 -- how many frames there are, 504 bytes of the stream, and a sum that guards them (rules, section 13).
 use Prim.Native.Nat.{ℕ, zero, suc, _+_, _*_, _/_, _%_, _^_}
 use mathlib.Core.List.{List, [], _∷_, _++_}
-use mathlib.Core.Bool.{Bool, true, false, _&&_}
+use mathlib.Core.Bool.{Bool, true, cond, _&&_}
 use lib.ListN.{length, take, drop}
-use lib.Dec.{eqb}
-use Rattle.layout.specs.Bytes.{bytes, number}
+use lib.Dec.{eqb, leb, ltb}
+use Rattle.layout.specs.Bytes.{bytes, number, overwrite}
+use Rattle.framing.specs.declared.FrameAnswer.{FrameAnswer}
+use Rattle.framing.specs.declared.FrameAnswer.the-variants.{Written, NoRoom}
 
 -- the first k bytes of s; zeros stand where s has no more
 unfoldable pub padded : ℕ → List ℕ → List ℕ
@@ -58,3 +60,17 @@ frame-right b n i = eqb (number (take 2 i)) b && (eqb (number (take 2 (drop 2 i)
 unfoldable pub frames-right : ℕ → ℕ → ℕ → List ℕ → Bool
 frames-right zero b n i = true
 frames-right (suc left) b n i = frame-right b n i && frames-right left (suc b) n (drop 512 i)
+
+-- whether the frames of so many bytes have room in an image, and their number in two bytes
+unfoldable pub has-room : ℕ → ℕ → Bool
+has-room bytes room = ltb (frames-for bytes) 65536 && leb (512 * frames-for bytes) room
+
+-- a stream written as frames: what the image is then, and what is answered
+pub record Framed : Type 0 where
+  pub image : List ℕ
+  pub answer : FrameAnswer
+
+unfoldable pub write-frames : List ℕ → List ℕ → Framed
+write-frames i s =
+    let n = frames-for (length s) in
+    cond (has-room (length s) (length i)) (record { image = overwrite 0 (cut s) i; answer = Written (512 * n) }) (record { image = i; answer = NoRoom })

@@ -5,7 +5,16 @@ ghost use mathlib.Core.List.{_++_};
 ghost use Prim.Native.Nat.{_+_, _*_, _/_, _%_, _^_, _≤_, _<_};
 ghost use lib.ListN.{length, take, drop, getD};
 ghost use Rattle.layout.specs.Bytes.{overwrite};
-ghost use Rattle.framing.specs.Frames.{padded, word-sum, check-of, frame-of, cut-from, stream-of, frame-right, frames-right};
+ghost use Rattle.framing.specs.Frames.{padded, check-of, frame-of, cut-from, stream-of, frame-right, frames-right, Framed, write-frames};
+
+// The greatest length of a stream: 65,535 frames.
+const LONGEST: usize = 33029640;
+
+// How many bytes of an image were written; or there was no room in it, or the stream is longer than the longest.
+pub enum FrameAnswer {
+    Written(usize),
+    NoRoom,
+}
 
 // The byte at a place of a stream that is made of two parts, 0 behind its end.
 fn stream_byte(head: &[u8], body: &[u8], at: usize) -> u8
@@ -68,7 +77,7 @@ fn write_frame(
 }
 
 // So many frames of the stream, written from the image's first byte on.
-pub(crate) fn put_frames(image: &mut [u8], head: &[u8], body: &[u8], count: usize)
+fn put_frames(image: &mut [u8], head: &[u8], body: &[u8], count: usize)
     requires { ⌜ (512 * count ≤ length (now image)) × (count < 65536) ⌝ }
     ensures { λ _. ⌜ now (image .exit) ≡ overwrite 0 (cut-from count 0 count (now (head .entry) ++ now (body .entry))) (now (image .entry)) ⌝ }
 {
@@ -77,6 +86,24 @@ pub(crate) fn put_frames(image: &mut [u8], head: &[u8], body: &[u8], count: usiz
         write_frame(image, 512 * b, b as u32, count as u32, head, body, 504 * b);
         b += 1;
     }
+}
+
+// The stream of two parts, written as frames from the image's first byte on; bytes behind the frames stay. Without room nothing is written.
+pub fn write_frames(image: &mut [u8], head: &[u8], body: &[u8]) -> FrameAnswer
+    ensures { λ r. ⌜ record { image = now (image .exit); answer = r } ≡ write-frames (now (image .entry)) (now (head .entry) ++ now (body .entry)) ⌝ }
+{
+    if LONGEST < head.len() {
+        return FrameAnswer::NoRoom;
+    }
+    if LONGEST - head.len() < body.len() {
+        return FrameAnswer::NoRoom;
+    }
+    let count = (head.len() + body.len() + 503) / 504;
+    if image.len() < 512 * count {
+        return FrameAnswer::NoRoom;
+    }
+    put_frames(image, head, body, count);
+    FrameAnswer::Written(512 * count)
 }
 
 // The byte at a place of an image's stream, 0 behind its end.

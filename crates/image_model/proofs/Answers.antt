@@ -50,7 +50,7 @@ image-refusal-number-injective r t e = sym (image-refusal-is r .0) ∙ ap image-
 abbrev pub image-answer : {A : Type 0} → A → (ImageRefusal → A) → ℕ → A
 image-answer a refuse n = cond (eqb n 0) a (refuse (image-refusal-at n))
 
-image-answer-refused : {A : Type 0} (a : A) (refuse : ImageRefusal → A) (r : ImageRefusal) → image-answer a refuse (image-refusal-number r) ≡ refuse r
+pub image-answer-refused : {A : Type 0} (a : A) (refuse : ImageRefusal → A) (r : ImageRefusal) → image-answer a refuse (image-refusal-number r) ≡ refuse r
 image-answer-refused a refuse r =
     let n = image-refusal-is r in
     let e : eqb (image-refusal-number r) 0 ≡ false = ne-eqb (image-refusal-number r) 0 (λ z. omega (arith, z, n .1)) in

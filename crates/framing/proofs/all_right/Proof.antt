@@ -6,7 +6,7 @@ use lib.ListN.{length, drop}
 use borrow.Author.Needs.{needs}
 use borrow.Author.Tests.{not-true, not-false}
 use Rattle.framing.specs.Frames.{frame-right, frames-right}
-use Rattle.framing.proofs.Right.{right-from, right-all, right-more, right-none}
+use Rattle.framing.proofs.Right.{right-from, right-all, right-none, right-stops, right-goes-on}
 use Rattle.framing.proofs.all_right.Statement.{statement}
 use Rattle.framing.proofs.all_right.Tie as tie
 use Rattle.framing.proofs.all_right.Reads as reads
@@ -33,7 +33,7 @@ returns c =
     let r = c .before in
     let at = r .before .before in
     let i = at .before .before .args .image .now in
-    sym (rw (sym (r .is-right .ensures) ∙ not-true (r .is-right .result) (c .if1 .taken)) at (sym (at .loop .inv .2) ∙ right-more (at .loop .b) (length i / 512) i (omega arith)))
+    right-stops (at .loop .b) (length i / 512) i (r .is-right .result) (omega arith) (r .is-right .ensures) (at .loop .inv .2) (not-true _ (c .if1 .taken))
 
 add-b : tie.Need-add-b Inv-loop μ-loop
 add-b c = omega arith
@@ -46,7 +46,7 @@ loop-again c =
     let r = c .before in
     let at = r .before .before in
     let i = at .before .before .args .image .now in
-    (omega arith, refl, rw (sym (r .is-right .ensures) ∙ not-false (r .is-right .result) (c .if1 .left)) at (sym (right-more (at .loop .b) (length i / 512) i (omega arith)) ∙ at .loop .inv .2))
+    (omega arith, refl, right-goes-on (at .loop .b) (length i / 512) i (r .is-right .result) (omega arith) (r .is-right .ensures) (at .loop .inv .2) (not-false _ (c .if1 .left)))
 
 returns-2 : tie.Need-returns-2 Inv-loop μ-loop
 returns-2 c =
