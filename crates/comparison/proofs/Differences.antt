@@ -117,10 +117,13 @@ then v w = (λ p. w .0 (v .0 p), λ r. v .1 (w .1 r))
 module _ (a b : State) where
   serials : List Difference
   serials = serial-part (a .accounts .«last_serial») (b .accounts .«last_serial»)
+
   quotas : List Difference
   quotas = quota-part 0 (a .accounts .quotas) (b .accounts .quotas)
+
   records : List Difference
   records = record-part 0 (a .accounts .holds) (b .accounts .holds)
+
   bytes : List Difference
   bytes = byte-part 0 (a .heap) (b .heap)
 
@@ -239,10 +242,12 @@ none-bytes s = ap (map bytes-of) (no-runs s s 0 (λ k l h. eq-eqb (getD s k 0) (
 pub differences-self : (a : State) → differences a a ≡ []
 unfolding differences serial-part quota-part record-part
 differences-self a =
-    rw (eq-eqb (a .accounts .«last_serial») (a .accounts .«last_serial») refl,
-    none-differing same-quota QuotaAt same-quota-self 0 (a .accounts .quotas),
-    none-differing same-record RecordAt same-record-self 0 (a .accounts .holds),
-    none-bytes (a .heap))
+    rw (
+      eq-eqb (a .accounts .«last_serial») (a .accounts .«last_serial») refl,
+      none-differing same-quota QuotaAt same-quota-self 0 (a .accounts .quotas),
+      none-differing same-record RecordAt same-record-self 0 (a .accounts .holds),
+      none-bytes (a .heap),
+    )
 
 pub differences-empty : (a b : State) → OneSize a b → (differences a b ≡ []) ↔ (a ≡ b)
 unfolding differences quota-part record-part

@@ -33,7 +33,7 @@ module _ (s t : List ℕ) where
       let l = behind-first at r (w .0) q in (
         l,
         all-imply (λ (p : Run). r .offset + r .length < p .offset) (λ (p : Run). at < p .offset) (λ p h. omega arith) rs
-        (all-behind (r .offset + r .length) rs (w .1) (w .0 .stop)),
+            (all-behind (r .offset + r .length) rs (w .1) (w .0 .stop)),
       )
 
   -- so no two runs touch
@@ -41,8 +41,8 @@ module _ (s t : List ℕ) where
   runs-sorted at [] w = tt
   runs-sorted at (r ∷ rs) w = (
     all-map bytes-of (Before (bytes-of r)) rs
-    (all-imply (λ (p : Run). r .offset + r .length < p .offset) (λ (p : Run). Before (bytes-of r) (bytes-of p)) (λ p l. inr (refl, l)) rs
-    (all-behind (r .offset + r .length) rs (w .1) (w .0 .stop))),
+        (all-imply (λ (p : Run). r .offset + r .length < p .offset) (λ (p : Run). Before (bytes-of r) (bytes-of p)) (λ p l. inr (refl, l)) rs
+        (all-behind (r .offset + r .length) rs (w .1) (w .0 .stop))),
     runs-sorted (r .offset + r .length) rs (w .1),
   )
 

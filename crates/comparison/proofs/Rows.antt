@@ -100,11 +100,11 @@ other =
     record {
       heap = set (set (set (set heap 8 9) 30 1) 31 1) 63 1;
       accounts =
-        record {
-          quotas = quota 100 84 ∷ quota 1000 984 ∷ quota 5 5 ∷ replicate 5 zero-quota;
-          «last_serial» = 3;
-          holds = hold 1 1 3 ∷ replicate 52 zero-hold ++ (hold 1 0 1 ∷ replicate 74 zero-hold);
-        };
+          record {
+            quotas = quota 100 84 ∷ quota 1000 984 ∷ quota 5 5 ∷ replicate 5 zero-quota;
+            «last_serial» = 3;
+            holds = hold 1 1 3 ∷ replicate 52 zero-hold ++ (hold 1 0 1 ∷ replicate 74 zero-hold);
+          };
     }
 
 all-rows : differences state other ≡ LastSerial ∷ QuotaAt 2 ∷ RecordAt 0 ∷ RecordAt 53 ∷ Bytes 8 1 ∷ Bytes 30 2 ∷ Bytes 63 1 ∷ []
