@@ -7,6 +7,7 @@ use mathlib.Core.Bool.{Bool, true, false, cond, true≢false}
 use mathlib.Core.Logic.{_⊎_, inl, inr, ⊎-elim, _↔_, _≢_}
 use Prim.Native.Nat.{ℕ, zero, suc, _+_, _≤_, _<_, min}
 use native.Mathlib.Nat.{lt-of-not-le}
+use native.Mathlib.Numerals.{add-one}
 use native.Mathlib.Omega.{arith}
 use lib.ListN.{length, drop, getD, drop-of-length-le, List·getD-eq-default}
 use lib.Seq.{drop-cons}
@@ -125,6 +126,13 @@ module _ {A : Type 0} (same : A → A → Bool) (name : ℕ → Difference) wher
     pub from-step : (n : ℕ) → n < end → (b : Bool) → same (getD xs n d) (getD ys n d) ≡ b → from n ≡ cond b (from (suc n)) (name n ∷ from (suc n))
     unfolding differing
     from-step n h b e = rw (drop-cons xs n d (omega arith), drop-cons ys n d (omega arith), e)
+
+    -- an item that is the same is passed; one that is not is the first
+    pub from-pass : (n : ℕ) → n < end → same (getD xs n d) (getD ys n d) ≡ true → from n ≡ from (n + 1)
+    from-pass n h e = from-step n h true e ∙ ap from (sym (add-one n))
+
+    pub from-found : (n : ℕ) → n < end → same (getD xs n d) (getD ys n d) ≡ false → from n ≡ name n ∷ from (n + 1)
+    from-found n h e = from-step n h false e ∙ ap (λ (m : ℕ). name n ∷ from m) (sym (add-one n))
 
     differing-nil : (n : ℕ) (zs : List A) → differing same name n zs [] ≡ []
     unfolding differing

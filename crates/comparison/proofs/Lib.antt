@@ -7,4 +7,5 @@ pub mod Longest
 pub mod Items
 pub mod Differences
 pub mod Positions
-pub mod Compare
+pub mod Answers
+pub mod Found

@@ -38,9 +38,13 @@ unless-refused zero w due = due
 unless-refused (suc n) w due = record { refusal = suc n; which = w; found = none }
 
 -- the n-th difference, from 0, of the states that two images say
+unfoldable pub nth-of : List ℕ → List ℕ → ℕ → Compared
+nth-of i j n = record { refusal = 0; which = Neither; found = getElem? (differences (state-in i) (state-in j)) n }
+
+-- the refusals of the second image, then that of the lengths, then the difference
+unfoldable pub compare-second : List ℕ → List ℕ → ℕ → Compared
+compare-second i j n = unless-refused (first-refusal (examine-lines j)) Second (unless-refused (first-refusal (line-27 i j ∷ [])) Neither (nth-of i j n))
+
+-- the refusals of the first image come before all
 unfoldable pub compare-of : List ℕ → List ℕ → ℕ → Compared
-compare-of i j n =
-    let nth : Compared = record { refusal = 0; which = Neither; found = getElem? (differences (state-in i) (state-in j)) n } in
-    unless-refused (first-refusal (examine-lines i)) First
-    (unless-refused (first-refusal (examine-lines j)) Second
-    (unless-refused (first-refusal (line-27 i j ∷ [])) Neither nth))
+compare-of i j n = unless-refused (first-refusal (examine-lines i)) First (compare-second i j n)

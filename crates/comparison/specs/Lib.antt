@@ -3,3 +3,4 @@ pub mod Differences
 pub mod Positions
 pub mod Compare
 pub mod Listing
+pub mod Finding

@@ -1,6 +1,13 @@
 // Two images side by side: what differs in the states that they say, one difference after the other. What an image says stands in `image_model`.
 use image_model::ImageRefusal;
 
+mod comparing;
+mod finding;
+mod going;
+
+pub use comparing::compare;
+pub use going::next_difference;
+
 // One difference, named without its values: the last serial, a quota by its number, a hold record by its place, a run of heap bytes by its offset and length.
 pub enum Difference {
     LastSerial,

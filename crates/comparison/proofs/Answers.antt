@@ -23,7 +23,7 @@ use Rattle.image_model.proofs.Refusals.{examined-read}
 use Rattle.image_model.proofs.Read.{read-written}
 use Rattle.image_model.proofs.Answers.{image-refusal-at, image-refusal-is}
 use Rattle.comparison.specs.Differences.{State, state-in, differences}
-use Rattle.comparison.specs.Compare.{Compared, compared, line-27, unless-refused, compare-of}
+use Rattle.comparison.specs.Compare.{Compared, compared, line-27, unless-refused, nth-of, compare-second, compare-of}
 use Rattle.comparison.specs.Listing.{OneSize}
 use Rattle.comparison.specs.declared.Difference.{Difference}
 use Rattle.comparison.specs.declared.Which.{Which}
@@ -39,22 +39,22 @@ Accepted i = first-refusal (examine-lines i) ≡ 0
 module _ (i j : List ℕ) (n : ℕ) where
   -- a bad first image decides, whatever the second is
   pub first-refused : (r : ℕ) → first-refusal (examine-lines i) ≡ suc r → compare-of i j n ≡ record { refusal = suc r; which = First; found = none }
-  unfolding compare-of unless-refused
+  unfolding compare-of compare-second nth-of unless-refused
   first-refused r e = rw e
 
   pub second-refused : Accepted i → (r : ℕ) → first-refusal (examine-lines j) ≡ suc r → compare-of i j n ≡ record { refusal = suc r; which = Second; found = none }
-  unfolding compare-of unless-refused
+  unfolding compare-of compare-second nth-of unless-refused
   second-refused a r e = rw (a, e)
 
   -- then the heaps' lengths
   pub lengths-refused : Accepted i → Accepted j → size-in i ≢ size-in j → compare-of i j n ≡ record { refusal = 27; which = Neither; found = none }
-  unfolding compare-of unless-refused line-27 first-refusal
+  unfolding compare-of compare-second nth-of unless-refused line-27 first-refusal
   lengths-refused a b d = let t = ne-eqb (size-in i) (size-in j) d in rw (a, b, t)
 
   -- else the n-th is given, or none
   pub nth-given : Accepted i → Accepted j → size-in i ≡ size-in j
       → compare-of i j n ≡ record { refusal = 0; which = Neither; found = getElem? (differences (state-in i) (state-in j)) n }
-  unfolding compare-of unless-refused line-27 first-refusal
+  unfolding compare-of compare-second nth-of unless-refused line-27 first-refusal
   nth-given a b e = let t = eq-eqb (size-in i) (size-in j) e in rw (a, b, t)
 
 -- no two answers come to the same: from what an answer comes to, the answer

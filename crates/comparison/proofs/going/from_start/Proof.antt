@@ -1,0 +1,27 @@
+-- TODO
+-- Assumes nothing.
+use native.Mathlib.Omega.{arith}
+use mathlib.Core.Path.{_≡_, refl, ap, sym, _∙_}
+use borrow.Author.Needs.{needs}
+use Rattle.comparison.proofs.going.from_start.Statement.{statement}
+use Rattle.comparison.proofs.going.from_start.Tie as tie
+
+accounts-in-requires : tie.Need-accounts-in-requires
+accounts-in-requires c κs = search needs
+
+accounts-in-requires-2 : tie.Need-accounts-in-requires-2
+accounts-in-requires-2 c κs = search needs
+
+returns : tie.Need-returns
+returns c = ?
+
+from-quota-requires : tie.Need-from-quota-requires
+from-quota-requires c κs = search needs
+
+returns-2 : tie.Need-returns-2
+returns-2 c = ?
+
+pub from-start-spec : {M : Type 1} → statement M
+from-start-spec =
+    tie.close
+    (tie.spec accounts-in-requires accounts-in-requires-2 returns from-quota-requires returns-2)

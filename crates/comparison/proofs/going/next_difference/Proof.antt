@@ -1,0 +1,60 @@
+-- TODO
+-- Assumes nothing.
+use native.Mathlib.Omega.{arith}
+use mathlib.Core.Path.{_≡_, refl, ap, sym, _∙_}
+use borrow.Author.Needs.{needs}
+use Rattle.comparison.proofs.going.next_difference.Statement.{statement}
+use Rattle.comparison.proofs.going.next_difference.Tie as tie
+
+enum-told : tie.Need-enum-told
+enum-told c = search needs
+
+from-start-requires : tie.Need-from-start-requires
+from-start-requires c κs = search needs
+
+enum-known-from : tie.Need-enum-known-from
+enum-known-from c = search needs
+
+from-quota-requires : tie.Need-from-quota-requires
+from-quota-requires c κs = search needs
+
+enum-known-from-2 : tie.Need-enum-known-from-2
+enum-known-from-2 c = search needs
+
+from-record-requires : tie.Need-from-record-requires
+from-record-requires c κs = search needs
+
+enum-known-from-3 : tie.Need-enum-known-from-3
+enum-known-from-3 c = search needs
+
+from-byte-requires : tie.Need-from-byte-requires
+from-byte-requires c κs = search needs
+
+returns : tie.Need-returns
+returns c = ?
+
+returns-2 : tie.Need-returns-2
+returns-2 c = ?
+
+returns-3 : tie.Need-returns-3
+returns-3 c = ?
+
+returns-4 : tie.Need-returns-4
+returns-4 c = ?
+
+pub next-difference-spec : {M : Type 1} → statement M
+next-difference-spec =
+    tie.close
+    (tie.spec
+    enum-told
+    from-start-requires
+    enum-known-from
+    from-quota-requires
+    enum-known-from-2
+    from-record-requires
+    enum-known-from-3
+    from-byte-requires
+    returns
+    returns-2
+    returns-3
+    returns-4)
