@@ -9,3 +9,4 @@ pub mod Differences
 pub mod Positions
 pub mod Answers
 pub mod Found
+pub mod Compared

@@ -5,11 +5,12 @@ use mathlib.Core.Path.{_≡_, refl, ap, sym, _∙_}
 use mathlib.Core.List.{List, [], _∷_, _++_, map}
 use mathlib.Core.Bool.{Bool, true, false, cond}
 use mathlib.Core.Logic.{_⊎_, inl, inr}
-use Prim.Native.Nat.{ℕ, zero, suc, _+_, _≤_}
+use mathlib.Core.Option.{none, some}
+use Prim.Native.Nat.{ℕ, zero, suc, _+_, _-_, _≤_}
 use native.Mathlib.Numerals.{add-one}
 use native.Mathlib.Omega.{arith}
-use lib.ListN.{length, take, drop}
-use lib.Seq.{take-nil, take-all}
+use lib.ListN.{length, take, drop, getElem?}
+use lib.Seq.{take-all}
 use lib.Dec.{eqb}
 use Rattle.accounts.specs.Accounts.{zero-quota, zero-hold}
 use Rattle.comparison.specs.Differences.{State, Run, same-quota, same-record, serial-part, quota-part, record-part, runs, bytes-of, byte-part, differences}
@@ -18,6 +19,7 @@ use Rattle.comparison.specs.declared.Difference.{Difference}
 use Rattle.comparison.specs.declared.Difference.the-variants.{LastSerial, Quota as QuotaAt, Record as RecordAt, Bytes}
 use Rattle.comparison.specs.declared.Position.{Position}
 use Rattle.comparison.specs.declared.Position.the-variants.{Start, Quota, Record, Byte}
+use Rattle.comparison.specs.declared.NextAnswer.the-variants.{Differs, Nothing}
 use Rattle.comparison.proofs.Runs.{runs-go-on}
 use Rattle.comparison.proofs.Items.{items-go-on}
 
@@ -102,3 +104,41 @@ module _ (a b : State) where
   pub asked-all : (n : ℕ) → length (differences a b) ≤ n → asked n Start a b ≡ differences a b
   unfolding differences-from
   asked-all n l = asked-take n Start ∙ take-all n (differences a b) l
+
+  -- what the answer from a position on says of the list from there on
+  answered : (p : Position) (xs : List Difference) → differences-from p a b ≡ xs → next-of p a b ≡ first-of xs
+  unfolding next-of
+  answered p xs e = ap first-of e
+
+  pub next-nothing : (p : Position) → next-of p a b ≡ Nothing → (n : ℕ) → getElem? (differences-from p a b) n ≡ none
+  unfolding first-of
+  next-nothing p e n = go (differences-from p a b) refl
+    where
+      go : (xs : List Difference) → differences-from p a b ≡ xs → getElem? (differences-from p a b) n ≡ none
+      go [] q = rw q
+      go (d ∷ ds) q = let z = answered p (d ∷ ds) q in let no : _≡_ {A = ℕ} 0 1 = cc in absurd (omega arith)
+
+  module _ (p q : Position) (d : Difference) (e : next-of p a b ≡ Differs d q) where
+    split : (ds : List Difference) × (differences-from p a b ≡ d ∷ ds) × (q ≡ behind d)
+    unfolding first-of
+    split = go (differences-from p a b) refl
+      where
+        go : (xs : List Difference) → differences-from p a b ≡ xs → (ds : List Difference) × (differences-from p a b ≡ d ∷ ds) × (q ≡ behind d)
+        go [] h = let z = answered p [] h in let no : _≡_ {A = ℕ} 0 1 = cc in absurd (omega arith)
+        go (f ∷ ds) h =
+            let z = answered p (f ∷ ds) h in
+            let x : f ≡ d = cc in
+            let y : q ≡ behind f = cc in
+            (ds, h ∙ ap (λ (g : Difference). g ∷ ds) x, y ∙ ap behind x)
+
+    pub next-first : getElem? (differences-from p a b) 0 ≡ some d
+    next-first = rw (split .1)
+
+    pub next-later : (n : ℕ) → (n ≡ 0 → ⊥) → getElem? (differences-from p a b) n ≡ getElem? (differences-from q a b) (n - 1)
+    next-later zero f = absurd (f refl)
+    next-later (suc n) f =
+        let w = split in
+        let m : suc n - 1 ≡ n = omega arith in
+        rw (w .1, m)
+        (ap (λ (l : List Difference). getElem? l n) (sym (goes-on p d (w .0) (w .1)))
+        ∙ ap (λ (x : Position). getElem? (differences-from x a b) n) (sym (w .2)))

@@ -14,7 +14,7 @@ ghost use Rattle.comparison.specs.Differences.{state-in, differences};
 ghost use Rattle.comparison.specs.Positions.{from-byte, from-record, from-quota, first-of, next-of};
 
 // The smaller of two numbers.
-fn least(a: usize, b: usize) -> usize
+fn least(a: u32, b: u32) -> u32
     ensures { λ r. ⌜ r ≡ min a b ⌝ }
 {
     if a < b {
@@ -29,9 +29,9 @@ fn from_byte(first: &[u8], second: &[u8], at: usize) -> NextAnswer
 {
     let one = image::heap_place(first);
     let two = image::heap_place(second);
-    let start = one.start;
-    let other = two.start;
-    let end = least(one.size, two.size);
+    let start = one.start as usize;
+    let other = two.start as usize;
+    let end = least(one.size, two.size) as usize;
     let from = find_byte(first, second, start, other, at, end, false);
     if end <= from {
         return NextAnswer::Nothing;

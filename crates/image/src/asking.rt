@@ -43,8 +43,8 @@ pub fn heap_place(image: &[u8]) -> HeapPlace
 {
     let form = form_of(image);
     HeapPlace {
-        start: heap_at(form.quotas, form.records),
-        size: read_quad(image, 4) as usize,
+        start: heap_at(form.quotas, form.records) as u32,
+        size: read_quad(image, 4),
     }
 }
 

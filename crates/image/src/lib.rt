@@ -42,6 +42,6 @@ pub struct Parsed {
 
 // Where the heap of an image begins in its stream, and how many bytes it has.
 pub struct HeapPlace {
-    pub start: usize,
-    pub size: usize,
+    pub start: u32,
+    pub size: u32,
 }

@@ -1,8 +1,11 @@
--- TODO
+-- The list from a position on is by cases of the position.
 -- Assumes nothing.
 use native.Mathlib.Omega.{arith}
 use mathlib.Core.Path.{_≡_, refl, ap, sym, _∙_}
 use borrow.Author.Needs.{needs}
+use Rattle.comparison.specs.Differences.{state-in}
+use Rattle.comparison.specs.Positions.{differences-from, next-of}
+use Rattle.comparison.specs.declared.Position.{Position}
 use Rattle.comparison.proofs.going.next_difference.Statement.{statement}
 use Rattle.comparison.proofs.going.next_difference.Tie as tie
 
@@ -31,16 +34,28 @@ from-byte-requires : tie.Need-from-byte-requires
 from-byte-requires c κs = search needs
 
 returns : tie.Need-returns
-returns c = ?
+unfolding next-of differences-from
+returns c =
+    let a = c .before .before .before .before .before .args in
+    c .from-start .ensures ∙ sym (ap (λ (p : Position). next-of p (state-in (a .first .now)) (state-in (a .second .now))) (c .before .enum-told .given .1))
 
 returns-2 : tie.Need-returns-2
-returns-2 c = ?
+unfolding next-of differences-from
+returns-2 c =
+    let a = c .before .before .before .before .before .before .args in
+    c .from-quota .ensures ∙ sym (ap (λ (p : Position). next-of p (state-in (a .first .now)) (state-in (a .second .now))) (c .before .before .from .given .1))
 
 returns-3 : tie.Need-returns-3
-returns-3 c = ?
+unfolding next-of differences-from
+returns-3 c =
+    let a = c .before .before .before .before .before .before .args in
+    c .from-record .ensures ∙ sym (ap (λ (p : Position). next-of p (state-in (a .first .now)) (state-in (a .second .now))) (c .before .before .from2 .given .1))
 
 returns-4 : tie.Need-returns-4
-returns-4 c = ?
+unfolding next-of differences-from
+returns-4 c =
+    let a = c .before .before .before .before .before .before .args in
+    c .from-byte .ensures ∙ sym (ap (λ (p : Position). next-of p (state-in (a .first .now)) (state-in (a .second .now))) (c .before .before .from3 .given .1))
 
 pub next-difference-spec : {M : Type 1} → statement M
 next-difference-spec =

@@ -4,6 +4,7 @@ use mathlib.Core.Path.{_≡_, ap, sym, _∙_}
 use borrow.Author.Needs.{needs}
 use Rattle.image_model.specs.Stream.{head-length}
 use Rattle.image_model.specs.Reading.{size-in}
+use Rattle.image.specs.Parsing.{FormFits}
 use Rattle.image.proofs.Heads.{head-extent}
 use Rattle.image.proofs.Parses.{form-of-fits}
 use Rattle.image.proofs.asking.heap_place.Statement.{statement}
@@ -18,8 +19,8 @@ heap-at-requires c κs = let f = form-of-fits (c .before .before .args .image .n
 read-quad-requires : tie.Need-read-quad-requires
 read-quad-requires c κs = search needs
 
-cast-t5 : tie.Need-cast-t5
-cast-t5 c = search needs
+cast-t4 : tie.Need-cast-t4
+cast-t4 c = let f = form-of-fits (c .before .before .before .args .image .now) in let e : FormFits (c .before .form-of .result) = rw (c .before .form-of .ensures) f in search needs
 
 returns : tie.Need-returns
 unfolding size-in
@@ -30,4 +31,4 @@ returns c =
     λ i. record { start = start i; size = c .read-quad .ensures i }
 
 pub heap-place-spec : {M : Type 1} → statement M
-heap-place-spec = tie.close (tie.spec form-of-requires heap-at-requires read-quad-requires cast-t5 returns)
+heap-place-spec = tie.close (tie.spec form-of-requires heap-at-requires cast-t4 read-quad-requires returns)
