@@ -2,7 +2,7 @@
 -- Assumes nothing.
 use mathlib.Core.Path.{_≡_, refl, ap, sym, _∙_}
 use mathlib.Core.List.{List, [], _∷_}
-use mathlib.Core.Bool.{Bool, true, false, cond}
+use mathlib.Core.Bool.{Bool, true, false}
 use mathlib.Core.Logic.{_↔_, _≢_}
 use mathlib.Core.Option.{Option, none, some, Option·some-ne-none}
 use Prim.Native.Nat.{ℕ, zero, suc, _≤_}
@@ -11,7 +11,7 @@ use lib.ListN.{length, getElem?}
 use lib.Dec.{eqb}
 use borrow.Author.Tests.{eqb-true, eqb-false, eq-eqb, ne-eqb}
 use Rattle.layout.specs.Bytes.{Octets}
-use Rattle.model.specs.Refusals.{_when_, first-refusal}
+use Rattle.model.specs.Refusals.{first-refusal}
 use Rattle.framing.proofs.Padding.{length-padded}
 use Rattle.image_model.specs.declared.ImageRefusal.{ImageRefusal}
 use Rattle.image_model.specs.Stream.{image-of}
@@ -22,7 +22,7 @@ use Rattle.image_model.proofs.Places.{one-form}
 use Rattle.image_model.proofs.Refusals.{examined-read}
 use Rattle.image_model.proofs.Read.{read-written}
 use Rattle.image_model.proofs.Answers.{image-refusal-at, image-refusal-is}
-use Rattle.comparison.specs.Differences.{State, state-in, differences}
+use Rattle.comparison.specs.Differences.{state-in, differences}
 use Rattle.comparison.specs.Compare.{Compared, compared, line-27, unless-refused, nth-of, compare-second, compare-of}
 use Rattle.comparison.specs.Listing.{OneSize}
 use Rattle.comparison.specs.declared.Difference.{Difference}
@@ -84,7 +84,7 @@ pub compared-injective : (a b : CompareAnswer) → compared a ≡ compared b →
 compared-injective a b e = sym (answer-back a) ∙ ap answer-of e ∙ answer-back b
 
 -- an accepted image is the image of what it says
-heap-length : (i : List ℕ) → length (heap-in i) ≡ size-in i
+pub heap-length : (i : List ℕ) → length (heap-in i) ≡ size-in i
 unfolding heap-in heap-of size-in
 heap-length i = length-padded (size-in i) _
 

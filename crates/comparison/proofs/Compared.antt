@@ -1,7 +1,7 @@
 -- What compare answers, from what examining both images says and from the list of differences.
 -- Assumes nothing.
 use mathlib.Core.Path.{_≡_, refl, ap, sym, _∙_}
-use mathlib.Core.List.{List, [], _∷_}
+use mathlib.Core.List.{List}
 use mathlib.Core.Option.{none, some}
 use Prim.Native.Nat.{ℕ, zero, suc, _≤_}
 use native.Mathlib.Omega.{arith}
@@ -25,7 +25,6 @@ use Rattle.comparison.specs.Compare.{Compared, compared, line-27, unless
 use Rattle.comparison.specs.declared.Difference.{Difference}
 use Rattle.comparison.specs.declared.Which.{Which}
 use Rattle.comparison.specs.declared.Which.the-variants.{First, Second, Neither}
-use Rattle.comparison.specs.declared.CompareAnswer.{CompareAnswer}
 use Rattle.comparison.specs.declared.CompareAnswer.the-variants.{Differs, Nothing, Refused}
 
 -- what examining an image says of its lines

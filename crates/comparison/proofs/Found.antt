@@ -1,7 +1,7 @@
 -- What the searches find, put together as the first difference from a position on.
 -- Assumes nothing.
 use mathlib.Core.Path.{_≡_, refl, ap, sym, _∙_}
-use mathlib.Core.List.{List, [], _∷_, _++_, map}
+use mathlib.Core.List.{List, [], _∷_, _++_}
 use mathlib.Core.Bool.{Bool, Bool·beq, true, false, not, true≢false}
 use Prim.Native.Nat.{ℕ, zero, suc, _+_, _-_, _≤_, _<_, min}
 use native.Mathlib.Nat.{lt-of-not-le}
@@ -13,9 +13,8 @@ use borrow.Author.Tests.{eqb-true, eqb-false, eq-eqb, ne-eqb}
 use Rattle.accounts.specs.declared.Accounts.{Accounts}
 use Rattle.accounts.specs.Accounts.{QUOTAS, HOLDS, zero-quota, zero-hold}
 use Rattle.framing.specs.Frames.{padded, stream-of}
-use Rattle.framing.proofs.Padding.{length-padded}
-use Rattle.image_model.specs.Stream.{head-length, blank}
-use Rattle.image_model.specs.Reading.{entry-of, record-of, form-of, size-in, accounts-of, accounts-in, heap-of, heap-in}
+use Rattle.image_model.specs.Stream.{head-length}
+use Rattle.image_model.specs.Reading.{form-of, size-in, accounts-of, accounts-in, heap-of, heap-in}
 use Rattle.image_model.proofs.Items.{each-length}
 use Rattle.image_model.proofs.Places.{marks-keep, blank-lengths}
 use Rattle.image.proofs.Parses.{form-of-fits}
@@ -29,6 +28,7 @@ use Rattle.comparison.specs.declared.NextAnswer.the-variants.{Differs, N
 use Rattle.comparison.proofs.Runs.{equal, end, RunFrom, first-run, no-runs}
 use Rattle.comparison.proofs.Items.{from-found, from-end}
 use Rattle.comparison.proofs.Positions.{from-start}
+use Rattle.comparison.proofs.Answers.{heap-length}
 
 -- two truth values are compared
 pub beq-true : (a b : Bool) → Bool·beq a b ≡ true → a ≡ b
@@ -81,10 +81,6 @@ pub heap-byte : (i : List ℕ) (k : ℕ) → k < size-in i → getD (heap-in i) 
 unfolding heap-in heap-of size-in
 heap-byte i k l = getD-padded (size-in i) k (drop (head-length (form-of i)) (stream-of i)) l ∙ getD-drop (head-length (form-of i)) (stream-of i) k 0
 
-pub heap-long : (i : List ℕ) → length (heap-in i) ≡ size-in i
-unfolding heap-in heap-of size-in
-heap-long i = length-padded (size-in i) _
-
 -- the first run by two searches over a test that is that of the bytes
 module _ (s t : List ℕ) (test : ℕ → Bool) (tests : (k : ℕ) → k < end s t → test k ≡ equal s t k) (at r : ℕ) (w : Reaches test false at (end s t) r) where
   none-found : end s t ≤ r → first-of (byte-part at (drop at s) (drop at t)) ≡ Nothing
@@ -125,7 +121,7 @@ module _ (i j : List ℕ) (x y e : ℕ) (one : x ≡ head-length (form-of i)) (t
   test k = eqb (getD (stream-of i) (x + k) 0) (getD (stream-of j) (y + k) 0)
 
   end-is : e ≡ end (heap-in i) (heap-in j)
-  end-is = size ∙ (rw (heap-long i, heap-long j))
+  end-is = size ∙ (rw (heap-length i, heap-length j))
 
   tests : (k : ℕ) → k < end (heap-in i) (heap-in j) → test k ≡ equal (heap-in i) (heap-in j) k
   tests k l =

@@ -1,7 +1,6 @@
 -- The loop's invariant: what is still to be passed from the position on leads to the difference that was asked for. The measure is how many are to
 -- be passed.
 -- Assumes nothing.
-use native.Mathlib.Omega.{arith}
 use mathlib.Core.Path.{_≡_, refl, ap, sym, _∙_}
 use borrow.Author.Needs.{needs}
 use lib.ListN.{getElem?}

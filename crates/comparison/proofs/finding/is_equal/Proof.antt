@@ -1,7 +1,5 @@
 -- Both bytes are the streams'.
 -- Assumes nothing.
-use native.Mathlib.Omega.{arith}
-use mathlib.Core.Path.{_≡_, refl, ap, sym, _∙_}
 use borrow.Author.Needs.{needs}
 use lib.Dec.{eqb}
 use Rattle.comparison.proofs.finding.is_equal.Statement.{statement}

@@ -1,8 +1,5 @@
 -- The tests are the definition's, in its order.
 -- Assumes nothing.
-use native.Mathlib.Omega.{arith}
-use mathlib.Core.Path.{_≡_, refl, ap, sym, _∙_}
-use borrow.Author.Needs.{needs}
 use borrow.Author.Tests.{eq-eqb, ne-eqb}
 use Rattle.comparison.specs.Differences.{same-quota}
 use Rattle.comparison.proofs.finding.is_same_quota.Statement.{statement}

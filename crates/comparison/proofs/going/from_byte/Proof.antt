@@ -1,7 +1,6 @@
 -- Two searches: the first byte that differs, then the first that does not (`Found`).
 -- Assumes nothing.
-use native.Mathlib.Omega.{arith}
-use mathlib.Core.Path.{_≡_, refl, ap, sym, _∙_}
+use mathlib.Core.Path.{ap, _∙_}
 use borrow.Author.Needs.{needs}
 use Prim.Native.Nat.{ℕ, min}
 use Rattle.image.specs.declared.HeapPlace.{HeapPlace}

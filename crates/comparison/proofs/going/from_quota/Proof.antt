@@ -1,7 +1,6 @@
 -- The search finds the first that is not the same, or passes them all (`Found`).
 -- Assumes nothing.
-use native.Mathlib.Omega.{arith}
-use mathlib.Core.Path.{_≡_, refl, ap, sym, _∙_}
+use mathlib.Core.Path.{_∙_}
 use borrow.Author.Needs.{needs}
 use Rattle.comparison.proofs.Found.{quota-found, quotas-none}
 use Rattle.comparison.proofs.going.from_quota.Statement.{statement}

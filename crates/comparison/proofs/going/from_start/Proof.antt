@@ -1,7 +1,6 @@
 -- The last serials differ, or the list is that from the first quota on (`Found`).
 -- Assumes nothing.
-use native.Mathlib.Omega.{arith}
-use mathlib.Core.Path.{_≡_, refl, ap, sym, _∙_}
+use mathlib.Core.Path.{_∙_}
 use borrow.Author.Needs.{needs}
 use Rattle.comparison.proofs.Found.{start-differs, start-same}
 use Rattle.comparison.proofs.going.from_start.Statement.{statement}

@@ -1,7 +1,6 @@
 -- The list from a position on is by cases of the position.
 -- Assumes nothing.
-use native.Mathlib.Omega.{arith}
-use mathlib.Core.Path.{_≡_, refl, ap, sym, _∙_}
+use mathlib.Core.Path.{ap, sym, _∙_}
 use borrow.Author.Needs.{needs}
 use Rattle.comparison.specs.Differences.{state-in}
 use Rattle.comparison.specs.Positions.{differences-from, next-of}

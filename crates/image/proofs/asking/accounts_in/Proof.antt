@@ -1,6 +1,6 @@
 -- The accounts of the form that the image is read as.
 -- Assumes nothing.
-use mathlib.Core.Path.{_≡_, ap, sym, _∙_}
+use mathlib.Core.Path.{ap, _∙_}
 use borrow.Author.Needs.{needs}
 use Rattle.framing.specs.Frames.{stream-of}
 use Rattle.image_model.specs.declared.Form.{Form}

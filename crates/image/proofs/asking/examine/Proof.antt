@@ -1,6 +1,5 @@
 -- An image that its own bytes refuse is refused so; of another the state decides (`Examined`).
 -- Assumes nothing.
-use mathlib.Core.Path.{_≡_, ap, sym, _∙_}
 use borrow.Author.Needs.{needs}
 use borrow.Author.Tests.{not-true, not-false}
 use Rattle.image.proofs.Parses.{Found, image-found, found-allowed, found-fits}

@@ -1,6 +1,6 @@
 -- The form with the number of the first two stream bytes, or form 1 (`Examined`).
 -- Assumes nothing.
-use mathlib.Core.Path.{_≡_, ap, sym, _∙_}
+use mathlib.Core.Path.{ap, sym, _∙_}
 use borrow.Author.Needs.{needs}
 use Rattle.image_model.specs.Stream.{form-numbered}
 use Rattle.image.specs.Parsing.{known-form}

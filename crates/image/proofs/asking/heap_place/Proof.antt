@@ -1,6 +1,6 @@
 -- The heap begins behind the head of the form.
 -- Assumes nothing.
-use mathlib.Core.Path.{_≡_, ap, sym, _∙_}
+use mathlib.Core.Path.{ap, sym, _∙_}
 use borrow.Author.Needs.{needs}
 use Rattle.image_model.specs.Stream.{head-length}
 use Rattle.image_model.specs.Reading.{size-in}
