@@ -7,8 +7,8 @@ use Prim.Native.Nat.{ℕ, zero, suc, _+_, _*_, _%_, _^_, _≤_, _<_}
 use native.Mathlib.Omega.{arith}
 use native.Mathlib.Nat.{add-zero, zero-add, mod-lt}
 use native.Mathlib.Numerals.{add-one}
-use lib.ListN.{length, take, drop, getD, length-append, length-drop, length-take, take-append-drop}
-use lib.Seq.{drop-drop, take-at, drop-at, take-append-le, drop-append-le, take-append-seam, drop-append-seam, take-all, take-add, drop-nil}
+use lib.ListN.{length, take, drop, length-append, length-drop, length-take, take-append-drop}
+use lib.Seq.{drop-drop, take-at, drop-at}
 use lib.Dec.{eqb, lit<}
 use borrow.Author.Tests.{eq-eqb, eqb-true}
 use Rattle.layout.specs.Bytes.{bytes, number, Octets, overwrite, write-number}
@@ -96,9 +96,17 @@ module _ (b n : ℕ) (s q : List ℕ) where
       let x : number (take 2 (frame-of b n s ++ q)) ≡ b =
       rw (split, take-at (bytes 2 b) (bytes 2 n ++ (p ++ (c ++ q))) 2 (bytes-length 2 b)) (number-fits 2 b (small b hb)) in
       let y : number (take 2 (drop 2 (frame-of b n s ++ q))) ≡ n =
-      rw (split, drop-at (bytes 2 b) (bytes 2 n ++ (p ++ (c ++ q))) 2 (bytes-length 2 b), take-at (bytes 2 n) (p ++ (c ++ q)) 2 (bytes-length 2 n)) (number-fits 2 n (small n hn)) in
+      rw (
+        split,
+        drop-at (bytes 2 b) (bytes 2 n ++ (p ++ (c ++ q))) 2 (bytes-length 2 b),
+        take-at (bytes 2 n) (p ++ (c ++ q)) 2 (bytes-length 2 n),
+      ) (number-fits 2 n (small n hn)) in
       let z : number (take 4 (drop 508 (frame-of b n s ++ q))) ≡ check-of (frame-of b n s ++ q) = last b n s q ∙ sym frame-check in
-      rw (eq-eqb (number (take 2 (frame-of b n s ++ q))) b x, eq-eqb (number (take 2 (drop 2 (frame-of b n s ++ q)))) n y, eq-eqb (number (take 4 (drop 508 (frame-of b n s ++ q)))) (check-of (frame-of b n s ++ q)) z)
+      rw (
+        eq-eqb (number (take 2 (frame-of b n s ++ q))) b x,
+        eq-eqb (number (take 2 (drop 2 (frame-of b n s ++ q)))) n y,
+        eq-eqb (number (take 4 (drop 508 (frame-of b n s ++ q)))) (check-of (frame-of b n s ++ q)) z,
+      )
 
 -- what was cut is right
 pub cut-right : (k b n : ℕ) (s : List ℕ) → b + k < 65536 → n < 65536 → frames-right k b n (cut-from k b n s) ≡ true
@@ -172,7 +180,14 @@ padded-exact (x ∷ s) t (suc k) e = ap (λ (l : List ℕ). x ∷ l) (padded-exa
 module _ (i : List ℕ) (o : Octets i) (h : 512 ≤ length i) where
   five-parts : i ≡ take 2 i ++ (take 2 (drop 2 i) ++ (take 504 (drop 4 i) ++ (take 4 (drop 508 i) ++ drop 512 i)))
   five-parts =
-      sym (rw (sym (drop-drop 4 508 i), take-append-drop 4 (drop 508 i), sym (drop-drop 504 4 i), take-append-drop 504 (drop 4 i), sym (drop-drop 2 2 i), take-append-drop 2 (drop 2 i)) (take-append-drop 2 i))
+      sym (rw (
+        sym (drop-drop 4 508 i),
+        take-append-drop 4 (drop 508 i),
+        sym (drop-drop 504 4 i),
+        take-append-drop 504 (drop 4 i),
+        sym (drop-drop 2 2 i),
+        take-append-drop 2 (drop 2 i),
+      ) (take-append-drop 2 i))
 
   module _ (b n : ℕ) (r : List ℕ) (eb : number (take 2 i) ≡ b) (en : number (take 2 (drop 2 i)) ≡ n) where
     s : List ℕ
@@ -181,7 +196,13 @@ module _ (i : List ℕ) (o : Octets i) (h : 512 ≤ length i) where
     front-again : front-of b n s ≡ take 2 i ++ (take 2 (drop 2 i) ++ take 504 (drop 4 i))
     unfolding front-of s
     front-again =
-        rw (← eb, ← en, bytes-at 2 0 i o (omega arith), bytes-at 2 2 i o (omega arith), padded-exact (take 504 (drop 4 i)) r 504 (part-length 504 4 i (omega arith)))
+        rw (
+          ← eb,
+          ← en,
+          bytes-at 2 0 i o (omega arith),
+          bytes-at 2 2 i o (omega arith),
+          padded-exact (take 504 (drop 4 i)) r 504 (part-length 504 4 i (omega arith)),
+        )
 
     whole-again : i ≡ front-of b n s ++ (take 4 (drop 508 i) ++ drop 512 i)
     whole-again = five-parts ∙ rw (front-again, append-assoc, append-assoc)
@@ -190,7 +211,8 @@ module _ (i : List ℕ) (o : Octets i) (h : 512 ≤ length i) where
     unfolding check-of
     check-again =
         let l = length-front b n s in
-        ap (λ (x : List ℕ). word-sum 127 x % 2 ^ 32) whole-again ∙ ap (λ (x : ℕ). x % 2 ^ 32) (word-sum-front 127 (front-of b n s) (take 4 (drop 508 i) ++ drop 512 i) (omega arith))
+        ap (λ (x : List ℕ). word-sum 127 x % 2 ^ 32) whole-again
+        ∙ ap (λ (x : ℕ). x % 2 ^ 32) (word-sum-front 127 (front-of b n s) (take 4 (drop 508 i) ++ drop 512 i) (omega arith))
 
     frame-once-more : number (take 4 (drop 508 i)) ≡ check-of i → frame-of b n s ++ drop 512 i ≡ i
     unfolding frame-of
@@ -203,7 +225,8 @@ module _ (i : List ℕ) (o : Octets i) (h : 512 ≤ length i) where
   frame-again b n r e =
       let x = and-both (eqb (number (take 2 i)) b) _ e in
       let y = and-both (eqb (number (take 2 (drop 2 i))) n) _ (x .1) in
-      frame-once-more b n r (eqb-true (number (take 2 i)) b (x .0)) (eqb-true (number (take 2 (drop 2 i))) n (y .0)) (eqb-true (number (take 4 (drop 508 i))) (check-of i) (y .1))
+      frame-once-more b n r (eqb-true (number (take 2 i)) b (x .0)) (eqb-true (number (take 2 (drop 2 i))) n (y .0))
+      (eqb-true (number (take 4 (drop 508 i))) (check-of i) (y .1))
 
 pub cut-uncut : (k b n : ℕ) (i : List ℕ) → Octets i → length i ≡ 512 * k → frames-right k b n i ≡ true → cut-from k b n (uncut k i) ≡ i
 unfolding cut-from uncut frames-right

@@ -1,14 +1,12 @@
 -- Padding: its length, one byte more, and what it is of a list that is long enough.
 -- Assumes nothing.
-use mathlib.Core.Path.{_≡_, refl, ap, sym, _∙_}
+use mathlib.Core.Path.{_≡_, refl, ap}
 use mathlib.Core.List.{List, [], _∷_, _++_}
-use Prim.Native.Nat.{ℕ, zero, suc, _+_, _-_, _≤_, _<_}
+use Prim.Native.Nat.{ℕ, zero, suc, _+_, _-_, _≤_}
 use native.Mathlib.Omega.{arith}
 use native.Mathlib.Nat.{zero-add, suc-add, suc-sub-suc, sub-zero}
 use lib.Seq.{drop-nil}
-use lib.ListN.{length, take, drop, getD, replicate}
-use lib.Dec.{lit<}
-use Rattle.layout.specs.Bytes.{Octets, overwrite}
+use lib.ListN.{length, drop, getD, replicate}
 use Rattle.framing.proofs.Rows
 use Rattle.framing.specs.Frames.{padded}
 

@@ -1,12 +1,12 @@
 -- Where a byte of the stream stands in the image.
 -- Assumes nothing.
 use mathlib.Core.Path.{_≡_, refl, ap, sym, _∙_}
-use mathlib.Core.List.{List, [], _∷_, _++_}
+use mathlib.Core.List.{List, _++_}
 use mathlib.Core.Bool.{Bool, true, false}
 use Prim.Native.Nat.{ℕ, zero, suc, _+_, _*_, _-_, _/_, _%_, _≤_, _<_}
 use native.Mathlib.Omega.{arith}
 use native.Mathlib.Nat.{zero-add}
-use lib.ListN.{length, take, drop, getD, set, length-append, length-take, length-drop, List·getD-append, List·getD-eq-default}
+use lib.ListN.{length, take, drop, getD, set, length-append, length-drop, List·getD-append, List·getD-eq-default}
 use lib.Seq.{getD-take, getD-drop, getD-append-add, drop-length}
 use lib.Dec.{ltb}
 use borrow.Author.Tests.{ltb-true, ltb-false}
@@ -42,11 +42,14 @@ uncut-at (suc k) at i h l = go (ltb at 504) refl (λ g. uncut-at k (at - 504) (d
     n : length p ≡ 504
     n = part-length 504 4 i (omega arith)
 
-    go : (t : Bool) → ltb at 504 ≡ t → (504 ≤ at → getD (uncut k (drop 512 i)) (at - 504) 0 ≡ getD (drop 512 i) (512 * ((at - 504) / 504) + 4 + (at - 504) % 504) 0) → getD (take 504 (drop 4 i) ++ uncut k (drop 512 i)) at 0 ≡ getD i (512 * (at / 504) + 4 + at % 504) 0
+    go : (t : Bool) → ltb at 504 ≡ t
+        → (504 ≤ at → getD (uncut k (drop 512 i)) (at - 504) 0 ≡ getD (drop 512 i) (512 * ((at - 504) / 504) + 4 + (at - 504) % 504) 0)
+        → getD (take 504 (drop 4 i) ++ uncut k (drop 512 i)) at 0 ≡ getD i (512 * (at / 504) + 4 + at % 504) 0
     go true t ih =
         let s = ltb-true at 504 t in
         let e : 4 + at ≡ 512 * (at / 504) + 4 + at % 504 = omega arith in
-        List·getD-append p (uncut k (drop 512 i)) 0 at (omega (arith, n)) ∙ getD-take 504 (drop 4 i) at 0 s ∙ getD-drop 4 i at 0 ∙ ap (λ (x : ℕ). getD i x 0) e
+        List·getD-append p (uncut k (drop 512 i)) 0 at (omega (arith, n)) ∙ getD-take 504 (drop 4 i) at 0 s ∙ getD-drop 4 i at 0
+        ∙ ap (λ (x : ℕ). getD i x 0) e
     go false t ih =
         let s = ltb-false at 504 t in
         let j = at - 504 in

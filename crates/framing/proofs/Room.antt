@@ -1,17 +1,17 @@
 -- Writing frames: without room nothing is written, with room all of them are.
 -- Assumes nothing.
-use mathlib.Core.Path.{_≡_, refl, ap, sym, _∙_}
+use mathlib.Core.Path.{_≡_, sym}
 use mathlib.Core.List.{List, _++_}
 use mathlib.Core.Bool.{true}
 use Prim.Native.Nat.{ℕ, _+_, _*_, _/_, _≤_, _<_}
 use native.Mathlib.Omega.{arith}
 use lib.ListN.{length, length-append}
-use lib.Dec.{leb, ltb}
+use lib.Dec.{ltb}
 use borrow.Author.Tests.{lt-ltb, le-ltb, le-leb, lt-leb}
 use Rattle.layout.specs.Bytes.{overwrite}
 use Rattle.framing.proofs.Rows
 use Rattle.framing.specs.declared.FrameAnswer.the-variants.{Written, NoRoom}
-use Rattle.framing.specs.Frames.{cut, cut-from, frames-for, has-room, Framed, write-frames}
+use Rattle.framing.specs.Frames.{cut, cut-from, frames-for, has-room, write-frames}
 
 -- the stream is longer than the longest
 pub too-long : (i head body : List ℕ) → 33029640 < length head + length body → record { image = i; answer = NoRoom } ≡ write-frames i (head ++ body)
@@ -33,6 +33,7 @@ module _ (i head body : List ℕ) (n : ℕ) (h : length head + length body ≤ 3
   unfolding write-frames has-room
   too-short l = rw (count, countable, lt-leb (512 * n) (length i) l)
 
-  pub fits : (i′ : List ℕ) → 512 * n ≤ length i → i′ ≡ overwrite 0 (cut-from n 0 n (head ++ body)) i → record { image = i′; answer = Written (512 * n) } ≡ write-frames i (head ++ body)
+  pub fits : (i′ : List ℕ) → 512 * n ≤ length i → i′ ≡ overwrite 0 (cut-from n 0 n (head ++ body)) i
+      → record { image = i′; answer = Written (512 * n) } ≡ write-frames i (head ++ body)
   unfolding write-frames has-room cut
   fits i′ l f = rw (count, countable, le-leb (512 * n) (length i) l, f)

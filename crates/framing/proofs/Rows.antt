@@ -3,11 +3,12 @@
 use mathlib.Core.Path.{_≡_, refl}
 use mathlib.Core.List.{List, [], _∷_, _++_}
 use mathlib.Core.Bool.{true, false}
-use Prim.Native.Nat.{ℕ, _*_}
-use lib.ListN.{length, take, drop, replicate}
+use Prim.Native.Nat.{ℕ}
+use lib.ListN.{take, drop, replicate}
 use Rattle.layout.specs.Bytes.{bytes, number, overwrite}
 use Rattle.framing.specs.declared.FrameAnswer.the-variants.{Written, NoRoom}
-use Rattle.framing.specs.Frames.{padded, word-sum, check-of, front-of, frame-of, cut-from, frames-for, cut, uncut, stream-of, frame-right, frames-right, has-room, Framed, write-frames}
+use Rattle.framing.specs.Frames.{padded, word-sum, check-of, front-of, frame-of, cut-from, frames-for, cut, uncut, stream-of, frame-right, frames-right}
+use Rattle.framing.specs.Frames.{has-room, write-frames}
 
 -- cut short, and filled with zeros
 padded-rows : (padded 1 (7 ∷ 8 ∷ []) ≡ 7 ∷ []) × (padded 3 (7 ∷ 8 ∷ []) ≡ 7 ∷ 8 ∷ 0 ∷ [])
@@ -47,7 +48,8 @@ cut-rows = (refl, refl, refl, refl)
 
 -- both frames are right; not as the first of three, not the second alone, and not with another check or another byte
 right-rows : (frames-right 2 0 2 image ≡ true) × (frames-right 2 0 3 image ≡ false) × (frames-right 1 0 2 (drop 512 image) ≡ false)
-    × (frame-right 1 2 (drop 512 image) ≡ true) × (frame-right 1 2 (overwrite 508 (4 ∷ []) (drop 512 image)) ≡ false) × (frame-right 1 2 (overwrite 507 (1 ∷ []) (drop 512 image)) ≡ false)
+    × (frame-right 1 2 (drop 512 image) ≡ true) × (frame-right 1 2 (overwrite 508 (4 ∷ []) (drop 512 image)) ≡ false)
+    × (frame-right 1 2 (overwrite 507 (1 ∷ []) (drop 512 image)) ≡ false)
 unfolding frames-right frame-right check-of word-sum number overwrite stream image
 right-rows = (refl, refl, refl, refl, refl, refl)
 
@@ -57,6 +59,7 @@ unfolding has-room frames-for
 room-rows = (refl, refl, refl, refl)
 
 write-rows : (write-frames (replicate 1026 9) stream ≡ record { image = image ++ (9 ∷ 9 ∷ []); answer = Written 1024 })
-    × (write-frames (replicate 1023 9) stream ≡ record { image = replicate 1023 9; answer = NoRoom }) × (write-frames (9 ∷ []) [] ≡ record { image = 9 ∷ []; answer = Written 0 })
+    × (write-frames (replicate 1023 9) stream ≡ record { image = replicate 1023 9; answer = NoRoom })
+    × (write-frames (9 ∷ []) [] ≡ record { image = 9 ∷ []; answer = Written 0 })
 unfolding write-frames has-room cut cut-from frames-for frame-of front-of padded check-of word-sum bytes number overwrite stream image
 write-rows = (refl, refl, refl)

@@ -1,14 +1,13 @@
 -- The sum of words: one word more, and that it reads no further than its words.
 -- Assumes nothing.
-use mathlib.Core.Path.{_≡_, refl, ap, sym, _∙_}
-use mathlib.Core.List.{List, [], _∷_, _++_}
+use mathlib.Core.Path.{_≡_, refl, _∙_}
+use mathlib.Core.List.{List, _++_}
 use Prim.Native.Nat.{ℕ, zero, suc, _+_, _*_, _%_, _^_, _≤_, _<_}
 use native.Mathlib.Omega.{arith}
 use native.Mathlib.Nat.{mod-add-mod}
 use native.Mathlib.Numerals.{add-one}
 use lib.ListN.{length, take, drop, length-drop}
 use lib.Seq.{drop-drop, take-append-le, drop-append-le}
-use lib.Dec.{leb}
 use borrow.Author.Tests.{le-leb}
 use Rattle.layout.specs.Bytes.{number, read-number}
 use Rattle.framing.proofs.Rows
@@ -35,7 +34,8 @@ unfolding word-sum
 wraps-none s = refl
 
 -- one word more of a sum that wraps
-pub wraps-more : (image : List ℕ) (at i sum w r : ℕ) → at + 508 ≤ length image → i < 127 → sum ≡ word-sum i (drop at image) % 2 ^ 32 → w ≡ read-number 4 (at + 4 * i) image
+pub wraps-more : (image : List ℕ) (at i sum w r : ℕ) → at + 508 ≤ length image → i < 127 → sum ≡ word-sum i (drop at image) % 2 ^ 32
+    → w ≡ read-number 4 (at + 4 * i) image
     → r ≡ (sum + w) % 2 ^ 32 → r ≡ word-sum (i + 1) (drop at image) % 2 ^ 32
 unfolding read-number
 wraps-more image at i sum w r h l e f g =

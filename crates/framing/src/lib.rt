@@ -2,10 +2,10 @@
 use std::num::wrapping_add_u32;
 ghost use mathlib.Core.Path.{_≡_};
 ghost use mathlib.Core.List.{_++_};
-ghost use Prim.Native.Nat.{_+_, _*_, _/_, _%_, _^_, _≤_, _<_};
-ghost use lib.ListN.{length, take, drop, getD};
+ghost use Prim.Native.Nat.{_+_, _*_, _/_, _^_, _≤_, _<_};
+ghost use lib.ListN.{length, drop, getD};
 ghost use Rattle.layout.specs.Bytes.{overwrite};
-ghost use Rattle.framing.specs.Frames.{padded, check-of, frame-of, cut-from, stream-of, frame-right, frames-right, Framed, write-frames};
+ghost use Rattle.framing.specs.Frames.{padded, check-of, frame-of, cut-from, stream-of, frame-right, frames-right, write-frames};
 
 // The greatest length of a stream: 65,535 frames.
 const LONGEST: usize = 33029640;

@@ -1,13 +1,13 @@
 -- Numbers of a stream, byte by byte, and parts of a part.
 -- Assumes nothing.
-use mathlib.Core.Path.{_≡_, refl, ap, sym, _∙_}
+use mathlib.Core.Path.{_≡_, ap, sym, _∙_}
 use mathlib.Core.List.{List, [], _∷_}
 use mathlib.Core.Bool.{true, false}
 use Prim.Native.Nat.{ℕ, zero, suc, _+_, _*_, _≤_, _<_}
 use native.Mathlib.Omega.{arith}
 use native.Mathlib.Nat.{add-zero, zero-add, suc-add}
 use lib.ListN.{take, drop, getD}
-use lib.Seq.{take-nil, drop-nil, getD-take, getD-drop, take-take, drop-drop}
+use lib.Seq.{take-nil, getD-take, getD-drop, take-take, drop-drop}
 use Rattle.layout.specs.Bytes.{number}
 use Rattle.image_model.specs.declared.Form.{Form}
 use Rattle.image_model.specs.Items.{all-zero}
@@ -58,11 +58,13 @@ module _ (at : ℕ) (t : List ℕ) where
   byte-part j w h = getD-take w (drop at t) j 0 h ∙ getD-drop at t j 0
 
   -- an entry and a record, number by number
-  pub entry-read : (f : Form) → record { grant = number (take 4 (drop at t)); remainder = number (take 4 (drop (at + 4) t)) } ≡ entry-of f (take (entry-width f) (drop at t))
+  pub entry-read : (f : Form)
+      → record { grant = number (take 4 (drop at t)); remainder = number (take 4 (drop (at + 4) t)) } ≡ entry-of f (take (entry-width f) (drop at t))
   unfolding entry-of tail-of tail-width
   entry-read f = rw (first-part 4 8 (omega arith), later-part 4 4, take-take 4 4 (drop (at + 4) t) (omega arith))
 
-  pub record-read : record { serial = number (take 4 (drop at t)); quota = getD t (at + 4) 0; count = getD t (at + 5) 0 } ≡ record-of (take record-width (drop at t))
+  pub record-read : record { serial = number (take 4 (drop at t)); quota = getD t (at + 4) 0; count = getD t (at + 5) 0 }
+      ≡ record-of (take record-width (drop at t))
   unfolding record-of
   record-read = rw (first-part 4 8 (omega arith), byte-part 4 8 (omega arith), byte-part 5 8 (omega arith))
 

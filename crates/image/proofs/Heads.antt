@@ -1,11 +1,11 @@
 -- Parts that are written side by side make an entry, a record or the whole head.
 -- Assumes nothing.
 use mathlib.Core.Path.{_≡_, refl, ap, sym, _∙_}
-use mathlib.Core.List.{List, [], _∷_, _++_, append-assoc, append-nil}
-use Prim.Native.Nat.{ℕ, zero, suc, _+_, _*_, _≤_, _<_}
+use mathlib.Core.List.{List, _++_, append-assoc, append-nil}
+use Prim.Native.Nat.{ℕ, _+_, _*_, _≤_, _<_}
 use native.Mathlib.Omega.{arith}
 use native.Mathlib.Nat.{mod-eq-of-lt, zero-add}
-use lib.ListN.{length, take, drop, set, replicate, length-append, length-replicate}
+use lib.ListN.{length, take, set, replicate, length-append}
 use lib.Seq.{length-take-le, drop-length}
 use Rattle.accounts.specs.Accounts.{QUOTAS, HOLDS}
 use Rattle.accounts.specs.declared.Quota.{Quota}
@@ -17,7 +17,7 @@ use Rattle.layout.proofs.Overwrite.{overwrite-two, overwrite-fits, overwrite-on
 use Rattle.image_model.specs.declared.Form.{Form}
 use Rattle.image_model.specs.Items.{many}
 use Rattle.image.specs.Parsing.{FormFits}
-use Rattle.image_model.specs.Stream.{entry-tail, tail-width, marks-of, record-bytes, entry-bytes, entry-width, entries-at, records-at, head-length, head-of}
+use Rattle.image_model.specs.Stream.{entry-tail, tail-width, marks-of, record-bytes, entry-bytes, head-length, head-of}
 use Rattle.image_model.proofs.Items.{many-length}
 use Rattle.image_model.proofs.Entries.{entry-length, record-length}
 use Rattle.image.proofs.Rows
@@ -36,14 +36,16 @@ unfolding bytes
 two-zeros = refl
 
 module _ (at : ℕ) (s₀ s₁ s₂ : List ℕ) (h : at + 8 ≤ length s₀) where
-  pub entry-written : (f : Form) (q : Quota) → s₁ ≡ write-number 4 at (q .grant) s₀ → s₂ ≡ write-number 4 (at + 4) (q .remainder) s₁ → s₂ ≡ overwrite at (entry-bytes f q) s₀
+  pub entry-written : (f : Form) (q : Quota) → s₁ ≡ write-number 4 at (q .grant) s₀ → s₂ ≡ write-number 4 (at + 4) (q .remainder) s₁
+      → s₂ ≡ overwrite at (entry-bytes f q) s₀
   unfolding write-number entry-bytes entry-tail
   entry-written f q e₁ e₂ =
       let a = bytes-length 4 (q .grant) in
       let b = bytes-length 4 (q .remainder) in
       rw append-nil (beside at 4 (bytes 4 (q .grant)) (bytes 4 (q .remainder)) s₀ s₁ s₂ a (omega arith) e₁ e₂)
 
-  pub record-written : (s₃ s₄ : List ℕ) (r : Hold) → s₁ ≡ write-number 4 at (r .serial) s₀ → s₂ ≡ overwrite (at + 4) (bytes 1 (r .quota)) s₁ → s₃ ≡ overwrite (at + 5) (bytes 1 (r .count)) s₂
+  pub record-written : (s₃ s₄ : List ℕ) (r : Hold) → s₁ ≡ write-number 4 at (r .serial) s₀ → s₂ ≡ overwrite (at + 4) (bytes 1 (r .quota)) s₁
+      → s₃ ≡ overwrite (at + 5) (bytes 1 (r .count)) s₂
       → s₄ ≡ write-number 2 (at + 6) 0 s₃ → s₄ ≡ overwrite at (record-bytes r) s₀
   unfolding write-number record-bytes
   record-written s₃ s₄ r e₁ e₂ e₃ e₄ =
@@ -81,14 +83,17 @@ module _ (f : Form) (fits : FormFits f) (n : ℕ) (k : Accounts) (qs : length (k
   entries-long : length entries ≡ f .quotas * 8
   unfolding entries tail-width
   entries-long =
-      many-length (entry-bytes f) 8 (entry-length f) (take (f .quotas) (k .quotas)) ∙ ap (λ (x : ℕ). x * 8) (length-take-le (f .quotas) (k .quotas) (omega (arith, fits .quotas)))
+      many-length (entry-bytes f) 8 (entry-length f) (take (f .quotas) (k .quotas))
+      ∙ ap (λ (x : ℕ). x * 8) (length-take-le (f .quotas) (k .quotas) (omega (arith, fits .quotas)))
 
   records-long : length records ≡ f .records * 8
   unfolding records
   records-long =
-      many-length record-bytes 8 record-length (take (f .records) (k .holds)) ∙ ap (λ (x : ℕ). x * 8) (length-take-le (f .records) (k .holds) (omega (arith, fits .records)))
+      many-length record-bytes 8 record-length (take (f .records) (k .holds))
+      ∙ ap (λ (x : ℕ). x * 8) (length-take-le (f .records) (k .holds) (omega (arith, fits .records)))
 
-  pub head-written : (s₀ s₁ s₂ s₃ s₄ s₅ s₆ : List ℕ) → length s₀ ≡ head-length f → s₁ ≡ write-number 2 0 (f .number) s₀ → s₂ ≡ write-number 2 2 0 s₁ → s₃ ≡ write-number 4 4 n s₂
+  pub head-written : (s₀ s₁ s₂ s₃ s₄ s₅ s₆ : List ℕ) → length s₀ ≡ head-length f → s₁ ≡ write-number 2 0 (f .number) s₀ → s₂ ≡ write-number 2 2 0 s₁
+      → s₃ ≡ write-number 4 4 n s₂
       → s₄ ≡ write-number 4 8 (k .«last_serial») s₃ → s₅ ≡ overwrite 12 (many (entry-bytes f) (take (f .quotas) (k .quotas))) s₄
       → s₆ ≡ overwrite (12 + f .quotas * 8) (many record-bytes (take (f .records) (k .holds))) s₅ → s₆ ≡ head-of f n k
   unfolding write-number head-of marks-of entries records

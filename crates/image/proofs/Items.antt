@@ -32,7 +32,8 @@ module _ {A : Type 0} (f : A → List ℕ) where
     written-none at xs s = sym (overwrite-nil at s)
 
     -- one item more, behind those that are written
-    pub written-more : (at i : ℕ) (xs : List A) (d : A) (s₀ s s′ : List ℕ) → i < length xs → at + (i * w + w) ≤ length s₀ → s ≡ overwrite at (many f (take i xs)) s₀
+    pub written-more : (at i : ℕ) (xs : List A) (d : A) (s₀ s s′ : List ℕ) → i < length xs → at + (i * w + w) ≤ length s₀
+        → s ≡ overwrite at (many f (take i xs)) s₀
         → s′ ≡ overwrite (at + i * w) (f (getD xs i d)) s → s′ ≡ overwrite at (many f (take (i + 1) xs)) s₀
     written-more at i xs d s₀ s s′ h l e g =
         let m = many f (take i xs) in

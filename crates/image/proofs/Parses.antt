@@ -1,10 +1,10 @@
 -- What an image says by its own bytes: the contents test by test, the lines, and the parts that are found.
 -- Assumes nothing.
 use mathlib.Core.Path.{_≡_, refl, ap, sym, _∙_}
-use mathlib.Core.List.{List, [], _∷_, _++_}
-use mathlib.Core.Bool.{Bool, true, false, not, _&&_, _||_}
+use mathlib.Core.List.{List}
+use mathlib.Core.Bool.{Bool, true, false, _&&_}
 use mathlib.Core.Option.{Option, none, some}
-use Prim.Native.Nat.{ℕ, zero, suc, _+_, _*_, _/_, _%_, _≤_, _<_}
+use Prim.Native.Nat.{ℕ, zero, suc, _+_, _*_, _/_, _%_, _≤_}
 use native.Mathlib.Omega.{arith}
 use lib.ListN.{length, take, drop}
 use lib.Dec.{eqb}
@@ -14,14 +14,14 @@ use Rattle.accounts.specs.Accounts.{zero-accounts}
 use Rattle.layout.specs.Bytes.{number}
 use Rattle.model.specs.Lists.{all, any, is-none, or-else}
 use Rattle.model.specs.Consistent.{allowed}
-use Rattle.model.specs.Refusals.{Line, _when_, line-holds, first-refusal}
+use Rattle.model.specs.Refusals.{line-holds, first-refusal}
 use Rattle.model.proofs.Bools.{and-left, or-neither}
 use Rattle.model.proofs.Refusals.{Numbered, accepted-exactly}
 use Rattle.framing.specs.Frames.{stream-of, frames-for, frames-right}
 use Rattle.image_model.specs.declared.Form.{Form}
 use Rattle.image_model.specs.declared.ImageRefusal.{ImageRefusal}
 use Rattle.image_model.specs.Items.{every, all-zero}
-use Rattle.image_model.specs.Stream.{form-1, form-numbered, tail-right, tail-width, marks-right, entry-width, entries-at, records-at, record-width, head-length}
+use Rattle.image_model.specs.Stream.{form-1, form-numbered, tail-right, tail-width, marks-right, record-width, head-length}
 use Rattle.image_model.specs.Reading.{entry-right, record-right, marks-in, length-in, form-in, form-of, size-in, accounts-in, items-right, contents-right}
 use Rattle.image_model.specs.Answers.{image-refusal-number}
 use Rattle.image_model.specs.Images.{line-21, line-22, line-23, line-24, shape-lines}
@@ -63,7 +63,10 @@ entries-pass f s = refl
 
 -- the contents of an image that is read as form f, test by test; e is where its padding begins
 module _ (i : List ℕ) (f : Form) (n : ℕ) (ef : f ≡ form-of i) (en : n ≡ length-in (stream-of i)) where
-  tests : (allowed n && (eqb (length i / 512) (frames-for (head-length f + n)) && (all-zero (drop (head-length f + n) (stream-of i)) && items-right f (stream-of i)))) ≡ contents-right i
+  tests : (allowed n
+      && (eqb (length i / 512) (frames-for (head-length f + n))
+      && (all-zero (drop (head-length f + n) (stream-of i))
+      && items-right f (stream-of i)))) ≡ contents-right i
   unfolding contents-right size-in
   tests = rw (ef, en)
 
@@ -128,12 +131,26 @@ module _ (i : List ℕ) where
             pub refused-contents : c ≡ false → first-refusal (shape-lines i) ≡ 24
             unfolding shape-lines line-21 line-22 line-23 line-24 first-refusal form-in is-none marks-right
             refused-contents e =
-                rw (ne-eqb (length i) 0 some-bytes, eq-eqb (length i % 512) 0 whole, sym told ∙ frames, known, zeros-number (marks-in (stream-of i)) marks, sym is ∙ e)
+                rw (
+                  ne-eqb (length i) 0 some-bytes,
+                  eq-eqb (length i % 512) 0 whole,
+                  sym told ∙ frames,
+                  known,
+                  zeros-number (marks-in (stream-of i)) marks,
+                  sym is ∙ e,
+                )
 
             pub refused-none : c ≡ true → first-refusal (shape-lines i) ≡ 0
             unfolding shape-lines line-21 line-22 line-23 line-24 first-refusal form-in is-none marks-right
             refused-none e =
-                rw (ne-eqb (length i) 0 some-bytes, eq-eqb (length i % 512) 0 whole, sym told ∙ frames, known, zeros-number (marks-in (stream-of i)) marks, sym is ∙ e)
+                rw (
+                  ne-eqb (length i) 0 some-bytes,
+                  eq-eqb (length i % 512) 0 whole,
+                  sym told ∙ frames,
+                  known,
+                  zeros-number (marks-in (stream-of i)) marks,
+                  sym is ∙ e,
+                )
 
 -- the parts that are found, from the first line that holds
 unless-some : (m : ℕ) (x : Parts) → 1 ≤ m → record { refusal = m; form = form-1; size = 0; accounts = zero-accounts } ≡ unless-parts m x
@@ -164,7 +181,8 @@ unfolding parts-in unless-parts
 found-parts i f n k w = rw (w .lines, w .form, w .size, w .accounts)
 
 found-from : (i : List ℕ) (f : Form) (n m : ℕ) (k : Accounts) → first-refusal (shape-lines i) ≡ m
-    → record { refusal = 0; form = f; size = n; accounts = k } ≡ unless-parts m (record { refusal = 0; form = form-of i; size = size-in i; accounts = accounts-in i }) → Found i f n k
+    → record { refusal = 0; form = f; size = n; accounts = k }
+    ≡ unless-parts m (record { refusal = 0; form = form-of i; size = size-in i; accounts = accounts-in i }) → Found i f n k
 unfolding unless-parts
 found-from i f n zero k l e =
     record { lines = l; form = ap (λ (x : Parts). x .form) e; size = ap (λ (x : Parts). x .size) e; accounts = ap (λ (x : Parts). x .accounts) e }
@@ -172,7 +190,8 @@ found-from i f n (suc m) k l e = let z : 0 ≡ suc m = ap (λ (x : Parts). x .re
 
 pub image-found : (i : List ℕ) (p : Parsed) (f : Form) (n : ℕ) → parts-of p ≡ parts-in i → p .shape ≡ Image f n → Found i f n (p .accounts)
 unfolding shape-parts parts-in
-image-found i p f n told e = found-from i f n (first-refusal (shape-lines i)) (p .accounts) refl (ap (λ (x : Shape). shape-parts x (p .accounts)) (sym e) ∙ told)
+image-found i p f n told e =
+    found-from i f n (first-refusal (shape-lines i)) (p .accounts) refl (ap (λ (x : Shape). shape-parts x (p .accounts)) (sym e) ∙ told)
 
 number-from : (m r : ℕ) (x : Parts) → 1 ≤ r → x .refusal ≡ 0 → r ≡ unless-parts m x .refusal → m ≡ r
 unfolding unless-parts

@@ -1,26 +1,25 @@
 -- The writer: what the frames answer is what writing answers, before and behind the check.
 -- Assumes nothing.
 use mathlib.Core.Path.{_≡_, refl, ap, sym, _∙_}
-use mathlib.Core.List.{List, [], _∷_, _++_}
+use mathlib.Core.List.{List, _∷_, _++_}
 use mathlib.Core.Bool.{Bool, true, false}
-use Prim.Native.Nat.{ℕ, zero, suc, _+_, _*_, _/_, _≤_, _<_}
+use Prim.Native.Nat.{ℕ, suc, _+_, _*_, _/_, _≤_, _<_}
 use native.Mathlib.Omega.{arith}
 use lib.ListN.{length, length-append}
-use lib.Dec.{leb, ltb}
+use lib.Dec.{ltb}
 use borrow.Author.Tests.{ltb-true, ltb-false, lt-ltb, le-ltb, le-leb, lt-leb}
 use Rattle.accounts.specs.declared.Accounts.{Accounts}
-use Rattle.layout.specs.Bytes.{overwrite}
 use Rattle.model.specs.declared.Refusal.{Refusal}
 use Rattle.model.specs.declared.Verdict.{Verdict}
 use Rattle.model.specs.declared.Verdict.the-variants.{Accepted, Refused}
-use Rattle.model.specs.Answers.{refusal-number, verdict-values}
-use Rattle.model.specs.Refusals.{Line, _when_, first-refusal, line-1, line-2}
+use Rattle.model.specs.Answers.{verdict-values}
+use Rattle.model.specs.Refusals.{first-refusal, line-1, line-2}
 use Rattle.model.specs.Consistent.{allowed}
 use Rattle.model.specs.Calls.{check}
 use Rattle.access.proofs.Lines.{check-refuses, check-accepts, number-some}
 use Rattle.framing.specs.declared.FrameAnswer.{FrameAnswer}
 use Rattle.framing.specs.declared.FrameAnswer.the-variants.{Written as FramesWritten, NoRoom}
-use Rattle.framing.specs.Frames.{cut, frames-for, has-room, Framed, write-frames}
+use Rattle.framing.specs.Frames.{frames-for, has-room, Framed, write-frames}
 use Rattle.image_model.specs.declared.Form.{Form}
 use Rattle.image_model.specs.declared.ImageRefusal.the-variants.{Call, Room}
 use Rattle.image_model.specs.declared.WriteAnswer.the-variants.{Written, Refused as NotWritten}
@@ -35,7 +34,8 @@ unfoldable pub as-image : List ℕ → FrameAnswer → Imaged
 as-image o (FramesWritten n) = imaged o (Written n)
 as-image o NoRoom = imaged o (NotWritten Room)
 
-module _ (f : Form) (fits : FormFits f) (o s : List ℕ) (k : Accounts) (short : length s ≤ 32768) (h : List ℕ) (is : h ≡ head-of f (length s) k) (long : length h ≡ head-length f) where
+module _ (f : Form) (fits : FormFits f) (o s : List ℕ) (k : Accounts) (short : length s ≤ 32768) (h : List ℕ) (is : h ≡ head-of f (length s) k)
+    (long : length h ≡ head-length f) where
   abbrev count : ℕ
   count = frames-for (head-length f + length s)
 
@@ -69,7 +69,8 @@ module _ (f : Form) (fits : FormFits f) (o s : List ℕ) (k : Accounts) (short :
   framed-put true e = framed-short (ltb-true (length o) (512 * count) e)
   framed-put false e = framed-room (ltb-false (length o) (512 * count) e)
 
-  pub put-by-frames : (o′ : List ℕ) (a b : FrameAnswer) → record { image = o′; answer = a } ≡ write-frames o (h ++ s) → a ≡ b → as-image o′ b ≡ put-image f o s k
+  pub put-by-frames : (o′ : List ℕ) (a b : FrameAnswer) → record { image = o′; answer = a } ≡ write-frames o (h ++ s) → a ≡ b
+      → as-image o′ b ≡ put-image f o s k
   unfolding framed
   put-by-frames o′ a b w g =
       ap (as-image o′) (sym g) ∙ ap framed (w ∙ ap (write-frames o) stream-is) ∙ framed-put (ltb (length o) (512 * count)) refl
@@ -92,6 +93,7 @@ pub length-none : (n : ℕ) → allowed n ≡ false → 0 ≡ length-for n
 unfolding length-for
 length-none n a = rw a
 
-pub length-some : (f : Form) (n at : ℕ) → f ≡ form-1 → allowed n ≡ true → at ≡ 12 + f .quotas * 8 + f .records * 8 → 512 * ((at + n + 503) / 504) ≡ length-for n
+pub length-some : (f : Form) (n at : ℕ) → f ≡ form-1 → allowed n ≡ true → at ≡ 12 + f .quotas * 8 + f .records * 8
+    → 512 * ((at + n + 503) / 504) ≡ length-for n
 unfolding length-for image-length frames-for
 length-some f n at e a l = rw (a, l ∙ sym (head-extent f), e)

@@ -6,7 +6,7 @@ use mathlib.Core.Bool.{Bool, true, false, not}
 use Prim.Native.Nat.{ℕ, zero, suc, _+_, _*_, _≤_}
 use native.Mathlib.Omega.{arith}
 use lib.ListN.{length, drop}
-use lib.Dec.{eqb, leb}
+use lib.Dec.{leb}
 use borrow.Author.Tests.{eq-eqb, ne-eqb, leb-true}
 use Rattle.accounts.specs.declared.Accounts.{Accounts}
 use Rattle.accounts.specs.Accounts.{zero-accounts}
@@ -22,14 +22,13 @@ use Rattle.model.proofs.Bools.{and-left, and-right}
 use Rattle.model.proofs.Refusals.{Numbered}
 use Rattle.access.proofs.Lines.{check-refuses, check-consistent, number-some}
 use Rattle.framing.specs.Frames.{padded, stream-of}
-use Rattle.framing.proofs.Padding.{length-padded}
 use Rattle.image_model.specs.declared.Form.{Form}
 use Rattle.image_model.specs.declared.ImageRefusal.{ImageRefusal}
 use Rattle.image_model.specs.declared.ImageRefusal.the-variants.{Room, Unsound}
 use Rattle.image_model.specs.declared.ReadAnswer.the-variants.{Restored, Refused as NotRestored}
 use Rattle.image_model.specs.Stream.{head-length}
-use Rattle.image_model.specs.Reading.{form-of, size-in, accounts-in, heap-of, heap-in}
-use Rattle.image_model.specs.Answers.{Restored-to, restored-to, image-refusal-number}
+use Rattle.image_model.specs.Reading.{size-in, heap-of, heap-in}
+use Rattle.image_model.specs.Answers.{restored-to, image-refusal-number}
 use Rattle.image_model.specs.Images.{line-25, line-26, shape-lines, read-lines, unless-read, read-image}
 use Rattle.image_model.proofs.Answers.{image-refusal-is}
 use Rattle.image.specs.Parsing.{restore}
@@ -62,11 +61,13 @@ module _ (f : Form) (n : ℕ) (t h : List ℕ) (k : Accounts) where
     at-is : at ≡ head-length f
     at-is = is ∙ sym (head-extent f)
 
-    pub restore-unsound : (r : Bool) → r ≡ consistent (padded n (drop at t)) k → r ≡ false → restored-to h zero-accounts (NotRestored Unsound) ≡ restore f n t h k
+    pub restore-unsound : (r : Bool) → r ≡ consistent (padded n (drop at t)) k → r ≡ false
+        → restored-to h zero-accounts (NotRestored Unsound) ≡ restore f n t h k
     unfolding restore restored-to unless-read first-refusal
     restore-unsound r e g = rw (eq-eqb (length h) n room, ← at-is, sym e ∙ g)
 
-    pub restore-done : (r : Bool) (h′ : List ℕ) → r ≡ consistent (padded n (drop at t)) k → r ≡ true → h′ ≡ padded (length h) (drop at t) → restored-to h′ k Restored ≡ restore f n t h k
+    pub restore-done : (r : Bool) (h′ : List ℕ) → r ≡ consistent (padded n (drop at t)) k → r ≡ true → h′ ≡ padded (length h) (drop at t)
+        → restored-to h′ k Restored ≡ restore f n t h k
     unfolding restore restored-to unless-read first-refusal
     restore-done r h′ e g w = rw (eq-eqb (length h) n room, ← at-is, sym e ∙ g, w, room)
 
@@ -89,7 +90,8 @@ refused-by i h zero l e = absurd (omega arith)
 refused-by i h (suc m) l e = rw (first-kept (shape-lines i) (line-25 i h ∷ line-26 i ∷ []) m e)
 
 -- an image that its own bytes refuse, and one that they do not
-pub read-refused : (i h : List ℕ) (r : ImageRefusal) → first-refusal (shape-lines i) ≡ image-refusal-number r → restored-to h zero-accounts (NotRestored r) ≡ read-image i h
+pub read-refused : (i h : List ℕ) (r : ImageRefusal) → first-refusal (shape-lines i) ≡ image-refusal-number r
+    → restored-to h zero-accounts (NotRestored r) ≡ read-image i h
 unfolding restored-to
 read-refused i h r e = refused-by i h (image-refusal-number r) (image-refusal-is r .1) e
 

@@ -22,7 +22,8 @@ image = image-of form-1 (replicate 64 7) accounts
 no-parts : ℕ → Parts
 no-parts n = record { refusal = n; form = form-1; size = 0; accounts = zero-accounts }
 
-parts-rows : (parts-in image ≡ record { refusal = 0; form = form-1; size = 64; accounts = accounts }) × (parts-in [] ≡ no-parts 21) × (parts-in (take 512 image) ≡ no-parts 22)
+parts-rows : (parts-in image ≡ record { refusal = 0; form = form-1; size = 64; accounts = accounts })
+    × (parts-in [] ≡ no-parts 21) × (parts-in (take 512 image) ≡ no-parts 22)
 unfolding computing parts-in unless-parts accounts image no-parts
 parts-rows = (refl, refl, refl)
 
@@ -32,6 +33,7 @@ unfolding shape-parts no-parts
 shape-rows = (refl, refl)
 
 -- no heap has 63 bytes, or 32,776; a frame more from 416 on
-length-rows : (length-for 63 ≡ 0) × (length-for 64 ≡ 1536) × (length-for 408 ≡ 1536) × (length-for 416 ≡ 2048) × (length-for 32768 ≡ 34816) × (length-for 32776 ≡ 0)
+length-rows : (length-for 63 ≡ 0) × (length-for 64 ≡ 1536) × (length-for 408 ≡ 1536)
+    × (length-for 416 ≡ 2048) × (length-for 32768 ≡ 34816) × (length-for 32776 ≡ 0)
 unfolding computing length-for
 length-rows = (refl, refl, refl, refl, refl, refl)

@@ -15,7 +15,6 @@ ghost use Rattle.accounts.specs.Accounts.{zero-accounts};
 ghost use Rattle.model.specs.Consistent.{allowed, consistent};
 ghost use Rattle.framing.specs.Frames.{padded, stream-of};
 ghost use Rattle.image_model.specs.declared.ReadAnswer.the-variants.{Refused};
-ghost use Rattle.image_model.specs.Stream.{head-length};
 ghost use Rattle.image_model.specs.Answers.{restored-to};
 ghost use Rattle.image_model.specs.Images.{read-image};
 ghost use Rattle.image.specs.Parsing.{FormFits, restore};
@@ -59,7 +58,8 @@ fn refused(refusal: ImageRefusal) -> ReadResult
 // The heap of an image of a form goes into the lent one, where that has its length and the state is consistent.
 fn restore(image: &[u8], heap: &mut [u8], form: Form, size: usize, accounts: Accounts) -> ReadResult
     requires { ⌜ FormFits form × (allowed size ≡ true) ⌝ }
-    ensures { λ r. ⌜ restored-to (now (heap .exit)) (r .accounts) (r .answer) ≡ restore form size (stream-of (now (image .entry))) (now (heap .entry)) accounts ⌝ }
+    ensures { λ r. ⌜ restored-to (now (heap .exit)) (r .accounts) (r .answer) ≡ restore form size (stream-of (now (image .entry))) (now (heap .entry))
+        accounts ⌝ }
 {
     let from = heap_at(form.quotas, form.records) as u32;
     if heap.len() != size {

@@ -1,11 +1,9 @@
 use native.Mathlib.Omega.{arith}
-use Prim.Native.Nat.{ℕ, _+_, _*_, _-_, _/_, _≤_}
-use mathlib.Core.Path.{_≡_, refl, ap, sym, _∙_}
-use mathlib.Core.Bool.{Bool, true, false, _&&_}
-use lib.ListN.{length, drop}
-use borrow.Author.Needs.{needs}
+use Prim.Native.Nat.{_-_, _/_, _≤_}
+use mathlib.Core.Path.{_≡_, refl, _∙_}
+use lib.ListN.{length}
 use borrow.Author.Tests.{not-true, not-false}
-use Rattle.framing.specs.Frames.{frame-right, frames-right}
+use Rattle.framing.specs.Frames.{frames-right}
 use Rattle.framing.proofs.Right.{right-from, right-all, right-none, right-stops, right-goes-on}
 use Rattle.framing.proofs.all_right.Statement.{statement}
 use Rattle.framing.proofs.all_right.Tie as tie
@@ -45,8 +43,12 @@ loop-again : tie.Need-loop-again Inv-loop μ-loop
 loop-again c =
     let r = c .before in
     let at = r .before .before in
-    let i = at .before .before .args .image .now in
-    (omega arith, refl, right-goes-on (at .loop .b) (length i / 512) i (r .is-right .result) (omega arith) (r .is-right .ensures) (at .loop .inv .2) (not-false _ (c .if1 .left)))
+    let i = at .before .before .args .image .now in (
+      omega arith,
+      refl,
+      right-goes-on (at .loop .b) (length i / 512) i (r .is-right .result) (omega arith) (r .is-right .ensures) (at .loop .inv .2)
+          (not-false _ (c .if1 .left)),
+    )
 
 returns-2 : tie.Need-returns-2 Inv-loop μ-loop
 returns-2 c =

@@ -1,7 +1,7 @@
 use native.Mathlib.Omega.{arith}
-use Prim.Native.Nat.{ℕ, _+_, _*_, _-_, _%_, _^_, _≤_}
-use mathlib.Core.Path.{_≡_, ap, sym, _∙_}
-use lib.ListN.{length, drop}
+use Prim.Native.Nat.{ℕ, _-_, _%_, _^_, _≤_}
+use mathlib.Core.Path.{_≡_, ap, _∙_}
+use lib.ListN.{drop}
 use borrow.Author.Needs.{needs}
 use Rattle.framing.specs.Frames.{word-sum, check-of}
 use Rattle.framing.proofs.Sums.{wraps-more, wraps-none}
@@ -42,8 +42,11 @@ loop-less c = omega arith
 loop-again : tie.Need-loop-again Inv-loop μ-loop
 loop-again c =
     let at = c .before .before .before in
-    let a = at .before .before .args in
-    (omega arith, wraps-more (a .image .now) (a .at) (at .loop .i) (at .loop .sum) (c .before .read-u32 .result) (c .wrapping-add-u32 .result) (omega arith) (omega arith) (at .loop .inv .1) (c .before .read-u32 .ensures) (c .wrapping-add-u32 .ensures))
+    let a = at .before .before .args in (
+      omega arith,
+      wraps-more (a .image .now) (a .at) (at .loop .i) (at .loop .sum) (c .before .read-u32 .result) (c .wrapping-add-u32 .result) (omega arith)
+          (omega arith) (at .loop .inv .1) (c .before .read-u32 .ensures) (c .wrapping-add-u32 .ensures),
+    )
 
 returns : tie.Need-returns Inv-loop μ-loop
 unfolding check-of

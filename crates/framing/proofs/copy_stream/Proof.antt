@@ -1,6 +1,6 @@
 use native.Mathlib.Omega.{arith}
-use Prim.Native.Nat.{ℕ, _+_, _*_, _-_, _≤_}
-use mathlib.Core.Path.{_≡_, refl, ap, sym, _∙_}
+use Prim.Native.Nat.{ℕ, _-_, _≤_}
+use mathlib.Core.Path.{_≡_, refl, ap, _∙_}
 use lib.ListN.{length, drop}
 use borrow.Author.Needs.{needs}
 use Rattle.layout.specs.Bytes.{overwrite}
@@ -48,8 +48,12 @@ loop-again : tie.Need-loop-again Inv-loop μ-loop
 loop-again c =
     let at = c .before .before in
     let a = at .before .before .before .args in
-    let l = len at in
-    (omega arith, refl, copy-more (a .from) (at .loop .i) (c .stream-at .result) (stream-of (a .image .now)) (a .out .now) (at .loop .out) (omega arith) (at .loop .inv .2) (c .stream-at .ensures))
+    let l = len at in (
+      omega arith,
+      refl,
+      copy-more (a .from) (at .loop .i) (c .stream-at .result) (stream-of (a .image .now)) (a .out .now) (at .loop .out) (omega arith)
+          (at .loop .inv .2) (c .stream-at .ensures),
+    )
 
 same-length : tie.Need-same-length Inv-loop μ-loop
 same-length c = len (c .before)
@@ -60,7 +64,8 @@ returns c =
     let a = at .before .before .before .args in
     let l = len at in
     let e : at .loop .i ≡ length (a .out .now) = omega arith in
-    at .loop .inv .2 ∙ copy-all (at .loop .i) (drop (a .from) (stream-of (a .image .now))) (a .out .now) e ∙ ap (λ (n : ℕ). padded n (drop (a .from) (stream-of (a .image .now)))) e
+    at .loop .inv .2 ∙ copy-all (at .loop .i) (drop (a .from) (stream-of (a .image .now))) (a .out .now) e
+    ∙ ap (λ (n : ℕ). padded n (drop (a .from) (stream-of (a .image .now)))) e
 
 pub copy-stream-spec : {M : Type 1} → statement M
 copy-stream-spec =

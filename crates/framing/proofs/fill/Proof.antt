@@ -1,11 +1,11 @@
 use native.Mathlib.Omega.{arith}
-use Prim.Native.Nat.{ℕ, _+_, _-_, _≤_}
-use mathlib.Core.Path.{_≡_, ap, sym, _∙_}
-use mathlib.Core.List.{List, _++_}
-use lib.ListN.{length, drop, set}
+use Prim.Native.Nat.{ℕ, _-_, _≤_}
+use mathlib.Core.Path.{_≡_, ap, _∙_}
+use mathlib.Core.List.{_++_}
+use lib.ListN.{length, drop}
 use borrow.Author.Needs.{needs}
 use Rattle.layout.specs.Bytes.{overwrite}
-use Rattle.layout.proofs.Overwrite.{overwrite-nil, length-overwrite}
+use Rattle.layout.proofs.Overwrite.{length-overwrite}
 use Rattle.framing.specs.Frames.{padded}
 use Rattle.framing.proofs.Fills.{fill-none, fill-more}
 use Rattle.framing.proofs.fill.Statement.{statement}
@@ -50,8 +50,11 @@ loop-less c = omega arith
 loop-again : tie.Need-loop-again Inv-loop μ-loop
 loop-again c =
     let at = c .before .before in
-    let a = at .before .before .before .before .args in
-    (omega arith, fill-more (a .to) (a .from) (at .loop .i) (c .stream-byte .result) (a .head .now ++ a .body .now) (a .image .now) (at .loop .image) (omega arith) (at .loop .inv .1) (c .stream-byte .ensures))
+    let a = at .before .before .before .before .args in (
+      omega arith,
+      fill-more (a .to) (a .from) (at .loop .i) (c .stream-byte .result) (a .head .now ++ a .body .now) (a .image .now) (at .loop .image)
+          (omega arith) (at .loop .inv .1) (c .stream-byte .ensures),
+    )
 
 same-length : tie.Need-same-length Inv-loop μ-loop
 same-length c = len (c .before)

@@ -1,4 +1,3 @@
-use native.Mathlib.Omega.{arith}
 use Rattle.framing.proofs.Right.{wrong-number, wrong-count, right-by-check}
 use borrow.Author.Needs.{needs}
 use Rattle.framing.proofs.is_right.Statement.{statement}
@@ -35,7 +34,8 @@ returns-2 c =
     let r₂ = c .before in
     let r = r₂ .before .before in
     let a = r .before .before .args in
-    wrong-count (a .at) (a .image .now) (r .before .before .pre) (a .number) (a .count) (r .read-u16 .result) (r .read-u16 .ensures) (r₂ .before .if1 .left) (r₂ .read-u162 .result) (r₂ .read-u162 .ensures) (c .if2 .taken)
+    wrong-count (a .at) (a .image .now) (r .before .before .pre) (a .number) (a .count) (r .read-u16 .result) (r .read-u16 .ensures) (r₂ .before .if1 .left)
+    (r₂ .read-u162 .result) (r₂ .read-u162 .ensures) (c .if2 .taken)
 
 add-read-u32 : tie.Need-add-read-u32
 add-read-u32 c = search needs
@@ -53,7 +53,8 @@ returns-3 c =
     let r₂ = e₂ .before in
     let r = r₂ .before .before in
     let a = r .before .before .args in
-    right-by-check (a .at) (a .image .now) (r .before .before .pre) (a .number) (a .count) (r .read-u16 .result) (r .read-u16 .ensures) (r₂ .before .if1 .left) (r₂ .read-u162 .result) (r₂ .read-u162 .ensures) (e₂ .if2 .left)
+    right-by-check (a .at) (a .image .now) (r .before .before .pre) (a .number) (a .count) (r .read-u16 .result) (r .read-u16 .ensures)
+    (r₂ .before .if1 .left) (r₂ .read-u162 .result) (r₂ .read-u162 .ensures) (e₂ .if2 .left)
     (r₄ .read-u32 .result) (c .check-at .result) (r₄ .read-u32 .ensures) (c .check-at .ensures)
 
 pub is-right-spec : {M : Type 1} → statement M

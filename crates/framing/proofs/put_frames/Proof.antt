@@ -1,9 +1,8 @@
 use native.Mathlib.Omega.{arith}
-use Prim.Native.Nat.{ℕ, _+_, _*_, _-_, _≤_}
-use mathlib.Core.Path.{_≡_, ap, sym, _∙_}
+use Prim.Native.Nat.{ℕ, _-_, _≤_}
+use mathlib.Core.Path.{_≡_, ap, _∙_}
 use mathlib.Core.List.{_++_}
 use lib.ListN.{length}
-use borrow.Author.Needs.{needs}
 use Rattle.layout.specs.Bytes.{overwrite}
 use Rattle.layout.proofs.Overwrite.{length-overwrite}
 use Rattle.framing.specs.Frames.{cut-from}
@@ -55,8 +54,11 @@ loop-again c =
     let w = c .before .before in
     let at = w .before .before .before in
     let start = at .before .before .before .before in
-    let a = start .args in
-    (omega arith, frames-more (at .loop .b) (a .count) (a .count) (a .head .now ++ a .body .now) (a .image .now) (at .loop .image) (w .write-frame .last .0) (start .pre .0) (omega arith) (at .loop .inv .1) (w .write-frame .ensures))
+    let a = start .args in (
+      omega arith,
+      frames-more (at .loop .b) (a .count) (a .count) (a .head .now ++ a .body .now) (a .image .now) (at .loop .image) (w .write-frame .last .0)
+          (start .pre .0) (omega arith) (at .loop .inv .1) (w .write-frame .ensures),
+    )
 
 same-length : tie.Need-same-length Inv-loop μ-loop
 same-length c = len (c .before)

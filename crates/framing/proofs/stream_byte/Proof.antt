@@ -1,8 +1,6 @@
 use native.Mathlib.Omega.{arith}
-use mathlib.Core.Path.{_≡_, sym, _∙_, ap}
-use mathlib.Core.List.{_++_}
-use Prim.Native.Nat.{ℕ, _+_, _-_}
-use lib.ListN.{length, getD, length-append, List·getD-append, List·getD-eq-default}
+use mathlib.Core.Path.{sym}
+use lib.ListN.{List·getD-append}
 use Rattle.framing.proofs.Fills.{stream-second, stream-past}
 use borrow.Author.Needs.{needs}
 use Rattle.framing.proofs.stream_byte.Statement.{statement}

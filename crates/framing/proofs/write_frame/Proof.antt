@@ -1,4 +1,3 @@
-use native.Mathlib.Omega.{arith}
 use mathlib.Core.List.{_++_}
 use lib.ListN.{drop}
 use Rattle.framing.proofs.Cut.{frame-written}

@@ -2,9 +2,9 @@
 -- Assumes nothing.
 use native.Mathlib.Omega.{arith}
 use mathlib.Core.Path.{_≡_, refl, ap, sym, _∙_}
-use Prim.Native.Nat.{ℕ, _+_, _*_, _-_, _≤_}
+use Prim.Native.Nat.{ℕ, _*_, _-_, _≤_}
 use mathlib.Core.List.{List, _++_}
-use lib.ListN.{length, take, drop, replicate, length-set}
+use lib.ListN.{length, take, drop, length-set}
 use lib.Seq.{drop-drop}
 use Rattle.accounts.specs.Accounts.{QUOTAS, zero-quota}
 use Rattle.framing.specs.Frames.{stream-of}
@@ -19,7 +19,8 @@ use Rattle.image.proofs.entries.read_entries.Tie as tie
 
 abbrev Inv-loop : tie.InvT-loop
 Inv-loop image count quotas₀ i₀ quotas i =
-    (i ≤ count) × (length quotas ≡ QUOTAS) × ((f : Form) → quotas ≡ each (entry-of f) (entry-width f) i (drop 12 (stream-of image)) ++ drop i (blank f .quotas))
+    (i ≤ count) × (length quotas ≡ QUOTAS) × ((f : Form) → quotas ≡ each (entry-of f) (entry-width f) i (drop 12 (stream-of image)) ++ drop i
+    (blank f .quotas))
 
 abbrev μ-loop : tie.MeasureT-loop
 μ-loop image count quotas₀ i₀ quotas i = count - i
@@ -58,7 +59,8 @@ loop-again c =
     let i = at .loop .i in (
       omega arith,
       simp length-set (at .loop .inv .1),
-      λ (f : Form). read-more (entry-of f) (entry-width f) i (drop 12 t) (at .loop .quotas) (blank f .quotas) (c .read-entry .result) zero-quota (omega arith) (at .loop .inv .2 f)
+      λ (f : Form). read-more (entry-of f) (entry-width f) i (drop 12 t) (at .loop .quotas) (blank f .quotas) (c .read-entry .result) zero-quota
+          (omega arith) (at .loop .inv .2 f)
           (c .read-entry .ensures f ∙ ap (λ (s : List ℕ). entry-of f (take 8 s)) (sym (drop-drop (i * 8) 12 t))),
     )
 

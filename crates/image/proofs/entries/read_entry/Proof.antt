@@ -1,7 +1,6 @@
 -- Grant and remainder stand at 0 and 4 of an entry (`entry-read`).
 -- Assumes nothing.
-use native.Mathlib.Omega.{arith}
-use mathlib.Core.Path.{_≡_, refl, ap, sym, _∙_}
+use mathlib.Core.Path.{_∙_}
 use borrow.Author.Needs.{needs}
 use Rattle.framing.specs.Frames.{stream-of}
 use Rattle.image_model.specs.declared.Form.{Form}
@@ -21,7 +20,8 @@ read-quad-requires-2 c κs = search needs
 returns : tie.Need-returns
 returns c =
     let a = c .before .before .before .args in
-    λ (f : Form). (λ i. record { grant = c .before .read-quad .ensures i; remainder = c .read-quad2 .ensures i }) ∙ entry-read (a .at) (stream-of (a .image .now)) f
+    λ (f : Form). (λ i. record { grant = c .before .read-quad .ensures i; remainder = c .read-quad2 .ensures i })
+    ∙ entry-read (a .at) (stream-of (a .image .now)) f
 
 pub read-entry-spec : {M : Type 1} → statement M
 read-entry-spec =

@@ -1,8 +1,8 @@
 -- The invariant: the first `i` items stand behind each other (`written-more`). The measure is what is left of them.
 -- Assumes nothing.
 use native.Mathlib.Omega.{arith}
-use mathlib.Core.Path.{_≡_, refl, ap, sym, _∙_}
-use Prim.Native.Nat.{ℕ, _+_, _*_, _-_, _≤_}
+use mathlib.Core.Path.{_≡_, ap, _∙_}
+use Prim.Native.Nat.{ℕ, _-_, _≤_}
 use lib.ListN.{length, take}
 use borrow.Author.Needs.{needs}
 use Rattle.accounts.specs.Accounts.{QUOTAS, zero-quota}
@@ -61,8 +61,11 @@ loop-again c =
     let at = w .before .before .before .before in
     let start = at .before .before in
     let a = start .args in
-    let l : length (a .t2) ≡ QUOTAS = start .good .1 .0 .1 .0 .1 in
-    (omega arith, λ (f : Form). written-more (entry-bytes f) 8 (entry-length f) 12 (at .loop .i) (a .t2) zero-quota (a .head .now) (at .loop .head) (w .write-entry .last .0) (omega arith) (omega arith) (at .loop .inv .1 f) (w .write-entry .ensures f))
+    let l : length (a .t2) ≡ QUOTAS = start .good .1 .0 .1 .0 .1 in (
+      omega arith,
+      λ (f : Form). written-more (entry-bytes f) 8 (entry-length f) 12 (at .loop .i) (a .t2) zero-quota (a .head .now) (at .loop .head)
+          (w .write-entry .last .0) (omega arith) (omega arith) (at .loop .inv .1 f) (w .write-entry .ensures f),
+    )
 
 same-length : tie.Need-same-length Inv-loop μ-loop
 same-length c = len (c .before)

@@ -1,7 +1,5 @@
 -- Grant and remainder are written side by side (`entry-written`).
 -- Assumes nothing.
-use native.Mathlib.Omega.{arith}
-use mathlib.Core.Path.{_≡_, refl, ap, sym, _∙_}
 use borrow.Author.Needs.{needs}
 use Rattle.image_model.specs.declared.Form.{Form}
 use Rattle.image.proofs.Heads.{entry-written}
@@ -26,7 +24,8 @@ returns c =
     let w₁ = w₂ .before .before .before .before in
     let start = w₁ .before .before .before in
     let a = start .args in
-    λ (f : Form). entry-written (a .at) (a .head .now) (w₁ .write-u32 .last .0) (w₂ .write-u322 .last .0) (start .pre) f (a .quota) (w₁ .write-u32 .ensures) (w₂ .write-u322 .ensures)
+    λ (f : Form). entry-written (a .at) (a .head .now) (w₁ .write-u32 .last .0) (w₂ .write-u322 .last .0) (start .pre) f (a .quota) (w₁ .write-u32 .ensures)
+    (w₂ .write-u322 .ensures)
 
 pub write-entry-spec : {M : Type 1} → statement M
 write-entry-spec =

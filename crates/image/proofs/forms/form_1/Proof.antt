@@ -1,7 +1,6 @@
 -- The literal is the form.
 -- Assumes nothing.
-use native.Mathlib.Omega.{arith}
-use mathlib.Core.Path.{_≡_, refl, ap, sym, _∙_}
+use mathlib.Core.Path.{refl}
 use Rattle.image_model.specs.Stream.{form-1}
 use Rattle.image.proofs.forms.form_1.Statement.{statement}
 use Rattle.image.proofs.forms.form_1.Tie as tie

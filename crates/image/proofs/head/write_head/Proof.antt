@@ -1,7 +1,7 @@
 -- The parts are written one behind the other (`head-written`).
 -- Assumes nothing.
 use native.Mathlib.Omega.{arith}
-use mathlib.Core.Path.{_≡_, refl, ap, sym, _∙_}
+use mathlib.Core.Path.{_≡_, ap, sym, _∙_}
 use borrow.Author.Needs.{needs}
 use Prim.Native.Nat.{ℕ}
 use lib.ListN.{length, take, length-map}
@@ -50,10 +50,12 @@ returns c =
     let k = a .accounts in
     let qs : length (k .quotas) ≡ QUOTAS = simp length-map at (start .good .1 .1 .1 .0 .1 .1 .0 .1 .0 .1) in
     let hs : length (k .holds) ≡ HOLDS = simp length-map at (start .good .1 .1 .1 .0 .1 .1 .1 .1 .0 .1 .0 .1) in
-    head-written (a .form) (start .pre .0) (a .size) k qs hs (a .head .now) (w₁ .write-u16 .last .0) (w₂ .write-u162 .last .0) (w₃ .write-u32 .last .0) (w₄ .write-u322 .last .0)
+    head-written (a .form) (start .pre .0) (a .size) k qs hs (a .head .now) (w₁ .write-u16 .last .0) (w₂ .write-u162 .last .0) (w₃ .write-u32 .last .0)
+    (w₄ .write-u322 .last .0)
     (w₅ .write-entries .last .0) (w₆ .write-records .last .0) (start .pre .1 ∙ sym (head-extent (a .form)))
     (w₁ .write-u16 .ensures) (w₂ .write-u162 .ensures) (w₃ .write-u32 .ensures) (w₄ .write-u322 .ensures) (w₅ .write-entries .ensures (a .form))
-    (w₆ .write-records .ensures ∙ ap (λ (x : ℕ). overwrite x (many record-bytes (take (a .form .records) (k .holds))) (w₅ .write-entries .last .0)) (w₆ .before .records-at .ensures))
+    (w₆ .write-records .ensures
+    ∙ ap (λ (x : ℕ). overwrite x (many record-bytes (take (a .form .records) (k .holds))) (w₅ .write-entries .last .0)) (w₆ .before .records-at .ensures))
 
 pub write-head-spec : {M : Type 1} → statement M
 write-head-spec =

@@ -1,7 +1,6 @@
 -- The two bytes are the number, the lowest first (`pair-at`).
 -- Assumes nothing.
 use native.Mathlib.Omega.{arith}
-use mathlib.Core.Path.{_≡_, refl, ap, sym, _∙_}
 use borrow.Author.Needs.{needs}
 use Rattle.framing.specs.Frames.{stream-of}
 use Rattle.image.proofs.Decoding.{pair-at}

@@ -1,7 +1,6 @@
 -- Two numbers of two bytes are the number of four (`quad-at`).
 -- Assumes nothing.
 use native.Mathlib.Omega.{arith}
-use mathlib.Core.Path.{_≡_, refl, ap, sym, _∙_}
 use borrow.Author.Needs.{needs}
 use Rattle.framing.specs.Frames.{stream-of}
 use Rattle.image.proofs.Decoding.{quad-at}

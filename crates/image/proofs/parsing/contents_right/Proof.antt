@@ -1,10 +1,9 @@
 -- The tests are the definition's, in its order (`Parses`).
 -- Assumes nothing.
 use native.Mathlib.Omega.{arith}
-use mathlib.Core.Path.{_≡_, refl, ap, sym, _∙_}
+use mathlib.Core.Path.{ap, sym, _∙_}
 use borrow.Author.Needs.{needs}
 use Prim.Native.Nat.{ℕ, _+_}
-use Rattle.framing.specs.Frames.{stream-of}
 use borrow.Author.Tests.{not-true, not-false}
 use Rattle.image_model.proofs.Written.{allowed-most}
 use Rattle.image.proofs.Parses.{not-allowed, other-count, not-padded, by-spares}
@@ -42,7 +41,8 @@ returns-2 c =
     let k = h .before .before in
     let start = k .before .before in
     let a = start .args in
-    other-count (a .image .now) (a .form) (a .size) (start .pre .1) (start .pre .2) (sym (k .is-allowed .ensures) ∙ not-false _ (h .before .if1 .left)) _ (ap (λ (n : ℕ). n + a .size) (h .heap-at .ensures)) (c .if2 .taken)
+    other-count (a .image .now) (a .form) (a .size) (start .pre .1) (start .pre .2) (sym (k .is-allowed .ensures) ∙ not-false _ (h .before .if1 .left)) _
+    (ap (λ (n : ℕ). n + a .size) (h .heap-at .ensures)) (c .if2 .taken)
 
 zero-from-requires : tie.Need-zero-from-requires
 zero-from-requires c κs = search needs
@@ -54,7 +54,8 @@ returns-3 c =
     let k = h .before .before in
     let start = k .before .before in
     let a = start .args in
-    not-padded (a .image .now) (a .form) (a .size) (start .pre .1) (start .pre .2) (sym (k .is-allowed .ensures) ∙ not-false _ (h .before .if1 .left)) _ (ap (λ (n : ℕ). n + a .size) (h .heap-at .ensures)) (z .before .if2 .left)
+    not-padded (a .image .now) (a .form) (a .size) (start .pre .1) (start .pre .2) (sym (k .is-allowed .ensures) ∙ not-false _ (h .before .if1 .left)) _
+    (ap (λ (n : ℕ). n + a .size) (h .heap-at .ensures)) (z .before .if2 .left)
     (z .zero-from .result) (z .zero-from .ensures) (not-true _ (c .if3 .taken))
 
 records-at-requires : tie.Need-records-at-requires
@@ -70,8 +71,10 @@ returns-4 c =
     let k = h .before .before in
     let start = k .before .before in
     let a = start .args in
-    by-spares (a .image .now) (a .form) (a .size) (start .pre .1) (start .pre .2) (sym (k .is-allowed .ensures) ∙ not-false _ (h .before .if1 .left)) _ (ap (λ (n : ℕ). n + a .size) (h .heap-at .ensures)) (z .before .if2 .left)
-    (z .zero-from .result) (c .spares-right .result) (c .before .records-at .result) (z .zero-from .ensures) (not-false _ (c .before .before .if3 .left)) (c .before .records-at .ensures) (c .spares-right .ensures)
+    by-spares (a .image .now) (a .form) (a .size) (start .pre .1) (start .pre .2) (sym (k .is-allowed .ensures) ∙ not-false _ (h .before .if1 .left)) _
+    (ap (λ (n : ℕ). n + a .size) (h .heap-at .ensures)) (z .before .if2 .left)
+    (z .zero-from .result) (c .spares-right .result) (c .before .records-at .result) (z .zero-from .ensures) (not-false _ (c .before .before .if3 .left))
+    (c .before .records-at .ensures) (c .spares-right .ensures)
 
 pub contents-right-spec : {M : Type 1} → statement M
 contents-right-spec =

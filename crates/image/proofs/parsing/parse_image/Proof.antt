@@ -1,7 +1,6 @@
 -- The tests are the lines, in their order; what they leave are the parts (`Parses`).
 -- Assumes nothing.
-use native.Mathlib.Omega.{arith}
-use mathlib.Core.Path.{_≡_, refl, ap, sym, _∙_}
+use mathlib.Core.Path.{_≡_, ap, sym, _∙_}
 use borrow.Author.Needs.{needs}
 use mathlib.Core.Option.{some}
 use lib.ListN.{take}
@@ -13,22 +12,31 @@ use Rattle.image_model.specs.declared.ImageRefusal.the-variants.{ImageLength, F
 use Rattle.image_model.specs.Stream.{form-numbered}
 use Rattle.image_model.specs.Reading.{form-of, size-in, accounts-of, accounts-in}
 use Rattle.image.specs.Parsing.{FormFits, known-form, shape-parts}
-use Rattle.image.proofs.Parses.{form-fits, refused-empty, refused-part, refused-frames, refused-number, form-is, refused-marks, refused-contents, refused-none, refused-parts, found-parts}
+use Rattle.image.proofs.Parses.{form-fits, refused-empty, refused-part, refused-frames, refused-number, form-is, refused-marks, refused-contents}
+use Rattle.image.proofs.Parses.{refused-none, refused-parts, found-parts}
 use Rattle.image.proofs.parsing.parse_image.Statement.{statement}
 use Rattle.image.proofs.parsing.parse_image.Tie as tie
 
 -- past the tests of length and frames, the number of the form
-known : (c : tie.After-form) → form-numbered (number (take 2 (stream-of (c .before .before .before .before .before .before .before .before .before .args .image .now)))) ≡ some (c .form .given .0 .0)
-known c = sym (ap form-numbered (c .before .before .before .read-pair .ensures .0)) ∙ sym (c .before .before .form-numbered .ensures) ∙ ap known-form (c .form .given .1)
+known : (c : tie.After-form)
+    → form-numbered (number (take 2 (stream-of (c .before .before .before .before .before .before .before .before .before .args .image .now)))) ≡ some
+    (c .form .given .0 .0)
+known c =
+    sym (ap form-numbered (c .before .before .before .read-pair .ensures .0)) ∙ sym (c .before .before .form-numbered .ensures)
+    ∙ ap known-form (c .form .given .1)
 
 -- the form is the image's
-form-found : (c : tie.After-form) → c .form .given .0 .0 ≡ form-of (c .before .before .before .before .before .before .before .before .before .args .image .now)
+form-found : (c : tie.After-form)
+    → c .form .given .0 .0 ≡ form-of (c .before .before .before .before .before .before .before .before .before .args .image .now)
 form-found c =
     let r = c .before .before .before .before .before in
-    form-is (r .before .before .before .before .args .image .now) (r .before .before .if1 .left) (r .before .if2 .left) (r .all-right .result) (r .all-right .ensures) (not-false _ (c .before .before .before .before .if3 .left)) (c .form .given .0 .0) (known c)
+    form-is (r .before .before .before .before .args .image .now) (r .before .before .if1 .left) (r .before .if2 .left) (r .all-right .result)
+    (r .all-right .ensures) (not-false _ (c .before .before .before .before .if3 .left)) (c .form .given .0 .0) (known c)
 
 fits : (c : tie.After-form) → FormFits (c .form .given .0 .0)
-fits c = form-fits (number (take 2 (stream-of (c .before .before .before .before .before .before .before .before .before .args .image .now)))) (c .form .given .0 .0) (known c)
+fits c =
+    form-fits (number (take 2 (stream-of (c .before .before .before .before .before .before .before .before .before .args .image .now))))
+    (c .form .given .0 .0) (known c)
 
 refused-requires : tie.Need-refused-requires
 refused-requires c κs = search needs
@@ -57,7 +65,8 @@ returns-3 c =
     let r = c .before .before in
     let i = r .before .before .before .before .args .image .now in
     refused-parts i (c .refused3 .result) FrameWrong (c .refused3 .ensures)
-    (refused-frames i (r .before .before .if1 .left) (r .before .if2 .left) (r .all-right .result) (r .all-right .ensures) (not-true _ (c .before .if3 .taken)))
+    (refused-frames i (r .before .before .if1 .left) (r .before .if2 .left) (r .all-right .result) (r .all-right .ensures)
+    (not-true _ (c .before .if3 .taken)))
 
 read-pair-requires : tie.Need-read-pair-requires
 read-pair-requires c κs = search needs
@@ -80,7 +89,8 @@ returns-4 c =
     let r = n .before .before .before in
     let i = r .before .before .before .before .args .image .now in
     refused-parts i (c .refused4 .result) FormNumber (c .refused4 .ensures)
-    (refused-number i (r .before .before .if1 .left) (r .before .if2 .left) (r .all-right .result) (r .all-right .ensures) (not-false _ (n .before .before .if3 .left))
+    (refused-number i (r .before .before .if1 .left) (r .before .if2 .left) (r .all-right .result) (r .all-right .ensures)
+    (not-false _ (n .before .before .if3 .left))
     (sym (ap form-numbered (n .before .read-pair .ensures .0)) ∙ sym (n .form-numbered .ensures) ∙ ap known-form (c .before .enum-told .given .1)))
 
 read-pair-requires-2 : tie.Need-read-pair-requires-2
@@ -96,7 +106,8 @@ returns-5 c =
     let r = f .before .before .before .before .before in
     let i = r .before .before .before .before .args .image .now in
     refused-parts i (c .refused5 .result) FormNumber (c .refused5 .ensures)
-    (refused-marks i (r .before .before .if1 .left) (r .before .if2 .left) (r .all-right .result) (r .all-right .ensures) (not-false _ (f .before .before .before .before .if3 .left)) (f .form .given .0 .0) (known f)
+    (refused-marks i (r .before .before .if1 .left) (r .before .if2 .left) (r .all-right .result) (r .all-right .ensures)
+    (not-false _ (f .before .before .before .before .if3 .left)) (f .form .given .0 .0) (known f)
     (λ e. c .before .if4 .taken (m .read-pair2 .ensures .0 ∙ e)))
 
 read-quad-requires : tie.Need-read-quad-requires
@@ -121,8 +132,10 @@ returns-6 c =
     let r = f .before .before .before .before .before in
     let i = r .before .before .before .before .args .image .now in
     refused-parts i (c .refused6 .result) Contents (c .refused6 .ensures)
-    (refused-contents i (r .before .before .if1 .left) (r .before .if2 .left) (r .all-right .result) (r .all-right .ensures) (not-false _ (f .before .before .before .before .if3 .left)) (f .form .given .0 .0) (known f)
-    (sym (m .read-pair2 .ensures .0) ∙ q .before .before .if4 .left) (q .contents-right .result) (q .contents-right .ensures) (not-true _ (c .before .if5 .taken)))
+    (refused-contents i (r .before .before .if1 .left) (r .before .if2 .left) (r .all-right .result) (r .all-right .ensures)
+    (not-false _ (f .before .before .before .before .if3 .left)) (f .form .given .0 .0) (known f)
+    (sym (m .read-pair2 .ensures .0) ∙ q .before .before .if4 .left) (q .contents-right .result) (q .contents-right .ensures)
+    (not-true _ (c .before .if5 .taken)))
 
 read-accounts-requires : tie.Need-read-accounts-requires
 read-accounts-requires c κs = fits (c .before .before .before .before .before .before)
@@ -136,8 +149,10 @@ returns-7 c =
     let r = f .before .before .before .before .before in
     let i = r .before .before .before .before .args .image .now in
     let none =
-    refused-none i (r .before .before .if1 .left) (r .before .if2 .left) (r .all-right .result) (r .all-right .ensures) (not-false _ (f .before .before .before .before .if3 .left)) (f .form .given .0 .0) (known f)
-    (sym (m .read-pair2 .ensures .0) ∙ q .before .before .if4 .left) (q .contents-right .result) (q .contents-right .ensures) (not-false _ (c .before .if5 .left)) in
+    refused-none i (r .before .before .if1 .left) (r .before .if2 .left) (r .all-right .result) (r .all-right .ensures)
+    (not-false _ (f .before .before .before .before .if3 .left)) (f .form .given .0 .0) (known f)
+    (sym (m .read-pair2 .ensures .0) ∙ q .before .before .if4 .left) (q .contents-right .result) (q .contents-right .ensures)
+    (not-false _ (c .before .if5 .left)) in
     found-parts i (f .form .given .0 .0) (q .before .read-quad .result) (c .read-accounts .result)
     (record {
       lines = none;

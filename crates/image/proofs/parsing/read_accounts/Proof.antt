@@ -1,7 +1,6 @@
 -- The quotas, the last serial and the records stand where the definition reads them.
 -- Assumes nothing.
-use native.Mathlib.Omega.{arith}
-use mathlib.Core.Path.{_≡_, refl, ap, sym, _∙_}
+use mathlib.Core.Path.{ap, _∙_}
 use borrow.Author.Needs.{needs}
 use Prim.Native.Nat.{ℕ}
 use mathlib.Core.List.{_++_}
@@ -32,7 +31,9 @@ returns c =
     let a = e .before .before .args in
     let f = a .form in
     let t = stream-of (a .image .now) in
-    let hs = c .read-records .ensures f ∙ ap (λ (n : ℕ). each record-of record-width (f .records) (drop n t) ++ drop (f .records) (blank f .holds)) (c .before .records-at .ensures) in
+    let hs =
+    c .read-records .ensures f
+    ∙ ap (λ (n : ℕ). each record-of record-width (f .records) (drop n t) ++ drop (f .records) (blank f .holds)) (c .before .records-at .ensures) in
     λ i. record { quotas = e .read-entries .ensures f i; «last_serial» = c .before .before .read-quad .ensures i; holds = hs i }
 
 pub read-accounts-spec : {M : Type 1} → statement M

@@ -1,7 +1,5 @@
 -- Zero accounts, and the refusal.
 -- Assumes nothing.
-use native.Mathlib.Omega.{arith}
-use mathlib.Core.Path.{_≡_, refl, ap, sym, _∙_}
 use borrow.Author.Needs.{needs}
 use Rattle.image.specs.declared.Shape.the-variants.{Refused}
 use Rattle.image.proofs.parsing.refused.Statement.{statement}

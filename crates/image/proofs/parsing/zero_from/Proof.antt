@@ -1,8 +1,8 @@
 -- The invariant: what is found from `at` on is found of all (`Zeros`). The measure is what is left of the stream.
 -- Assumes nothing.
 use native.Mathlib.Omega.{arith}
-use mathlib.Core.Path.{_≡_, refl, ap, sym, _∙_}
-use Prim.Native.Nat.{ℕ, _*_, _-_, _/_, _≤_}
+use mathlib.Core.Path.{_≡_, refl, sym, _∙_}
+use Prim.Native.Nat.{_-_}
 use lib.ListN.{length, drop}
 use Rattle.framing.specs.Frames.{stream-of}
 use Rattle.framing.proofs.Places.{stream-length}
@@ -44,8 +44,11 @@ loop-again : tie.Need-loop-again Inv-loop μ-loop
 loop-again c =
     let r = c .before in
     let at = r .before .before in
-    let a = at .before .before .args in
-    (at .loop .inv .0, zeros-go-on (stream-of (a .image .now)) (a .from) (at .loop .at) (at .loop .inv .1) (omega arith) (sym (r .stream-at .ensures) ∙ c .if1 .left))
+    let a = at .before .before .args in (
+      at .loop .inv .0,
+      zeros-go-on (stream-of (a .image .now)) (a .from) (at .loop .at) (at .loop .inv .1) (omega arith)
+          (sym (r .stream-at .ensures) ∙ c .if1 .left),
+    )
 
 returns-2 : tie.Need-returns-2 Inv-loop μ-loop
 returns-2 c =

@@ -1,9 +1,9 @@
 -- The room is a part of an array, as long as the heap is to be.
 -- Assumes nothing.
 use native.Mathlib.Omega.{arith}
-use mathlib.Core.Path.{_≡_, refl, ap, sym, _∙_}
+use mathlib.Core.Path.{_≡_, ap, sym, _∙_}
 use borrow.Author.Needs.{needs}
-use Prim.Native.Nat.{ℕ, _≤_}
+use Prim.Native.Nat.{ℕ}
 use lib.ListN.{length, take, drop}
 use lib.Seq.{length-take-le}
 use Rattle.framing.specs.Frames.{padded, stream-of}
@@ -37,7 +37,8 @@ is-sound-in-requires c κs = ap allowed (sym (sized c)) ∙ c .before .before .b
 returns : tie.Need-returns
 returns c =
     let a = c .before .before .before .before .before .args in
-    c .before .is-sound-in .ensures ∙ ap (λ (n : ℕ). consistent (padded n (drop (a .from) (stream-of (a .image .now)))) (a .accounts)) (sym (sized (c .before .before)))
+    c .before .is-sound-in .ensures
+    ∙ ap (λ (n : ℕ). consistent (padded n (drop (a .from) (stream-of (a .image .now)))) (a .accounts)) (sym (sized (c .before .before)))
 
 pub is-sound-spec : {M : Type 1} → statement M
 is-sound-spec =

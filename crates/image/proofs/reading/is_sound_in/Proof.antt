@@ -1,7 +1,6 @@
 -- The room holds the image's heap, and the check says whether it is consistent (`Restores`).
 -- Assumes nothing.
-use native.Mathlib.Omega.{arith}
-use mathlib.Core.Path.{_≡_, refl, ap, sym, _∙_}
+use mathlib.Core.Path.{ap, _∙_}
 use mathlib.Core.List.{List}
 use Prim.Native.Nat.{ℕ}
 use lib.ListN.{length}
@@ -33,7 +32,8 @@ returns c =
     let w = k .before .before .before .before in
     let start = w .before .before .before .before in
     check-unsound (w .copy-stream .last .1 .1 .0) _ (start .args .accounts) (k .check .result) (k .check .ensures) (w .copy-stream .ensures)
-    (ap (λ (s : List ℕ). allowed (length s)) (w .copy-stream .ensures) ∙ ap allowed (length-padded _ _) ∙ start .pre) (c .enum-told2 .given .0 .0) (c .enum-told2 .given .1)
+    (ap (λ (s : List ℕ). allowed (length s)) (w .copy-stream .ensures) ∙ ap allowed (length-padded _ _) ∙ start .pre) (c .enum-told2 .given .0 .0)
+    (c .enum-told2 .given .1)
 
 same-length-2 : tie.Need-same-length-2
 same-length-2 c = search needs
@@ -42,7 +42,8 @@ returns-2 : tie.Need-returns-2
 returns-2 c =
     let k = c .before .before in
     let w = k .before .before .before .before in
-    check-sound (w .copy-stream .last .1 .1 .0) _ (w .before .before .before .before .args .accounts) (k .check .result) (k .check .ensures) (w .copy-stream .ensures) (c .enum-told .given .1)
+    check-sound (w .copy-stream .last .1 .1 .0) _ (w .before .before .before .before .args .accounts) (k .check .result) (k .check .ensures)
+    (w .copy-stream .ensures) (c .enum-told .given .1)
 
 pub is-sound-in-spec : {M : Type 1} → statement M
 is-sound-in-spec =

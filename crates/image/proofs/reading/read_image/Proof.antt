@@ -1,9 +1,7 @@
 -- An image that its own bytes refuse is refused; of another the rest is `restore`.
 -- Assumes nothing.
-use native.Mathlib.Omega.{arith}
-use mathlib.Core.Path.{_≡_, refl, ap, sym, _∙_}
+use mathlib.Core.Path.{ap, _∙_}
 use borrow.Author.Needs.{needs}
-use Rattle.framing.specs.Frames.{stream-of}
 use Rattle.image_model.specs.declared.ReadResult.{ReadResult}
 use Rattle.image_model.specs.Answers.{restored-to}
 use Rattle.image.proofs.Parses.{Found, image-found, refused-found, found-allowed, found-fits}
@@ -18,10 +16,13 @@ enum-known-shape : tie.Need-enum-known-shape
 enum-known-shape c = search needs
 
 -- what the image was found to be
-found : (c : tie.After-shape) → Found (c .before .before .before .before .before .before .args .image .now) (c .shape .given .0 .0) (c .shape .given .0 .1 .0) (c .before .before .before .parse-image .result .accounts)
+found : (c : tie.After-shape)
+    → Found (c .before .before .before .before .before .before .args .image .now) (c .shape .given .0 .0) (c .shape .given .0 .1 .0)
+    (c .before .before .before .parse-image .result .accounts)
 found c =
     let p = c .before .before .before in
-    image-found (c .before .before .before .before .before .before .args .image .now) (p .parse-image .result) (c .shape .given .0 .0) (c .shape .given .0 .1 .0) (p .parse-image .ensures) (c .shape .given .1)
+    image-found (c .before .before .before .before .before .before .args .image .now) (p .parse-image .result) (c .shape .given .0 .0)
+    (c .shape .given .0 .1 .0) (p .parse-image .ensures) (c .shape .given .1)
 
 restore-requires : tie.Need-restore-requires
 restore-requires c κs =
@@ -49,7 +50,8 @@ returns-2 c =
     let p = s .before .before .before in
     let a = p .before .before .before .args in
     ap (λ (x : ReadResult). restored-to (a .heap .now) (x .accounts) (x .answer)) (c .refused .ensures)
-    ∙ read-refused (a .image .now) (a .heap .now) (s .shape2 .given .0 .0) (refused-found (a .image .now) (p .parse-image .result) (s .shape2 .given .0 .0) (p .parse-image .ensures) (s .shape2 .given .1))
+    ∙ read-refused (a .image .now) (a .heap .now) (s .shape2 .given .0 .0)
+    (refused-found (a .image .now) (p .parse-image .result) (s .shape2 .given .0 .0) (p .parse-image .ensures) (s .shape2 .given .1))
 
 pub read-image-spec : {M : Type 1} → statement M
 read-image-spec =

@@ -1,7 +1,6 @@
 -- 25 by the length, 26 by the check, else the copy (`Restores`).
 -- Assumes nothing.
-use native.Mathlib.Omega.{arith}
-use mathlib.Core.Path.{_≡_, refl, ap, sym, _∙_}
+use mathlib.Core.Path.{ap, _∙_}
 use borrow.Author.Needs.{needs}
 use borrow.Author.Tests.{not-true, not-false}
 use Rattle.framing.specs.Frames.{stream-of}
@@ -38,7 +37,8 @@ returns-2 c =
     let f = s .before .before in
     let a = f .before .before .before .args in
     ap (λ (x : ReadResult). restored-to (a .heap .now) (x .accounts) (x .answer)) (c .refused2 .ensures)
-    ∙ restore-unsound (a .form) (a .size) (stream-of (a .image .now)) (a .heap .now) (a .accounts) (s .before .if1 .left) (f .heap-at .result) (f .heap-at .ensures)
+    ∙ restore-unsound (a .form) (a .size) (stream-of (a .image .now)) (a .heap .now) (a .accounts) (s .before .if1 .left) (f .heap-at .result)
+    (f .heap-at .ensures)
     (s .is-sound .result) (s .is-sound .ensures) (not-true _ (c .before .if2 .taken))
 
 copy-stream-requires : tie.Need-copy-stream-requires
@@ -53,7 +53,8 @@ returns-3 c =
     let s = w .before .before .before in
     let f = s .before .before in
     let a = f .before .before .before .args in
-    restore-done (a .form) (a .size) (stream-of (a .image .now)) (a .heap .now) (a .accounts) (s .before .if1 .left) (f .heap-at .result) (f .heap-at .ensures)
+    restore-done (a .form) (a .size) (stream-of (a .image .now)) (a .heap .now) (a .accounts) (s .before .if1 .left) (f .heap-at .result)
+    (f .heap-at .ensures)
     (s .is-sound .result) (w .copy-stream .last .1 .1 .0) (s .is-sound .ensures) (not-false _ (w .before .before .if2 .left)) (w .copy-stream .ensures)
 
 pub restore-spec : {M : Type 1} → statement M

@@ -1,7 +1,6 @@
 -- Serial, quota and count stand at 0, 4 and 5 of a record (`record-read`).
 -- Assumes nothing.
-use native.Mathlib.Omega.{arith}
-use mathlib.Core.Path.{_≡_, refl, ap, sym, _∙_}
+use mathlib.Core.Path.{_∙_}
 use borrow.Author.Needs.{needs}
 use Rattle.framing.specs.Frames.{stream-of}
 use Rattle.image.proofs.Decoding.{record-read}
@@ -26,7 +25,8 @@ stream-at-requires-2 c κs = search needs
 returns : tie.Need-returns
 returns c =
     let a = c .before .before .before .before .args in
-    (λ i. record { serial = c .before .before .read-quad .ensures i; quota = c .before .stream-at .ensures i; count = c .stream-at2 .ensures i }) ∙ record-read (a .at) (stream-of (a .image .now))
+    (λ i. record { serial = c .before .before .read-quad .ensures i; quota = c .before .stream-at .ensures i; count = c .stream-at2 .ensures i })
+    ∙ record-read (a .at) (stream-of (a .image .now))
 
 pub read-record-spec : {M : Type 1} → statement M
 read-record-spec =

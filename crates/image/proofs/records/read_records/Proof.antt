@@ -2,7 +2,7 @@
 -- Assumes nothing.
 use native.Mathlib.Omega.{arith}
 use mathlib.Core.Path.{_≡_, refl, ap, sym, _∙_}
-use Prim.Native.Nat.{ℕ, _+_, _*_, _-_, _≤_}
+use Prim.Native.Nat.{ℕ, _*_, _-_, _≤_}
 use mathlib.Core.List.{List, _++_}
 use lib.ListN.{length, take, drop, replicate, length-set}
 use lib.Seq.{drop-drop}
@@ -62,7 +62,8 @@ loop-again c =
     let i = at .loop .i in (
       omega arith,
       simp length-set (at .loop .inv .1),
-      λ (f : Form). read-more record-of record-width i (drop (a .at) t) (at .loop .holds) (blank f .holds) (c .read-record .result) zero-hold (omega arith) (at .loop .inv .2 f)
+      λ (f : Form). read-more record-of record-width i (drop (a .at) t) (at .loop .holds) (blank f .holds) (c .read-record .result) zero-hold (omega arith)
+          (at .loop .inv .2 f)
           (c .read-record .ensures ∙ ap (λ (s : List ℕ). record-of (take 8 s)) (sym (drop-drop (i * 8) (a .at) t))),
     )
 

@@ -1,8 +1,8 @@
 -- The invariant: what is found of the records from `i` on is found of all (`Items`). The measure is what is left of them.
 -- Assumes nothing.
 use native.Mathlib.Omega.{arith}
-use mathlib.Core.Path.{_≡_, refl, ap, sym, _∙_}
-use Prim.Native.Nat.{ℕ, _+_, _*_, _-_, _≤_}
+use mathlib.Core.Path.{_≡_, _∙_}
+use Prim.Native.Nat.{_-_, _≤_}
 use lib.ListN.{drop}
 use Rattle.framing.specs.Frames.{stream-of}
 use Rattle.image_model.specs.Items.{every}
@@ -16,7 +16,8 @@ use Rattle.image.proofs.records.spares_right.Tie as tie
 
 abbrev Inv-loop : tie.InvT-loop
 Inv-loop image at count i₀ i =
-    (i ≤ count) × (every-from record-right record-width i count (drop at (stream-of image)) ≡ every record-right record-width count (drop at (stream-of image)))
+    (i ≤ count) × (every-from record-right record-width i count (drop at (stream-of image)) ≡ every record-right record-width count
+    (drop at (stream-of image)))
 
 abbrev μ-loop : tie.MeasureT-loop
 μ-loop image at count i₀ i = count - i
@@ -42,7 +43,8 @@ returns c =
     let at = r .before .before in
     let a = at .before .before .args in
     let t = stream-of (a .image .now) in
-    every-stops record-right record-width (at .loop .i) (a .count) (drop (a .at) t) (omega arith) (at .loop .inv .1) (spare-wrong (a .at) t (at .loop .i) (r .read-pair .result) (r .read-pair .ensures .0) (c .if1 .taken))
+    every-stops record-right record-width (at .loop .i) (a .count) (drop (a .at) t) (omega arith) (at .loop .inv .1)
+    (spare-wrong (a .at) t (at .loop .i) (r .read-pair .result) (r .read-pair .ensures .0) (c .if1 .taken))
 
 add-i : tie.Need-add-i Inv-loop μ-loop
 add-i c = search needs
@@ -55,8 +57,11 @@ loop-again c =
     let r = c .before in
     let at = r .before .before in
     let a = at .before .before .args in
-    let t = stream-of (a .image .now) in
-    (omega arith, every-goes-on record-right record-width (at .loop .i) (a .count) (drop (a .at) t) (omega arith) (at .loop .inv .1) (spare-right (a .at) t (at .loop .i) (r .read-pair .result) (r .read-pair .ensures .0) (c .if1 .left)))
+    let t = stream-of (a .image .now) in (
+      omega arith,
+      every-goes-on record-right record-width (at .loop .i) (a .count) (drop (a .at) t) (omega arith) (at .loop .inv .1)
+          (spare-right (a .at) t (at .loop .i) (r .read-pair .result) (r .read-pair .ensures .0) (c .if1 .left)),
+    )
 
 returns-2 : tie.Need-returns-2 Inv-loop μ-loop
 returns-2 c =

@@ -1,7 +1,6 @@
 -- A byte that is stored is a number of one byte.
 -- Assumes nothing.
 use native.Mathlib.Omega.{arith}
-use mathlib.Core.Path.{_≡_, refl, ap, sym, _∙_}
 use borrow.Author.Needs.{needs}
 use Rattle.image.proofs.Heads.{one-byte}
 use Rattle.image.proofs.records.write_byte.Statement.{statement}

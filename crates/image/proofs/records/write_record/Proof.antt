@@ -1,7 +1,5 @@
 -- The four parts are written side by side (`record-written`).
 -- Assumes nothing.
-use native.Mathlib.Omega.{arith}
-use mathlib.Core.Path.{_≡_, refl, ap, sym, _∙_}
 use borrow.Author.Needs.{needs}
 use Rattle.image.proofs.Heads.{record-written}
 use Rattle.image.proofs.records.write_record.Statement.{statement}
@@ -39,7 +37,8 @@ returns c =
     let w₁ = w₂ .before .before .before .before in
     let start = w₁ .before .before .before in
     let a = start .args in
-    record-written (a .at) (a .head .now) (w₁ .write-u32 .last .0) (w₂ .write-byte .last .0) (start .pre) (w₃ .write-byte2 .last .0) (w₄ .write-u16 .last .0) (a .hold)
+    record-written (a .at) (a .head .now) (w₁ .write-u32 .last .0) (w₂ .write-byte .last .0) (start .pre) (w₃ .write-byte2 .last .0) (w₄ .write-u16 .last .0)
+    (a .hold)
     (w₁ .write-u32 .ensures) (w₂ .write-byte .ensures) (w₃ .write-byte2 .ensures) (w₄ .write-u16 .ensures)
 
 pub write-record-spec : {M : Type 1} → statement M

@@ -1,8 +1,8 @@
 -- The invariant: the first `i` items stand behind each other (`written-more`). The measure is what is left of them.
 -- Assumes nothing.
 use native.Mathlib.Omega.{arith}
-use mathlib.Core.Path.{_≡_, refl, ap, sym, _∙_}
-use Prim.Native.Nat.{ℕ, _+_, _*_, _-_, _≤_}
+use mathlib.Core.Path.{_≡_, ap, _∙_}
+use Prim.Native.Nat.{ℕ, _-_, _≤_}
 use lib.ListN.{length, take}
 use borrow.Author.Needs.{needs}
 use Rattle.accounts.specs.Accounts.{HOLDS, zero-hold}
@@ -57,8 +57,11 @@ loop-again c =
     let at = w .before .before .before .before in
     let start = at .before .before in
     let a = start .args in
-    let l : length (a .t3) ≡ HOLDS = start .good .1 .1 .0 .1 .0 .1 in
-    (omega arith, written-more record-bytes 8 record-length (a .at) (at .loop .i) (a .t3) zero-hold (a .head .now) (at .loop .head) (w .write-record .last .0) (omega arith) (omega arith) (at .loop .inv .1) (w .write-record .ensures))
+    let l : length (a .t3) ≡ HOLDS = start .good .1 .1 .0 .1 .0 .1 in (
+      omega arith,
+      written-more record-bytes 8 record-length (a .at) (at .loop .i) (a .t3) zero-hold (a .head .now) (at .loop .head)
+          (w .write-record .last .0) (omega arith) (omega arith) (at .loop .inv .1) (w .write-record .ensures),
+    )
 
 same-length : tie.Need-same-length Inv-loop μ-loop
 same-length c = len (c .before)

@@ -1,7 +1,7 @@
 -- The bytes in front of the heap and the heap, in whole frames (`length-some`).
 -- Assumes nothing.
 use native.Mathlib.Omega.{arith}
-use mathlib.Core.Path.{_≡_, refl, ap, sym, _∙_}
+use mathlib.Core.Path.{sym, _∙_}
 use borrow.Author.Needs.{needs}
 use Prim.Native.Nat.{_≤_}
 use borrow.Author.Tests.{not-true, not-false}
@@ -44,7 +44,8 @@ mul-result c = let l = short c in omega arith
 returns-2 : tie.Need-returns-2
 returns-2 c =
     let k = c .before .before .before in
-    length-some (c .before .form-1 .result) (k .before .args .size) (c .heap-at .result) (c .before .form-1 .ensures) (sym (k .is-allowed .ensures) ∙ not-false _ (c .before .before .if1 .left)) (c .heap-at .ensures)
+    length-some (c .before .form-1 .result) (k .before .args .size) (c .heap-at .result) (c .before .form-1 .ensures)
+    (sym (k .is-allowed .ensures) ∙ not-false _ (c .before .before .if1 .left)) (c .heap-at .ensures)
 
 pub image-length-spec : {M : Type 1} → statement M
 image-length-spec =

@@ -1,7 +1,7 @@
 -- The head is made in a part of an array that is as long as it.
 -- Assumes nothing.
 use native.Mathlib.Omega.{arith}
-use mathlib.Core.Path.{_≡_, refl, ap, sym, _∙_}
+use mathlib.Core.Path.{_≡_, sym, _∙_}
 use borrow.Author.Needs.{needs}
 use lib.ListN.{length, take}
 use lib.Seq.{length-take-le}
@@ -18,7 +18,8 @@ array-borrow-prefix-head : tie.Need-array-borrow-prefix-head
 array-borrow-prefix-head c = search needs
 
 -- the part is as long as it was asked for
-sized : (c : tie.After-head) → c .before .before .before .heap-at .result ≡ length (take (c .before .before .before .heap-at .result) (c .before .before .head-space .result))
+sized : (c : tie.After-head)
+    → c .before .before .before .heap-at .result ≡ length (take (c .before .before .before .heap-at .result) (c .before .before .head-space .result))
 sized c =
     let n : length (c .before .before .head-space .result) ≡ 1100 = c .before .before .head-space .ok .1 .0 .1 in
     sym (length-take-le (c .before .before .before .heap-at .result) (c .before .before .head-space .result) (omega arith))
@@ -27,7 +28,8 @@ slice-aggregate-put-with : tie.Need-slice-aggregate-put-with
 slice-aggregate-put-with c = sized c
 
 put-with-requires : tie.Need-put-with-requires
-put-with-requires c κs = let p = c .before .before .before .before .before .before .pre in (p .0, sym (sized c) ∙ c .before .before .before .heap-at .ensures, p .1)
+put-with-requires c κs =
+    let p = c .before .before .before .before .before .before .pre in (p .0, sym (sized c) ∙ c .before .before .before .heap-at .ensures, p .1)
 
 same-length : tie.Need-same-length
 same-length c = search needs

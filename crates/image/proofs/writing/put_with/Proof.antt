@@ -1,9 +1,7 @@
 -- The head and the heap are the stream, and the frames say whether there was room (`put-by-frames`).
 -- Assumes nothing.
 use native.Mathlib.Omega.{arith}
-use mathlib.Core.Path.{_≡_, refl, ap, sym, _∙_}
 use borrow.Author.Needs.{needs}
-use Rattle.image_model.specs.Answers.{imaged}
 use Rattle.framing.specs.declared.FrameAnswer.the-variants.{Written, NoRoom}
 use Rattle.image.proofs.Heads.{head-extent}
 use Rattle.image.proofs.Puts.{as-image, put-by-frames}
@@ -38,7 +36,8 @@ returns c =
     let h = w .before .before .before .before .before in
     let start = h .before .before .before .before .before in
     let a = start .args in
-    put-by-frames (a .form) (start .pre .0) (a .image .now) (a .heap .now) (a .accounts) (start .pre .2) (h .write-head .last .0) (h .write-head .ensures) (omega (arith, head-extent (a .form)))
+    put-by-frames (a .form) (start .pre .0) (a .image .now) (a .heap .now) (a .accounts) (start .pre .2) (h .write-head .last .0) (h .write-head .ensures)
+    (omega (arith, head-extent (a .form)))
     (w .write-frames .last .0) (w .write-frames .result) (Written (c .before .length .given .0 .0)) (w .write-frames .ensures) (c .before .length .given .1)
 
 same-length-3 : tie.Need-same-length-3
@@ -54,7 +53,8 @@ returns-2 c =
     let h = w .before .before .before .before .before in
     let start = h .before .before .before .before .before in
     let a = start .args in
-    put-by-frames (a .form) (start .pre .0) (a .image .now) (a .heap .now) (a .accounts) (start .pre .2) (h .write-head .last .0) (h .write-head .ensures) (omega (arith, head-extent (a .form)))
+    put-by-frames (a .form) (start .pre .0) (a .image .now) (a .heap .now) (a .accounts) (start .pre .2) (h .write-head .last .0) (h .write-head .ensures)
+    (omega (arith, head-extent (a .form)))
     (w .write-frames .last .0) (w .write-frames .result) NoRoom (w .write-frames .ensures) (c .enum-told .given .1)
 
 pub put-with-spec : {M : Type 1} → statement M

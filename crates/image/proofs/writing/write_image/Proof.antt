@@ -1,10 +1,7 @@
 -- What the check refuses is refused, what it accepts is put (`Puts`).
 -- Assumes nothing.
-use native.Mathlib.Omega.{arith}
-use mathlib.Core.Path.{_≡_, refl, ap, sym, _∙_}
+use mathlib.Core.Path.{ap, _∙_}
 use borrow.Author.Needs.{needs}
-use mathlib.Core.List.{List}
-use Prim.Native.Nat.{ℕ}
 use lib.ListN.{length}
 use Rattle.access.proofs.Lines.{check-consistent}
 use Rattle.image_model.specs.declared.Form.{Form}
