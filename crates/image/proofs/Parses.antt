@@ -14,7 +14,7 @@ use Rattle.accounts.specs.Accounts.{zero-accounts}
 use Rattle.layout.specs.Bytes.{number}
 use Rattle.model.specs.Lists.{all, any, is-none, or-else}
 use Rattle.model.specs.Consistent.{allowed}
-use Rattle.model.specs.Refusals.{line-holds, first-refusal}
+use Rattle.model.specs.Refusals.{Line, line-holds, first-refusal}
 use Rattle.model.proofs.Bools.{and-left, or-neither}
 use Rattle.model.proofs.Refusals.{Numbered, accepted-exactly}
 use Rattle.framing.specs.Frames.{stream-of, frames-for, frames-right}
