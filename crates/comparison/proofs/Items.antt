@@ -19,6 +19,7 @@ use Rattle.comparison.specs.Differences.{differing}
 use Rattle.comparison.specs.Listing.{Before}
 use Rattle.comparison.specs.declared.Difference.{Difference}
 use Rattle.comparison.proofs.Lists.{Sorted}
+use Rattle.comparison.proofs.Rows
 
 module _ {A : Type 0} (same : A → A → Bool) (name : ℕ → Difference) where
   pub differing-all : (P : Difference → Type 0) (n : ℕ) (xs ys : List A) → ((k : ℕ) → n ≤ k → P (name k)) → All P (differing same name n xs ys)

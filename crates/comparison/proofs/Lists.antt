@@ -12,6 +12,7 @@ use Rattle.image_model.proofs.Items.{All, all-both}
 use Rattle.comparison.specs.Listing.{Before, part-of, start-of, stop-of}
 use Rattle.comparison.specs.declared.Difference.{Difference}
 use Rattle.comparison.specs.declared.Difference.the-variants.{LastSerial, Quota, Record, Bytes}
+use Rattle.comparison.proofs.Rows
 
 module _ {A : Type 0} where
   pub all-imply : (P Q : A → Type 0) → ((x : A) → P x → Q x) → (xs : List A) → All P xs → All Q xs

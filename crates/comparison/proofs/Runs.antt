@@ -12,6 +12,7 @@ use lib.Seq.{drop-cons}
 use lib.Dec.{eqb, leb, ltb}
 use borrow.Author.Tests.{eqb-true, eqb-false, leb-true, leb-false, ltb-true, ltb-false}
 use Rattle.comparison.specs.Differences.{Run, extend, runs}
+use Rattle.comparison.proofs.Rows
 
 -- the tests are over two heaps s and t, up to the end of the shorter one
 module _ (s t : List ℕ) where

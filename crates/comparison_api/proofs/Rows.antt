@@ -8,8 +8,7 @@ use Rattle.comparison.specs.declared.Difference.the-variants.{LastSerial, Quota
 use Rattle.comparison.specs.declared.Which.the-variants.{First, Second, Neither}
 use Rattle.comparison.specs.declared.Position.the-variants.{Start, Quota, Record, Byte}
 use Rattle.comparison.specs.declared.NextAnswer.the-variants.{Differs, Nothing}
-use Rattle.comparison.specs.Compare.{Compared}
-use Rattle.comparison_api.specs.Replies.{difference-numbers, found-numbers, compare-reply, position-of, reply-at, next-reply}
+use Rattle.comparison_api.specs.Replies.{compare-reply, position-of, next-reply}
 use Rattle.comparison_api.specs.declared.CompareReply.{CompareReply}
 use Rattle.comparison_api.specs.declared.NextReply.{NextReply}
 
@@ -27,7 +26,7 @@ compare-rows : map compare-reply
     ∷ record { refusal = 27; which = Neither; found = none }
     ∷ [])
     ≡ reply 0 0 0 0 0 ∷ reply 0 0 1 0 0 ∷ reply 0 0 2 7 0 ∷ reply 0 0 3 127 0 ∷ reply 0 0 4 8 24 ∷ reply 22 1 0 0 0 ∷ reply 26 2 0 0 0 ∷ reply 27 0 0 0 0 ∷ []
-unfolding reply difference-numbers found-numbers compare-reply
+unfolding reply
 compare-rows = refl
 
 position-rows : (position-of 0 5 ≡ Start) × (position-of 1 5 ≡ Quota 5) × (position-of 2 5 ≡ Record 5) × (position-of 3 5 ≡ Byte 5) × (position-of 9 5 ≡ Byte 5)
@@ -39,5 +38,5 @@ next k p n part at = record { kind = k; place = p; length = n; part = part; at =
 
 next-rows : map next-reply (Nothing ∷ Differs LastSerial (Quota 0) ∷ Differs (QuotaAt 7) (Quota 8) ∷ Differs (RecordAt 3) (Record 4) ∷ Differs (Bytes 8 24) (Byte 32) ∷ [])
     ≡ next 0 0 0 0 0 ∷ next 1 0 0 1 0 ∷ next 2 7 0 1 8 ∷ next 3 3 0 2 4 ∷ next 4 8 24 3 32 ∷ []
-unfolding next difference-numbers reply-at next-reply
+unfolding next
 next-rows = refl

@@ -3,7 +3,7 @@
 -- Assumes nothing.
 use Prim.Native.Nat.{ℕ}
 use mathlib.Core.Path.{_≡_, refl, ap, sym, _∙_}
-use mathlib.Core.List.{List, [], _∷_}
+use mathlib.Core.List.{[], _∷_}
 use mathlib.Core.Option.{Option, none, some}
 use lib.ListN.{getD}
 use Rattle.comparison.specs.declared.Difference.{Difference}
@@ -15,23 +15,20 @@ use Rattle.comparison.specs.declared.Position.the-variants.{Start, Quota, Recor
 use Rattle.comparison.specs.declared.NextAnswer.{NextAnswer}
 use Rattle.comparison.specs.declared.NextAnswer.the-variants.{Differs, Nothing}
 use Rattle.comparison.specs.Compare.{Compared}
-use Rattle.comparison_api.specs.Replies.{which-number, numbers, difference-numbers, found-numbers, compare-reply, position-of, part-number, place-in, reply-at, next-reply}
-use Rattle.comparison_api.specs.declared.Numbers.{Numbers}
+use Rattle.comparison_api.specs.Replies.{which-number, kind-number, place-number, length-number, reply-with, compare-reply, position-of, part-number, place-in, next-reply}
 use Rattle.comparison_api.specs.declared.CompareReply.{CompareReply}
 use Rattle.comparison_api.specs.declared.NextReply.{NextReply}
 use Rattle.comparison_api.proofs.Rows
 
 -- from numbers, the difference, the image, the position
-abbrev difference-from : Numbers → Option Difference
-difference-from x = getD (none ∷ some LastSerial ∷ some (QuotaAt (x .place)) ∷ some (RecordAt (x .place)) ∷ some (Bytes (x .place) (x .length)) ∷ []) (x .kind) none
+abbrev difference-from : ℕ → ℕ → ℕ → Option Difference
+difference-from k p n = getD (none ∷ some LastSerial ∷ some (QuotaAt p) ∷ some (RecordAt p) ∷ some (Bytes p n) ∷ []) k none
 
-difference-back : (o : Option Difference) → difference-from (found-numbers o) ≡ o
-unfolding found-numbers difference-numbers
-difference-back none = refl
-difference-back (some LastSerial) = refl
-difference-back (some (QuotaAt q)) = refl
-difference-back (some (RecordAt p)) = refl
-difference-back (some (Bytes at n)) = refl
+difference-back : (d : Difference) → difference-from (kind-number d) (place-number d) (length-number d) ≡ some d
+difference-back LastSerial = refl
+difference-back (QuotaAt q) = refl
+difference-back (RecordAt p) = refl
+difference-back (Bytes at n) = refl
 
 abbrev which-from : ℕ → Which
 which-from n = getD (Neither ∷ First ∷ Second ∷ []) n Neither
@@ -43,14 +40,15 @@ which-back Neither = refl
 
 -- so no two outcomes of compare give the same reply
 abbrev compared-from : CompareReply → Compared
-compared-from r = record { refusal = r .refusal; which = which-from (r .which); found = difference-from (numbers (r .kind) (r .place) (r .length)) }
+compared-from r = record { refusal = r .refusal; which = which-from (r .which); found = difference-from (r .kind) (r .place) (r .length) }
 
-compared-back : (c : Compared) → compared-from (compare-reply c) ≡ c
-unfolding compare-reply
-compared-back c = λ i. record { refusal = c .refusal; which = which-back (c .which) i; found = difference-back (c .found) i }
+compared-back : (n : ℕ) (w : Which) (o : Option Difference) → compared-from (reply-with n (which-number w) o) ≡ record { refusal = n; which = w; found = o }
+compared-back n w none = λ i. record { refusal = n; which = which-back w i; found = none }
+compared-back n w (some d) = λ i. record { refusal = n; which = which-back w i; found = difference-back d i }
 
 pub compare-reply-injective : (a b : Compared) → compare-reply a ≡ compare-reply b → a ≡ b
-compare-reply-injective a b e = sym (compared-back a) ∙ ap compared-from e ∙ compared-back b
+compare-reply-injective a b e =
+    sym (compared-back (a .refusal) (a .which) (a .found)) ∙ ap compared-from e ∙ compared-back (b .refusal) (b .which) (b .found)
 
 -- a position's numbers are read as that position
 pub position-back : (p : Position) → position-of (part-number p) (place-in p) ≡ p
@@ -66,11 +64,11 @@ answer-from none p = Nothing
 answer-from (some d) p = Differs d p
 
 abbrev next-from : NextReply → NextAnswer
-next-from r = answer-from (difference-from (numbers (r .kind) (r .place) (r .length))) (position-of (r .part) (r .at))
+next-from r = answer-from (difference-from (r .kind) (r .place) (r .length)) (position-of (r .part) (r .at))
 
 next-back : (a : NextAnswer) → next-from (next-reply a) ≡ a
-unfolding next-reply reply-at answer-from found-numbers
-next-back (Differs d p) = λ i. answer-from (difference-back (some d) i) (position-back p i)
+unfolding answer-from
+next-back (Differs d p) = λ i. answer-from (difference-back d i) (position-back p i)
 next-back Nothing = refl
 
 pub next-reply-injective : (a b : NextAnswer) → next-reply a ≡ next-reply b → a ≡ b

@@ -12,7 +12,6 @@ use Rattle.comparison.specs.declared.Position.the-variants.{Start, Quota, Recor
 use Rattle.comparison.specs.declared.NextAnswer.{NextAnswer}
 use Rattle.comparison.specs.declared.NextAnswer.the-variants.{Differs, Nothing}
 use Rattle.comparison.specs.Compare.{Compared}
-use Rattle.comparison_api.specs.declared.Numbers.{Numbers}
 use Rattle.comparison_api.specs.declared.CompareReply.{CompareReply}
 use Rattle.comparison_api.specs.declared.NextReply.{NextReply}
 
@@ -23,24 +22,31 @@ which-number Second = 2
 which-number Neither = 0
 
 -- the kind of a difference, its place and its length
-abbrev pub numbers : ℕ → ℕ → ℕ → Numbers
-numbers k p n = record { kind = k; place = p; length = n }
+abbrev pub kind-number : Difference → ℕ
+kind-number LastSerial = 1
+kind-number (QuotaAt q) = 2
+kind-number (RecordAt p) = 3
+kind-number (Bytes at n) = 4
 
-unfoldable pub difference-numbers : Difference → Numbers
-difference-numbers LastSerial = numbers 1 0 0
-difference-numbers (QuotaAt q) = numbers 2 q 0
-difference-numbers (RecordAt p) = numbers 3 p 0
-difference-numbers (Bytes at n) = numbers 4 at n
+abbrev pub place-number : Difference → ℕ
+place-number LastSerial = 0
+place-number (QuotaAt q) = q
+place-number (RecordAt p) = p
+place-number (Bytes at n) = at
 
-unfoldable pub found-numbers : Option Difference → Numbers
-found-numbers none = numbers 0 0 0
-found-numbers (some d) = difference-numbers d
+abbrev pub length-number : Difference → ℕ
+length-number LastSerial = 0
+length-number (QuotaAt q) = 0
+length-number (RecordAt p) = 0
+length-number (Bytes at n) = n
 
--- the reply of compare
-unfoldable pub compare-reply : Compared → CompareReply
-compare-reply c =
-    let x = found-numbers (c .found) in
-    record { refusal = c .refusal; which = which-number (c .which); kind = x .kind; place = x .place; length = x .length }
+-- the reply of compare: zeros where there is no difference
+abbrev pub reply-with : ℕ → ℕ → Option Difference → CompareReply
+reply-with r w none = record { refusal = r; which = w; kind = 0; place = 0; length = 0 }
+reply-with r w (some d) = record { refusal = r; which = w; kind = kind-number d; place = place-number d; length = length-number d }
+
+abbrev pub compare-reply : Compared → CompareReply
+compare-reply c = reply-with (c .refusal) (which-number (c .which)) (c .found)
 
 -- the position with these numbers: a part's number above 3 is read as 3
 unfoldable pub position-of : ℕ → ℕ → Position
@@ -58,10 +64,7 @@ place-in (Quota q) = q
 place-in (Record p) = p
 place-in (Byte at) = at
 
--- the reply of going on: the difference's numbers and those of the position behind it
-unfoldable pub reply-at : Numbers → Position → NextReply
-reply-at x p = record { kind = x .kind; place = x .place; length = x .length; part = part-number p; at = place-in p }
-
-unfoldable pub next-reply : NextAnswer → NextReply
-next-reply (Differs d p) = reply-at (difference-numbers d) p
+-- the reply of going on: the difference's numbers and those of the position behind it, zeros where there is none
+abbrev pub next-reply : NextAnswer → NextReply
+next-reply (Differs d p) = record { kind = kind-number d; place = place-number d; length = length-number d; part = part-number p; at = place-in p }
 next-reply Nothing = record { kind = 0; place = 0; length = 0; part = 0; at = 0 }

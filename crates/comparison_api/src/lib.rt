@@ -6,15 +6,9 @@ mod replies;
 pub use exports::lokhazim_image_compare;
 pub use exports::lokhazim_image_compare_next;
 
-// A difference as numbers: kind is 0 for none, 1 for the last serial, 2 for a quota, 3 for a hold record and 4 for a run of heap bytes; place is the
-// quota's number, the record's place or the run's offset; length is the run's; what has no meaning is 0.
-pub(crate) struct Numbers {
-    pub kind: u32,
-    pub place: usize,
-    pub length: usize,
-}
-
-// What compare gives: the refusal's number, 0 where there is none; which image it is about, 1 or 2, 0 for neither; and the difference.
+// What compare gives: the refusal's number, 0 where there is none; which image it is about, 1 or 2, 0 for neither; and the difference. Its kind is 0 for
+// none, 1 for the last serial, 2 for a quota, 3 for a hold record and 4 for a run of heap bytes; its place is the quota's number, the record's place or
+// the run's offset; its length is the run's. What has no meaning is 0.
 #[repr(C)]
 pub struct CompareReply {
     pub refusal: u32,

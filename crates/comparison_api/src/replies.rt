@@ -1,7 +1,6 @@
 // Answers as numbers, and a position from numbers.
 use crate::CompareReply;
 use crate::NextReply;
-use crate::Numbers;
 use comparison::CompareAnswer;
 use comparison::Difference;
 use comparison::NextAnswer;
@@ -9,7 +8,7 @@ use comparison::Position;
 use comparison::Which;
 ghost use mathlib.Core.Path.{_≡_};
 ghost use Rattle.comparison.specs.Compare.{compared};
-ghost use Rattle.comparison_api.specs.Replies.{which-number, difference-numbers, compare-reply, position-of, next-reply, reply-at};
+ghost use Rattle.comparison_api.specs.Replies.{which-number, kind-number, place-number, length-number, compare-reply, position-of, part-number, place-in, next-reply};
 
 // The number of the image that a refusal is about.
 fn number_of(which: Which) -> u32
@@ -22,31 +21,37 @@ fn number_of(which: Which) -> u32
     }
 }
 
-// The numbers of a difference.
-fn numbers_of(difference: Difference) -> Numbers
-    ensures { λ r. ⌜ r ≡ difference-numbers difference ⌝ }
+// The numbers of a difference: its kind, its place and its length.
+fn kind_of(difference: Difference) -> u32
+    ensures { λ r. ⌜ r ≡ kind-number difference ⌝ }
 {
     match difference {
-        Difference::LastSerial => Numbers {
-            kind: 1,
-            place: 0,
-            length: 0,
-        },
-        Difference::Quota(number) => Numbers {
-            kind: 2,
-            place: number,
-            length: 0,
-        },
-        Difference::Record(place) => Numbers {
-            kind: 3,
-            place: place,
-            length: 0,
-        },
-        Difference::Bytes(offset, length) => Numbers {
-            kind: 4,
-            place: offset,
-            length: length,
-        },
+        Difference::LastSerial => 1,
+        Difference::Quota(_) => 2,
+        Difference::Record(_) => 3,
+        Difference::Bytes(_, _) => 4,
+    }
+}
+
+fn place_of(difference: Difference) -> usize
+    ensures { λ r. ⌜ r ≡ place-number difference ⌝ }
+{
+    match difference {
+        Difference::LastSerial => 0,
+        Difference::Quota(number) => number,
+        Difference::Record(place) => place,
+        Difference::Bytes(offset, _) => offset,
+    }
+}
+
+fn length_of(difference: Difference) -> usize
+    ensures { λ r. ⌜ r ≡ length-number difference ⌝ }
+{
+    match difference {
+        Difference::LastSerial => 0,
+        Difference::Quota(_) => 0,
+        Difference::Record(_) => 0,
+        Difference::Bytes(_, length) => length,
     }
 }
 
@@ -55,16 +60,13 @@ pub(crate) fn reply_of_compare(answer: CompareAnswer) -> CompareReply
     ensures { λ r. ⌜ r ≡ compare-reply (compared answer) ⌝ }
 {
     match answer {
-        CompareAnswer::Differs(difference) => {
-            let numbers = numbers_of(difference);
-            CompareReply {
-                refusal: 0,
-                which: 0,
-                kind: numbers.kind,
-                place: numbers.place,
-                length: numbers.length,
-            }
-        }
+        CompareAnswer::Differs(difference) => CompareReply {
+            refusal: 0,
+            which: 0,
+            kind: kind_of(difference),
+            place: place_of(difference),
+            length: length_of(difference),
+        },
         CompareAnswer::Nothing => CompareReply {
             refusal: 0,
             which: 0,
@@ -98,42 +100,26 @@ pub(crate) fn position_of(part: u32, at: usize) -> Position
     Position::Byte(at)
 }
 
-// A difference's numbers with those of a position.
-fn reply_at(numbers: Numbers, from: Position) -> NextReply
-    ensures { λ r. ⌜ r ≡ reply-at numbers from ⌝ }
+// The numbers of a position: its part and the place in it.
+fn part_of(from: Position) -> u32
+    ensures { λ r. ⌜ r ≡ part-number from ⌝ }
 {
-    let kind = numbers.kind;
-    let place = numbers.place;
-    let length = numbers.length;
     match from {
-        Position::Start => NextReply {
-            kind: kind,
-            place: place,
-            length: length,
-            part: 0,
-            at: 0,
-        },
-        Position::Quota(number) => NextReply {
-            kind: kind,
-            place: place,
-            length: length,
-            part: 1,
-            at: number,
-        },
-        Position::Record(record) => NextReply {
-            kind: kind,
-            place: place,
-            length: length,
-            part: 2,
-            at: record,
-        },
-        Position::Byte(offset) => NextReply {
-            kind: kind,
-            place: place,
-            length: length,
-            part: 3,
-            at: offset,
-        },
+        Position::Start => 0,
+        Position::Quota(_) => 1,
+        Position::Record(_) => 2,
+        Position::Byte(_) => 3,
+    }
+}
+
+fn place_in(from: Position) -> usize
+    ensures { λ r. ⌜ r ≡ place-in from ⌝ }
+{
+    match from {
+        Position::Start => 0,
+        Position::Quota(number) => number,
+        Position::Record(place) => place,
+        Position::Byte(offset) => offset,
     }
 }
 
@@ -142,7 +128,13 @@ pub(crate) fn reply_of_next(answer: NextAnswer) -> NextReply
     ensures { λ r. ⌜ r ≡ next-reply answer ⌝ }
 {
     match answer {
-        NextAnswer::Differs(difference, behind) => reply_at(numbers_of(difference), behind),
+        NextAnswer::Differs(difference, behind) => NextReply {
+            kind: kind_of(difference),
+            place: place_of(difference),
+            length: length_of(difference),
+            part: part_of(behind),
+            at: place_in(behind),
+        },
         NextAnswer::Nothing => NextReply {
             kind: 0,
             place: 0,
