@@ -13,7 +13,7 @@ use std::slice;
 
 use layout::{
     Accounts, Amount, AmountReply, BlockReply, CompareReply, ExamineReply, Grants, Handle,
-    HandleReply, Hold, ImageReply, OpenReply, Quota, RangeReply, RestoreReply,
+    HandleReply, Hold, ImageReply, NextReply, OpenReply, Quota, RangeReply, RestoreReply,
 };
 use support::{compile, run};
 
