@@ -52,11 +52,11 @@ enum lokhazim_difference {
     LOKHAZIM_NO_DIFFERENCE = 0,
     /* The last serial. */
     LOKHAZIM_SERIAL_DIFFERS = 1,
-    /* The quota of number `at`. */
+    /* The quota of number `place`. */
     LOKHAZIM_QUOTA_DIFFERS = 2,
-    /* The hold record at place `at`. */
+    /* The hold record at `place`. */
     LOKHAZIM_RECORD_DIFFERS = 3,
-    /* `length` heap bytes from offset `at` on. */
+    /* `length` heap bytes from offset `place` on. */
     LOKHAZIM_BYTES_DIFFER = 4
 };
 
@@ -84,17 +84,17 @@ struct lokhazim_compare_reply {
     uint32_t refusal;
     uint32_t which;
     uint32_t kind;
-    size_t at;
+    size_t place;
     size_t length;
 };
 
 /* The reply of the next difference, with the position behind it. */
 struct lokhazim_next_reply {
     uint32_t kind;
-    size_t at;
+    size_t place;
     size_t length;
     uint32_t part;
-    size_t from;
+    size_t at;
 };
 
 static_assert(sizeof(struct lokhazim_image_reply) == 16, "the size of struct lokhazim_image_reply is not 16");
@@ -111,11 +111,11 @@ static_assert(offsetof(struct lokhazim_examine_reply, heap_length) == 8, "struct
 
 static_assert(sizeof(struct lokhazim_compare_reply) == 32, "the size of struct lokhazim_compare_reply is not 32");
 static_assert(offsetof(struct lokhazim_compare_reply, kind) == 8, "struct lokhazim_compare_reply: the offset of kind is not 8");
-static_assert(offsetof(struct lokhazim_compare_reply, at) == 16, "struct lokhazim_compare_reply: the offset of at is not 16");
+static_assert(offsetof(struct lokhazim_compare_reply, place) == 16, "struct lokhazim_compare_reply: the offset of place is not 16");
 static_assert(sizeof(struct lokhazim_next_reply) == 40, "the size of struct lokhazim_next_reply is not 40");
-static_assert(offsetof(struct lokhazim_next_reply, at) == 8, "struct lokhazim_next_reply: the offset of at is not 8");
+static_assert(offsetof(struct lokhazim_next_reply, place) == 8, "struct lokhazim_next_reply: the offset of place is not 8");
 static_assert(offsetof(struct lokhazim_next_reply, part) == 24, "struct lokhazim_next_reply: the offset of part is not 24");
-static_assert(offsetof(struct lokhazim_next_reply, from) == 32, "struct lokhazim_next_reply: the offset of from is not 32");
+static_assert(offsetof(struct lokhazim_next_reply, at) == 32, "struct lokhazim_next_reply: the offset of at is not 32");
 
 /* ---- The library's functions: accounts by value ---- */
 
@@ -141,11 +141,11 @@ struct lokhazim_compare_reply lokhazim_image_compare(
     const uint8_t *first, size_t first_length, const uint8_t *second, size_t second_length, size_t n);
 
 /*
- * Tells the first difference from a position on, which begins as part 0, from 0, and goes on with the reply's. To list all of
+ * Tells the first difference from a position on, which begins as part 0, at 0, and goes on with the reply's. To list all of
  * two long images, ask lokhazim_image_compare once, whether they can be compared, and then this. It refuses nothing.
  */
-struct lokhazim_next_reply lokhazim_image_next(
-    const uint8_t *first, size_t first_length, const uint8_t *second, size_t second_length, uint32_t part, size_t from);
+struct lokhazim_next_reply lokhazim_image_compare_next(
+    const uint8_t *first, size_t first_length, const uint8_t *second, size_t second_length, uint32_t part, size_t at);
 
 /* ---- The same with the accounts by pointer; each gives its refusal ---- */
 

@@ -97,7 +97,7 @@ pub fn compare_images<'a>(
         first,
         second,
         part: 0,
-        from: 0,
+        at: 0,
     })
 }
 
@@ -107,25 +107,25 @@ pub struct Differences<'a> {
     first: &'a [u8],
     second: &'a [u8],
     part: u32,
-    from: usize,
+    at: usize,
 }
 
 impl Iterator for Differences<'_> {
     type Item = Difference;
 
     fn next(&mut self) -> Option<Difference> {
-        let reply = raw::image_next(self.first, self.second, self.part, self.from);
+        let reply = raw::image_next(self.first, self.second, self.part, self.at);
         let found = match reply.kind {
             1 => Difference::LastSerial,
-            2 => Difference::Quota(reply.at),
-            3 => Difference::Record(reply.at),
+            2 => Difference::Quota(reply.place),
+            3 => Difference::Record(reply.place),
             4 => Difference::Bytes {
-                offset: reply.at,
+                offset: reply.place,
                 length: reply.length,
             },
             _ => return None,
         };
-        (self.part, self.from) = (reply.part, reply.from);
+        (self.part, self.at) = (reply.part, reply.at);
         Some(found)
     }
 }

@@ -100,13 +100,13 @@ extern "C" {
         second_length: usize,
         n: usize,
     ) -> CompareReply;
-    fn lokhazim_image_next(
+    fn lokhazim_image_compare_next(
         first: *const u8,
         first_length: usize,
         second: *const u8,
         second_length: usize,
         part: u32,
-        from: usize,
+        at: usize,
     ) -> NextReply;
     fn lokhazim_image_examine(image: *const u8, image_length: usize) -> ExamineReply;
     fn lokhazim_image_read(
@@ -174,10 +174,10 @@ pub fn image_compare(first: &[u8], second: &[u8], n: usize) -> CompareReply {
     unsafe { lokhazim_image_compare(a, first.len(), b, second.len(), n) }
 }
 
-pub fn image_next(first: &[u8], second: &[u8], part: u32, from: usize) -> NextReply {
+pub fn image_next(first: &[u8], second: &[u8], part: u32, at: usize) -> NextReply {
     let (a, b) = (first.as_ptr(), second.as_ptr());
     // SAFETY: pointers and lengths are those of two slices that are borrowed for the call.
-    unsafe { lokhazim_image_next(a, first.len(), b, second.len(), part, from) }
+    unsafe { lokhazim_image_compare_next(a, first.len(), b, second.len(), part, at) }
 }
 
 pub fn image_read(image: &[u8], heap: &mut [u8]) -> RestoreReply {

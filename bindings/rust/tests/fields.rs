@@ -173,7 +173,7 @@ impl Fields for CompareReply {
         visitor.visit32(&mut self.refusal);
         visitor.visit32(&mut self.which);
         visitor.visit32(&mut self.kind);
-        visitor.visit_size(&mut self.at);
+        visitor.visit_size(&mut self.place);
         visitor.visit_size(&mut self.length);
     }
 }
@@ -181,10 +181,10 @@ impl Fields for CompareReply {
 impl Fields for NextReply {
     fn visit(&mut self, visitor: &mut Visitor) {
         visitor.visit32(&mut self.kind);
-        visitor.visit_size(&mut self.at);
+        visitor.visit_size(&mut self.place);
         visitor.visit_size(&mut self.length);
         visitor.visit32(&mut self.part);
-        visitor.visit_size(&mut self.from);
+        visitor.visit_size(&mut self.at);
     }
 }
 

@@ -24,7 +24,7 @@ struct CompareReply {
     refusal: u32,
     which: u32,
     kind: u32,
-    at: usize,
+    place: usize,
     length: usize,
 }
 
@@ -32,10 +32,10 @@ struct CompareReply {
 #[repr(C)]
 struct NextReply {
     kind: u32,
-    at: usize,
+    place: usize,
     length: usize,
     part: u32,
-    from: usize,
+    at: usize,
 }
 
 extern "C" {
@@ -46,13 +46,13 @@ extern "C" {
         second_length: usize,
         n: usize,
     ) -> CompareReply;
-    fn lokhazim_image_next(
+    fn lokhazim_image_compare_next(
         first: *const u8,
         first_length: usize,
         second: *const u8,
         second_length: usize,
         part: u32,
-        from: usize,
+        at: usize,
     ) -> NextReply;
     fn lokhazim_image_length(heap_length: usize) -> usize;
     fn lokhazim_image_write(
@@ -134,33 +134,33 @@ pub fn compare(first: &[u8], second: &[u8], n: usize) -> Result<Option<Differenc
         )
     };
     if reply.refusal != 0 {
-        assert_eq!((reply.kind, reply.at, reply.length), (0, 0, 0));
+        assert_eq!((reply.kind, reply.place, reply.length), (0, 0, 0));
         return Err((reply.refusal, reply.which));
     }
     assert_eq!(reply.which, 0);
-    Ok(difference(reply.kind, reply.at, reply.length))
+    Ok(difference(reply.kind, reply.place, reply.length))
 }
 
 /// Asks the proved code for all differences of two images, each from where the last one was found.
 pub fn all_differences(first: &[u8], second: &[u8]) -> Vec<Difference> {
-    let (mut part, mut from) = (0, 0);
+    let (mut part, mut at) = (0, 0);
     let mut all = Vec::new();
     loop {
         // Safety: as above.
         let reply = unsafe {
-            lokhazim_image_next(
+            lokhazim_image_compare_next(
                 first.as_ptr(),
                 first.len(),
                 second.as_ptr(),
                 second.len(),
                 part,
-                from,
+                at,
             )
         };
-        let Some(found) = difference(reply.kind, reply.at, reply.length) else {
+        let Some(found) = difference(reply.kind, reply.place, reply.length) else {
             return all;
         };
         all.push(found);
-        (part, from) = (reply.part, reply.from);
+        (part, at) = (reply.part, reply.at);
     }
 }

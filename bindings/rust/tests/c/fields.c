@@ -155,17 +155,17 @@ static void visit_compare_reply(struct lokhazim_compare_reply *it)
     visit32(&it->refusal);
     visit32(&it->which);
     visit32(&it->kind);
-    visit_size(&it->at);
+    visit_size(&it->place);
     visit_size(&it->length);
 }
 
 static void visit_next_reply(struct lokhazim_next_reply *it)
 {
     visit32(&it->kind);
-    visit_size(&it->at);
+    visit_size(&it->place);
     visit_size(&it->length);
     visit32(&it->part);
-    visit_size(&it->from);
+    visit_size(&it->at);
 }
 
 /* Stops where fewer bytes could be read or written than a struct has. */
