@@ -9,6 +9,7 @@ use Prim.Native.Nat.{ℕ, zero, suc, _+_, _≤_}
 use native.Mathlib.Omega.{arith}
 use lib.Dec.{eqb}
 use lib.ListN.{length}
+use Rattle.rounding.specs.Rounding.{unit}
 use Rattle.accounts.specs.declared.Accounts.{Accounts}
 use Rattle.layout.specs.Blocks.{Block, size, units, total-size, parse}
 use Rattle.model.specs.Lists.{first, or-else}
@@ -73,23 +74,23 @@ block-inside s at b = go (parse s) refl
     go (some bs) p e = omega (arith, inside-from at 0 bs b (rw (blocks-parsed s bs p) at e), total-parsed s bs p)
 
 -- so does the block that the call gives
-pub given-inside : (s : List ℕ) (k : Accounts) (at : ℕ) (b : ListedBlock) → list-block s k at .values .block ≡ some b → b .offset + b .size ≤ length s
+pub given-inside : (s : List ℕ) (k : Accounts) (at : ℕ) (b : ListedBlock) → list-block unit s k at .values .block ≡ some b → b .offset + b .size ≤ length s
 unfolding list-block unless
-given-inside s k at b = go (first-refusal (check-lines s k))
+given-inside s k at b = go (first-refusal (check-lines unit s k))
   where
     go : (n : ℕ) → unless n s k (unchanged s k (listed (block-at (blocks-of s) at))) .values .block ≡ some b → b .offset + b .size ≤ length s
     go zero e = block-inside s at b e
     go (suc n) e = let z : _≡_ {A = ℕ} 0 1 = cc in absurd (omega arith)
 
 -- the place behind a block that was given, and the place itself where none was
-module _ (s : List ℕ) (k : Accounts) (at : ℕ) (r : BlockAnswer) (told : outcome s k (block-values r) ≡ list-block s k at) where
-  given-block : list-block s k at .values .block ≡ block-values r .block
+module _ (s : List ℕ) (k : Accounts) (at : ℕ) (r : BlockAnswer) (told : outcome s k (block-values r) ≡ list-block unit s k at) where
+  given-block : list-block unit s k at .values .block ≡ block-values r .block
   given-block = sym (ap (λ (o : Outcome). o .values .block) told)
 
   pub after-some : (b : ListedBlock) → r ≡ Listed b → (b .offset + b .size ≤ length s) × (b .offset + b .size ≡ place-after s k at)
   unfolding block-values place-after
   after-some b e =
-      let g : list-block s k at .values .block ≡ some b = given-block ∙ ap (λ (x : BlockAnswer). block-values x .block) e in
+      let g : list-block unit s k at .values .block ≡ some b = given-block ∙ ap (λ (x : BlockAnswer). block-values x .block) e in
       (given-inside s k at b g, rw g)
 
   pub after-none : block-values r .block ≡ none → at ≡ place-after s k at
@@ -103,11 +104,11 @@ given-on (some b) rest = b ∷ rest
 
 unfoldable pub given-from : ℕ → ℕ → List ℕ → Accounts → List ListedBlock
 given-from zero at s k = []
-given-from (suc fuel) at s k = given-on (list-block s k at .values .block) (given-from fuel (place-after s k at) s k)
+given-from (suc fuel) at s k = given-on (list-block unit s k at .values .block) (given-from fuel (place-after s k at) s k)
 
-module _ (s : List ℕ) (k : Accounts) (e : first-refusal (check-lines s k) ≡ 0) where
-  step-given : (at : ℕ) → list-block s k at .values .block ≡ block-at (blocks-of s) at
-  step-given at = ap (λ (o : Outcome). o .values .block) (list-block-step s k at e)
+module _ (s : List ℕ) (k : Accounts) (e : first-refusal (check-lines unit s k) ≡ 0) where
+  step-given : (at : ℕ) → list-block unit s k at .values .block ≡ block-at (blocks-of s) at
+  step-given at = ap (λ (o : Outcome). o .values .block) (list-block-step unit s k at e)
 
   place-some : (at : ℕ) (b : ListedBlock) → block-at (blocks-of s) at ≡ some b → place-after s k at ≡ b .offset + b .size
   unfolding place-after

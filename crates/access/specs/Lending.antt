@@ -5,6 +5,7 @@ use mathlib.Core.List.{List}
 use mathlib.Core.Bool.{cond}
 use lib.ListN.{length, set, take, drop}
 use lib.Dec.{ltb}
+use Rattle.rounding.specs.Rounding.{unit}
 use Rattle.accounts.specs.declared.Accounts.{Accounts}
 use Rattle.model.specs.Answers.{accepted}
 use Rattle.model.specs.Objects.{lookup, found}
@@ -21,14 +22,14 @@ written s o at byte = cond (ltb at (o .length)) (set s (o .base + at) byte) s
 unfoldable pub write-object : List ℕ → Accounts → Handle → ℕ → ℕ → Outcome
 write-object s k h at byte =
     let done = unchanged (written s (found (lookup h s)) at byte) k accepted in
-    unless (first-refusal (lend-lines s k h)) s k done
+    unless (first-refusal (lend-lines unit s k h)) s k done
 
 -- lend's refusal, 0 where there is none; its range, from 0 to 0 where it is refused; and the bytes in that range
 abbrev pub lent-refusal : List ℕ → Accounts → Handle → ℕ
-lent-refusal s k h = lend s k h .values .refusal
+lent-refusal s k h = lend unit s k h .values .refusal
 
 abbrev pub lent-range : List ℕ → Accounts → Handle → Range
-lent-range s k h = lend s k h .values .range
+lent-range s k h = lend unit s k h .values .range
 
 abbrev pub lent-bytes : List ℕ → Accounts → Handle → List ℕ
 lent-bytes s k h = take (lent-range s k h .end - lent-range s k h .start) (drop (lent-range s k h .start) s)

@@ -4,6 +4,7 @@ use mathlib.Core.List.{List}
 use mathlib.Core.Bool.{Bool}
 use mathlib.Core.Option.{Option, none, some}
 use lib.Dec.{eqb}
+use Rattle.rounding.specs.Rounding.{unit}
 use Rattle.accounts.specs.declared.Accounts.{Accounts}
 use Rattle.model.specs.Lists.{first}
 use Rattle.model.specs.Calls.{list-block}
@@ -35,4 +36,4 @@ end-of at (some b) = b .offset + b .size
 
 -- the place behind the block that the listing gives at a place
 unfoldable pub place-after : List ℕ → Accounts → ℕ → ℕ
-place-after s k at = end-of at (list-block s k at .values .block)
+place-after s k at = end-of at (list-block unit s k at .values .block)

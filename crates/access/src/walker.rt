@@ -4,6 +4,7 @@ use accounts::Accounts;
 use model::BlockAnswer;
 ghost use mathlib.Core.Path.{_≡_};
 ghost use Rattle.model.specs.Answers.{block-values};
+ghost use Rattle.rounding.specs.Rounding.{unit};
 ghost use Rattle.model.specs.Calls.{list-block};
 ghost use Rattle.access.specs.Results.{outcome};
 ghost use Rattle.access.specs.Listing.{place-after};
@@ -40,7 +41,7 @@ fn place<'a>(heap: &'a [u8], at: usize) -> Walker<'a>
 
 // The block that starts at the walker's place, if one does.
 pub fn next<'a>(walker: Walker<'a>, accounts: Accounts) -> BlockAnswer
-    ensures { λ r. ⌜ outcome (now (walker .entry .heap)) accounts (block-values r) ≡ list-block (now (walker .entry .heap)) accounts (walker .entry .at) ⌝ }
+    ensures { λ r. ⌜ outcome (now (walker .entry .heap)) accounts (block-values r) ≡ list-block unit (now (walker .entry .heap)) accounts (walker .entry .at) ⌝ }
 {
     list_block(walker.heap, accounts, walker.at)
 }
@@ -58,7 +59,7 @@ pub fn advance<'a>(walker: Walker<'a>, accounts: Accounts) -> Walker<'a>
 
 // The block that a walker at a place gives: with plain parameters.
 pub fn list_from(heap: &[u8], accounts: Accounts, at: usize) -> BlockAnswer
-    ensures { λ r. ⌜ outcome (now (heap .entry)) accounts (block-values r) ≡ list-block (now (heap .entry)) accounts at ⌝ }
+    ensures { λ r. ⌜ outcome (now (heap .entry)) accounts (block-values r) ≡ list-block unit (now (heap .entry)) accounts at ⌝ }
 {
     next(place(heap, at), accounts)
 }

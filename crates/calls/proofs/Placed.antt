@@ -28,7 +28,8 @@ use Rattle.model.proofs.Carve.{Carved}
 use Rattle.writer.specs.Writes.{carve-bytes}
 use Rattle.writer.proofs.CarveBytes.{carve-writes}
 use Rattle.rounding.specs.Rounding.{unit, object-length, alignment}
-use Rattle.rounding.proofs.Rounding.{rounded, alignment-positive, by-row, unit-is}
+use Rattle.rounding.proofs.Rounding.{rounded, alignment-positive, unit-is, alignment-eights}
+use Rattle.invariant.proofs.Requested.{eights}
 use Rattle.finder.specs.declared.Met.{Met}
 use Rattle.finder.specs.declared.Fit.the-variants.{At, Nowhere}
 use Rattle.finder.specs.Walk.{find-fit}
@@ -51,8 +52,7 @@ carved-at base n serial at (x ∷ xs) b ys e low high =
 
 -- a multiple of a request's alignment is one of 8
 aligned-8 : (n b : ℕ) → b % alignment unit n ≡ 0 → b % 8 ≡ 0
-unfolding alignment
-aligned-8 n b = by-row (λ (k : ℕ). b % k ≡ 0 → b % 8 ≡ 0) n (λ _ e. e) (λ _ _ e. omega arith) (λ _ e. omega arith)
+aligned-8 n b e = eights b (alignment unit n) (alignment-eights unit unit-is n) e
 
 -- no two free blocks of a consistent heap stand side by side
 free-blocks-apart : (s : List ℕ) (k : Accounts) → consistent s k ≡ true → free-apart (blocks-of s) ≡ true

@@ -44,11 +44,11 @@ module _ (s : List ℕ) (k : Accounts) (q : ℕ) (h : Handle) (n : ℕ) where
   refuses r x e l = ap (handle-outcome s) e ∙ refused-is (first-refusal (reallocate-lines unit s k q h n)) s k _ x l
 
   -- the first three lines, where the check has answered v
-  pub by-check : (v : Verdict) → verdict-values v ≡ check s k .values → (x : Refusal) → v ≡ NotAccepted x → first-refusal (reallocate-lines unit s k q h n) ≡ refusal-number x
+  pub by-check : (v : Verdict) → verdict-values v ≡ check unit s k .values → (x : Refusal) → v ≡ NotAccepted x → first-refusal (reallocate-lines unit s k q h n) ≡ refusal-number x
   unfolding reallocate-lines
   by-check v told x e = check-refuses s k v told (line-3 q ∷ line-4 n ∷ from-5) x e
 
-  pub by-quota : (v : Verdict) → verdict-values v ≡ check s k .values → v ≡ Accepted → QUOTAS ≤ q → first-refusal (reallocate-lines unit s k q h n) ≡ 3
+  pub by-quota : (v : Verdict) → verdict-values v ≡ check unit s k .values → v ≡ Accepted → QUOTAS ≤ q → first-refusal (reallocate-lines unit s k q h n) ≡ 3
   unfolding reallocate-lines
   by-quota v told a l = check-accepts s k v told (line-3 q ∷ line-4 n ∷ from-5) a ∙ line-3-refuses q (line-4 n ∷ from-5) l
 

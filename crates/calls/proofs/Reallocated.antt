@@ -20,7 +20,9 @@ use Rattle.model.specs.Answers.{given, handle-values}
 use Rattle.model.specs.Lists.{or-else, change-first}
 use Rattle.model.specs.Holds.{take-record}
 use Rattle.model.specs.Objects.{blocks-of, objects, objects-of, lookup, lookup-whole, found}
-use Rattle.model.specs.Consistent.{allowed, has-record}
+use mathlib.Core.Logic.{⊎-elim}
+use Rattle.model.specs.Consistent.{allowed, consistent, has-record, in-units, sound as is-sound}
+use Rattle.model.proofs.Lists.{all-member, member-all}
 use Rattle.model.specs.Refusals.{Line, first-refusal, line-5, line-6, release-lines, allocate-lines, reallocate-lines}
 use Rattle.model.specs.Calls.{Outcome, State, unless, leaves, state-of, allocated, copied, released, new-object, allocate, release, reallocate}
 use Rattle.model.specs.Step.{step}
@@ -29,17 +31,17 @@ use Rattle.model.specs.declared.Refusal.{Refusal}
 use Rattle.model.specs.declared.HandleAnswer.{HandleAnswer}
 use Rattle.model.specs.declared.HandleAnswer.the-variants.{Given, Refused}
 use Rattle.model.specs.declared.Call.the-variants.{Allocate}
-use Rattle.model.proofs.Bools.{fails}
+use Rattle.model.proofs.Bools.{fails, and-right, and-both}
 use Rattle.model.proofs.Lookup.{lookup-exactly, lookup-whole-is}
 use Rattle.model.proofs.Refusals.{by-lines, refusal-of-lines, accepted-exactly, unless-refused}
 use Rattle.writer.proofs.CopyBytes.{copied-bytes}
 use Rattle.invariant.proofs.Good.{Good}
 use Rattle.invariant.proofs.Recorded.{Limits}
-use Rattle.invariant.proofs.Members.{added-old, added-new}
+use Rattle.invariant.proofs.Members.{added-old, added-new, added-cases}
 use Rattle.invariant.proofs.Heaps.{heap-good, heap-again, Written-out, good-heap}
-use Rattle.invariant.proofs.Transitions.{Room, allocated-good, allocated-objects, copied-good}
+use Rattle.invariant.proofs.Transitions.{Room, allocated-good, allocated-objects, copied-good, copied-objects}
 use Rattle.invariant.proofs.Passed.{Allocatable, allocate-passed}
-use Rattle.invariant.proofs.Requested.{requested-room, requested-fresh, still-releasable}
+use Rattle.invariant.proofs.Requested.{requested-room, requested-fresh, still-releasable, new-in-units}
 use Rattle.calls.specs.declared.HandleResult.{HandleResult}
 use Rattle.quotas.specs.declared.AmountResult.{AmountResult}
 use Rattle.access.specs.Results.{outcome}
@@ -79,14 +81,14 @@ line-6-passes k q o rest e = line-passes 6 (not (has-record (k .holds) q (o .ser
 
 -- what a release of an object that is named and held leaves
 module _ (s : List ℕ) (k : Accounts) (q : ℕ) (h old : Handle) (c : Checked s k q) (named : lookup h s ≡ some old) (held : has-record (k .holds) q (old .serial) ≡ true) where
-  release-passes : first-refusal (release-lines s k q h) ≡ 0
+  release-passes : first-refusal (release-lines unit s k q h) ≡ 0
   unfolding release-lines first-refusal found or-else
   release-passes =
       checked-passes s k q (line-5 (lookup h s) ∷ line-6 k q (found (lookup h s)) ∷ []) c
       ∙ line-5-passes (lookup h s) old (line-6 k q (found (lookup h s)) ∷ []) named
       ∙ line-6-passes k q (found (lookup h s)) [] (rw named held)
 
-  release-leaves : (release s k q h .heap ≡ render (released q old (state-of s k) .blocks)) × (release s k q h .accounts ≡ released q old (state-of s k) .accounts)
+  release-leaves : (release unit s k q h .heap ≡ render (released q old (state-of s k) .blocks)) × (release unit s k q h .accounts ≡ released q old (state-of s k) .accounts)
   unfolding release unless found or-else
   release-leaves = rw (release-passes, named) (refl, refl)
 
@@ -158,8 +160,18 @@ module _ (s : List ℕ) (k : Accounts) (q : ℕ) (h : Handle) (n : ℕ) (r : Rea
     written : Written-out filled
     written = good-heap filled (copied-good old new made made-good)
 
+    -- every object of it is in its units: the old ones were, and the new one is
+    filled-fits : is-sound unit (render (filled .blocks)) (filled .accounts) ≡ true
+    unfolding is-sound objects-of
+    filled-fits =
+        let was = all-member (in-units unit) (objects (blocks-of s)) (and-right (consistent s k) _ (r .checked .fitted)) in
+        let d = allocated-objects q new (state-of s k) start room in
+        and-both _ _ (written .sound)
+        (member-all (in-units unit) (objects-of (render (filled .blocks)))
+        (λ x m. ⊎-elim (λ (e : x ≡ new). rw e (new-in-units unit unit-is s k q n p)) (λ y. was x y) (added-cases new (objects (blocks-of s)) (objects (made .blocks)) d x (rw (written .objects, copied-objects old new made made-good) at m))))
+
     filled-checked : Checked (render (filled .blocks)) (filled .accounts) q
-    filled-checked = record { extent = written .allowed; sound = written .sound; exists = r .checked .exists }
+    filled-checked = record { extent = written .allowed; sound = written .sound; fitted = filled-fits; exists = r .checked .exists }
 
     -- the old object can be released in it: its handle names it, the quota has its record
     filled-named : lookup h (render (filled .blocks)) ≡ some old
@@ -167,8 +179,8 @@ module _ (s : List ℕ) (k : Accounts) (q : ℕ) (h : Handle) (n : ℕ) (r : Rea
         let x = still-releasable (state-of s k) start q old new room fresh there held in
         lookup-exactly h (render (filled .blocks)) old .1 (handle-is, rw (written .objects, handle-is) (x .0))
 
-    filled-releases : (release (render (filled .blocks)) (filled .accounts) q h .heap ≡ render (released q old filled .blocks))
-        × (release (render (filled .blocks)) (filled .accounts) q h .accounts ≡ released q old filled .accounts)
+    filled-releases : (release unit (render (filled .blocks)) (filled .accounts) q h .heap ≡ render (released q old filled .blocks))
+        × (release unit (render (filled .blocks)) (filled .accounts) q h .accounts ≡ released q old filled .accounts)
     filled-releases =
         let x = still-releasable (state-of s k) start q old new room fresh there held in
         let t : state-of (render (filled .blocks)) (filled .accounts) ≡ filled = ap (λ (bs : List Block). record { blocks = bs; accounts = filled .accounts }) (written .blocks) in
@@ -215,11 +227,11 @@ module _ (s : List ℕ) (k : Accounts) (q : ℕ) (h : Handle) (n : ℕ) (r : Rea
     copied-checked = rw (bytes-are, accounts-are) (filled-checked o l passed)
 
     -- what it gives makes up what reallocate gives
-    pub given-too : (u : List ℕ) (y : AmountResult) → amount-outcome u y ≡ release t₂ (x .accounts) q h → outcome u (y .accounts) (given new) ≡ reallocate unit s k q h n
+    pub given-too : (u : List ℕ) (y : AmountResult) → amount-outcome u y ≡ release unit t₂ (x .accounts) q h → outcome u (y .accounts) (given new) ≡ reallocate unit s k q h n
     unfolding reallocate copied
     given-too u y f =
         let w = filled-releases o l passed in
-        let g : amount-outcome u y ≡ release (render (filled o l passed .blocks)) (filled o l passed .accounts) q h = f ∙ (λ i. release (bytes-are i) (accounts-are i) q h) in
+        let g : amount-outcome u y ≡ release unit (render (filled o l passed .blocks)) (filled o l passed .accounts) q h = f ∙ (λ i. release unit (bytes-are i) (accounts-are i) q h) in
         let heap-is : u ≡ render (released q old (filled o l passed) .blocks) = ap (λ (z : Outcome). z .heap) g ∙ w .0 in
         let left-is : y .accounts ≡ released q old (filled o l passed) .accounts = ap (λ (z : Outcome). z .accounts) g ∙ w .1 in
         let done = leaves (released q old (filled o l passed)) (given (new-object unit s k n)) in

@@ -9,6 +9,7 @@ use mathlib.Core.Logic.{_≢_}
 use native.Mathlib.Omega.{arith}
 use borrow.Author.Tests.{ne-eqb}
 use lib.ListN.{length, getD, length-set}
+use Rattle.rounding.specs.Rounding.{unit}
 use Rattle.accounts.specs.declared.Accounts.{Accounts}
 use Rattle.accounts.specs.declared.Place.the-variants.{At, Nothing}
 use Rattle.accounts.specs.Accounts.{QUOTAS, zero-hold, is-for, find-hold, hold-at, put-hold, drop-hold, refund}
@@ -50,36 +51,36 @@ module _ (s : List ℕ) (k : Accounts) (q : ℕ) (h : Handle) where
   from-5 = line-5 (lookup h s) ∷ line-6 k q (found (lookup h s)) ∷ []
 
   -- the first three lines, where the check has answered v
-  pub by-check : (v : Verdict) → verdict-values v ≡ check s k .values → (x : Refusal) → v ≡ NotAccepted x → first-refusal (release-lines s k q h) ≡ refusal-number x
+  pub by-check : (v : Verdict) → verdict-values v ≡ check unit s k .values → (x : Refusal) → v ≡ NotAccepted x → first-refusal (release-lines unit s k q h) ≡ refusal-number x
   unfolding release-lines
   by-check v told x e = check-refuses s k v told (line-3 q ∷ from-5) x e
 
-  pub by-quota : (v : Verdict) → verdict-values v ≡ check s k .values → v ≡ Accepted → QUOTAS ≤ q → first-refusal (release-lines s k q h) ≡ 3
+  pub by-quota : (v : Verdict) → verdict-values v ≡ check unit s k .values → v ≡ Accepted → QUOTAS ≤ q → first-refusal (release-lines unit s k q h) ≡ 3
   unfolding release-lines
   by-quota v told a l = check-accepts s k v told (line-3 q ∷ from-5) a ∙ line-3-refuses q from-5 l
 
   -- a refusal as a result
-  pub refuses : (r : AmountResult) (x : Refusal) → r ≡ record { accounts = k; answer = Refused x } → first-refusal (release-lines s k q h) ≡ refusal-number x
-      → amount-outcome s r ≡ release s k q h
+  pub refuses : (r : AmountResult) (x : Refusal) → r ≡ record { accounts = k; answer = Refused x } → first-refusal (release-lines unit s k q h) ≡ refusal-number x
+      → amount-outcome s r ≡ release unit s k q h
   unfolding release amount-values
-  refuses r x e n = ap (amount-outcome s) e ∙ refused-is (first-refusal (release-lines s k q h)) s k _ x n
+  refuses r x e n = ap (amount-outcome s) e ∙ refused-is (first-refusal (release-lines unit s k q h)) s k _ x n
 
   -- the others, of what was checked: no object, no record, or one claim less
   module _ (c : Checked s k q) where
-    pub by-object : find-object h s ≡ Missing → first-refusal (release-lines s k q h) ≡ 5
+    pub by-object : find-object h s ≡ Missing → first-refusal (release-lines unit s k q h) ≡ 5
     unfolding release-lines
     by-object e = quota-missing s k Accepted (accepted-check s k q c) refl q h (line-6 k q (found (lookup h s)) ∷ []) (c .exists) e
 
     module _ (m : Met) (e : find-object h s ≡ Found m) where
-      pub by-record : find-hold (m .serial) q k ≡ Nothing → first-refusal (release-lines s k q h) ≡ 6
+      pub by-record : find-hold (m .serial) q k ≡ Nothing → first-refusal (release-lines unit s k q h) ≡ 6
       by-record p = release-refuses s k Accepted (accepted-check s k q c) refl h m e q (c .exists) (rw (byte-quota q (c .exists)) p)
 
-      pub dropped : (i : ℕ) → find-hold (m .serial) q k ≡ At i → claim-dropped s k q (object-met m) ≡ release s k q h
+      pub dropped : (i : ℕ) → find-hold (m .serial) q k ≡ At i → claim-dropped s k q (object-met m) ≡ release unit s k q h
       unfolding release
       dropped i p =
           let told = accepted-check s k q c in
           ap (claim-dropped s k q) (sym (located s k Accepted told refl h m e .object))
-          ∙ accepted-is (first-refusal (release-lines s k q h)) s k _ (release-passes s k Accepted told refl h m e q (c .exists) i (rw (byte-quota q (c .exists)) p))
+          ∙ accepted-is (first-refusal (release-lines unit s k q h)) s k _ (release-passes s k Accepted told refl h m e q (c .exists) i (rw (byte-quota q (c .exists)) p))
 
 -- the quota's record for the object of the block m stands at place i
 module _ (s : List ℕ) (k : Accounts) (o : Octets s) (q : ℕ) (m : Met) (i : ℕ) (y : Holding s k q m i) where

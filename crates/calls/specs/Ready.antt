@@ -4,13 +4,14 @@ use mathlib.Core.Path.{_≡_}
 use mathlib.Core.List.{List}
 use mathlib.Core.Bool.{true}
 use lib.ListN.{length}
+use Rattle.rounding.specs.Rounding.{unit}
 use Rattle.accounts.specs.declared.Accounts.{Accounts}
 use Rattle.accounts.specs.Accounts.{QUOTAS, find-hold}
 use Rattle.accounts.specs.declared.Place.the-variants.{At}
 use Rattle.finder.specs.declared.Met.{Met}
 use Rattle.finder.specs.declared.Lookup.the-variants.{Found}
 use Rattle.finder.specs.Walk.{find-object}
-use Rattle.model.specs.Consistent.{allowed, consistent}
+use Rattle.model.specs.Consistent.{allowed, consistent, sound as is-sound}
 use Rattle.model.specs.Refusals.{greatest-length}
 use Rattle.model.specs.declared.Handle.{Handle}
 
@@ -18,6 +19,7 @@ use Rattle.model.specs.declared.Handle.{Handle}
 pub record Checked (s : List ℕ) (k : Accounts) (q : ℕ) : Type 0 where
   pub extent : allowed (length s) ≡ true
   pub sound : consistent s k ≡ true
+  pub fitted : is-sound unit s k ≡ true
   pub exists : q < QUOTAS
 
 -- nor does line 4

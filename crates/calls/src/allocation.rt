@@ -66,7 +66,7 @@ pub(crate) fn grant(heap: &mut [u8], accounts: Accounts, quota: u32, length: u32
     if 4294967295 <= last {
         return HandleResult::refused(accounts, Refusal::SerialsExhausted);
     }
-    let alignment = rounding::alignment(length);
+    let alignment = rounding::unit(size);
     let Fit::At(block, base) = finder::find_base(heap, alignment, size as usize) else {
         return HandleResult::refused(accounts, Refusal::NoSpace);
     };

@@ -2,9 +2,10 @@
 -- starts no block, among them one whose size is 0, or a back size that is wrong, is no cut; a block that fails fails the whole; at the heap's end the keys and the debts that
 -- are left decide.
 -- Assumes nothing.
-use Prim.Native.Nat.{ℕ, _+_, _*_, _<_, _≤_}
-use mathlib.Core.Path.{_≡_, refl, ap, _∙_}
-use mathlib.Core.Bool.{true, false, _&&_}
+use Prim.Native.Nat.{ℕ, _+_, _*_, _-_, _%_, _<_, _≤_}
+use native.Mathlib.Nat.{sub-self}
+use mathlib.Core.Path.{_≡_, refl, ap, sym, subst, _∙_}
+use mathlib.Core.Bool.{Bool, true, false, _&&_}
 use mathlib.Core.List.{List, [], _∷_}
 use mathlib.Core.Option.{Option, none, some}
 use native.Mathlib.Omega.{arith}
@@ -16,7 +17,11 @@ use Rattle.layout.proofs.Starts.{start-found, start-header, start-no}
 use Rattle.layout.proofs.Fuel.{cut-end, cut-nothing, cut-at, cut-other, block-at, size-at}
 use Rattle.checker.specs.Audit.{all-zero, State, begin, behind, visit, audit, audit-parsed}
 use Rattle.checker.specs.Contracts.{Ready, Visited}
+use Rattle.model.specs.Lists.{all}
+use Rattle.model.specs.Objects.{objects-from}
+use Rattle.checker.specs.Fitting.{fits-block, fitting}
 use Rattle.checker.proofs.Cases.{by-eq}
+use Rattle.checker.proofs.Fitting.{fitting-front}
 
 -- the block in front, and a walk that has failed
 parsed-front : (last : ℕ) (b : Block) (t : State) (rest : Option (List Block)) → audit-parsed last (in-front b rest) (some t) ≡ audit-parsed last rest (visit last (b .serial) (size b) t)
@@ -31,17 +36,20 @@ parsed-none last (some []) = refl
 parsed-none last (some (b ∷ bs)) = refl
 
 -- on the way
-pub record Walking (s keys₀ next heads owed₀ : List ℕ) (last : ℕ) (keys owed : List ℕ) (before back : ℕ) (rest : List ℕ) : Type 0 where
+pub record Walking (unit : ℕ → ℕ) (s keys₀ next heads owed₀ : List ℕ) (last : ℕ) (keys owed : List ℕ) (before back : ℕ) (rest : List ℕ) : Type 0 where
   pub inside : length rest ≤ length s
   pub ready : Ready keys next heads owed
   pub same : audit-parsed last (parse s) (some (begin keys₀ owed₀)) ≡ audit-parsed last (cut back rest) (some (behind before keys owed))
+  pub even : (length s - length rest) % 8 ≡ 0
+  pub fit : fitting unit 0 (parse s) ≡ fitting unit (length s - length rest) (cut back rest)
 
-pub walking-start : {s keys next heads owed : List ℕ} {last : ℕ} → Ready keys next heads owed → Walking s keys next heads owed last keys owed 1 0 s
+pub walking-start : {unit : ℕ → ℕ} {s keys next heads owed : List ℕ} {last : ℕ} → Ready keys next heads owed → Walking unit s keys next heads owed last keys owed 1 0 s
 unfolding parse
-walking-start r = record { inside = omega arith; ready = r; same = refl }
+walking-start {unit} {s} r =
+    record { inside = omega arith; ready = r; same = refl; even = ap (λ (x : ℕ). x % 8) (sub-self (length s)); fit = ap (λ (x : ℕ). fitting unit x (parse s)) (sym (sub-self (length s))) }
 
-module _ {s keys₀ next heads owed₀ : List ℕ} {last : ℕ} {keys owed : List ℕ} {before back : ℕ} {rest : List ℕ}
-    (g : Walking s keys₀ next heads owed₀ last keys owed before back rest) where
+module _ {unit : ℕ → ℕ} {s keys₀ next heads owed₀ : List ℕ} {last : ℕ} {keys owed : List ℕ} {before back : ℕ} {rest : List ℕ}
+    (g : Walking unit s keys₀ next heads owed₀ last keys owed before back rest) where
   stops : cut back rest ≡ none → audit-parsed last (parse s) (some (begin keys₀ owed₀)) ≡ false
   unfolding audit-parsed
   stops e = g .same ∙ ap (λ (x : Option (List Block)). audit-parsed last x (some (behind before keys owed))) e
@@ -56,6 +64,11 @@ module _ {s keys₀ next heads owed₀ : List ℕ} {last : ℕ} {keys owed : Lis
   pub walking-end : length rest ≡ 0 → audit-parsed last (parse s) (some (begin keys₀ owed₀)) ≡ (all-zero keys && all-zero owed)
   unfolding audit-parsed audit
   walking-end h = g .same ∙ ap (λ (x : Option (List Block)). audit-parsed last x (some (behind before keys owed))) (cut-end back 0 rest (omega arith))
+
+  -- at the end every object is in its units
+  pub walking-fits : length rest ≡ 0 → fitting unit 0 (parse s) ≡ true
+  unfolding fitting all objects-from
+  walking-fits h = g .fit ∙ ap (fitting unit (length s - length rest)) (cut-end back 0 rest (omega arith))
 
   -- by the header that is read, and the visit
   module _ {h : Header} (e : header-at 0 rest ≡ h) (some-rest : 8 ≤ length rest) where
@@ -97,11 +110,34 @@ module _ {s keys₀ next heads owed₀ : List ℕ} {last : ℕ} {keys owed : Lis
           ∙ parsed-none last (cut (h .size) (drop (8 * h .size) rest))))
           (λ n. walking-back n)
 
+      -- the objects' units: the block's own, and those of the blocks behind it
+      abbrev place : ℕ
+      place = length s - length rest
+
+      units-step : 1 ≤ h .size → h .back ≡ back
+          → fitting unit 0 (parse s) ≡ (fits-block unit place (h .serial) (8 * h .size) && fitting unit (place + 8 * h .size) (cut (h .size) (drop (8 * h .size) rest)))
+      units-step p q =
+          let f = start-found 0 rest h (starts p) in
+          let z : 0 + 8 * h .size ≡ 8 * h .size = omega arith in
+          g .fit ∙ ap (fitting unit place) (cut-at back 0 rest h (starts p) q)
+          ∙ ap (λ (x : ℕ). fitting unit place (in-front (read-block rest) (cut (h .size) (drop x rest)))) z
+          ∙ fitting-front unit place (read-block rest) (cut (h .size) (drop (8 * h .size) rest))
+          ∙ ap (λ (x : ℕ). fits-block unit place (read-block rest .serial) x && fitting unit (place + x) (cut (h .size) (drop (8 * h .size) rest))) (size-at 0 rest h f)
+          ∙ ap (λ (b : Block). fits-block unit place (b .serial) (8 * h .size) && fitting unit (place + 8 * h .size) (cut (h .size) (drop (8 * h .size) rest))) (block-at 0 rest h f)
+
+      pub walking-unfit : 8 ≤ 8 * h .size → h .back ≡ back → fits-block unit place (h .serial) (8 * h .size) ≡ false → fitting unit 0 (parse s) ≡ false
+      walking-unfit p q e = units-step (omega arith) q ∙ ap (λ (x : Bool). x && fitting unit (place + 8 * h .size) (cut (h .size) (drop (8 * h .size) rest))) e
+
       pub walking-on : {keys′ owed′ : List ℕ} → Visited last (h .serial) (8 * h .size) before next heads keys owed true keys′ owed′
-          → h .back ≡ back → {rest′ : List ℕ} → rest′ ≡ drop (8 * h .size) rest → Walking s keys₀ next heads owed₀ last keys′ owed′ (h .serial) (h .size) rest′
-      walking-on w q p =
+          → h .back ≡ back → fits-block unit place (h .serial) (8 * h .size) ≡ true → {rest′ : List ℕ} → rest′ ≡ drop (8 * h .size) rest → Walking unit s keys₀ next heads owed₀ last keys′ owed′ (h .serial) (h .size) rest′
+      walking-on w q u p =
+          let l = g .inside in
+          let e : length s - (length rest - 8 * h .size) ≡ place + 8 * h .size = omega arith in
+          let x = g .even in
           record {
             inside = rw (p, length-drop (8 * h .size) rest) (omega (arith, g .inside));
             ready = w .1;
             same = rw p (step (omega (arith, w .0)) q ∙ ap (λ (t : Option State). audit-parsed last (cut (h .size) (drop (8 * h .size) rest)) t) (w .2));
+            even = rw (p, length-drop (8 * h .size) rest, e) (omega arith);
+            fit = rw p (subst (λ (x : ℕ). fitting unit 0 (parse s) ≡ fitting unit (length s - x) (cut (h .size) (drop (8 * h .size) rest))) (sym (length-drop (8 * h .size) rest)) (rw e (units-step (omega (arith, w .0)) q ∙ ap (λ (x : Bool). x && fitting unit (place + 8 * h .size) (cut (h .size) (drop (8 * h .size) rest))) u)));
           }

@@ -3,3 +3,4 @@ pub mod Chains
 pub mod Audit
 pub mod Contracts
 pub mod Holders
+pub mod Fitting

@@ -13,13 +13,15 @@ use std::num::wrapping_sub_usize;
 ghost use mathlib.Core.Path.{_≡_};
 ghost use mathlib.Core.Option.{some};
 ghost use mathlib.Core.List.{map};
-ghost use Prim.Native.Nat.{_+_, _*_, _<_};
+ghost use Prim.Native.Nat.{_+_, _*_, _%_, _^_, _<_};
 ghost use mathlib.Core.Bool.{true, _&&_};
 ghost use lib.Dec.{eqb, ltb, leb};
 ghost use lib.ListN.{length};
 ghost use Rattle.model.specs.Answers.{verdict-values};
 ghost use Rattle.model.specs.Consistent.{allowed};
 ghost use Rattle.model.specs.Calls.{check as check-of};
+ghost use Rattle.rounding.specs.Rounding.{unit};
+ghost use Rattle.checker.specs.Fitting.{fits-block, fitting};
 ghost use Rattle.accounts.specs.Accounts.{QUOTAS, HOLDS};
 ghost use Rattle.layout.specs.Blocks.{parse};
 ghost use Rattle.checker.specs.Keys.{quota-of, for-serial, paid-by};
@@ -300,6 +302,25 @@ fn is_paid(owed: &[usize; QUOTAS]) -> bool
     true
 }
 
+// Whether a block that starts at a place is free, or has an object whose base and length are multiples of its unit. Places and sizes are multiples of 8.
+fn is_fitting(at: usize, serial: u32, size: usize) -> bool
+    requires { ⌜ (at % 8 ≡ 0) × (size % 8 ≡ 0) × (size < 2 ^ 32) × (at + 8 < 2 ^ 64) ⌝ }
+    ensures { λ r. ⌜ r ≡ fits-block unit at serial size ⌝ }
+{
+    if serial == 0 {
+        return true;
+    }
+    if size < 8200 {
+        return true;
+    }
+    let length = size - 8;
+    let unit = rounding::unit(length as u32) as usize;
+    if length % unit != 0 {
+        return false;
+    }
+    (at + 8) % unit == 0
+}
+
 // The walk over the blocks: whether the heap is cut into blocks, each as it must be, and at the end every key is struck and nothing is owed.
 fn walk(
     heap: &[u8],
@@ -310,7 +331,7 @@ fn walk(
     last: u32,
 ) -> bool
     requires { ⌜ Ready (now keys) (now next) (now heads) (now owed) ⌝ }
-    ensures { λ r. ⌜ r ≡ audit-parsed last (parse (now (heap .entry))) (some (begin (now (keys .entry)) (now (owed .entry)))) ⌝ }
+    ensures { λ r. ⌜ r ≡ (audit-parsed last (parse (now (heap .entry))) (some (begin (now (keys .entry)) (now (owed .entry)))) && fitting unit 0 (parse (now (heap .entry)))) ⌝ }
 {
     let mut before: u32 = 1;
     let mut back: usize = 0;
@@ -328,6 +349,10 @@ fn walk(
         if !visit(keys, next, heads, owed, last, before, serial, size) {
             return false;
         }
+        let at = heap.len() - rest.len();
+        if !is_fitting(at, serial, size) {
+            return false;
+        }
         before = serial;
         back = header.size;
         rest = &rest[size..];
@@ -343,7 +368,7 @@ fn walk(
 
 // The verdict on a heap and its accounting state: refused for its length, refused as inconsistent, or accepted.
 pub fn check(heap: &[u8], accounts: Accounts) -> Verdict
-    ensures { λ r. ⌜ verdict-values r ≡ check-of (now (heap .entry)) accounts .values ⌝ }
+    ensures { λ r. ⌜ verdict-values r ≡ check-of unit (now (heap .entry)) accounts .values ⌝ }
 {
     if !is_allowed(heap.len()) {
         return Verdict::Refused(Refusal::HeapLength);

@@ -8,6 +8,7 @@ pub mod Opening
 pub mod Steps
 pub mod Fields
 pub mod Space
+pub mod Fitted
 pub mod Theorem
 pub mod Reading
 pub mod Contents

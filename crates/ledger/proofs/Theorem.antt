@@ -5,7 +5,7 @@
 use Prim.Native.Nat.{ℕ, _<_}
 use native.Mathlib.Omega.{arith}
 use mathlib.Core.Path.{_≡_, refl, subst, ap, _∙_}
-use mathlib.Core.List.{List, [], _∷_, _++_}
+use mathlib.Core.List.{List, [], _∷_, _++_, List·Memᴰ·not-nil}
 use mathlib.Core.Bool.{Bool, true, false, cond}
 use lib.ListN.{length, getD}
 use lib.Dec.{eqb}
@@ -30,6 +30,7 @@ use Rattle.ledger.proofs.Writing.{written-agrees}
 use Rattle.ledger.proofs.Steps.{step-agrees}
 use Rattle.ledger.proofs.Fields.{live-once-of, apart-of, off-headers-of, inside-of, record-held-of, hold-recorded-of, records-once-of, balanced-of, answered-of}
 use Rattle.ledger.proofs.Space.{space-decided}
+use Rattle.ledger.proofs.Fitted.{Fitted, step-fits, sound-of}
 use Rattle.ledger.proofs.Wrong
 
 -- no two objects of the ledger, at two places, share a byte: their serials differ, and each is the object of a live block
@@ -76,10 +77,17 @@ module _ (unit : ℕ → ℕ) (units : Units unit) where
       (step-agrees unit units c (ledger-of grants es) (h .0) (h .1) (history-agrees grants es (h .0) (h .1) (h .2)))
   history-agrees grants (Wrote ∷ es) s k h = written-agrees (ledger-of grants es) (h .0) s k (history-agrees grants es (h .0) k (h .1)) (h .2)
 
+  pub history-fits : (grants : List ℕ) (es : List Event) (s : List ℕ) (k : Accounts) → History (step unit) grants es s k → Fitted unit (ledger-of grants es)
+  unfolding ledger-of record-event empty
+  history-fits grants [] s k h = λ o m. absurd (List·Memᴰ·not-nil m)
+  history-fits grants (Called c v ∷ es) s k h =
+      subst (λ (t : Outcome). Fitted unit (record-call c (t .values) (ledger-of grants es))) (h .3) (step-fits unit units c (ledger-of grants es) (h .0) (h .1) (history-fits grants es (h .0) (h .1) (h .2)))
+  history-fits grants (Wrote ∷ es) s k h = history-fits grants es (h .0) k (h .1)
+
   -- what the claim says of a history is what agreement says of its end
   holds-after : (grants : List ℕ) (front back : List Event) (s : List ℕ) (k : Accounts) → ledger-of grants (back ++ front) .grants ≡ grants
-      → Agrees (ledger-of grants (back ++ front)) s k → Holds unit (step unit) grants front back s k
-  holds-after grants front back s k same a =
+      → Agrees (ledger-of grants (back ++ front)) s k → Fitted unit (ledger-of grants (back ++ front)) → Holds unit (step unit) grants front back s k
+  holds-after grants front back s k same a f =
       let l = ledger-of grants (back ++ front) in
       record {
         as-defined = λ c. refl;
@@ -96,11 +104,11 @@ module _ (unit : ℕ → ℕ) (units : Units unit) where
         records-once = records-once-of l s k a;
         grants-kept = rw same at (a .grants);
         balanced = λ q x. rw same at (balanced-of l s k a q x);
-        answered = answered-of l s k a unit;
+        answered = answered-of l s k a unit (sound-of unit l s k a f);
         no-space = λ c r e p. space-decided unit units s k c r e p .no-space;
         space = λ c r e p. space-decided unit units s k c r e p .space;
         length-allowed = a .extent;
-        kept-consistent = a .sound;
+        kept-sound = sound-of unit l s k a f;
       }
 
   -- THE THEOREM
@@ -109,7 +117,7 @@ module _ (unit : ℕ → ℕ) (units : Units unit) where
       record {
         always =
             λ grants front back s k h.
-            holds-after grants front back s k (ledger-grants grants (back ++ front)) (history-agrees grants (back ++ front) s k h);
+            holds-after grants front back s k (ledger-grants grants (back ++ front)) (history-agrees grants (back ++ front) s k h) (history-fits grants (back ++ front) s k h);
       }
 
 -- and so of document 01's table

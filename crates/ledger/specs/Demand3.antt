@@ -15,7 +15,7 @@ use Rattle.rounding.specs.Rounding.{object-length, alignment}
 use Rattle.model.specs.Lists.{any, keep, total}
 use Rattle.model.specs.Answers.{amount-of, zero-handle}
 use Rattle.model.specs.Objects.{blocks-of, objects-of}
-use Rattle.model.specs.Consistent.{allowed, consistent, serials-differ, records-differ}
+use Rattle.model.specs.Consistent.{allowed, sound, serials-differ, records-differ}
 use Rattle.model.specs.Refusals.{Line, line-number, line-holds, allocate-lines, reallocate-lines}
 use Rattle.model.specs.Calls.{listing-from}
 use Rattle.model.specs.Step.{step}
@@ -101,7 +101,7 @@ pub record Holds (unit : ℕ → ℕ) (run : Run) (grants : List ℕ) (front bac
       → (b : ℕ) → SuitableRun unit s (r .asked) b → run c s k .values .refusal ≡ 0
   -- no call is refused by 1 or 2
   pub length-allowed : allowed (length s) ≡ true
-  pub kept-consistent : consistent s k ≡ true
+  pub kept-sound : sound unit s k ≡ true
 
 pub record Demand3 (unit : ℕ → ℕ) (run : Run) : Type 0 where
   pub always : (grants : List ℕ) (front back : List Event) (s : List ℕ) (k : Accounts) → History run grants (back ++ front) s k → Holds unit run grants front back s k

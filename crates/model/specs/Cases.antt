@@ -59,10 +59,10 @@ written-heap =
 unfoldable pub cases : List Case
 cases =
     -- both sides of each row of the rounding table, and of the remainder
-    case (fresh-heap 16384) (Allocate 0 8191 ∷ Allocate 1 993 ∷ Allocate 1 992 ∷ []) (given (handle 8 8192 1) ∷ refused 8 ∷ given (handle 8208 992 2) ∷ []) 0 []
+    case (fresh-heap 16384) (Allocate 0 8191 ∷ Allocate 1 993 ∷ Allocate 1 992 ∷ []) (given (handle 16 8192 1) ∷ refused 8 ∷ given (handle 8216 992 2) ∷ []) 0 []
     ∷ case (fresh-heap 16384) (Allocate 0 8192 ∷ ListBlock 0 ∷ ListBlock 4 ∷ [])
     (given (handle 16 8192 1) ∷ listed (some (record { offset = 0; size = 8; serial = 0 })) ∷ listed none ∷ []) 0 []
-    ∷ case (fresh-heap 32768) (Allocate 0 16383 ∷ []) (given (handle 16 16384 1) ∷ []) 0 []
+    ∷ case (fresh-heap 32768) (Allocate 0 16383 ∷ []) (given (handle 32 16384 1) ∷ []) 0 []
     ∷ case (fresh-heap 32768) (Allocate 0 32737 ∷ Allocate 0 32736 ∷ []) (refused 11 ∷ given (handle 32 32736 1) ∷ []) 0 []
     -- the true product, and line 4 on both sides
     ∷ case (fresh-heap 64) (AllocateArray 0 3 5 ∷ AllocateArray 0 65536 65536 ∷ AllocateArray 0 2 2147483649 ∷ Allocate 0 0 ∷ Allocate 0 32761 ∷ Allocate 0 32760 ∷ [])

@@ -10,7 +10,7 @@ use Rattle.accounts.specs.declared.Accounts.{Accounts}
 use Rattle.accounts.specs.Accounts.{QUOTAS, used, is-for}
 use Rattle.layout.specs.Blocks.{Block, size, live, parse}
 use Rattle.model.specs.Lists.{all, any, total}
-use Rattle.model.specs.Objects.{objects}
+use Rattle.model.specs.Objects.{objects, objects-of}
 use Rattle.model.specs.declared.Handle.{Handle}
 
 -- a heap length that is allowed: a multiple of 8, 64 to 32,768
@@ -80,7 +80,14 @@ unfoldable pub balanced-from : List Handle → List Hold → ℕ → List Quota 
 balanced-from os hs q [] = true
 balanced-from os hs q (x ∷ xs) = eqb (x .grant) (x .remainder + charges hs q os) && balanced-from os hs (suc q) xs
 
--- all of it, of a heap that is cut into these blocks
+-- "every base and length is a multiple of its object's unit"
+abbrev pub fits-unit : (ℕ → ℕ) → ℕ → ℕ → Bool
+fits-unit unit base length = eqb (length % unit length) 0 && eqb (base % unit length) 0
+
+unfoldable pub in-units : (ℕ → ℕ) → Handle → Bool
+in-units unit o = fits-unit unit (o .base) (o .length)
+
+-- all of it but that, of a heap that is cut into these blocks
 unfoldable pub consistent-blocks : List Block → Accounts → Bool
 consistent-blocks bs k =
     let os = objects bs in
@@ -99,3 +106,7 @@ consistent-parsed (some bs) k = consistent-blocks bs k
 
 unfoldable pub consistent : List ℕ → Accounts → Bool
 consistent s k = consistent-parsed (parse s) k
+
+-- and all of it
+unfoldable pub sound : (ℕ → ℕ) → List ℕ → Accounts → Bool
+sound unit s k = consistent s k && all (in-units unit) (objects-of s)

@@ -4,22 +4,23 @@ use mathlib.Core.Path.{_≡_}
 use mathlib.Core.Bool.{cond}
 use lib.Dec.{leb, ltb}
 
--- document 01's table; a length below its first row or above its last one has that row's unit
+-- document 01's table, and 64 for 32,768; a length below its first row or above its last one has that row's unit
 unfoldable pub unit : ℕ → ℕ
-unit n = cond (leb n 8191) 8 (cond (leb n 16383) 16 32)
-
--- what every table of units has: its values are nonzero multiples of 8
-pub record Units (u : ℕ → ℕ) : Type 0 where
-  pub positive : (n : ℕ) → 0 < u n
-  pub eights : (n : ℕ) → u n % 8 ≡ 0
+unit n = cond (leb n 8191) 8 (cond (leb n 16383) 16 (cond (leb n 32767) 32 64))
 
 -- the object's length: the request rounded up to a multiple of its unit
 unfoldable pub object-length : (ℕ → ℕ) → ℕ → ℕ
 object-length u n = (n + (u n - 1)) / u n * u n
 
--- the base's alignment: the base is a multiple of the same unit
+-- the base's alignment: the unit of the object's length
 unfoldable pub alignment : (ℕ → ℕ) → ℕ → ℕ
-alignment u n = u n
+alignment u n = u (object-length u n)
+
+-- what every table of units has: its values are nonzero multiples of 8, and a rounded length rounds to itself
+pub record Units (u : ℕ → ℕ) : Type 0 where
+  pub positive : (n : ℕ) → 0 < u n
+  pub eights : (n : ℕ) → u n % 8 ≡ 0
+  pub stable : (n : ℕ) → object-length u (object-length u n) ≡ object-length u n
 
 -- the leading zeros of x, written with w bits
 unfoldable pub leading-zeros : ℕ → ℕ → ℕ

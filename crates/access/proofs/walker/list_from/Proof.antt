@@ -39,6 +39,7 @@ use denote.Triple.Table.{entered, cited}
 use denote.Triple.Walked.{says, Stays, stay-none, stay-none-slice, walkOf, goes-none, goes-none-slice, Walks, ends-at, walked, walk-meets}
 use denote.Exit.{yes}
 use denote.Triple.Clauses.{ensured, lasts}
+use Rattle.rounding.specs.Rounding.{unit}
 use Rattle.model.specs.Answers.{block-values}
 use Rattle.model.specs.Calls.{list-block}
 use Rattle.access.specs.Results.{outcome}
@@ -89,7 +90,7 @@ module _ {M : Type 1} (𝓤 : URA M) (H : Heap 𝓤) (A : Atoms 𝓤) (W : Given
 
   -- what the contracts say of a result, of a slice and a place
   abbrev Says : RefT (List ℕ) → ℕ → BlockAnswer → Type 0
-  Says x m t = outcome (now x) b (block-values t) ≡ list-block (now x) b m
+  Says x m t = outcome (now x) b (block-values t) ≡ list-block unit (now x) b m
 
   -- the struct's type as a local of a body has it
   abbrev αᵉ : NamedLft

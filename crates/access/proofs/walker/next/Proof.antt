@@ -43,6 +43,7 @@ use denote.Triple.Table.{entered, cited}
 use denote.Triple.Walked.{says, Stays, stay-none, walkOf, goes-none, Walks, ends-at, walked, walk-meets}
 use denote.Exit.{yes}
 use denote.Triple.Clauses.{ensured, lasts}
+use Rattle.rounding.specs.Rounding.{unit}
 use Rattle.model.specs.Answers.{block-values}
 use Rattle.model.specs.Calls.{list-block}
 use Rattle.access.specs.Results.{outcome}
@@ -89,7 +90,7 @@ module _ {M : Type 1} (𝓤 : URA M) (H : Heap 𝓤) (A : Atoms 𝓤) (W : Given
 
   -- what the contract says of a result
   abbrev Says : BlockAnswer → Type 0
-  Says r = outcome (now (d .heap)) b (block-values r) ≡ list-block (now (d .heap)) b (d .at)
+  Says r = outcome (now (d .heap)) b (block-values r) ≡ list-block unit (now (d .heap)) b (d .at)
 
   abbrev at : Vals next.signature (κ, tt)
   at = (mach ∷ [], (accounts ∷ [], tt))

@@ -6,6 +6,7 @@ use mathlib.Core.Path.{_≡_}
 use mathlib.Core.List.{List}
 use lib.ListN.{length-map}
 use Prim.Native.Nat.{ℕ}
+use Rattle.rounding.specs.Rounding.{unit}
 use Rattle.accounts.proofs.Laws.{Sized}
 use Rattle.layout.specs.Bytes.{Octets}
 use Rattle.model.specs.Calls.{free-all}
@@ -93,7 +94,7 @@ walked : (c : tie.After-held-each)
     → Emptiable (c .held-each .result) (start c .args .heap .now)
     × ((s : List ℕ) → Emptied (c .held-each .result) (start c .args .heap .now) s
     → (r : AmountResult) → r ≡ record { accounts = c .before .before .before .before .drop-holds .result; answer = Amount (c .before .before .before .before .before .before .spent .result) }
-    → amount-outcome s r ≡ free-all (start c .args .heap .now) (start c .args .accounts) (start c .args .quota))
+    → amount-outcome s r ≡ free-all unit (start c .args .heap .now) (start c .args .accounts) (start c .args .quota))
 walked c =
     let a = start c .args in
     let l = c .before .before .before .before in
