@@ -1,8 +1,8 @@
-// Rounding of requested lengths: the unit of a length, the object's length and the alignment of its base.
+// Rounding of requested lengths (rules, section 6): the unit of a length, which is also the alignment of an object of that length, and the object's length.
 ghost use mathlib.Core.Path.{_≡_};
 ghost use Rattle.rounding.specs.Rounding.{unit as unit-of, object-length};
 
-// The unit of a requested length.
+// The unit of a length: of a request's to round it, of an object's to align it.
 pub fn unit(length: u32) -> u32
     ensures { λ r. ⌜ r ≡ unit-of length ⌝ }
 {
