@@ -1,6 +1,7 @@
 pub mod Computing
 pub mod Marked
 pub mod Cases
+pub mod Units
 pub mod Bools
 pub mod Lists
 pub mod Base

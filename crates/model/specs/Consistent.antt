@@ -1,4 +1,4 @@
--- When heap and accounts are consistent ("sound" in document 01): one test for each sentence of that paragraph, in its order.
+-- When heap and accounts are consistent (rules, section 5): one test for each rule, in their order. `sound` is all of them.
 use Prim.Native.Nat.{ℕ, suc, _+_, _%_}
 use mathlib.Core.List.{List, [], _∷_}
 use mathlib.Core.Bool.{Bool, true, false, not, cond, _&&_, _||_}
@@ -80,14 +80,7 @@ unfoldable pub balanced-from : List Handle → List Hold → ℕ → List Quota 
 balanced-from os hs q [] = true
 balanced-from os hs q (x ∷ xs) = eqb (x .grant) (x .remainder + charges hs q os) && balanced-from os hs (suc q) xs
 
--- "every base and length is a multiple of its object's unit"
-abbrev pub fits-unit : (ℕ → ℕ) → ℕ → ℕ → Bool
-fits-unit unit base length = eqb (length % unit length) 0 && eqb (base % unit length) 0
-
-unfoldable pub in-units : (ℕ → ℕ) → Handle → Bool
-in-units unit o = fits-unit unit (o .base) (o .length)
-
--- all of it but that, of a heap that is cut into these blocks
+-- all of it, of a heap that is cut into these blocks
 unfoldable pub consistent-blocks : List Block → Accounts → Bool
 consistent-blocks bs k =
     let os = objects bs in
@@ -107,6 +100,14 @@ consistent-parsed (some bs) k = consistent-blocks bs k
 unfoldable pub consistent : List ℕ → Accounts → Bool
 consistent s k = consistent-parsed (parse s) k
 
--- and all of it
+-- rule 5.10: base and length of an object are multiples of the unit of its length
+abbrev pub fits-unit : (ℕ → ℕ) → ℕ → ℕ → Bool
+fits-unit unit base length = eqb (length % unit length) 0 && eqb (base % unit length) 0
+
+unfoldable pub in-units : (ℕ → ℕ) → Handle → Bool
+in-units unit o = fits-unit unit (o .base) (o .length)
+
+-- the whole of section 5, which line 2 asks for: the state is consistent (5.1 to 5.8), and every base and length fits its object's unit (5.10). Rules that
+-- speak of a table of units or of settings stand here, so that the laws of `consistent` know of none.
 unfoldable pub sound : (ℕ → ℕ) → List ℕ → Accounts → Bool
 sound unit s k = consistent s k && all (in-units unit) (objects-of s)

@@ -9,5 +9,6 @@ pub mod Calls
 pub mod Step
 pub mod Marked
 pub mod Cases
+pub mod Units
 pub mod Joining
 pub mod Touched

@@ -46,7 +46,7 @@ greatest-serial = 4294967295
 unfoldable pub line-1 : List ℕ → Line
 line-1 s = 1 when not (allowed (length s))
 
--- 2: heap and accounts are not consistent
+-- 2: heap and accounts are not consistent, or an object does not fit its unit
 unfoldable pub line-2 : (ℕ → ℕ) → List ℕ → Accounts → Line
 line-2 unit s k = 2 when not (sound unit s k)
 
