@@ -1,47 +1,30 @@
--- `checker::is_fitting` meets its contract: a free block has no object; the unit of a short object is 8, and places and sizes are multiples of 8; else the
+-- `checker::is_fitting` meets its contract: the difference wraps for a block that is too short, and is great then; the table's first row has unit 8; else the
 -- tests are the definition's.
 -- Assumes nothing.
-use Prim.Native.Nat.{ℕ, _+_, _-_, _%_, _<_}
+use Prim.Native.Nat.{ℕ, _-_}
 use native.Mathlib.Omega.{arith}
 use borrow.Author.Needs.{needs}
-use borrow.Author.Tests.{eq-eqb, ne-eqb}
-use mathlib.Core.Path.{_≡_, refl, sym, ap, _∙_}
-use mathlib.Core.Bool.{Bool, true, false, _&&_, _||_}
-use lib.Dec.{eqb}
+use borrow.Author.Tests.{lt-leb}
+use mathlib.Core.Path.{_≡_, refl, sym}
 use Rattle.rounding.specs.Rounding.{unit}
 use Rattle.rounding.proofs.Rounding.{by-row, unit-is}
-use Rattle.model.specs.Consistent.{fits-unit}
-use Rattle.checker.specs.Fitting.{fits-block}
+use Rattle.checker.proofs.Fitting.{fits-eights, length-unfit, base-fits}
 use Rattle.checker.proofs.is_fitting.Statement.{statement}
 use Rattle.checker.proofs.is_fitting.Tie as tie
 
--- short objects
-fits-short : (at serial size : ℕ) → at % 8 ≡ 0 → size % 8 ≡ 0 → size < 8200 → true ≡ fits-block unit at serial size
-unfolding fits-block
-fits-short at serial size e f l =
-    by-row (λ (k : ℕ). true ≡ (eqb serial 0 || (eqb ((size - 8) % k) 0 && eqb ((at + 8) % k) 0))) (size - 8)
-    (λ m. rw (eq-eqb ((size - 8) % 8) 0 (omega arith), eq-eqb ((at + 8) % 8) 0 (omega arith)) (sym (or-true (eqb serial 0))))
-    (λ m _. absurd (omega arith)) (λ m _. absurd (omega arith)) (λ m. absurd (omega arith))
-  where
-    or-true : (b : Bool) → (b || true) ≡ true
-    or-true true = refl
-    or-true false = refl
-
-module _ (at serial size u : ℕ) (n : serial ≡ 0 → ⊥) (e : u ≡ unit (size - 8)) where
-  fits-length : ((size - 8) % u ≡ 0 → ⊥) → false ≡ fits-block unit at serial size
-  unfolding fits-block
-  fits-length m = rw (ne-eqb serial 0 n, ← e, ne-eqb ((size - 8) % u) 0 m)
-
-  fits-base : (size - 8) % u ≡ 0 → eqb ((at + 8) % u) 0 ≡ fits-block unit at serial size
-  unfolding fits-block
-  fits-base m = rw (ne-eqb serial 0 n, ← e, eq-eqb ((size - 8) % u) 0 m)
+wrapping-sub-usize-requires : tie.Need-wrapping-sub-usize-requires
+wrapping-sub-usize-requires c κs = search needs
 
 returns : tie.Need-returns
-unfolding fits-block
-returns c = rw (eq-eqb (c .before .args .serial) 0 (c .if1 .taken))
+returns c =
+    let a = c .before .before .args in
+    let p = c .before .before .pre in
+    let w = c .before .wrapping-sub-usize .ensures in
+    let u : 8 ≡ unit (a .size - 8) = by-row (λ (k : ℕ). 8 ≡ k) (a .size - 8) (λ _. refl) (λ l _. absurd (omega (arith, w))) (λ l _. absurd (omega (arith, w))) (λ l. absurd (omega (arith, w))) in
+    sym (fits-eights unit (a .size) (a .end) 8 (p .2) u (omega (arith, w)) refl (p .0) (p .1))
 
 returns-2 : tie.Need-returns-2
-returns-2 c = let s = c .before .before in fits-short (s .args .at) (s .args .serial) (s .args .size) (s .pre .0) (s .pre .1) (c .if2 .taken)
+returns-2 c = rw (lt-leb 16 (c .before .before .before .args .size) (c .if2 .taken))
 
 sub-length : tie.Need-sub-length
 sub-length c = search needs
@@ -56,30 +39,28 @@ cast-unit-2 : tie.Need-cast-unit-2
 cast-unit-2 c = search needs
 
 rem-if3 : tie.Need-rem-if3
-rem-if3 c = omega (arith, c .unit .ensures, unit-is .positive (c .before .before .before .args .size - 8))
+rem-if3 c = omega (arith, c .unit .ensures, unit-is .positive (c .before .before .before .before .args .size - 8))
 
 returns-3 : tie.Need-returns-3
 returns-3 c =
     let u = c .before in
-    let s = u .before .before .before in
-    fits-length (s .args .at) (s .args .serial) (s .args .size) (u .unit .result) (u .before .before .if1 .left) (u .unit .ensures) (c .if3 .taken)
-
-add-result : tie.Need-add-result
-add-result c = search needs
+    let s = u .before .before .before .before in
+    sym (length-unfit unit (s .args .size) (s .args .end) (u .unit .result) (s .pre .2) (u .unit .ensures) (c .if3 .taken))
 
 rem-result : tie.Need-rem-result
-rem-result c = omega (arith, c .before .unit .ensures, unit-is .positive (c .before .before .before .before .args .size - 8))
+rem-result c = omega (arith, c .before .unit .ensures, unit-is .positive (c .before .before .before .before .before .args .size - 8))
 
 returns-4 : tie.Need-returns-4
 returns-4 c =
     let u = c .before in
-    let s = u .before .before .before in
-    fits-base (s .args .at) (s .args .serial) (s .args .size) (u .unit .result) (u .before .before .if1 .left) (u .unit .ensures) (c .if3 .left)
+    let s = u .before .before .before .before in
+    sym (base-fits unit (s .args .size) (s .args .end) (u .unit .result) (s .pre .2) (u .unit .ensures) (omega arith) (c .if3 .left))
 
 pub is-fitting-spec : {M : Type 1} → statement M
 is-fitting-spec =
     tie.close
     (tie.spec
+    wrapping-sub-usize-requires
     returns
     returns-2
     sub-length
@@ -88,6 +69,5 @@ is-fitting-spec =
     cast-unit-2
     rem-if3
     returns-3
-    add-result
     rem-result
     returns-4)

@@ -1,7 +1,7 @@
 -- `checker::walk` meets its contract. The loop's invariant is `Walking`: the audit of the whole heap is that of the blocks in the rest of it, with what is
 -- left of keys and debts. The measure is the length of the rest: a block that was visited has a size.
 -- Assumes nothing.
-use Prim.Native.Nat.{ℕ, _*_}
+use Prim.Native.Nat.{ℕ, _*_, _-_}
 use native.Mathlib.Omega.{arith}
 use borrow.Author.Needs.{needs}
 use borrow.Author.Tests.{not-true, not-false}
@@ -9,13 +9,13 @@ use borrow.Rule.Slice.PartAt.{part-to-end}
 use mathlib.Core.Path.{_≡_, refl, ap, sym, subst, _∙_}
 use mathlib.Core.Bool.{Bool, true, false, _&&_}
 use mathlib.Core.List.{List}
-use lib.ListN.{length}
+use lib.ListN.{length, take, drop}
 use Rattle.rounding.specs.Rounding.{unit}
 use mathlib.Core.Option.{some}
 use Rattle.layout.specs.Blocks.{header-at, parse}
 use Rattle.checker.specs.Audit.{all-zero, begin, audit-parsed}
 use Rattle.checker.specs.Contracts.{Visited}
-use Rattle.checker.proofs.Walking.{Walking, walking-start, walking-long, walking-short, walking-back, walking-end, walking-fails, walking-on, walking-unfit, walking-fits}
+use Rattle.checker.proofs.Walking.{Walking, walking-start, walking-long, walking-short, walking-back, walking-end, walking-fails, walking-on, walking-fits}
 use Rattle.checker.proofs.walk.Statement.{statement}
 use Rattle.checker.proofs.walk.Tie as tie
 
@@ -56,17 +56,21 @@ returns-2 c =
     let h = l .before .before in
     failed _ _ (walking-back (h .before .before .loop .inv) (read h) (h .before .loop-test .taken) (l .if1 .left) (λ e. omega arith))
 
-visit-requires : tie.Need-visit-requires Inv-loop μ-loop
-visit-requires c κs = c .before .before .before .before .before .before .before .before .loop .inv .ready
+sub-after : tie.Need-sub-after Inv-loop μ-loop
+sub-after c = search needs
 
--- objects that are not in their units
-unfit : (a f : Bool) → f ≡ false → false ≡ (a && f)
-unfit true f e = sym e
-unfit false f e = refl
+part-after-start : tie.Need-part-after-start Inv-loop μ-loop
+part-after-start c = search needs
 
--- the visit, by its answer
+part-after-end : tie.Need-part-after-end Inv-loop μ-loop
+part-after-end c = search needs
+
+sub-end : tie.Need-sub-end Inv-loop μ-loop
+sub-end c = search needs
+
+-- the visit: what was known before it, and its answer
 abbrev fitting : tie.After-visit Inv-loop μ-loop → tie.Else1 Inv-loop μ-loop
-fitting c = c .before .before .before .before .before
+fitting c = c .before .before .before .before .before .before
 
 abbrev header : tie.After-visit Inv-loop μ-loop → tie.After-header-at Inv-loop μ-loop
 header c = fitting c .before .before
@@ -74,74 +78,63 @@ header c = fitting c .before .before
 abbrev turn : tie.After-visit Inv-loop μ-loop → tie.At-loop Inv-loop μ-loop
 turn c = header c .before .before
 
+-- the rest behind the block
+abbrev after : tie.After-visit Inv-loop μ-loop → List ℕ
+after c = take (length (bytes (header c)) - 8 * header c .header-at .result .size) (drop (8 * header c .header-at .result .size) (bytes (header c)))
+
+behind : (c : tie.After-visit Inv-loop μ-loop) → after c ≡ drop (8 * header c .header-at .result .size) (bytes (header c))
+behind c = part-to-end (bytes (header c)) (8 * header c .header-at .result .size)
+
 abbrev Answers : tie.After-visit Inv-loop μ-loop → Bool → Type 0
 Answers c t =
     let a = turn c .before .before .args in
     let h = header c .header-at .result in
-    Visited (a .last) (h .serial) (8 * h .size) (turn c .loop .before) (a .next .now) (a .heads .now) (turn c .loop .keys) (turn c .loop .owed) t (c .visit .last .0) (c .visit .last .1 .1 .1 .0)
+    Visited unit (a .last) (h .serial) (8 * h .size) (length (a .heap .now) - length (after c)) (turn c .loop .before) (a .next .now) (a .heads .now) (turn c .loop .keys) (turn c .loop .owed) t (c .visit .last .0) (c .visit .last .1 .1 .1 .0)
 
 visited : (c : tie.After-visit Inv-loop μ-loop) (t : Bool) → c .visit .result ≡ t → Answers c t
 visited c t e = subst (Answers c) e (c .visit .ensures)
+
+visit-requires : tie.Need-visit-requires Inv-loop μ-loop
+visit-requires c κs =
+    let f = c .before .before .before .before .before in
+    let h = f .before .before in
+    let l = h .before .before .loop .inv in
+    (l .ready, omega arith, omega (arith, l .even, l .inside, f .if1 .left), omega (arith, l .inside, f .if1 .left), omega (arith, h .header-at .ensures .1))
 
 returns-3 : tie.Need-returns-3 Inv-loop μ-loop
 returns-3 c =
     let v = c .before in
     let h = header v in
-    failed _ _ (walking-fails (turn v .loop .inv) (read h) (h .before .loop-test .taken) (fitting v .if1 .left) (visited v false (not-true _ (c .if3 .taken))))
-
-sub-at : tie.Need-sub-at Inv-loop μ-loop
-sub-at c = turn (c .before) .loop .inv .inside
-
-is-fitting-requires : tie.Need-is-fitting-requires Inv-loop μ-loop
-is-fitting-requires c κs =
-    let v = c .before in
-    let h = header v in
-    let b = h .before .loop-test .taken in
-    (turn v .loop .inv .even, omega arith, omega (arith, h .header-at .ensures .1), omega arith)
-
-returns-4 : tie.Need-returns-4 Inv-loop μ-loop
-returns-4 c =
-    let f = c .before in
-    let v = f .before .before in
-    let h = header v in
-    let w = visited v true (not-false _ (f .before .if3 .left)) in
-    unfit (audit-parsed (turn v .before .before .args .last) (parse (turn v .before .before .args .heap .now)) (some (begin (turn v .before .before .args .keys .now) (turn v .before .before .args .owed .now)))) _ (walking-unfit (turn v .loop .inv) (read h) (h .before .loop-test .taken) (fitting v .if1 .left) (w .0) (omega arith) (sym (f .is-fitting .ensures) ∙ not-true _ (c .if4 .taken)))
-
-sub-rest : tie.Need-sub-rest Inv-loop μ-loop
-sub-rest c = fitting (c .before .before .before) .if1 .left
-
-part-rest-start : tie.Need-part-rest-start Inv-loop μ-loop
-part-rest-start c = search needs
-
-part-rest-end : tie.Need-part-rest-end Inv-loop μ-loop
-part-rest-end c = search needs
+    sym (walking-fails (turn v .loop .inv) (read h) (h .before .loop-test .taken) (fitting v .if1 .left) (behind v) (omega arith) (visited v false (not-true _ (c .if3 .taken))))
 
 loop-less : tie.Need-loop-less Inv-loop μ-loop
-loop-less c = let w = visited (c .before .before .before .before) true (not-false _ (c .before .before .before .if3 .left)) in omega (arith, c .rest .given .2, w .0)
+loop-less c =
+    let v = c .before in
+    let w = visited v true (not-false _ (c .if3 .left)) in
+    omega (arith, v .before .before .before .after .given .2, w .0)
 
 loop-again : tie.Need-loop-again Inv-loop μ-loop
 loop-again c =
-    let f = c .before .before in
-    let v = f .before .before in
+    let v = c .before in
     let h = header v in
-    walking-on (turn v .loop .inv) (read h) (h .before .loop-test .taken) (fitting v .if1 .left)
-    (visited v true (not-false _ (f .before .if3 .left))) (omega arith) (sym (f .is-fitting .ensures) ∙ not-false _ (c .before .if4 .left)) (part-to-end (bytes h) (8 * h .header-at .result .size))
+    walking-on (turn v .loop .inv) (read h) (h .before .loop-test .taken) (fitting v .if1 .left) (behind v)
+    (visited v true (not-false _ (c .if3 .left))) (omega arith)
 
-returns-5 : tie.Need-returns-5 Inv-loop μ-loop
-returns-5 c =
+returns-4 : tie.Need-returns-4 Inv-loop μ-loop
+returns-4 c =
     let l = c .before .before in
-    failed _ _ (walking-short (l .loop .inv) (c .if5 .taken) (omega arith))
+    failed _ _ (walking-short (l .loop .inv) (c .if4 .taken) (omega arith))
 
 is-struck-requires : tie.Need-is-struck-requires Inv-loop μ-loop
 is-struck-requires c κs = c .before .before .before .loop .inv .ready .long
 
-returns-6 : tie.Need-returns-6 Inv-loop μ-loop
-returns-6 c =
+returns-5 : tie.Need-returns-5 Inv-loop μ-loop
+returns-5 c =
     let k = c .before in
     let l = k .before .before .before .before in
     failed _ _
-    (walking-end (l .loop .inv) (k .before .before .if5 .left)
-    ∙ ap (λ (x : Bool). x && all-zero (l .loop .owed)) (sym (k .is-struck .ensures) ∙ not-true _ (c .if6 .taken)))
+    (walking-end (l .loop .inv) (k .before .before .if4 .left)
+    ∙ ap (λ (x : Bool). x && all-zero (l .loop .owed)) (sym (k .is-struck .ensures) ∙ not-true _ (c .if5 .taken)))
 
 is-paid-requires : tie.Need-is-paid-requires Inv-loop μ-loop
 is-paid-requires c κs = c .before .before .before .before .before .before .loop .inv .ready .owed-long
@@ -151,15 +144,15 @@ ended : (a f r : Bool) → a ≡ r → f ≡ true → r ≡ (a && f)
 ended a f true e g = rw (e, g)
 ended a f false e g = rw e
 
-returns-7 : tie.Need-returns-7 Inv-loop μ-loop
-returns-7 c =
+returns-6 : tie.Need-returns-6 Inv-loop μ-loop
+returns-6 c =
     let k = c .before .before .before in
     let l = k .before .before .before .before in
     c .is-paid .ensures
     ∙ ended _ _ _
-    (walking-end (l .loop .inv) (k .before .before .if5 .left)
-    ∙ ap (λ (x : Bool). x && all-zero (l .loop .owed)) (sym (k .is-struck .ensures) ∙ not-false _ (c .before .before .if6 .left)))
-    (walking-fits (l .loop .inv) (k .before .before .if5 .left))
+    (walking-end (l .loop .inv) (k .before .before .if4 .left)
+    ∙ ap (λ (x : Bool). x && all-zero (l .loop .owed)) (sym (k .is-struck .ensures) ∙ not-false _ (c .before .before .if5 .left)))
+    (walking-fits (l .loop .inv) (k .before .before .if4 .left))
 
 pub walk-spec : {M : Type 1} → statement M
 walk-spec =
@@ -172,18 +165,16 @@ walk-spec =
     mul-size
     returns
     returns-2
+    sub-after
+    part-after-start
+    part-after-end
+    sub-end
     visit-requires
     returns-3
-    sub-at
-    is-fitting-requires
-    returns-4
-    sub-rest
-    part-rest-start
-    part-rest-end
     loop-less
     loop-again
-    returns-5
+    returns-4
     is-struck-requires
-    returns-6
+    returns-5
     is-paid-requires
-    returns-7)
+    returns-6)
