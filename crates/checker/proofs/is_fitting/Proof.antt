@@ -45,7 +45,7 @@ returns-3 : tie.Need-returns-3
 returns-3 c =
     let u = c .before in
     let s = u .before .before .before .before in
-    sym (length-unfit unit (s .args .size) (s .args .end) (u .unit .result) (s .pre .2) (u .unit .ensures) (c .if3 .taken))
+    sym (length-unfit unit (s .args .size) (s .args .end) (u .unit .result) (s .pre .2) (u .unit .ensures) (λ z. omega (arith, z, c .if3 .taken)))
 
 rem-result : tie.Need-rem-result
 rem-result c = omega (arith, c .before .unit .ensures, unit-is .positive (c .before .before .before .before .before .args .size - 8))
@@ -54,7 +54,7 @@ returns-4 : tie.Need-returns-4
 returns-4 c =
     let u = c .before in
     let s = u .before .before .before .before in
-    sym (base-fits unit (s .args .size) (s .args .end) (u .unit .result) (s .pre .2) (u .unit .ensures) (omega arith) (c .if3 .left))
+    sym (base-fits unit (s .args .size) (s .args .end) (u .unit .result) (s .pre .2) (u .unit .ensures) (omega arith) (omega (arith, c .if3 .left)))
 
 pub is-fitting-spec : {M : Type 1} → statement M
 is-fitting-spec =

@@ -68,6 +68,13 @@ part-after-end c = search needs
 sub-end : tie.Need-sub-end Inv-loop μ-loop
 sub-end c = search needs
 
+visit-requires : tie.Need-visit-requires Inv-loop μ-loop
+visit-requires c κs =
+    let f = c .before .before .before .before .before in
+    let h = f .before .before in
+    let l = h .before .before .loop .inv in
+    (l .ready, omega arith, omega (arith, l .even, l .inside, f .if1 .left), omega (arith, l .inside, f .if1 .left), omega (arith, h .header-at .ensures .1))
+
 -- the visit: what was known before it, and its answer
 abbrev fitting : tie.After-visit Inv-loop μ-loop → tie.Else1 Inv-loop μ-loop
 fitting c = c .before .before .before .before .before .before
@@ -93,13 +100,6 @@ Answers c t =
 
 visited : (c : tie.After-visit Inv-loop μ-loop) (t : Bool) → c .visit .result ≡ t → Answers c t
 visited c t e = subst (Answers c) e (c .visit .ensures)
-
-visit-requires : tie.Need-visit-requires Inv-loop μ-loop
-visit-requires c κs =
-    let f = c .before .before .before .before .before in
-    let h = f .before .before in
-    let l = h .before .before .loop .inv in
-    (l .ready, omega arith, omega (arith, l .even, l .inside, f .if1 .left), omega (arith, l .inside, f .if1 .left), omega (arith, h .header-at .ensures .1))
 
 returns-3 : tie.Need-returns-3 Inv-loop μ-loop
 returns-3 c =
