@@ -9,7 +9,6 @@ use mathlib.Core.Bool.{Bool, true, false, not, _||_}
 use lib.ListN.{length}
 use lib.Dec.{leb}
 use borrow.Author.Tests.{leb-true, le-leb, lt-leb, not-false}
-use Rattle.rounding.specs.Rounding.{unit}
 use Rattle.accounts.specs.declared.Accounts.{Accounts}
 use Rattle.accounts.specs.Accounts.{QUOTAS}
 use Rattle.model.specs.Answers.{Values, refused, refusal-number, verdict-values}
@@ -45,7 +44,7 @@ number-some r = go (refusal-number r) (refusal-number-is r .1)
     go zero h = absurd (not-suc-le-zero h)
     go (suc n) h = (n, refl)
 
-module _ (s : List ℕ) (k : Accounts) (v : Verdict) (told : verdict-values v ≡ check unit s k .values) (rest : List Line) where
+module _ (unit : ℕ → ℕ) (s : List ℕ) (k : Accounts) (v : Verdict) (told : verdict-values v ≡ check unit s k .values) (rest : List Line) where
   checked : verdict-values v .refusal ≡ first-refusal (check-lines unit s k)
   checked = ap (λ (x : Values). x .refusal) told ∙ refusal-of-lines (check-by-lines unit s k)
 
@@ -91,14 +90,14 @@ unfolding line-3
 line-3-passes q rest h = line-passes 3 (leb QUOTAS q) rest (lt-leb QUOTAS q h)
 
 -- what is sound is consistent
-sound-consistent : (u : ℕ → ℕ) (s : List ℕ) (k : Accounts) → sound u s k ≡ true → consistent s k ≡ true
+sound-consistent : (unit : ℕ → ℕ) (s : List ℕ) (k : Accounts) → sound unit s k ≡ true → consistent s k ≡ true
 unfolding sound
-sound-consistent u s k e = and-left (consistent s k) _ e
+sound-consistent unit s k e = and-left (consistent s k) _ e
 
 -- a state that the check accepts has an allowed length and is consistent
-pub check-consistent : (s : List ℕ) (k : Accounts) (v : Verdict) → verdict-values v ≡ check unit s k .values → v ≡ Accepted → (allowed (length s) ≡ true) × (consistent s k ≡ true) × (sound unit s k ≡ true)
+pub check-consistent : (unit : ℕ → ℕ) (s : List ℕ) (k : Accounts) (v : Verdict) → verdict-values v ≡ check unit s k .values → v ≡ Accepted → (allowed (length s) ≡ true) × (consistent s k ≡ true) × (sound unit s k ≡ true)
 unfolding check-lines line-1 line-2 any verdict-values
-check-consistent s k v told e =
+check-consistent unit s k v told e =
     let z : check unit s k .values .refusal ≡ 0 = sym (ap (λ (x : Values). x .refusal) told) ∙ ap (λ (x : Verdict). verdict-values x .refusal) e in
     let n = answers-none (check-by-lines unit s k) .0 z in
     let p = or-neither (not (allowed (length s))) (not (sound unit s k) || false) n in

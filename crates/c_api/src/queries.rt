@@ -33,7 +33,7 @@ pub extern "C" fn lokhazim_write(
     at: u32,
     byte: u8,
 ) -> u32
-    ensures { λ r. ⌜ outcome (now (heap .exit)) accounts (refused r) ≡ write-object (now (heap .entry)) accounts handle at byte ⌝ }
+    ensures { λ r. ⌜ outcome (now (heap .exit)) accounts (refused r) ≡ write-object unit (now (heap .entry)) accounts handle at byte ⌝ }
 {
     number_of(heap::write_object(heap, accounts, handle, at, byte))
 }

@@ -26,11 +26,11 @@ module _ (s : List ℕ) (k : Accounts) (q : ℕ) (c : Checked s k q) (h : Handle
     where
       go : (x : Lookup) → find-object h s ≡ x → find-object h s ≡ Found (current s m)
       go Missing e =
-          let n = sym (unnamed s k Accepted (accepted-check s k q c) refl h e) ∙ named in
+          let n = sym (unnamed unit s k Accepted (accepted-check s k q c) refl h e) ∙ named in
           let z : _≡_ {A = ℕ} 0 1 = cc in
           absurd (omega arith)
       go (Found b) e =
-          let l = located s k Accepted (accepted-check s k q c) refl h b e in
+          let l = located unit s k Accepted (accepted-check s k q c) refl h b e in
           let n = sym (l .named) ∙ named in
           let o : object-met b ≡ object-met m = cc in
           let w = found-met h s b e in

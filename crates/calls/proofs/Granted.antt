@@ -103,12 +103,12 @@ module _ (s : List ℕ) (k : Accounts) (q n : ℕ) where
   pub refused-check : (v : Verdict) → verdict-values v ≡ check unit s k .values → (f : Refusal) → v ≡ Refused f → (r : HandleResult) → r ≡ record { accounts = k; answer = NotGiven f }
       → handle-outcome s r ≡ allocate unit s k q n
   unfolding allocate-lines
-  refused-check v told f a r e = refused-by r f e (check-refuses s k v told from-3 f a)
+  refused-check v told f a r e = refused-by r f e (check-refuses unit s k v told from-3 f a)
 
   pub refused-3 : (v : Verdict) → verdict-values v ≡ check unit s k .values → v ≡ Accepted → QUOTAS ≤ q → (r : HandleResult) → r ≡ record { accounts = k; answer = NotGiven QuotaNumber }
       → handle-outcome s r ≡ allocate unit s k q n
   unfolding allocate-lines
-  refused-3 v told a h r e = refused-by r QuotaNumber e (check-accepts s k v told from-3 a ∙ line-3-refuses q from-4 h)
+  refused-3 v told a h r e = refused-by r QuotaNumber e (check-accepts unit s k v told from-3 a ∙ line-3-refuses q from-4 h)
 
   pub refused-4 : Checked s k q → first-refusal from-4 ≡ 4 → (r : HandleResult) → r ≡ record { accounts = k; answer = NotGiven ObjectLength }
       → handle-outcome s r ≡ allocate unit s k q n

@@ -23,7 +23,7 @@ use Rattle.calls.specs.Ready.{Checked, Ready}
 
 -- lines 1 to 3 do not hold of a quota that exists, where the check accepts
 pub checked-is : (s : List ℕ) (k : Accounts) (v : Verdict) → verdict-values v ≡ check unit s k .values → v ≡ Accepted → (q : ℕ) → q < QUOTAS → Checked s k q
-checked-is s k v told e q l = let p = check-consistent s k v told e in record { extent = p .0; sound = p .1; fitted = p .2; exists = l }
+checked-is s k v told e q l = let p = check-consistent unit s k v told e in record { extent = p .0; sound = p .1; fitted = p .2; exists = l }
 
 pub checked-passes : (s : List ℕ) (k : Accounts) (q : ℕ) (rest : List Line) → Checked s k q → first-refusal (line-1 s ∷ line-2 unit s k ∷ line-3 q ∷ rest) ≡ first-refusal rest
 unfolding line-1 line-2

@@ -46,11 +46,11 @@ module _ (s : List ℕ) (k : Accounts) (q : ℕ) (h : Handle) (n : ℕ) where
   -- the first three lines, where the check has answered v
   pub by-check : (v : Verdict) → verdict-values v ≡ check unit s k .values → (x : Refusal) → v ≡ NotAccepted x → first-refusal (reallocate-lines unit s k q h n) ≡ refusal-number x
   unfolding reallocate-lines
-  by-check v told x e = check-refuses s k v told (line-3 q ∷ line-4 n ∷ from-5) x e
+  by-check v told x e = check-refuses unit s k v told (line-3 q ∷ line-4 n ∷ from-5) x e
 
   pub by-quota : (v : Verdict) → verdict-values v ≡ check unit s k .values → v ≡ Accepted → QUOTAS ≤ q → first-refusal (reallocate-lines unit s k q h n) ≡ 3
   unfolding reallocate-lines
-  by-quota v told a l = check-accepts s k v told (line-3 q ∷ line-4 n ∷ from-5) a ∙ line-3-refuses q (line-4 n ∷ from-5) l
+  by-quota v told a l = check-accepts unit s k v told (line-3 q ∷ line-4 n ∷ from-5) a ∙ line-3-refuses q (line-4 n ∷ from-5) l
 
   -- the fourth
   pub by-length : Checked s k q → first-refusal (line-4 n ∷ from-5) ≡ 4 → first-refusal (reallocate-lines unit s k q h n) ≡ 4
@@ -64,11 +64,11 @@ module _ (s : List ℕ) (k : Accounts) (q : ℕ) (h : Handle) (n : ℕ) where
     by-object e =
         ready-passes s k q n from-5 r
         ∙ line-5-refuses (lookup-whole h s) (line-6 k q (found (lookup-whole h s)) ∷ from-8 s k q n)
-        (lookup-whole-is h s ∙ unnamed s k Accepted (accepted-check s k q (r .checked)) refl h e)
+        (lookup-whole-is h s ∙ unnamed unit s k Accepted (accepted-check s k q (r .checked)) refl h e)
 
     module _ (m : Met) (e : find-object h s ≡ Found m) where
       pub block-named : lookup h s ≡ some (object-met m)
-      block-named = located s k Accepted (accepted-check s k q (r .checked)) refl h m e .named
+      block-named = located unit s k Accepted (accepted-check s k q (r .checked)) refl h m e .named
 
       pub by-record : find-hold (m .serial) q k ≡ Nothing → first-refusal (reallocate-lines unit s k q h n) ≡ 6
       unfolding reallocate-lines line-6

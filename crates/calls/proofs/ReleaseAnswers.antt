@@ -53,11 +53,11 @@ module _ (s : List ℕ) (k : Accounts) (q : ℕ) (h : Handle) where
   -- the first three lines, where the check has answered v
   pub by-check : (v : Verdict) → verdict-values v ≡ check unit s k .values → (x : Refusal) → v ≡ NotAccepted x → first-refusal (release-lines unit s k q h) ≡ refusal-number x
   unfolding release-lines
-  by-check v told x e = check-refuses s k v told (line-3 q ∷ from-5) x e
+  by-check v told x e = check-refuses unit s k v told (line-3 q ∷ from-5) x e
 
   pub by-quota : (v : Verdict) → verdict-values v ≡ check unit s k .values → v ≡ Accepted → QUOTAS ≤ q → first-refusal (release-lines unit s k q h) ≡ 3
   unfolding release-lines
-  by-quota v told a l = check-accepts s k v told (line-3 q ∷ from-5) a ∙ line-3-refuses q from-5 l
+  by-quota v told a l = check-accepts unit s k v told (line-3 q ∷ from-5) a ∙ line-3-refuses q from-5 l
 
   -- a refusal as a result
   pub refuses : (r : AmountResult) (x : Refusal) → r ≡ record { accounts = k; answer = Refused x } → first-refusal (release-lines unit s k q h) ≡ refusal-number x
@@ -69,18 +69,18 @@ module _ (s : List ℕ) (k : Accounts) (q : ℕ) (h : Handle) where
   module _ (c : Checked s k q) where
     pub by-object : find-object h s ≡ Missing → first-refusal (release-lines unit s k q h) ≡ 5
     unfolding release-lines
-    by-object e = quota-missing s k Accepted (accepted-check s k q c) refl q h (line-6 k q (found (lookup h s)) ∷ []) (c .exists) e
+    by-object e = quota-missing unit s k Accepted (accepted-check s k q c) refl q h (line-6 k q (found (lookup h s)) ∷ []) (c .exists) e
 
     module _ (m : Met) (e : find-object h s ≡ Found m) where
       pub by-record : find-hold (m .serial) q k ≡ Nothing → first-refusal (release-lines unit s k q h) ≡ 6
-      by-record p = release-refuses s k Accepted (accepted-check s k q c) refl h m e q (c .exists) (rw (byte-quota q (c .exists)) p)
+      by-record p = release-refuses unit s k Accepted (accepted-check s k q c) refl h m e q (c .exists) (rw (byte-quota q (c .exists)) p)
 
       pub dropped : (i : ℕ) → find-hold (m .serial) q k ≡ At i → claim-dropped s k q (object-met m) ≡ release unit s k q h
       unfolding release
       dropped i p =
           let told = accepted-check s k q c in
-          ap (claim-dropped s k q) (sym (located s k Accepted told refl h m e .object))
-          ∙ accepted-is (first-refusal (release-lines unit s k q h)) s k _ (release-passes s k Accepted told refl h m e q (c .exists) i (rw (byte-quota q (c .exists)) p))
+          ap (claim-dropped s k q) (sym (located unit s k Accepted told refl h m e .object))
+          ∙ accepted-is (first-refusal (release-lines unit s k q h)) s k _ (release-passes unit s k Accepted told refl h m e q (c .exists) i (rw (byte-quota q (c .exists)) p))
 
 -- the quota's record for the object of the block m stands at place i
 module _ (s : List ℕ) (k : Accounts) (o : Octets s) (q : ℕ) (m : Met) (i : ℕ) (y : Holding s k q m i) where

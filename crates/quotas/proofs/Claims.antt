@@ -187,10 +187,10 @@ module _ (s : List ℕ) (k : Accounts) (v : Verdict) (told : verdict-values v �
   due : unless (first-refusal (claim-rest k q (object-met m))) s k (claim-done s k q (object-met m)) ≡ claim unit s k q h
   unfolding claim claim-lines
   due =
-      let p = located s k v told accepts h m e .object in
+      let p = located unit s k v told accepts h m e .object in
       ap (λ (o : Handle). unless (first-refusal (claim-rest k q o)) s k (claim-done s k q o)) (sym p)
       ∙ ap (λ (n : ℕ). unless n s k (claim-done s k q (found (lookup h s))))
-      (sym (quota-found s k v told accepts q h m (claim-rest k q (found (lookup h s))) l e))
+      (sym (quota-found unit s k v told accepts q h m (claim-rest k q (found (lookup h s))) l e))
 
   pub claims-again : (i : ℕ) → find-hold (m .serial) (q % 256) k ≡ At i → amount-outcome s (claim-again i (object-met m .length) k) ≡ claim unit s k q h
   claims-again i f = again-is s k q l (object-met m) i f ∙ due

@@ -43,15 +43,15 @@ use Rattle.quotas.proofs.Emptied.{emptying-start}
 module _ (s : List ℕ) (k : Accounts) (q : ℕ) (v : Verdict) (told : verdict-values v ≡ check unit s k .values) where
   pub all-by-check : (x : Refusal) → v ≡ NotAccepted x → first-refusal (quota-lines unit s k q) ≡ refusal-number x
   unfolding quota-lines
-  all-by-check x e = check-refuses s k v told (line-3 q ∷ []) x e
+  all-by-check x e = check-refuses unit s k v told (line-3 q ∷ []) x e
 
   pub all-by-quota : v ≡ Accepted → QUOTAS ≤ q → first-refusal (quota-lines unit s k q) ≡ 3
   unfolding quota-lines
-  all-by-quota e l = check-accepts s k v told (line-3 q ∷ []) e ∙ line-3-refuses q [] l
+  all-by-quota e l = check-accepts unit s k v told (line-3 q ∷ []) e ∙ line-3-refuses q [] l
 
   pub all-passes : v ≡ Accepted → q < QUOTAS → first-refusal (quota-lines unit s k q) ≡ 0
   unfolding quota-lines first-refusal
-  all-passes e l = check-accepts s k v told (line-3 q ∷ []) e ∙ line-3-passes q [] l
+  all-passes e l = check-accepts unit s k v told (line-3 q ∷ []) e ∙ line-3-passes q [] l
 
 -- a refusal as a result
 pub all-refuses : (s : List ℕ) (k : Accounts) (q : ℕ) (r : AmountResult) (x : Refusal) → r ≡ record { accounts = k; answer = Refused x }

@@ -101,7 +101,7 @@ walked c =
     let p = l .before .before in
     let k = p .before .before .before .before .check in
     let yes = p .before .before .enum-told .given .1 in
-    let sound = check-consistent (a .heap .now) (a .accounts) (k .result) (k .ensures) yes in
+    let sound = check-consistent unit (a .heap .now) (a .accounts) (k .result) (k .ensures) yes in
     let below = p .before .if1 .left in
     all-freed (a .heap .now) (a .accounts) (octets (p .before .before .before .before .before .before)) (allowed-most _ (sound .0)) (sound .1) (sized (start c)) (a .quota) below (p .spent .result) (p .spent .ensures)
     (l .before .refund .result) (l .drop-holds .result) (l .before .refund .ensures) (l .drop-holds .ensures)
