@@ -12,8 +12,7 @@ use Rattle.accounts.specs.declared.Hold.{Hold}
 use Rattle.accounts.specs.declared.Place.the-variants.{At}
 use Rattle.accounts.specs.Accounts.{used, unused, is-for, first-from, find-hold}
 use Rattle.accounts.proofs.Laws.{for-another}
-use Rattle.rounding.specs.Rounding.{unit}
-use Rattle.rounding.proofs.Rounding.{unit-is}
+use Rattle.rounding.specs.Rounding.{Units}
 use Rattle.layout.specs.Bytes.{Octets, copy-part}
 use Rattle.layout.specs.Blocks.{Block, render}
 use Rattle.model.specs.Answers.{given, handle-values}
@@ -80,11 +79,11 @@ unfolding line-6
 line-6-passes k q o rest e = line-passes 6 (not (has-record (k .holds) q (o .serial))) rest (rw e)
 
 -- what a release of an object that is named and held leaves
-module _ (s : List ℕ) (k : Accounts) (q : ℕ) (h old : Handle) (c : Checked s k q) (named : lookup h s ≡ some old) (held : has-record (k .holds) q (old .serial) ≡ true) where
+module _ (unit : ℕ → ℕ) (s : List ℕ) (k : Accounts) (q : ℕ) (h old : Handle) (c : Checked unit s k q) (named : lookup h s ≡ some old) (held : has-record (k .holds) q (old .serial) ≡ true) where
   release-passes : first-refusal (release-lines unit s k q h) ≡ 0
   unfolding release-lines first-refusal found or-else
   release-passes =
-      checked-passes s k q (line-5 (lookup h s) ∷ line-6 k q (found (lookup h s)) ∷ []) c
+      checked-passes unit s k q (line-5 (lookup h s) ∷ line-6 k q (found (lookup h s)) ∷ []) c
       ∙ line-5-passes (lookup h s) old (line-6 k q (found (lookup h s)) ∷ []) named
       ∙ line-6-passes k q (found (lookup h s)) [] (rw named held)
 
@@ -93,17 +92,17 @@ module _ (s : List ℕ) (k : Accounts) (q : ℕ) (h old : Handle) (c : Checked s
   release-leaves = rw (release-passes, named) (refl, refl)
 
 -- a request that passes lines 1 to 6: h names the object old, and the quota has a record for it
-module _ (s : List ℕ) (k : Accounts) (q : ℕ) (h : Handle) (n : ℕ) (r : Ready s k q n) (old : Handle) (named : lookup h s ≡ some old) (held : has-record (k .holds) q (old .serial) ≡ true) where
+module _ (unit : ℕ → ℕ) (units : Units unit) (s : List ℕ) (k : Accounts) (q : ℕ) (h : Handle) (n : ℕ) (r : Ready unit s k q n) (old : Handle) (named : lookup h s ≡ some old) (held : has-record (k .holds) q (old .serial) ≡ true) where
   -- the lines behind them are allocate's
   same-number : first-refusal (reallocate-lines unit s k q h n) ≡ first-refusal (allocate-lines unit s k q n)
   unfolding reallocate-lines allocate-lines
   same-number =
       let w = whole-named h old s named in
       let o = found (lookup-whole h s) in
-      ready-passes s k q n (line-5 (lookup-whole h s) ∷ line-6 k q o ∷ from-8 s k q n) r
-      ∙ line-5-passes (lookup-whole h s) old (line-6 k q o ∷ from-8 s k q n) (w .0)
-      ∙ line-6-passes k q o (from-8 s k q n) (rw (w .1) held)
-      ∙ sym (ready-passes s k q n (from-8 s k q n) r)
+      ready-passes unit s k q n (line-5 (lookup-whole h s) ∷ line-6 k q o ∷ from-8 unit s k q n) r
+      ∙ line-5-passes (lookup-whole h s) old (line-6 k q o ∷ from-8 unit s k q n) (w .0)
+      ∙ line-6-passes k q o (from-8 unit s k q n) (rw (w .1) held)
+      ∙ sym (ready-passes unit s k q n (from-8 unit s k q n) r)
 
   -- allocate's number, by what it gave
   number-is : (t : List ℕ) (x : HandleResult) → handle-outcome t x ≡ allocate unit s k q n → first-refusal (allocate-lines unit s k q n) ≡ handle-values (x .answer) .refusal
@@ -130,10 +129,10 @@ module _ (s : List ℕ) (k : Accounts) (q : ℕ) (h : Handle) (n : ℕ) (r : Rea
     filled = copied old new made
 
     start : Good (state-of s k)
-    start = heap-good s k (r .checked .extent) o (r .checked .sound) (l .quotas) (l .narrow) (l .serial)
+    start = heap-good s k (r .checked .extent) o (r .checked .consistent) (l .quotas) (l .narrow) (l .serial)
 
     room : Room q new (state-of s k)
-    room = requested-room unit unit-is s k start (heap-again s k o (r .checked .sound)) q n p
+    room = requested-room unit units s k start (heap-again s k o (r .checked .consistent)) q n p
 
     made-good : Good made
     made-good = allocated-good q new (state-of s k) start room
@@ -147,7 +146,7 @@ module _ (s : List ℕ) (k : Accounts) (q : ℕ) (h : Handle) (n : ℕ) (r : Rea
     there = rw handle-is at (lookup-exactly h s old .0 named .1)
 
     fresh : old .serial ≡ new .serial → ⊥
-    fresh = requested-fresh unit unit-is s k start (heap-again s k o (r .checked .sound)) q n p old there
+    fresh = requested-fresh unit units s k start (heap-again s k o (r .checked .consistent)) q n p old there
 
     -- the heap that copying leaves is written of that state
     filled-bytes : render (filled .blocks) ≡ copy-part (old .base) (new .base) (min (new .length) (old .length)) (render (made .blocks))
@@ -164,14 +163,14 @@ module _ (s : List ℕ) (k : Accounts) (q : ℕ) (h : Handle) (n : ℕ) (r : Rea
     filled-fits : is-sound unit (render (filled .blocks)) (filled .accounts) ≡ true
     unfolding is-sound objects-of
     filled-fits =
-        let was = all-member (in-units unit) (objects (blocks-of s)) (and-right (consistent s k) _ (r .checked .fitted)) in
+        let was = all-member (in-units unit) (objects (blocks-of s)) (and-right (consistent s k) _ (r .checked .sound)) in
         let d = allocated-objects q new (state-of s k) start room in
         and-both _ _ (written .sound)
         (member-all (in-units unit) (objects-of (render (filled .blocks)))
-        (λ x m. ⊎-elim (λ (e : x ≡ new). rw e (new-in-units unit unit-is s k q n p)) (λ y. was x y) (added-cases new (objects (blocks-of s)) (objects (made .blocks)) d x (rw (written .objects, copied-objects old new made made-good) at m))))
+        (λ x m. ⊎-elim (λ (e : x ≡ new). rw e (new-in-units unit units s k q n p)) (λ y. was x y) (added-cases new (objects (blocks-of s)) (objects (made .blocks)) d x (rw (written .objects, copied-objects old new made made-good) at m))))
 
-    filled-checked : Checked (render (filled .blocks)) (filled .accounts) q
-    filled-checked = record { extent = written .allowed; sound = written .sound; fitted = filled-fits; exists = r .checked .exists }
+    filled-checked : Checked unit (render (filled .blocks)) (filled .accounts) q
+    filled-checked = record { extent = written .allowed; consistent = written .sound; sound = filled-fits; exists = r .checked .exists }
 
     -- the old object can be released in it: its handle names it, the quota has its record
     filled-named : lookup h (render (filled .blocks)) ≡ some old
@@ -184,7 +183,7 @@ module _ (s : List ℕ) (k : Accounts) (q : ℕ) (h : Handle) (n : ℕ) (r : Rea
     filled-releases =
         let x = still-releasable (state-of s k) start q old new room fresh there held in
         let t : state-of (render (filled .blocks)) (filled .accounts) ≡ filled = ap (λ (bs : List Block). record { blocks = bs; accounts = filled .accounts }) (written .blocks) in
-        rw t at (release-leaves (render (filled .blocks)) (filled .accounts) q h old filled-checked filled-named (x .1))
+        rw t at (release-leaves unit (render (filled .blocks)) (filled .accounts) q h old filled-checked filled-named (x .1))
 
   -- allocate granted an object, and the old one's bytes were copied to it
   module _ (o : Octets s) (l : Limits k) (t : List ℕ) (x : HandleResult) (e : handle-outcome t x ≡ allocate unit s k q n) (new : Handle) (a : x .answer ≡ Given new) (t₂ : List ℕ)
@@ -222,7 +221,7 @@ module _ (s : List ℕ) (k : Accounts) (q : ℕ) (h : Handle) (n : ℕ) (r : Rea
         let w : Hold = record { serial = new-object unit s k n .serial; quota = q; count = 1 } in
         rw accounts-are (record-kept (old .serial) q w (for-another (old .serial) q w (λ z. fresh o l passed (sym z))) (k .holds) 0 ∙ e)
 
-    pub copied-checked : Checked t₂ (x .accounts) q
+    pub copied-checked : Checked unit t₂ (x .accounts) q
     unfolding copied
     copied-checked = rw (bytes-are, accounts-are) (filled-checked o l passed)
 

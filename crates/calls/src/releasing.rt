@@ -26,7 +26,7 @@ pub(crate) fn drop_claim(
     block: Met,
     place: usize,
 ) -> AmountResult
-    requires { ⌜ Holding (now heap) accounts quota block place ⌝ }
+    requires { ⌜ Holding unit (now heap) accounts quota block place ⌝ }
     ensures { λ r. ⌜ amount-outcome (now (heap .exit)) r ≡ claim-dropped (now (heap .entry)) accounts quota (object-met block) ⌝ }
 {
     let hold = accounts.holds[place];
@@ -55,7 +55,7 @@ pub(crate) fn drop_claim(
 
 // Release behind the first three lines: the lookup, the quota's record, and one claim less.
 fn give_up(heap: &mut [u8], accounts: Accounts, quota: u32, handle: Handle) -> AmountResult
-    requires { ⌜ Checked (now heap) accounts quota ⌝ }
+    requires { ⌜ Checked unit (now heap) accounts quota ⌝ }
     ensures { λ r. ⌜ amount-outcome (now (heap .exit)) r ≡ release-of unit (now (heap .entry)) accounts quota handle ⌝ }
 {
     let Lookup::Found(block) = finder::find_object(heap, handle) else {

@@ -8,7 +8,6 @@ use mathlib.Core.Bool.{Bool, true, false, not, _&&_, _||_}
 use mathlib.Core.Option.{Option}
 use lib.Dec.{ltb, eqb}
 use borrow.Author.Tests.{lt-ltb, le-ltb, eq-eqb, ne-eqb}
-use Rattle.rounding.specs.Rounding.{unit}
 use Rattle.accounts.specs.declared.Accounts.{Accounts}
 use Rattle.accounts.specs.declared.Hold.{Hold}
 use Rattle.accounts.specs.declared.Place.{Place}
@@ -183,7 +182,7 @@ module _ (s : List ℕ) (k : Accounts) (q : ℕ) (l : q < QUOTAS) (o : Handle) w
         go false x = rw x (paid-is x (lowest-unused k) refl)
 
 -- so the call's outcome is the definition's
-module _ (s : List ℕ) (k : Accounts) (v : Verdict) (told : verdict-values v ≡ check unit s k .values) (accepts : v ≡ Accepted) (h : Handle) (m : Met) (e : find-object h s ≡ Found m) (q : ℕ) (l : q < QUOTAS) where
+module _ (unit : ℕ → ℕ) (s : List ℕ) (k : Accounts) (v : Verdict) (told : verdict-values v ≡ check unit s k .values) (accepts : v ≡ Accepted) (h : Handle) (m : Met) (e : find-object h s ≡ Found m) (q : ℕ) (l : q < QUOTAS) where
   due : unless (first-refusal (claim-rest k q (object-met m))) s k (claim-done s k q (object-met m)) ≡ claim unit s k q h
   unfolding claim claim-lines
   due =

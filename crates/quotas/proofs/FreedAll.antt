@@ -7,7 +7,6 @@ use mathlib.Core.Path.{_≡_, ap, sym, _∙_}
 use mathlib.Core.List.{List, [], _∷_}
 use mathlib.Core.Bool.{Bool, true, false}
 use lib.ListN.{length, getD}
-use Rattle.rounding.specs.Rounding.{unit}
 use Rattle.accounts.specs.declared.Hold.{Hold}
 use Rattle.accounts.specs.declared.Accounts.{Accounts}
 use Rattle.accounts.specs.Accounts.{QUOTAS, spent, refund, with-holds, drop-records}
@@ -40,7 +39,7 @@ use Rattle.quotas.proofs.Collected.{flagged}
 use Rattle.quotas.proofs.Emptied.{emptying-start}
 
 -- the lines, where the check has answered v
-module _ (s : List ℕ) (k : Accounts) (q : ℕ) (v : Verdict) (told : verdict-values v ≡ check unit s k .values) where
+module _ (unit : ℕ → ℕ) (s : List ℕ) (k : Accounts) (q : ℕ) (v : Verdict) (told : verdict-values v ≡ check unit s k .values) where
   pub all-by-check : (x : Refusal) → v ≡ NotAccepted x → first-refusal (quota-lines unit s k q) ≡ refusal-number x
   unfolding quota-lines
   all-by-check x e = check-refuses unit s k v told (line-3 q ∷ []) x e
@@ -54,13 +53,13 @@ module _ (s : List ℕ) (k : Accounts) (q : ℕ) (v : Verdict) (told : verdict-v
   all-passes e l = check-accepts unit s k v told (line-3 q ∷ []) e ∙ line-3-passes q [] l
 
 -- a refusal as a result
-pub all-refuses : (s : List ℕ) (k : Accounts) (q : ℕ) (r : AmountResult) (x : Refusal) → r ≡ record { accounts = k; answer = Refused x }
+pub all-refuses : (unit : ℕ → ℕ) (s : List ℕ) (k : Accounts) (q : ℕ) (r : AmountResult) (x : Refusal) → r ≡ record { accounts = k; answer = Refused x }
     → first-refusal (quota-lines unit s k q) ≡ refusal-number x → amount-outcome s r ≡ free-all unit s k q
 unfolding free-all amount-values
-all-refuses s k q r x e n = ap (amount-outcome s) e ∙ refused-is (first-refusal (quota-lines unit s k q)) s k _ x n
+all-refuses unit s k q r x e n = ap (amount-outcome s) e ∙ refused-is (first-refusal (quota-lines unit s k q)) s k _ x n
 
 -- heap and accounts are consistent, and the records of the quota q are dropped: k₁ are the accounts after the refund, and k₂ those that are left
-module _ (s : List ℕ) (k : Accounts) (o : Octets s) (short : length s ≤ 32768) (ok : consistent s k ≡ true) (sized : Sized k) (q : ℕ) (below : q < QUOTAS) (back : ℕ) (be : back ≡ spent q k)
+module _ (unit : ℕ → ℕ) (s : List ℕ) (k : Accounts) (o : Octets s) (short : length s ≤ 32768) (ok : consistent s k ≡ true) (sized : Sized k) (q : ℕ) (below : q < QUOTAS) (back : ℕ) (be : back ≡ spent q k)
     (k₁ k₂ : Accounts) (e₁ : k₁ ≡ refund q back k) (e₂ : k₂ ≡ with-holds (drop-records q (k₁ .holds)) k₁) where
   -- the records that are left, and the accounts
   left-holds : k₂ .holds ≡ drop-records q (k .holds)

@@ -5,6 +5,7 @@ use native.Mathlib.Omega.{arith}
 use mathlib.Core.Path.{ap, sym, _∙_}
 use mathlib.Core.List.{_∷_}
 use borrow.Author.Needs.{needs}
+use Rattle.rounding.specs.Rounding.{unit}
 use Rattle.model.specs.Answers.{amount-values}
 use Rattle.model.specs.Objects.{lookup, found}
 use Rattle.model.specs.Refusals.{line-3, line-5, claim-lines}
@@ -121,7 +122,7 @@ returns-4 c =
     let a = e .before .before .before .before .args in
     let k = e .before .before .check in
     ap (amount-outcome (a .heap .now)) (c .claim-again .ensures)
-    ∙ claims-again (a .heap .now) (a .accounts) (k .result) (k .ensures) (e .enum-told .given .1) (a .handle) (b .block .given .0 .0) (sym (f .find-object .ensures) ∙ b .block .given .1)
+    ∙ claims-again unit (a .heap .now) (a .accounts) (k .result) (k .ensures) (e .enum-told .given .1) (a .handle) (b .block .given .0 .0) (sym (f .find-object .ensures) ∙ b .block .given .1)
     (a .quota) (f .before .if1 .left) (p .at .given .0 .0) (sym (d .find-hold .ensures) ∙ p .at .given .1)
 
 enum-told-3 : tie.Need-enum-told-3
@@ -147,7 +148,7 @@ returns-5 c =
     let a = e .before .before .before .before .args in
     let k = e .before .before .check in
     ap (amount-outcome (a .heap .now)) (c .claim-first .ensures)
-    ∙ claims-anew (a .heap .now) (a .accounts) (k .result) (k .ensures) (e .enum-told .given .1) (a .handle) (b .block .given .0 .0) (sym (f .find-object .ensures) ∙ b .block .given .1)
+    ∙ claims-anew unit (a .heap .now) (a .accounts) (k .result) (k .ensures) (e .enum-told .given .1) (a .handle) (b .block .given .0 .0) (sym (f .find-object .ensures) ∙ b .block .given .1)
     (a .quota) (f .before .if1 .left) (sym (d .find-hold .ensures) ∙ t .enum-told3 .given .1)
 
 pub claim-spec : {M : Type 1} → statement M
