@@ -156,14 +156,14 @@ fn cut(seed: &mut Seed, length: u32) -> Vec<Piece> {
     let crowd = seed.pick(&[3, 12, 40, HOLDS]);
     let longest = seed.pick(&[2, 4, 12, 60, 600, 2_400]);
     let share = seed.pick(&[30, 60, 90, 100]);
-    let rows = if length < 8_192 { 0 } else { 30 };
+    let long = length >= 8_192;
     let mut pieces: Vec<Piece> = Vec::new();
     let (mut left, mut live) = (length, 0);
     while left > 0 {
         let after_free = pieces.last().is_some_and(|piece| piece.serial == 0);
         let wanted = live < crowd && left >= 16 && (after_free || seed.percent(share));
         let size = match wanted {
-            true if seed.percent(rows) => left.min(seed.pick(&ROW_SIZES)),
+            true if long && seed.percent(30) => left.min(seed.pick(&ROW_SIZES)),
             true => left.min(8 * (2 + seed.below(longest))),
             false if live >= crowd => left,
             false => left.min(8 * (1 + seed.below(longest))),
