@@ -17,7 +17,7 @@ const SEED: u64 = 20_260_102;
 /// a sound state, damage alone, damage together, noise, and heap lengths.
 const HISTORIES: u64 = 60_000;
 const SOUND_STATES: u64 = 80_000;
-const ALONE: u64 = 50_000;
+const ALONE: u64 = 60_000;
 const TOGETHER: u64 = 20_000;
 const NOISE: u64 = 30_000;
 const LENGTHS: u64 = 10_000;
