@@ -21,6 +21,7 @@ use Rattle.model.specs.declared.Verdict.{Verdict}
 use Rattle.model.specs.declared.Verdict.the-variants.{Accepted, Refused}
 use Rattle.model.proofs.Bools.{and-left, and-right, or-neither}
 use Rattle.model.proofs.Answers.{refusal-number-is}
+use Rattle.model.proofs.Consistent.{sound-consistent}
 use Rattle.model.proofs.Refusals.{Numbered, check-by-lines, refusal-of-lines, answers-none, unless-refused}
 
 -- the first two lines decide, or the others do
@@ -88,11 +89,6 @@ line-3-refuses q rest h = line-refuses 3 (leb QUOTAS q) rest (le-leb QUOTAS q h)
 pub line-3-passes : (q : ℕ) (rest : List Line) → q < QUOTAS → first-refusal (line-3 q ∷ rest) ≡ first-refusal rest
 unfolding line-3
 line-3-passes q rest h = line-passes 3 (leb QUOTAS q) rest (lt-leb QUOTAS q h)
-
--- what is sound is consistent
-sound-consistent : (unit : ℕ → ℕ) (s : List ℕ) (k : Accounts) → sound unit s k ≡ true → consistent s k ≡ true
-unfolding sound
-sound-consistent unit s k e = and-left (consistent s k) _ e
 
 -- a state that the check accepts has an allowed length and is consistent
 pub check-consistent : (unit : ℕ → ℕ) (s : List ℕ) (k : Accounts) (v : Verdict) → verdict-values v ≡ check unit s k .values → v ≡ Accepted → (allowed (length s) ≡ true) × (consistent s k ≡ true) × (sound unit s k ≡ true)

@@ -15,7 +15,7 @@ ghost use Rattle.rounding.specs.Rounding.{unit};
 ghost use Rattle.model.specs.Calls.{can-release, lend, remaining-of};
 ghost use Rattle.access.specs.Results.{outcome};
 
-// What remains of a quota.
+// Rule 8.30: what remains of a quota.
 pub fn remaining(heap: &[u8], accounts: Accounts, quota: u32) -> AmountAnswer
     ensures { λ r. ⌜ outcome (now (heap .entry)) accounts (amount-values r) ≡ remaining-of unit (now (heap .entry)) accounts quota ⌝ }
 {
@@ -28,7 +28,7 @@ pub fn remaining(heap: &[u8], accounts: Accounts, quota: u32) -> AmountAnswer
     AmountAnswer::Amount(accounts.remaining(quota))
 }
 
-// Whether a quota can release an object: the refusal that release would give, or none.
+// Rule 8.31: whether a quota can release an object, by the refusal that a release would meet.
 pub fn can_release(heap: &[u8], accounts: Accounts, quota: u32, handle: Handle) -> Verdict
     ensures { λ r. ⌜ outcome (now (heap .entry)) accounts (verdict-values r) ≡ can-release unit (now (heap .entry)) accounts quota handle ⌝ }
 {
@@ -48,7 +48,7 @@ pub fn can_release(heap: &[u8], accounts: Accounts, quota: u32, handle: Handle) 
     Verdict::Accepted
 }
 
-// The part of the heap where the object that a handle names has its bytes.
+// Rule 8.29: the part of the heap where the object that a handle names has its bytes.
 pub fn object_range(heap: &[u8], accounts: Accounts, handle: Handle) -> RangeAnswer
     ensures { λ r. ⌜ outcome (now (heap .entry)) accounts (range-values r) ≡ lend unit (now (heap .entry)) accounts handle ⌝ }
 {

@@ -1,36 +1,35 @@
--- Every object of the ledger, and so every live object, has a base and a length that are multiples of its unit: a new object has, since a rounded length rounds to itself; no other call makes
--- an object.
+-- Every object of the ledger, and so every live object, fits its unit (rule 5.10): a new object does, since a rounded length rounds to itself, and so do those
+-- of a state that was read; no other event makes an object.
 -- Assumes nothing.
-use Prim.Native.Nat.{ℕ, zero, suc, _+_, _-_, _*_, _%_}
+use Prim.Native.Nat.{ℕ, zero, suc, _*_}
 use native.Mathlib.Omega.{arith}
-use mathlib.Core.Path.{_≡_, refl, ap, sym, _∙_, subst}
-use mathlib.Core.List.{List, [], _∷_, map, List·Memᴰ, List·Memᴰ·not-nil, List·Memᴰ·head, List·Memᴰ·tail, List·Memᴰ·cases-cons, Memᴰ·map, Memᴰ·of-map}
-use mathlib.Core.Bool.{Bool, true, false, cond}
-use mathlib.Core.Logic.{_⊎_, inl, inr, ⊎-elim}
-use lib.Dec.{eqb}
-use lib.ListN.{length}
+use mathlib.Core.Path.{_≡_, refl}
+use mathlib.Core.List.{List, List·Memᴰ, List·Memᴰ·not-nil}
+use mathlib.Core.Bool.{true}
+use mathlib.Core.Logic.{⊎-elim}
 use borrow.Author.Tests.{eq-eqb, ne-eqb}
 use Rattle.accounts.specs.declared.Accounts.{Accounts}
 use Rattle.rounding.specs.Rounding.{Units}
-use Rattle.model.specs.Lists.{all, keep, or-else}
-use Rattle.model.specs.Answers.{Values}
-use Rattle.model.specs.Objects.{blocks-of, objects-of}
+use Rattle.model.specs.Objects.{objects-of}
 use Rattle.model.specs.Consistent.{consistent, in-units, sound}
-use Rattle.model.specs.Refusals.{first-refusal, base-for, quota-lines, lend-lines, release-lines, claim-lines, check-lines, allocate-lines, reallocate-lines}
-use Rattle.model.specs.Calls.{Outcome, unless, new-object, allocate, allocate-array, claim, release, free-all, reallocate, lend, remaining-of, can-release, list-block}
+use Rattle.model.specs.Refusals.{first-refusal, quota-lines, lend-lines, release-lines, claim-lines, check-lines, allocate-lines, reallocate-lines}
+use Rattle.model.specs.Calls.{Outcome, unless, allocate, allocate-array, claim, release, free-all, reallocate, lend, remaining-of, can-release, list-block}
 use Rattle.model.specs.Step.{step}
 use Rattle.model.specs.declared.Handle.{Handle}
 use Rattle.model.specs.declared.Call.{Call}
 use Rattle.model.specs.declared.Call.the-variants.{Allocate, AllocateArray, Claim, Release, FreeAll, Reallocate, Lend, Remaining, CanRelease, ListBlock}
 use Rattle.model.proofs.Bools.{and-both}
+use Rattle.model.proofs.Consistent.{sound-fits}
 use Rattle.model.proofs.Lists.{member-all}
 use Rattle.invariant.proofs.Requested.{new-in-units}
 use Rattle.model.proofs.Refusals.{accepted-exactly, by-lines}
-use Rattle.invariant.proofs.Members.{keep-exactly}
-use Rattle.invariant.proofs.Passed.{Allocatable, allocate-passed, reallocate-passed}
-use Rattle.ledger.specs.Ledger.{Entry, Ledger, with-entries, change-holds, at-serial, is-held, leave, add-object, add-hold, take-hold, take-all, record-accepted, record-call}
+use Rattle.invariant.proofs.Passed.{allocate-passed, reallocate-passed}
+use Rattle.ledger.specs.Ledger.{Ledger, empty, read-ledger, add-object, add-hold, take-hold, take-all, record-accepted, record-call}
 use Rattle.ledger.specs.Demand3.{objects-in}
+use Rattle.ledger.specs.History.{Restorable, Begins, Opening, Restoring}
 use Rattle.ledger.proofs.Agreement.{Agrees}
+use Rattle.ledger.proofs.Lasting.{raised-from, lowered-from, dropped-from, added-from}
+use Rattle.ledger.proofs.Opening.{restored-agrees}
 
 -- every object of a ledger is in its units
 abbrev pub Fitted : (ℕ → ℕ) → Ledger → Type 0
@@ -41,42 +40,28 @@ pub sound-of : (unit : ℕ → ℕ) (l : Ledger) (s : List ℕ) (k : Accounts) �
 unfolding sound
 sound-of unit l s k a f = and-both (consistent s k) _ (a .sound) (member-all (in-units unit) (objects-of s) (λ o m. f o (a .matches .objects o .0 m)))
 
--- a change of holds keeps every object, and entries that leave take theirs away
-changed : (unit : ℕ → ℕ) (l : Ledger) (f : Entry → Entry) → ((e : Entry) → f e .object ≡ e .object) → Fitted unit l → Fitted unit (with-entries (map f (l .entries)) l)
-changed unit l f same h o m =
-    let r = Memᴰ·of-map (λ (e : Entry). e .object) (map f (l .entries)) m in
-    let t = Memᴰ·of-map f (l .entries) (r .1) in
-    h o (subst (λ (x : Handle). List·Memᴰ x (objects-in l)) (sym (same (t .0)) ∙ ap (λ (e : Entry). e .object) (t .2) ∙ r .2) (Memᴰ·map (λ (e : Entry). e .object) (t .1)))
+-- a beginning has none, or those of a state that was read
+pub restored-fits : (unit : ℕ → ℕ) (s : List ℕ) (k : Accounts) → Restorable unit s k → Fitted unit (read-ledger s k)
+restored-fits unit s k r o m = sound-fits unit s k (r .sound) o (restored-agrees unit s k r .matches .objects o .1 m)
 
-left : (unit : ℕ → ℕ) (l : Ledger) → Fitted unit l → Fitted unit (leave l)
-unfolding leave
-left unit l h o m =
-    let r = Memᴰ·of-map (λ (e : Entry). e .object) (keep is-held (l .entries)) m in
-    h o (subst (λ (x : Handle). List·Memᴰ x (objects-in l)) (r .2) (Memᴰ·map (λ (e : Entry). e .object) (keep-exactly is-held (l .entries) (r .0) .0 (r .1) .0)))
+pub beginning-fits : (unit : ℕ → ℕ) (begun : Ledger) (s : List ℕ) (k : Accounts) → Begins unit begun s k → Fitted unit begun
+unfolding empty
+beginning-fits unit begun s k (Opening grants e o) = rw e (λ x m. absurd (List·Memᴰ·not-nil m))
+beginning-fits unit begun s k (Restoring e r) = rw e (restored-fits unit s k r)
 
-at-serial-same : (serial : ℕ) (g : Entry → Entry) → ((e : Entry) → g e .object ≡ e .object) → (e : Entry) → cond (eqb (e .object .serial) serial) (g e) e .object ≡ e .object
-at-serial-same serial g same e = go (eqb (e .object .serial) serial)
-  where
-    go : (t : Bool) → cond t (g e) e .object ≡ e .object
-    go true = same e
-    go false = refl
-
+-- no change of holds adds an object, and an object that is added is the answered one
 module _ (unit : ℕ → ℕ) (l : Ledger) (h : Fitted unit l) where
   raised : (q serial : ℕ) → Fitted unit (add-hold q serial l)
-  unfolding add-hold at-serial change-holds
-  raised q serial = changed unit l _ (at-serial-same serial (change-holds q (λ n. n + 1)) (λ e. refl)) h
+  raised q serial o m = h o (raised-from q l serial o m)
 
   lowered : (q serial : ℕ) → Fitted unit (take-hold q serial l)
-  unfolding take-hold at-serial change-holds
-  lowered q serial = left unit _ (changed unit l _ (at-serial-same serial (change-holds q (λ n. n - 1)) (λ e. refl)) h)
+  lowered q serial o m = h o (lowered-from q l serial o m)
 
   dropped : (q : ℕ) → Fitted unit (take-all q l)
-  unfolding take-all change-holds
-  dropped q = left unit _ (changed unit l (change-holds q (λ n. 0)) (λ e. refl) h)
+  dropped q o m = h o (dropped-from q l o m)
 
   added : (q : ℕ) (o : Handle) → in-units unit o ≡ true → Fitted unit (add-object q o l)
-  unfolding add-object
-  added q o e x m = ⊎-elim (λ (p : x ≡ o). rw p e) (λ p. h x p) (List·Memᴰ·cases-cons m)
+  added q o e x m = ⊎-elim (λ (p : x ≡ o). rw p e) (λ p. h x p) (added-from q l o x m)
 
 -- a refused call is not recorded
 accepted-fits : (unit : ℕ → ℕ) (c : Call) (l : Ledger) (s : List ℕ) (k : Accounts) (n : ℕ) (done : Outcome) → Fitted unit l → done .values .refusal ≡ 0

@@ -4,10 +4,12 @@ pub mod Agreement
 pub mod Matching
 pub mod Places
 pub mod Writing
+pub mod LentParts
 pub mod Opening
 pub mod Steps
 pub mod Fields
 pub mod Space
+pub mod Lasting
 pub mod Fitted
 pub mod Theorem
 pub mod Reading
@@ -15,3 +17,5 @@ pub mod Contents
 pub mod Staying
 pub mod Bytes
 pub mod NewBytes
+pub mod Rejoining
+pub mod Lengths

@@ -2,6 +2,8 @@ pub mod Computing
 pub mod Marked
 pub mod Cases
 pub mod Units
+pub mod Lines
+pub mod Inconsistent
 pub mod Bools
 pub mod Lists
 pub mod Base
@@ -9,6 +11,7 @@ pub mod Blocks
 pub mod Carve
 pub mod Join
 pub mod Settle
+pub mod Touched
 pub mod Frame
 pub mod StepFrame
 pub mod Refusals

@@ -29,7 +29,7 @@ leading-zeros (suc w) x =
     let more = suc (leading-zeros w x) in
     cond (ltb x (2 ^ w)) more 0
 
--- source document 002: E = 52 - CountLeadingZeros(l[64:13]), and the alignment 2^(E+3)
+-- rule 6.4: the exponent E of the hardware's bounds, counted in the 52 bits above the lowest 13, and the alignment 2^(E+3)
 unfoldable pub exponent : ℕ → ℕ
 exponent n = 52 - leading-zeros 52 (n / 2 ^ 13)
 

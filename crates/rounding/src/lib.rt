@@ -14,7 +14,7 @@ pub fn unit(length: u32) -> u32
     }
 }
 
-// The object's length: the request rounded up to a multiple of its unit. It can need more than 32 bits.
+// The object's length: the least multiple of the unit that is not below the request. It can need more than 32 bits.
 pub fn object_length(length: u32) -> u64
     ensures { λ r. ⌜ r ≡ object-length unit-of length ⌝ }
 {

@@ -1,0 +1,99 @@
+-- The writer: what the frames answer is what writing answers, before and behind the check.
+-- Assumes nothing.
+use mathlib.Core.Path.{_≡_, refl, ap, sym, _∙_}
+use mathlib.Core.List.{List, _∷_, _++_}
+use mathlib.Core.Bool.{Bool, true, false}
+use Prim.Native.Nat.{ℕ, suc, _+_, _*_, _/_, _≤_, _<_}
+use native.Mathlib.Omega.{arith}
+use lib.ListN.{length, length-append}
+use lib.Dec.{ltb}
+use borrow.Author.Tests.{ltb-true, ltb-false, lt-ltb, le-ltb, le-leb, lt-leb}
+use Rattle.accounts.specs.declared.Accounts.{Accounts}
+use Rattle.model.specs.declared.Refusal.{Refusal}
+use Rattle.model.specs.declared.Verdict.{Verdict}
+use Rattle.model.specs.declared.Verdict.the-variants.{Accepted, Refused}
+use Rattle.model.specs.Answers.{verdict-values}
+use Rattle.model.specs.Refusals.{first-refusal, line-1, line-2}
+use Rattle.model.specs.Consistent.{allowed}
+use Rattle.model.specs.Calls.{check}
+use Rattle.access.proofs.Lines.{check-refuses, check-accepts, number-some}
+use Rattle.framing.specs.declared.FrameAnswer.{FrameAnswer}
+use Rattle.framing.specs.declared.FrameAnswer.the-variants.{Written as FramesWritten, NoRoom}
+use Rattle.framing.specs.Frames.{frames-for, has-room, Framed, write-frames}
+use Rattle.image_model.specs.declared.Form.{Form}
+use Rattle.image_model.specs.declared.ImageRefusal.the-variants.{Call, Room}
+use Rattle.image_model.specs.declared.WriteAnswer.the-variants.{Written, Refused as NotWritten}
+use Rattle.image_model.specs.Stream.{form-1, head-length, head-of, stream, image-of, image-length}
+use Rattle.image_model.specs.Answers.{Imaged, imaged}
+use Rattle.image_model.specs.Images.{put-lines, write-lines, unless-written, write-image}
+use Rattle.image.specs.Parsing.{FormFits, length-for, put-image}
+use Rattle.image.proofs.Heads.{head-extent}
+
+-- what the frames answer, as an image
+unfoldable pub as-image : List ℕ → FrameAnswer → Imaged
+as-image o (FramesWritten n) = imaged o (Written n)
+as-image o NoRoom = imaged o (NotWritten Room)
+
+module _ (f : Form) (fits : FormFits f) (o s : List ℕ) (k : Accounts) (short : length s ≤ 32768) (h : List ℕ) (is : h ≡ head-of f (length s) k)
+    (long : length h ≡ head-length f) where
+  abbrev count : ℕ
+  count = frames-for (head-length f + length s)
+
+  stream-is : h ++ s ≡ stream f s k
+  unfolding stream
+  stream-is = ap (λ (x : List ℕ). x ++ s) is
+
+  stream-long : length (stream f s k) ≡ head-length f + length s
+  stream-long = sym (ap length stream-is) ∙ length-append h s ∙ ap (λ (n : ℕ). n + length s) long
+
+  countable : ltb count 65536 ≡ true
+  unfolding frames-for
+  countable =
+      let e = head-extent f in
+      let q = fits .quotas in
+      let r = fits .records in
+      lt-ltb ((head-length f + length s + 503) / 504) 65536 (omega arith)
+
+  framed : Framed → Imaged
+  framed r = as-image (r .image) (r .answer)
+
+  framed-short : length o < 512 * count → framed (write-frames o (stream f s k)) ≡ put-image f o s k
+  unfolding framed as-image write-frames has-room put-image put-lines image-length unless-written first-refusal imaged
+  framed-short l = rw (stream-long, countable, lt-leb (512 * count) (length o) l, lt-ltb (length o) (512 * count) l)
+
+  framed-room : 512 * count ≤ length o → framed (write-frames o (stream f s k)) ≡ put-image f o s k
+  unfolding framed as-image write-frames has-room put-image put-lines image-of image-length unless-written first-refusal imaged
+  framed-room l = rw (stream-long, countable, le-leb (512 * count) (length o) l, le-ltb (length o) (512 * count) l)
+
+  framed-put : (x : Bool) → ltb (length o) (512 * count) ≡ x → framed (write-frames o (stream f s k)) ≡ put-image f o s k
+  framed-put true e = framed-short (ltb-true (length o) (512 * count) e)
+  framed-put false e = framed-room (ltb-false (length o) (512 * count) e)
+
+  pub put-by-frames : (o′ : List ℕ) (a b : FrameAnswer) → record { image = o′; answer = a } ≡ write-frames o (h ++ s) → a ≡ b
+      → as-image o′ b ≡ put-image f o s k
+  unfolding framed
+  put-by-frames o′ a b w g =
+      ap (as-image o′) (sym g) ∙ ap framed (w ∙ ap (write-frames o) stream-is) ∙ framed-put (ltb (length o) (512 * count)) refl
+
+-- behind the check: what it refuses is refused, what it accepts is put
+module _ (f : Form) (o s : List ℕ) (k : Accounts) (v : Verdict) (told : verdict-values v ≡ check s k .values) where
+  pub write-refused : (r : Refusal) → v ≡ Refused r → imaged o (NotWritten (Call r)) ≡ write-image f o s k
+  unfolding imaged write-image unless-written write-lines
+  write-refused r e =
+      let n = number-some r in
+      let g : first-refusal (line-1 s ∷ line-2 s k ∷ put-lines f o s k) ≡ suc (n .0) = check-refuses s k v told (put-lines f o s k) r e ∙ n .1 in
+      rw (n .1, g)
+
+  pub write-accepted : v ≡ Accepted → put-image f o s k ≡ write-image f o s k
+  unfolding put-image write-image write-lines
+  write-accepted e = rw (check-accepts s k v told (put-lines f o s k) e)
+
+-- the length of an image, where a heap has that length and where none has
+pub length-none : (n : ℕ) → allowed n ≡ false → 0 ≡ length-for n
+unfolding length-for
+length-none n a = rw a
+
+pub length-some : (f : Form) (n at : ℕ) → f ≡ form-1 → allowed n ≡ true → at ≡ 12 + f .quotas * 8 + f .records * 8
+    → 512 * ((at + n + 503) / 504) ≡ length-for n
+unfolding length-for image-length frames-for
+length-some f n at e a l = rw (a, l ∙ sym (head-extent f), e)

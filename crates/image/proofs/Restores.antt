@@ -1,0 +1,102 @@
+-- The reader: whether an image's heap is consistent, and what is left of reading once its shape is known.
+-- Assumes nothing.
+use mathlib.Core.Path.{_≡_, refl, ap, sym, _∙_}
+use mathlib.Core.List.{List, [], _∷_, _++_}
+use mathlib.Core.Bool.{Bool, true, false, not}
+use Prim.Native.Nat.{ℕ, zero, suc, _+_, _*_, _≤_}
+use native.Mathlib.Omega.{arith}
+use lib.ListN.{length, drop}
+use lib.Dec.{leb}
+use borrow.Author.Tests.{eq-eqb, ne-eqb, leb-true}
+use Rattle.accounts.specs.declared.Accounts.{Accounts}
+use Rattle.accounts.specs.Accounts.{zero-accounts}
+use Rattle.model.specs.declared.Refusal.{Refusal}
+use Rattle.model.specs.declared.Verdict.{Verdict}
+use Rattle.model.specs.declared.Verdict.the-variants.{Accepted, Refused}
+use Rattle.model.specs.Answers.{verdict-values}
+use Rattle.model.specs.Lists.{all}
+use Rattle.model.specs.Consistent.{allowed, consistent}
+use Rattle.model.specs.Refusals.{Line, _when_, first-refusal, line-1, line-2}
+use Rattle.model.specs.Calls.{check}
+use Rattle.model.proofs.Bools.{and-left, and-right}
+use Rattle.model.proofs.Refusals.{Numbered}
+use Rattle.access.proofs.Lines.{check-refuses, check-consistent, number-some}
+use Rattle.framing.specs.Frames.{padded, stream-of}
+use Rattle.image_model.specs.declared.Form.{Form}
+use Rattle.image_model.specs.declared.ImageRefusal.{ImageRefusal}
+use Rattle.image_model.specs.declared.ImageRefusal.the-variants.{Room, Unsound}
+use Rattle.image_model.specs.declared.ReadAnswer.the-variants.{Restored, Refused as NotRestored}
+use Rattle.image_model.specs.Stream.{head-length}
+use Rattle.image_model.specs.Reading.{size-in, heap-of, heap-in}
+use Rattle.image_model.specs.Answers.{restored-to, image-refusal-number}
+use Rattle.image_model.specs.Images.{line-25, line-26, shape-lines, read-lines, unless-read, read-image}
+use Rattle.image_model.proofs.Answers.{image-refusal-is}
+use Rattle.image.specs.Parsing.{restore}
+use Rattle.image.proofs.Heads.{head-extent}
+use Rattle.image.proofs.Parses.{Found, shape-numbered}
+
+-- an allowed heap is consistent exactly if the check accepts it
+module _ (s r : List ℕ) (k : Accounts) (v : Verdict) (told : verdict-values v ≡ check s k .values) (is : s ≡ r) where
+  pub check-sound : v ≡ Accepted → true ≡ consistent r k
+  check-sound e = sym (check-consistent s k v told e .1) ∙ ap (λ (x : List ℕ). consistent x k) is
+
+  pub check-unsound : allowed (length s) ≡ true → (x : Refusal) → v ≡ Refused x → false ≡ consistent r k
+  unfolding line-1 line-2 first-refusal
+  check-unsound a x e =
+      let n = number-some x in
+      let g : first-refusal (line-1 s ∷ line-2 s k ∷ []) ≡ suc (n .0) = check-refuses s k v told [] x e ∙ n .1 in
+      second (consistent s k) (n .0) (rw a at g) ∙ ap (λ (y : List ℕ). consistent y k) is
+    where
+      second : (b : Bool) (n : ℕ) → first-refusal ((2 when not b) ∷ []) ≡ suc n → false ≡ b
+      second true n g = absurd (omega arith)
+      second false n g = refl
+
+-- what is left of reading: 25, 26, or the heap
+module _ (f : Form) (n : ℕ) (t h : List ℕ) (k : Accounts) where
+  pub restore-room : (length h ≡ n → ⊥) → restored-to h zero-accounts (NotRestored Room) ≡ restore f n t h k
+  unfolding restore restored-to unless-read first-refusal
+  restore-room e = rw (ne-eqb (length h) n e)
+
+  module _ (room : length h ≡ n) (at : ℕ) (is : at ≡ 12 + f .quotas * 8 + f .records * 8) where
+    at-is : at ≡ head-length f
+    at-is = is ∙ sym (head-extent f)
+
+    pub restore-unsound : (r : Bool) → r ≡ consistent (padded n (drop at t)) k → r ≡ false
+        → restored-to h zero-accounts (NotRestored Unsound) ≡ restore f n t h k
+    unfolding restore restored-to unless-read first-refusal
+    restore-unsound r e g = rw (eq-eqb (length h) n room, ← at-is, sym e ∙ g)
+
+    pub restore-done : (r : Bool) (h′ : List ℕ) → r ≡ consistent (padded n (drop at t)) k → r ≡ true → h′ ≡ padded (length h) (drop at t)
+        → restored-to h′ k Restored ≡ restore f n t h k
+    unfolding restore restored-to unless-read first-refusal
+    restore-done r h′ e g w = rw (eq-eqb (length h) n room, ← at-is, sym e ∙ g, w, room)
+
+-- lines in front of others
+first-kept : (xs ys : List Line) (n : ℕ) → first-refusal xs ≡ suc n → first-refusal (xs ++ ys) ≡ suc n
+unfolding first-refusal
+first-kept [] ys n e = absurd (omega arith)
+first-kept ((m when true) ∷ xs) ys n e = e
+first-kept ((m when false) ∷ xs) ys n e = first-kept xs ys n e
+
+first-passed : (xs ys : List Line) → Numbered xs → first-refusal xs ≡ 0 → first-refusal (xs ++ ys) ≡ first-refusal ys
+unfolding first-refusal all
+first-passed [] ys d e = refl
+first-passed ((m when true) ∷ xs) ys d e = absurd (omega (arith, leb-true 1 m (and-left (leb 1 m) _ d)))
+first-passed ((m when false) ∷ xs) ys d e = first-passed xs ys (and-right (leb 1 m) _ d) e
+
+refused-by : (i h : List ℕ) (m : ℕ) → 1 ≤ m → first-refusal (shape-lines i) ≡ m → record { heap = h; accounts = zero-accounts; refusal = m } ≡ read-image i h
+unfolding read-image read-lines unless-read
+refused-by i h zero l e = absurd (omega arith)
+refused-by i h (suc m) l e = rw (first-kept (shape-lines i) (line-25 i h ∷ line-26 i ∷ []) m e)
+
+-- an image that its own bytes refuse, and one that they do not
+pub read-refused : (i h : List ℕ) (r : ImageRefusal) → first-refusal (shape-lines i) ≡ image-refusal-number r
+    → restored-to h zero-accounts (NotRestored r) ≡ read-image i h
+unfolding restored-to
+read-refused i h r e = refused-by i h (image-refusal-number r) (image-refusal-is r .1) e
+
+pub read-restored : (i h : List ℕ) (f : Form) (n : ℕ) (k : Accounts) → Found i f n k → restore f n (stream-of i) h k ≡ read-image i h
+unfolding restore read-image read-lines line-25 line-26 heap-in heap-of size-in
+read-restored i h f n k w =
+    let g = first-passed (shape-lines i) (line-25 i h ∷ line-26 i ∷ []) (shape-numbered i) (w .lines) in
+    rw (g, w .form, w .size, w .accounts)

@@ -1,0 +1,39 @@
+-- The definitions computed at small images.
+-- Assumes nothing.
+use mathlib.Core.Path.{_≡_, refl}
+use mathlib.Core.List.{List, [], _∷_}
+use Prim.Native.Nat.{ℕ}
+use lib.ListN.{replicate, take}
+use Rattle.accounts.specs.declared.Accounts.{Accounts}
+use Rattle.accounts.specs.Accounts.{zero-accounts, opened}
+use Rattle.image_model.specs.Stream.{form-1, image-of}
+use Rattle.image_model.specs.declared.ImageRefusal.the-variants.{Contents}
+use Rattle.image_model.proofs.Computing.{computing}
+use Rattle.image.specs.declared.Shape.the-variants.{Image, Refused}
+use Rattle.image.specs.Parsing.{Parts, shape-parts, unless-parts, parts-in, length-for}
+
+accounts : Accounts
+accounts = opened (100 ∷ 1000 ∷ replicate 6 0)
+
+-- a heap that is not consistent with the accounts: only its own bytes count here
+image : List ℕ
+image = image-of form-1 (replicate 64 7) accounts
+
+no-parts : ℕ → Parts
+no-parts n = record { refusal = n; form = form-1; size = 0; accounts = zero-accounts }
+
+parts-rows : (parts-in image ≡ record { refusal = 0; form = form-1; size = 64; accounts = accounts })
+    × (parts-in [] ≡ no-parts 21) × (parts-in (take 512 image) ≡ no-parts 22)
+unfolding computing parts-in unless-parts accounts image no-parts
+parts-rows = (refl, refl, refl)
+
+shape-rows : (shape-parts (Image form-1 64) accounts ≡ record { refusal = 0; form = form-1; size = 64; accounts = accounts })
+    × (shape-parts (Refused Contents) zero-accounts ≡ no-parts 24)
+unfolding shape-parts no-parts
+shape-rows = (refl, refl)
+
+-- no heap has 63 bytes, or 32,776; a frame more from 416 on
+length-rows : (length-for 63 ≡ 0) × (length-for 64 ≡ 1536) × (length-for 408 ≡ 1536)
+    × (length-for 416 ≡ 2048) × (length-for 32768 ≡ 34816) × (length-for 32776 ≡ 0)
+unfolding computing length-for
+length-rows = (refl, refl, refl, refl, refl, refl)

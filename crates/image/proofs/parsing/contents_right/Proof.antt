@@ -1,0 +1,93 @@
+-- The tests are the definition's, in its order (`Parses`).
+-- Assumes nothing.
+use native.Mathlib.Omega.{arith}
+use mathlib.Core.Path.{ap, sym, _∙_}
+use borrow.Author.Needs.{needs}
+use Prim.Native.Nat.{ℕ, _+_}
+use borrow.Author.Tests.{not-true, not-false}
+use Rattle.image_model.proofs.Written.{allowed-most}
+use Rattle.image.proofs.Parses.{not-allowed, other-count, not-padded, by-spares}
+use Rattle.image.proofs.parsing.contents_right.Statement.{statement}
+use Rattle.image.proofs.parsing.contents_right.Tie as tie
+
+is-allowed-requires : tie.Need-is-allowed-requires
+is-allowed-requires c κs = search needs
+
+returns : tie.Need-returns
+returns c =
+    let k = c .before in
+    let start = k .before .before in
+    let a = start .args in
+    not-allowed (a .image .now) (a .form) (a .size) (start .pre .1) (start .pre .2) (sym (k .is-allowed .ensures) ∙ not-true _ (c .if1 .taken))
+
+heap-at-requires : tie.Need-heap-at-requires
+heap-at-requires c κs = search needs
+
+add-end : tie.Need-add-end
+add-end c =
+    let k = c .before .before in
+    let l = allowed-most (k .before .before .args .size) (sym (k .is-allowed .ensures) ∙ not-false _ (c .before .if1 .left)) in
+    omega arith
+
+add-if2 : tie.Need-add-if2
+add-if2 c =
+    let k = c .before .before in
+    let l = allowed-most (k .before .before .args .size) (sym (k .is-allowed .ensures) ∙ not-false _ (c .before .if1 .left)) in
+    omega arith
+
+returns-2 : tie.Need-returns-2
+returns-2 c =
+    let h = c .before in
+    let k = h .before .before in
+    let start = k .before .before in
+    let a = start .args in
+    other-count (a .image .now) (a .form) (a .size) (start .pre .1) (start .pre .2) (sym (k .is-allowed .ensures) ∙ not-false _ (h .before .if1 .left)) _
+    (ap (λ (n : ℕ). n + a .size) (h .heap-at .ensures)) (c .if2 .taken)
+
+zero-from-requires : tie.Need-zero-from-requires
+zero-from-requires c κs = search needs
+
+returns-3 : tie.Need-returns-3
+returns-3 c =
+    let z = c .before in
+    let h = z .before .before in
+    let k = h .before .before in
+    let start = k .before .before in
+    let a = start .args in
+    not-padded (a .image .now) (a .form) (a .size) (start .pre .1) (start .pre .2) (sym (k .is-allowed .ensures) ∙ not-false _ (h .before .if1 .left)) _
+    (ap (λ (n : ℕ). n + a .size) (h .heap-at .ensures)) (z .before .if2 .left)
+    (z .zero-from .result) (z .zero-from .ensures) (not-true _ (c .if3 .taken))
+
+records-at-requires : tie.Need-records-at-requires
+records-at-requires c κs = search needs
+
+spares-right-requires : tie.Need-spares-right-requires
+spares-right-requires c κs = search needs
+
+returns-4 : tie.Need-returns-4
+returns-4 c =
+    let z = c .before .before .before in
+    let h = z .before .before in
+    let k = h .before .before in
+    let start = k .before .before in
+    let a = start .args in
+    by-spares (a .image .now) (a .form) (a .size) (start .pre .1) (start .pre .2) (sym (k .is-allowed .ensures) ∙ not-false _ (h .before .if1 .left)) _
+    (ap (λ (n : ℕ). n + a .size) (h .heap-at .ensures)) (z .before .if2 .left)
+    (z .zero-from .result) (c .spares-right .result) (c .before .records-at .result) (z .zero-from .ensures) (not-false _ (c .before .before .if3 .left))
+    (c .before .records-at .ensures) (c .spares-right .ensures)
+
+pub contents-right-spec : {M : Type 1} → statement M
+contents-right-spec =
+    tie.close
+    (tie.spec
+    is-allowed-requires
+    returns
+    heap-at-requires
+    add-end
+    add-if2
+    returns-2
+    zero-from-requires
+    returns-3
+    records-at-requires
+    spares-right-requires
+    returns-4)

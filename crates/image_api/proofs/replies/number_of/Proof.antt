@@ -1,0 +1,29 @@
+-- 0, or the number of the refusal.
+-- Assumes nothing.
+use mathlib.Core.Path.{ap, sym, _∙_}
+use Rattle.image_model.specs.Answers.{restored-to}
+use borrow.Author.Needs.{needs}
+use Rattle.image_api.proofs.replies.number_of.Statement.{statement}
+use Rattle.image_api.proofs.replies.number_of.Tie as tie
+
+enum-told : tie.Need-enum-told
+enum-told c = search needs
+
+enum-known-answer : tie.Need-enum-known-answer
+enum-known-answer c = search needs
+
+number-requires : tie.Need-number-requires
+number-requires c κs = search needs
+
+returns : tie.Need-returns
+unfolding restored-to
+returns c s k = ap (restored-to s k) (sym (c .enum-told .given .1))
+
+returns-2 : tie.Need-returns-2
+unfolding restored-to
+returns-2 c s k =
+    (λ i. record { heap = s; accounts = k; refusal = c .number .ensures i }) ∙ ap (restored-to s k) (sym (c .before .before .answer .given .1))
+
+pub number-of-spec : {M : Type 1} → statement M
+number-of-spec =
+    tie.close (tie.spec enum-told enum-known-answer number-requires returns returns-2)

@@ -1,0 +1,49 @@
+// The exported functions, each the one of `image` and its answer as numbers.
+use crate::ExamineReply;
+use crate::ImageReply;
+use crate::RestoreReply;
+use crate::replies::reply_of_parsed;
+use crate::replies::reply_of_read;
+use crate::replies::reply_of_write;
+use accounts::Accounts;
+ghost use mathlib.Core.Path.{_≡_};
+ghost use Rattle.image_model.specs.Stream.{form-1};
+ghost use Rattle.image_model.specs.Images.{write-image, read-image};
+ghost use Rattle.image.specs.Parsing.{length-for};
+ghost use Rattle.image_api.specs.Replies.{image-reply, restore-reply, examine};
+
+// The image of a heap and its accounts, at the front of the lent one; its other bytes stay.
+#[no_mangle]
+pub extern "C" fn lokhazim_image_write(
+    image: &mut [u8],
+    heap: &[u8],
+    accounts: Accounts,
+) -> ImageReply
+    ensures { λ r. ⌜ image-reply (now (image .exit)) r ≡ write-image form-1 (now (image .entry)) (now (heap .entry)) accounts ⌝ }
+{
+    reply_of_write(image::write_image(image, heap, accounts))
+}
+
+// The heap of an image into the lent heap, and its accounts back; a heap stays as it is where this is refused.
+#[no_mangle]
+pub extern "C" fn lokhazim_image_read(image: &[u8], heap: &mut [u8]) -> RestoreReply
+    ensures { λ r. ⌜ restore-reply (now (heap .exit)) r ≡ read-image (now (image .entry)) (now (heap .entry)) ⌝ }
+{
+    reply_of_read(image::read_image(image, heap))
+}
+
+// How many bytes an image of a heap of so many has, 0 where no heap has that length.
+#[no_mangle]
+pub extern "C" fn lokhazim_image_length(heap_length: usize) -> usize
+    ensures { λ r. ⌜ r ≡ length-for «heap_length» ⌝ }
+{
+    image::image_length(heap_length)
+}
+
+// What heap is to be lent for an image: its form's number and the heap's length, by its own bytes alone.
+#[no_mangle]
+pub extern "C" fn lokhazim_image_examine(image: &[u8]) -> ExamineReply
+    ensures { λ r. ⌜ r ≡ examine (now (image .entry)) ⌝ }
+{
+    reply_of_parsed(image::parse_image(image))
+}
