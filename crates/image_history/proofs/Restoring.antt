@@ -8,7 +8,7 @@ use mathlib.Core.List.{List, [], _∷_, _++_}
 use Prim.Native.Nat.{ℕ, zero, suc}
 use lib.ListN.{length, take}
 use Rattle.accounts.specs.declared.Accounts.{Accounts}
-use Rattle.rounding.specs.Rounding.{Units}
+use Rattle.rounding.specs.Rounding.{unit, Units}
 use Rattle.layout.specs.Bytes.{Octets}
 use Rattle.model.specs.Step.{step}
 use Rattle.ledger.specs.Ledger.{Ledger, Event, Saved, Restored, read-ledger, ledger-of}
@@ -66,9 +66,9 @@ refused-keeps i s f = go (read-image i s .refusal) refl
     go zero e = absurd (f e)
     go (suc n) e = ap (λ (r : Restored-to). r .heap) (refused-read i s n e)
 
-pub refused-goes-on : (i s : List ℕ) (run : Run) (begun : Ledger) (es : List Event) (k : Accounts) → (read-image i s .refusal ≡ 0 → ⊥)
+pub refused-goes-on : (unit : ℕ → ℕ) (i s : List ℕ) (run : Run) (begun : Ledger) (es : List Event) (k : Accounts) → (read-image i s .refusal ≡ 0 → ⊥)
     → History unit run begun es s k → History unit run begun es (read-image i s .heap) k
-refused-goes-on i s run begun es k f past = rw (refused-keeps i s f) past
+refused-goes-on unit i s run begun es k f past = rw (refused-keeps i s f) past
 
 -- an image was written of s and k, in a form that is known
 module _ (f : Form) (o s : List ℕ) (k : Accounts) (known : Known f) (typed : Typed k) (saved : write-image f o s k .refusal ≡ 0) (octets : Octets s) where
@@ -86,9 +86,9 @@ module _ (f : Form) (o s : List ℕ) (k : Accounts) (known : Known f) (typed : T
   saved-restored h e = accepted-read (written-image f o s k) h e ∙ (λ j. record { heap = says .0 j; accounts = says .1 j; refusal = 0 })
 
 -- a written image is an event of the history, and changes nothing
-pub saved-goes-on : (run : Run) (begun : Ledger) (es : List Event) (s : List ℕ) (k : Accounts) → History unit run begun es s k
+pub saved-goes-on : (unit : ℕ → ℕ) (run : Run) (begun : Ledger) (es : List Event) (s : List ℕ) (k : Accounts) → History unit run begun es s k
     → History unit run begun (Saved s k ∷ es) s k
-saved-goes-on run begun es s k past = (past, refl, refl)
+saved-goes-on unit run begun es s k past = (past, refl, refl)
 
 -- what a read of an image leaves that was written in the history: the heap and the accounts written; a history with the restore in it; the image's own
 -- history again; and a ledger that says what it said when the image was written
@@ -104,7 +104,7 @@ module _ (unit : ℕ → ℕ) (units : Units unit) (begun : Ledger) (early mid :
       → (f : Form) (o : List ℕ) → Known f → Typed k₁ → write-image f o s₁ k₁ .refusal ≡ 0
       → Continues unit begun early mid s₁ k₁ (read-image (written-image f o s₁ k₁) s)
   restore-continues s k past f o known typed saved =
-      let own = saved-history (step unit) begun early s₁ k₁ mid s k past in
+      let own = saved-history unit (step unit) begun early s₁ k₁ mid s k past in
       let fit = history-restorable unit units begun early s₁ k₁ own in
       let long = saved-as-long unit units begun early s₁ k₁ mid s k past in
       subst (Continues unit begun early mid s₁ k₁) (sym (write-then-read f o s₁ k₁ s saved known (fit .octets) typed long))

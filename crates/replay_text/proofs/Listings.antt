@@ -32,7 +32,7 @@ module _ (s : List ℕ) (k : Accounts) (r : Reached s k) (place : ℕ) (b : Bloc
 
   pub given-ends : (l : ListedBlock) → b ≡ Listed l → l .offset + l .size ≤ length s
   unfolding block-values
-  given-ends l e = given-inside s k place l (sym (ap (λ (o : Outcome). o .values .block) told) ∙ ap (λ (x : BlockAnswer). block-values x .block) e)
+  given-ends l e = given-inside unit s k place l (sym (ap (λ (o : Outcome). o .values .block) told) ∙ ap (λ (x : BlockAnswer). block-values x .block) e)
 
 -- of the blocks bs, the blocks ys are left, and begin at a place
 pub record Passing (bs : List Block) (place : ℕ) (ys : List Block) : Type 0 where
