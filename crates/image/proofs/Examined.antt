@@ -7,11 +7,12 @@ use mathlib.Core.Option.{none, some}
 use Prim.Native.Nat.{ℕ, zero, suc, _+_, _*_, _≤_}
 use native.Mathlib.Omega.{arith}
 use lib.ListN.{take, drop}
+use Rattle.rounding.specs.Rounding.{unit}
 use Rattle.accounts.specs.declared.Accounts.{Accounts}
 use Rattle.accounts.specs.Accounts.{zero-accounts}
 use Rattle.layout.specs.Bytes.{number}
 use Rattle.model.specs.Lists.{or-else}
-use Rattle.model.specs.Consistent.{consistent}
+use Rattle.model.specs.Consistent.{sound as is-sound}
 use Rattle.model.specs.Refusals.{first-refusal}
 use Rattle.framing.specs.Frames.{padded, stream-of}
 use Rattle.image_model.specs.declared.Form.{Form}
@@ -57,12 +58,12 @@ examined-refused i p r told e =
 
 -- one that they do not refuse: what the test of its state finds
 module _ (i : List ℕ) (f : Form) (n : ℕ) (k : Accounts) (w : Found i f n k) (at : ℕ) (is : at ≡ 12 + f .quotas * 8 + f .records * 8) where
-  module _ (r : Bool) (told : r ≡ consistent (padded n (drop at (stream-of i))) k) where
-    state-is : r ≡ consistent (heap-in i) (accounts-in i)
+  module _ (r : Bool) (told : r ≡ is-sound unit (padded n (drop at (stream-of i))) k) where
+    state-is : r ≡ is-sound unit (heap-in i) (accounts-in i)
     unfolding heap-in heap-of size-in
     state-is =
         let start : at ≡ head-length (form-of i) = is ∙ sym (head-extent f) ∙ ap head-length (w .form) in
-        told ∙ (λ j. consistent (padded (w .size j) (drop (start j) (stream-of i))) (w .accounts j))
+        told ∙ (λ j. is-sound unit (padded (w .size j) (drop (start j) (stream-of i))) (w .accounts j))
 
     passed : first-refusal (examine-lines i) ≡ first-refusal (line-26 i ∷ [])
     unfolding examine-lines
