@@ -19,8 +19,9 @@
  *     handle, a block or an object; one that takes a number may be null.
  *   - The heap begins at an address that is a multiple of LOKHAZIM_ALIGNMENT:
  *         static _Alignas(LOKHAZIM_ALIGNMENT) uint8_t heap[4096];
- *     An object's base is a multiple of 8, 16 or 32, by its length, counted from
- *     the heap's first byte; only in an aligned heap is its address one too.
+ *     An object's base, counted from the heap's first byte, is a multiple of 8;
+ *     of 16 if the object has 8,192 bytes or more, and of 32 from 16,384 on. Only
+ *     in an aligned heap is its address one too.
  *   - A quota's number is an argument, and lend and write ask for a handle only.
  *     One trusted place keeps heap and accounts, and fills in each part's number.
  *
@@ -72,7 +73,8 @@ enum lokhazim_refusal {
     LOKHAZIM_ACCEPTED = 0,
     /* The heap's length is not allowed. */
     LOKHAZIM_HEAP_LENGTH = 1,
-    /* Heap and accounts don't agree: not opened, another heap's, or something else has written to them. */
+    /* Heap and accounts don't agree: not opened, another heap's, or something else has written to them.
+     * Also a heap of an earlier version in which a long object's base is no such multiple as above. */
     LOKHAZIM_INCONSISTENT = 2,
     /* There is no quota of this number. */
     LOKHAZIM_QUOTA_NUMBER = 3,

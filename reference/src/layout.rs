@@ -180,15 +180,15 @@ impl Layout {
     pub(crate) fn lowest_base(&self, rounded: Rounded) -> Option<u32> {
         self.free
             .iter()
-            .map(|gap| (gap, lowest_base_from(gap.offset, rounded.unit)))
+            .map(|gap| (gap, lowest_base_from(gap.offset, rounded.alignment)))
             .find(|(gap, base)| base + rounded.length <= gap.end())
             .map(|(_, base)| base)
     }
 }
 
-/// Gives the lowest multiple of the unit that has room for a header from the offset on.
-fn lowest_base_from(offset: u32, unit: u32) -> u32 {
-    (offset + HEADER_BYTES).next_multiple_of(unit)
+/// Gives the lowest multiple of the alignment that has room for a header from the offset on.
+fn lowest_base_from(offset: u32, alignment: u32) -> u32 {
+    (offset + HEADER_BYTES).next_multiple_of(alignment)
 }
 
 /// Gives the gaps between live blocks as free blocks.

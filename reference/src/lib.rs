@@ -30,5 +30,5 @@ pub use layout::{Block, Handle, HEADER_BYTES, SIZE_UNIT};
 pub use queries::{block_at, lend, lend_mut, remaining, Walker};
 pub use refusal::Refusal;
 pub use replay::{replay, MAX_INPUT};
-pub use rounding::{round_request, Rounded, MAX_REQUEST};
+pub use rounding::{round_request, unit_of, Rounded, MAX_REQUEST};
 pub use sound::{check, MAX_HEAP, MIN_HEAP};

@@ -5,24 +5,35 @@ use crate::Refusal;
 /// The largest length or product that may be requested.
 pub const MAX_REQUEST: u64 = 32_760;
 
-/// The object length for a request, and the unit of its length and base.
+/// The object length for a request, and the alignment of its base.
 #[derive(Clone, Copy, Debug, PartialEq, Eq)]
 pub struct Rounded {
-    /// The unit: object length and base are multiples of it.
-    pub unit: u32,
+    /// The base is a multiple of it: the unit of the object's length.
+    pub alignment: u32,
     /// The object's length in bytes.
     pub length: u32,
 }
 
-/// Rounds a request up to a multiple of its unit, or gives refusal 4.
-pub fn round_request(request: u64) -> Result<Rounded, Refusal> {
-    let unit = match request {
-        1..=8_191 => 8,
+/// Gives the unit of a length (rule 6.1).
+// OPEN: that 0 has the first row's unit and every length from 32,768 on the last
+// row's is a choice of rule 6.5; no object has such a length.
+pub fn unit_of(length: u32) -> u32 {
+    match length {
+        ..=8_191 => 8,
         8_192..=16_383 => 16,
-        16_384..=MAX_REQUEST => 32,
-        _ => return Err(Refusal::RequestLength),
-    };
+        16_384..=32_767 => 32,
+        32_768.. => 64,
+    }
+}
+
+/// Rounds a request up to a multiple of its unit (rules 6.2 and 6.3), or gives refusal 4.
+pub fn round_request(request: u64) -> Result<Rounded, Refusal> {
+    if !(1..=MAX_REQUEST).contains(&request) {
+        return Err(Refusal::RequestLength);
+    }
     // The request is at most MAX_REQUEST here, so it fits 32 bits.
-    let length = (request as u32).next_multiple_of(unit);
-    Ok(Rounded { unit, length })
+    let request = request as u32;
+    let length = request.next_multiple_of(unit_of(request));
+    let alignment = unit_of(length);
+    Ok(Rounded { alignment, length })
 }

@@ -6,6 +6,7 @@ use std::collections::BTreeSet;
 
 use crate::accounts::{Accounts, Hold, QUOTAS};
 use crate::layout::{walk, Block, Found, Layout, HEADER_BYTES, SIZE_UNIT};
+use crate::rounding::unit_of;
 use crate::Refusal;
 
 /// The shortest heap allowed, in bytes.
@@ -39,7 +40,8 @@ pub(crate) fn sound_layout(heap: &[u8], accounts: &Accounts) -> Result<Layout, R
         && used_records_are_proper(&live, accounts)
         && no_two_used_records_agree(accounts)
         && every_object_has_a_record(&live, accounts)
-        && every_grant_is_accounted_for(&live, accounts);
+        && every_grant_is_accounted_for(&live, accounts)
+        && every_object_fits_its_unit(&live);
     if !sound {
         return Err(Refusal::NotSound);
     }
@@ -132,4 +134,13 @@ fn every_grant_is_accounted_for(live: &[Block], accounts: &Accounts) -> bool {
     }
     let grants = accounts.quotas.map(|quota| u64::from(quota.grant));
     sums == grants
+}
+
+/// Rule 5.10: base and length of an object are multiples of the unit of that length.
+fn every_object_fits_its_unit(live: &[Block]) -> bool {
+    live.iter().all(|block| {
+        let object = block.handle();
+        let unit = unit_of(object.length);
+        object.length.is_multiple_of(unit) && object.base.is_multiple_of(unit)
+    })
 }

@@ -3,6 +3,7 @@
 use lokhazim_reference::{Block, Hold, QUOTAS};
 
 use crate::cut::{walk, Stated};
+use crate::ledger::unit;
 use crate::state::State;
 
 /// The rules, or pairs of them, in their order.
@@ -20,16 +21,19 @@ pub enum Sentence {
     Held,
     /// 5.8: a grant is the remainder and the charges.
     Sums,
+    /// 5.10: base and length of every object are multiples of its unit.
+    Units,
 }
 
 /// All of them.
-pub const SENTENCES: [Sentence; 6] = [
+pub const SENTENCES: [Sentence; 7] = [
     Sentence::Cut,
     Sentence::Serials,
     Sentence::Records,
     Sentence::Twice,
     Sentence::Held,
     Sentence::Sums,
+    Sentence::Units,
 ];
 
 /// Gives the rules that a state of an allowed heap length breaks. Where the sizes do not lead
@@ -51,6 +55,7 @@ pub fn broken(state: &State) -> Vec<Sentence> {
             .iter()
             .all(|b| used.iter().any(|h| h.serial == b.serial)),
         Sentence::Sums => sums_hold(state, &live, &used),
+        Sentence::Units => live.iter().all(fits_its_unit),
     };
     let broken = SENTENCES.into_iter().filter(|sentence| !holds(sentence));
     broken.collect()
@@ -116,4 +121,10 @@ fn sums_hold(state: &State, live: &[Block], used: &[Hold]) -> bool {
         let charges: u64 = live.iter().filter(has).map(|b| u64::from(b.size)).sum();
         u64::from(quota.grant) == u64::from(quota.remainder) + charges
     })
+}
+
+/// Judges base and length of one object.
+fn fits_its_unit(block: &Block) -> bool {
+    let (base, length) = (block.offset + 8, block.size - 8);
+    base % unit(length) == 0 && length % unit(length) == 0
 }

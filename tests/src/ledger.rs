@@ -41,25 +41,34 @@ pub struct Ledger {
     pub objects: Vec<Object>,
 }
 
-/// A request as rounded: the unit and the object's length.
+/// A request as rounded: the object's length, and what its base is a multiple of.
 #[derive(Clone, Copy, Debug, PartialEq, Eq)]
 pub struct Request {
-    /// The unit of base and length.
-    pub unit: u32,
+    /// The alignment of the base.
+    pub alignment: u32,
     /// The object's length.
     pub length: u32,
 }
 
+/// Gives the unit of a length (rule 6.1).
+pub fn unit(length: u32) -> u32 {
+    match length {
+        0..8_192 => 8,
+        8_192..16_384 => 16,
+        16_384..32_768 => 32,
+        _ => 64,
+    }
+}
+
 /// Rounds a request (rules 6.1 to 6.3); none for what refusal 4 is given for.
 pub fn request(bytes: u64) -> Option<Request> {
-    let unit = match bytes {
+    let asked = match bytes {
         0 | 32_761.. => return None,
-        1..8_192 => 8,
-        8_192..16_384 => 16,
-        16_384..=32_760 => 32,
+        _ => bytes as u32,
     };
-    let length = (bytes as u32).div_ceil(unit) * unit;
-    Some(Request { unit, length })
+    let length = asked.div_ceil(unit(asked)) * unit(asked);
+    let alignment = unit(length);
+    Some(Request { alignment, length })
 }
 
 impl Ledger {
@@ -158,7 +167,7 @@ impl Ledger {
         self.objects.iter().find(|object| object.handle == handle)
     }
 
-    /// Gives the base of the lowest suitable run of a request: every multiple of the unit is
+    /// Gives the base of the lowest suitable run of a request: every multiple of the alignment is
     /// tried, and the bytes of live blocks in its run are counted.
     pub fn lowest_run(&self, request: Request) -> Option<u32> {
         let mut taken = vec![0; self.heap_length as usize];
@@ -169,7 +178,7 @@ impl Ledger {
         for byte in taken {
             taken_before.push(taken_before[taken_before.len() - 1] + byte);
         }
-        let bases = (0..=self.heap_length).step_by(request.unit as usize);
+        let bases = (0..=self.heap_length).step_by(request.alignment as usize);
         let mut inside = bases.filter(|b| *b >= 8 && b + request.length <= self.heap_length);
         inside.find(|b| {
             let (start, end) = (*b as usize - 8, (*b + request.length) as usize);

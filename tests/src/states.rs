@@ -6,6 +6,7 @@ use std::collections::BTreeSet;
 use lokhazim_reference::{Accounts, Hold, Quota, HOLDS, QUOTAS};
 
 use crate::cut::{header, put};
+use crate::ledger::unit;
 use crate::seed::Seed;
 use crate::state::State;
 
@@ -37,8 +38,8 @@ pub fn heap_length(seed: &mut Seed) -> u32 {
         0 => 64,
         1..=9 => 8 * seed.between(8, 40),
         10..=14 => 8 * seed.between(40, 160),
-        15..=17 => 8 * seed.between(160, 700),
-        18 => seed.pick(&[16_384, 24_576, 32_760, 32_768]),
+        15 | 16 => 8 * seed.between(160, 700),
+        17 | 18 => seed.pick(&[16_384, 24_576, 32_760, 32_768]),
         _ => 8 * seed.between(8, 4_096),
     }
 }
@@ -66,6 +67,28 @@ impl Plan {
             records,
             remainders: std::array::from_fn(|_| remainder(seed)),
             last_serial,
+        }
+    }
+
+    /// Gives the plan of a heap with one object, which quota 0 holds once.
+    pub fn of_object(heap_length: u32, base: u32, length: u32) -> Plan {
+        let pieces = [
+            (base - 8, 0),
+            (length + 8, 1),
+            (heap_length - base - length, 0),
+        ];
+        let pieces = pieces.map(|(size, serial)| Piece { size, serial });
+        let mut records = [Hold::UNUSED; HOLDS];
+        records[0] = Hold {
+            serial: 1,
+            quota: 0,
+            count: 1,
+        };
+        Plan {
+            pieces: pieces.into_iter().filter(|piece| piece.size > 0).collect(),
+            records,
+            remainders: [100_000; QUOTAS],
+            last_serial: 1,
         }
     }
 
@@ -125,32 +148,56 @@ pub fn sound(seed: &mut Seed) -> State {
     Plan::new(seed, length).render(seed)
 }
 
+/// Sizes of blocks whose objects stand at the bounds of the rounding table's rows.
+const ROW_SIZES: [u32; 8] = [8_184, 8_192, 8_200, 8_216, 16_376, 16_392, 16_424, 32_744];
+
 /// Cuts a heap into pieces; a live one has serial 1 until serials are given out.
 fn cut(seed: &mut Seed, length: u32) -> Vec<Piece> {
     let crowd = seed.pick(&[3, 12, 40, HOLDS]);
     let longest = seed.pick(&[2, 4, 12, 60, 600, 2_400]);
     let share = seed.pick(&[30, 60, 90, 100]);
+    let long = length >= 8_192;
     let mut pieces: Vec<Piece> = Vec::new();
-    let (mut left, mut live) = (length / 8, 0);
+    let (mut left, mut live) = (length, 0);
     while left > 0 {
         let after_free = pieces.last().is_some_and(|piece| piece.serial == 0);
-        let wanted = live < crowd && left >= 2 && (after_free || seed.percent(share));
+        let wanted = live < crowd && left >= 16 && (after_free || seed.percent(share));
         let size = match wanted {
-            true => left.min(2 + seed.below(longest)),
+            true if long && seed.percent(30) => left.min(seed.pick(&ROW_SIZES)),
+            true => left.min(8 * (2 + seed.below(longest))),
             false if live >= crowd => left,
-            false => left.min(1 + seed.below(longest)),
+            false => left.min(8 * (1 + seed.below(longest))),
         };
-        match pieces.last_mut() {
-            Some(before) if !wanted && after_free => before.size += 8 * size,
-            _ => pieces.push(Piece {
-                size: 8 * size,
-                serial: u32::from(wanted),
-            }),
+        let (front, size) = match wanted {
+            true => fitted(length - left, size, left),
+            false => (size, 0),
+        };
+        add_free(&mut pieces, front);
+        if wanted {
+            pieces.push(Piece { size, serial: 1 });
         }
         live += usize::from(wanted);
-        left -= size;
+        left -= front + size;
     }
     pieces
+}
+
+/// Gives the free bytes that a live block needs in front of it, and the size that it has then, so
+/// that its object fits its unit. The block is to start at the offset or behind it.
+fn fitted(offset: u32, size: u32, left: u32) -> (u32, u32) {
+    let unit = unit(size - 8);
+    let front = (offset + 8).next_multiple_of(unit) - (offset + 8);
+    let length = (size.min(left - front) - 8) / unit * unit;
+    (front, 8 + length)
+}
+
+/// Adds free bytes behind the pieces; a free piece in front of them takes them in.
+fn add_free(pieces: &mut Vec<Piece>, size: u32) {
+    match pieces.last_mut() {
+        _ if size == 0 => {}
+        Some(before) if before.serial == 0 => before.size += size,
+        _ => pieces.push(Piece { size, serial: 0 }),
+    }
 }
 
 /// Gives so many serials that differ: in a row, a power of two apart, near the top, or any.

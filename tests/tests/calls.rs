@@ -67,7 +67,7 @@ static MORE_HISTORIES: Part = Part::new(60_000, 1_000_000, history);
 static SOUND_STATES: Part = Part::new(80_000, 0, |pair, n| {
     histories::run(pair, Beginning::SoundState, SEED, n, 40)
 });
-static ALONE: Part = Part::new(40_000, 0, |pair, n| {
+static ALONE: Part = Part::new(60_000, 0, |pair, n| {
     let kind = (n % DAMAGES.len() as u64) as usize;
     unsound::alone(pair, &DAMAGES[kind], SEED, n)
 });

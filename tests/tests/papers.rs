@@ -161,6 +161,16 @@ fn request_lengths_on_both_sides_of_their_limits() {
         "open 16384 9000000 0 0 0 0 0 0 0\nalloc 0 8192\n",
         "ok\nok 16 8192 1\n0 8 0\n8 8200 1\n8208 8176 0\n",
     );
+    prints(
+        "papers-row-crossed-to-16",
+        "open 16384 9000000 0 0 0 0 0 0 0\nalloc 0 8185\nalloc 0 8176\nalloc 0 8168\n",
+        "ok\nok 16 8192 1\nno 11\nok 8216 8168 2\n0 8 0\n8 8200 1\n8208 8176 2\n",
+    );
+    prints(
+        "papers-row-crossed-to-32",
+        "open 32768 9000000 0 0 0 0 0 0 0\nalloc 0 16369\nalloc 0 8184\n",
+        "ok\nok 32 16384 1\nok 16424 8184 2\n0 24 0\n24 16392 1\n16416 8192 2\n24608 8160 0\n",
+    );
 }
 
 #[test]
@@ -175,4 +185,20 @@ fn request_lengths_on_both_sides_of_their_limits_as_calls() {
     run.gives("8,192", Call::Allocate(0, 8_192), &[16, 8_192, 1]);
     run.gives("in front", Call::List(0), &[1, 0, 8, 0]);
     run.gives("the block", Call::List(8), &[1, 8, 8_200, 1]);
+}
+
+#[test]
+fn requests_whose_length_is_in_the_next_row_get_its_unit() {
+    for (asked, base, length) in [
+        (8_184, 8, 8_184),
+        (8_185, 16, 8_192),
+        (8_191, 16, 8_192),
+        (16_368, 16, 16_368),
+        (16_369, 32, 16_384),
+        (16_383, 32, 16_384),
+    ] {
+        let (mut run, _) = Run::open(32_768, &[9_000_000]);
+        let step = format!("{asked}");
+        run.gives(&step, Call::Allocate(0, asked), &[base, length, 1]);
+    }
 }

@@ -32,6 +32,14 @@ fn states_that_are_made_sound_differ_widely() {
     assert!(count(|s| s.accounts.holds.iter().all(|hold| hold.is_used())) >= 10);
     assert!(count(|s| blocks(&s.heap).iter().all(|block| block.serial != 0)) >= 20);
     assert!(count(|s| blocks(&s.heap).len() >= 40) >= 20);
+    let long = |b: &lokhazim_reference::Block| b.serial != 0 && b.size >= 8_200;
+    assert!(
+        states
+            .iter()
+            .filter(|s| blocks(&s.heap).iter().any(long))
+            .count()
+            >= 20
+    );
 }
 
 #[test]

@@ -138,15 +138,17 @@ fn both_sides_of_every_row_of_the_rounding_table() {
         lines.any(|line| line.starts_with(&format!("ok {base} {length} ")))
     };
     // The lowest base and the object's length for requests at the edges of each row.
-    for length in [8, 16, 24, 8_176, 8_184, 8_192] {
+    for length in [8, 16, 24, 8_176, 8_184] {
         assert!(answered(8, length), "unit 8, length {length}");
     }
-    for length in [8_192, 8_208, 8_224, 16_368, 16_384] {
+    for length in [8_192, 8_208, 8_224, 16_368] {
         assert!(answered(16, length), "unit 16, length {length}");
     }
     for length in [16_384, 16_416, 32_736] {
         assert!(answered(32, length), "unit 32, length {length}");
     }
+    // None at the base that the unit of the request would allow.
+    assert!(!answered(8, 8_192) && !answered(16, 16_384));
 }
 
 #[test]

@@ -106,8 +106,8 @@ impl<'a> Heap<'a> {
 
     /// Makes an object of at least `length` bytes, all zero, that the quota holds once.
     ///
-    /// The length is rounded up to a multiple of 8, from 8,192 on of 16, from 16,384 on of 32, and
-    /// the base is a multiple of the same. The quota pays the rounded length plus 8.
+    /// The length is rounded up to a multiple of 8, from 8,192 on of 16, from 16,384 on of 32. The
+    /// base is a multiple of the same, by the rounded length. The quota pays that length plus 8.
     ///
     /// # Errors
     ///
@@ -122,6 +122,11 @@ impl<'a> Heap<'a> {
     /// assert_eq!((handle.base, handle.length), (8, 16));
     /// assert_eq!(heap.allocate(0, 68), Err(Refusal::QuotaExceeded));
     /// assert_eq!(heap.remaining(0)?, 76);
+    ///
+    /// # let mut memory = [0; 16_384];
+    /// # let mut heap = Heap::open(&mut memory, [10_000, 0, 0, 0, 0, 0, 0, 0])?;
+    /// let handle = heap.allocate(0, 8_185)?; // 8,192 bytes, so at a multiple of 16
+    /// assert_eq!((handle.base, handle.length), (16, 8_192));
     /// # Ok::<(), Refusal>(())
     /// ```
     pub fn allocate(&mut self, quota: u32, length: u32) -> Result<Handle, Refusal> {

@@ -83,8 +83,9 @@ pub const REQUEST_MAX: u32 = 32_760;
 
 /// Bytes that begin at an address which is a multiple of 32.
 ///
-/// An object's base is a multiple of 8, 16 or 32, by its length, counted from the heap's first
-/// byte. In a heap of aligned bytes the address of the object is one too.
+/// An object's base, counted from the heap's first byte, is a multiple of 8; of 16 if the object
+/// has 8,192 bytes or more, and of 32 from 16,384 on. In a heap of aligned bytes the address of the
+/// object is one too.
 ///
 /// ```
 /// use lokhazim::{Aligned, Heap};

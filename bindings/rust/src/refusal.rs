@@ -21,7 +21,7 @@ use core::fmt;
 pub enum Refusal {
     /// 1: the heap's length is not allowed.
     HeapLength = 1,
-    /// 2: the heap's bytes and its accounts don't agree.
+    /// 2: the heap's bytes and its accounts don't agree, or a long object's base is not aligned.
     Inconsistent = 2,
     /// 3: there is no quota of this number.
     QuotaNumber = 3,

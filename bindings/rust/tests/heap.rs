@@ -111,6 +111,26 @@ fn the_library_notices_a_change_of_any_field() -> Result<(), Refusal> {
     Ok(())
 }
 
+/// An object of 8,192 bytes at base 8, where a version that went by the request put one for 8,191.
+#[test]
+fn a_heap_with_an_object_at_an_unaligned_base_is_refused() -> Result<(), Refusal> {
+    let mut memory = [0; 16_384];
+    let mut heap = Heap::open(&mut memory, [10_000; QUOTAS])?;
+    assert_eq!(heap.allocate(0, 8_184)?.base, 8);
+    let (bytes, mut accounts) = heap.into_parts();
+    // The object takes 8 bytes from the free block behind it.
+    bytes[0..2].copy_from_slice(&1_025_u16.to_le_bytes());
+    bytes[8_192..8_200].fill(0);
+    bytes[8_200..8_202].copy_from_slice(&1_023_u16.to_le_bytes());
+    bytes[8_202..8_204].copy_from_slice(&1_025_u16.to_le_bytes());
+    accounts.quotas[0].remainder -= 8;
+    let refused = Heap::from_parts(bytes, accounts).map(|_| ());
+    assert_eq!(refused, Err(Refusal::Inconsistent));
+    let mut heap = Heap::open(bytes, [10_000; QUOTAS])?;
+    assert_eq!(heap.allocate(0, 8_191)?.base, 16);
+    heap.check()
+}
+
 #[test]
 fn the_library_notices_a_change_of_any_field_of_a_handle() -> Result<(), Refusal> {
     let mut memory = [0; HEAP_MAX];

@@ -43,29 +43,29 @@ stands-inside s bs e m w =
     let l = total-parsed s bs e in
     (omega arith, omega arith)
 
-module _ (s : List ℕ) (k : Accounts) (h : Handle) (v : Verdict) (told : verdict-values v ≡ check s k .values) where
+module _ (unit : ℕ → ℕ) (s : List ℕ) (k : Accounts) (h : Handle) (v : Verdict) (told : verdict-values v ≡ check unit s k .values) where
   -- what the check refuses, lend refuses
-  pub lend-refused : (r : Refusal) → v ≡ Refused r → first-refusal (lend-lines s k h) ≡ refusal-number r
+  pub lend-refused : (r : Refusal) → v ≡ Refused r → first-refusal (lend-lines unit s k h) ≡ refusal-number r
   unfolding lend-lines
-  lend-refused r e = check-refuses s k v told (line-5 (lookup h s) ∷ []) r e
+  lend-refused r e = check-refuses unit s k v told (line-5 (lookup h s) ∷ []) r e
 
   module _ (e : v ≡ Accepted) where
     cut : parse s ≡ some (blocks-of s)
-    cut = consistent-cut s k (check-consistent s k v told e .1) .0
+    cut = consistent-cut s k (check-consistent unit s k v told e .1) .0
 
     -- where the lookup finds none, it is refused
-    pub lend-missing : find-object h s ≡ Missing → first-refusal (lend-lines s k h) ≡ refusal-number NoSuchObject
+    pub lend-missing : find-object h s ≡ Missing → first-refusal (lend-lines unit s k h) ≡ refusal-number NoSuchObject
     unfolding lend-lines
-    lend-missing q = check-accepts s k v told (line-5 (lookup h s) ∷ []) e ∙ line-5-refuses (lookup h s) [] (lookup-missing s (blocks-of s) cut h q)
+    lend-missing q = check-accepts unit s k v told (line-5 (lookup h s) ∷ []) e ∙ line-5-refuses (lookup h s) [] (lookup-missing s (blocks-of s) cut h q)
 
     module _ (m : Met) (q : find-object h s ≡ Found m) where
       named : Named s (blocks-of s) h m
       named = lookup-found s (blocks-of s) cut h m q
 
       -- where it finds a block, it is accepted
-      pub lend-accepted : first-refusal (lend-lines s k h) ≡ 0
+      pub lend-accepted : first-refusal (lend-lines unit s k h) ≡ 0
       unfolding lend-lines first-refusal
-      lend-accepted = check-accepts s k v told (line-5 (lookup h s) ∷ []) e ∙ line-5-passes (lookup h s) (object-met m) [] (named .named)
+      lend-accepted = check-accepts unit s k v told (line-5 (lookup h s) ∷ []) e ∙ line-5-passes (lookup h s) (object-met m) [] (named .named)
 
       -- for that block's object
       pub lend-object : found (lookup h s) ≡ object-met m
@@ -75,12 +75,12 @@ module _ (s : List ℕ) (k : Accounts) (h : Handle) (v : Verdict) (told : verdic
       pub lend-inside : (8 ≤ m .size) × (m .at + m .size ≤ length s)
       lend-inside = stands-inside s (blocks-of s) cut m (named .stands)
 
-module _ (s : List ℕ) (k : Accounts) (h : Handle) where
+module _ (unit : ℕ → ℕ) (s : List ℕ) (k : Accounts) (h : Handle) where
   -- the range of a refused lend is empty
-  pub spans-refused : (n : ℕ) (r : Refusal) → n ≡ refusal-number r → first-refusal (lend-lines s k h) ≡ refusal-number r → Spans s k h n 0 0
+  pub spans-refused : (n : ℕ) (r : Refusal) → n ≡ refusal-number r → first-refusal (lend-lines unit s k h) ≡ refusal-number r → Spans unit s k h n 0 0
   unfolding lend
   spans-refused n r p e =
-      let q : unchanged s k (refused (refusal-number r)) ≡ lend s k h = refused-is (first-refusal (lend-lines s k h)) s k _ r e in
+      let q : unchanged s k (refused (refusal-number r)) ≡ lend unit s k h = refused-is (first-refusal (lend-lines unit s k h)) s k _ r e in
       record {
         refuses = p ∙ ap (λ (o : Outcome). o .values .refusal) q;
         starts = ap (λ (o : Outcome). o .values .range .start) q;
@@ -89,13 +89,13 @@ module _ (s : List ℕ) (k : Accounts) (h : Handle) where
         inside = omega arith;
       }
 
-  module _ (m : Met) (e : first-refusal (lend-lines s k h) ≡ 0) (o : found (lookup h s) ≡ object-met m) (i : (8 ≤ m .size) × (m .at + m .size ≤ length s)) where
+  module _ (m : Met) (e : first-refusal (lend-lines unit s k h) ≡ 0) (o : found (lookup h s) ≡ object-met m) (i : (8 ≤ m .size) × (m .at + m .size ≤ length s)) where
     -- that of an accepted one is the object's
-    pub spans-lent : Spans s k h 0 (m .at + 8) (m .at + m .size)
+    pub spans-lent : Spans unit s k h 0 (m .at + 8) (m .at + m .size)
     unfolding lend
     spans-lent =
         let ob = found (lookup h s) in
-        let q : unchanged s k (lent (record { start = ob .base; end = ob .base + ob .length })) ≡ lend s k h = accepted-is (first-refusal (lend-lines s k h)) s k _ e in
+        let q : unchanged s k (lent (record { start = ob .base; end = ob .base + ob .length })) ≡ lend unit s k h = accepted-is (first-refusal (lend-lines unit s k h)) s k _ e in
         let b : ob .base ≡ m .at + 8 = ap (λ (x : Handle). x .base) o in
         let l : ob .length ≡ m .size - 8 = ap (λ (x : Handle). x .length) o in
         let i₀ = i .0 in
@@ -110,16 +110,16 @@ module _ (s : List ℕ) (k : Accounts) (h : Handle) where
         }
 
     -- a byte in the object is written, and one beyond it is not
-    pub writes : (at byte : ℕ) → at < m .size - 8 → unchanged (set s (m .at + 8 + at) byte) k accepted ≡ write-object s k h at byte
+    pub writes : (at byte : ℕ) → at < m .size - 8 → unchanged (set s (m .at + 8 + at) byte) k accepted ≡ write-object unit s k h at byte
     unfolding write-object written
     writes at byte l =
         let t : ltb at (m .size - 8) ≡ true = lt-ltb at (m .size - 8) l in
         let w : set s (m .at + 8 + at) byte ≡ written s (found (lookup h s)) at byte = rw (o, t) in
-        ap (λ (x : List ℕ). unchanged x k accepted) w ∙ accepted-is (first-refusal (lend-lines s k h)) s k _ e
+        ap (λ (x : List ℕ). unchanged x k accepted) w ∙ accepted-is (first-refusal (lend-lines unit s k h)) s k _ e
 
-    pub passes : (at byte : ℕ) → m .size - 8 ≤ at → unchanged s k accepted ≡ write-object s k h at byte
+    pub passes : (at byte : ℕ) → m .size - 8 ≤ at → unchanged s k accepted ≡ write-object unit s k h at byte
     unfolding write-object written
     passes at byte l =
         let t : ltb at (m .size - 8) ≡ false = le-ltb at (m .size - 8) l in
         let w : s ≡ written s (found (lookup h s)) at byte = rw (o, t) in
-        ap (λ (x : List ℕ). unchanged x k accepted) w ∙ accepted-is (first-refusal (lend-lines s k h)) s k _ e
+        ap (λ (x : List ℕ). unchanged x k accepted) w ∙ accepted-is (first-refusal (lend-lines unit s k h)) s k _ e

@@ -14,13 +14,14 @@ use Rattle.accounts.specs.Accounts.{QUOTAS}
 use Rattle.model.specs.Answers.{Values, refused, refusal-number, verdict-values}
 use Rattle.model.specs.Refusals.{Line, _when_, first-refusal, line-1, line-2, line-3, check-lines}
 use Rattle.model.specs.Lists.{all, any}
-use Rattle.model.specs.Consistent.{allowed, consistent}
+use Rattle.model.specs.Consistent.{allowed, consistent, sound}
 use Rattle.model.specs.Calls.{Outcome, unless, unchanged, check}
 use Rattle.model.specs.declared.Refusal.{Refusal}
 use Rattle.model.specs.declared.Verdict.{Verdict}
 use Rattle.model.specs.declared.Verdict.the-variants.{Accepted, Refused}
 use Rattle.model.proofs.Bools.{and-left, and-right, or-neither}
 use Rattle.model.proofs.Answers.{refusal-number-is}
+use Rattle.model.proofs.Consistent.{sound-consistent}
 use Rattle.model.proofs.Refusals.{Numbered, check-by-lines, refusal-of-lines, answers-none, unless-refused}
 
 -- the first two lines decide, or the others do
@@ -44,23 +45,23 @@ number-some r = go (refusal-number r) (refusal-number-is r .1)
     go zero h = absurd (not-suc-le-zero h)
     go (suc n) h = (n, refl)
 
-module _ (s : List ℕ) (k : Accounts) (v : Verdict) (told : verdict-values v ≡ check s k .values) (rest : List Line) where
-  checked : verdict-values v .refusal ≡ first-refusal (check-lines s k)
-  checked = ap (λ (x : Values). x .refusal) told ∙ refusal-of-lines (check-by-lines s k)
+module _ (unit : ℕ → ℕ) (s : List ℕ) (k : Accounts) (v : Verdict) (told : verdict-values v ≡ check unit s k .values) (rest : List Line) where
+  checked : verdict-values v .refusal ≡ first-refusal (check-lines unit s k)
+  checked = ap (λ (x : Values). x .refusal) told ∙ refusal-of-lines (check-by-lines unit s k)
 
   -- what the check refuses is refused, whatever lines follow
-  pub check-refuses : (r : Refusal) → v ≡ Refused r → first-refusal (line-1 s ∷ line-2 s k ∷ rest) ≡ refusal-number r
+  pub check-refuses : (r : Refusal) → v ≡ Refused r → first-refusal (line-1 s ∷ line-2 unit s k ∷ rest) ≡ refusal-number r
   unfolding check-lines verdict-values
   check-refuses r e =
       let n = number-some r in
-      let f : first-refusal (line-1 s ∷ line-2 s k ∷ []) ≡ suc (n .0) = sym checked ∙ ap (λ (x : Verdict). verdict-values x .refusal) e ∙ n .1 in
-      first-two (line-1 s) (line-2 s k) rest (n .0) f ∙ sym (n .1)
+      let f : first-refusal (line-1 s ∷ line-2 unit s k ∷ []) ≡ suc (n .0) = sym checked ∙ ap (λ (x : Verdict). verdict-values x .refusal) e ∙ n .1 in
+      first-two (line-1 s) (line-2 unit s k) rest (n .0) f ∙ sym (n .1)
 
   -- what it accepts goes on to them
-  pub check-accepts : v ≡ Accepted → first-refusal (line-1 s ∷ line-2 s k ∷ rest) ≡ first-refusal rest
+  pub check-accepts : v ≡ Accepted → first-refusal (line-1 s ∷ line-2 unit s k ∷ rest) ≡ first-refusal rest
   unfolding check-lines verdict-values
   check-accepts e =
-      after-two (line-1 s) (line-2 s k) rest (check-by-lines s k .numbered) (sym checked ∙ ap (λ (x : Verdict). verdict-values x .refusal) e)
+      after-two (line-1 s) (line-2 unit s k) rest (check-by-lines unit s k .numbered) (sym checked ∙ ap (λ (x : Verdict). verdict-values x .refusal) e)
 
 -- a refused outcome
 pub refused-is : (n : ℕ) (s : List ℕ) (k : Accounts) (done : Outcome) (r : Refusal) → n ≡ refusal-number r → unchanged s k (refused (refusal-number r)) ≡ unless n s k done
@@ -90,11 +91,12 @@ unfolding line-3
 line-3-passes q rest h = line-passes 3 (leb QUOTAS q) rest (lt-leb QUOTAS q h)
 
 -- a state that the check accepts has an allowed length and is consistent
-pub check-consistent : (s : List ℕ) (k : Accounts) (v : Verdict) → verdict-values v ≡ check s k .values → v ≡ Accepted → (allowed (length s) ≡ true) × (consistent s k ≡ true)
+pub check-consistent : (unit : ℕ → ℕ) (s : List ℕ) (k : Accounts) (v : Verdict) → verdict-values v ≡ check unit s k .values → v ≡ Accepted → (allowed (length s) ≡ true) × (consistent s k ≡ true) × (sound unit s k ≡ true)
 unfolding check-lines line-1 line-2 any verdict-values
-check-consistent s k v told e =
-    let z : check s k .values .refusal ≡ 0 = sym (ap (λ (x : Values). x .refusal) told) ∙ ap (λ (x : Verdict). verdict-values x .refusal) e in
-    let n = answers-none (check-by-lines s k) .0 z in
-    let p = or-neither (not (allowed (length s))) (not (consistent s k) || false) n in
-    let q = or-neither (not (consistent s k)) false (p .1) in
-    (not-false (allowed (length s)) (p .0), not-false (consistent s k) (q .0))
+check-consistent unit s k v told e =
+    let z : check unit s k .values .refusal ≡ 0 = sym (ap (λ (x : Values). x .refusal) told) ∙ ap (λ (x : Verdict). verdict-values x .refusal) e in
+    let n = answers-none (check-by-lines unit s k) .0 z in
+    let p = or-neither (not (allowed (length s))) (not (sound unit s k) || false) n in
+    let q = or-neither (not (sound unit s k)) false (p .1) in
+    let f = not-false (sound unit s k) (q .0) in
+    (not-false (allowed (length s)) (p .0), sound-consistent unit s k f, f)

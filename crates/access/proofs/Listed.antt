@@ -76,26 +76,26 @@ block-inside s at b = go (parse s) refl
     go (some bs) p e = omega (arith, inside-from at 0 bs b (rw (blocks-parsed s bs p) at e), total-parsed s bs p)
 
 -- so does the block that the call gives
-pub given-inside : (s : List ℕ) (k : Accounts) (at : ℕ) (b : ListedBlock) → list-block s k at .values .block ≡ some b → b .offset + b .size ≤ length s
+pub given-inside : (unit : ℕ → ℕ) (s : List ℕ) (k : Accounts) (at : ℕ) (b : ListedBlock) → list-block unit s k at .values .block ≡ some b → b .offset + b .size ≤ length s
 unfolding list-block unless
-given-inside s k at b = go (first-refusal (check-lines s k))
+given-inside unit s k at b = go (first-refusal (check-lines unit s k))
   where
     go : (n : ℕ) → unless n s k (unchanged s k (listed (block-at (blocks-of s) at))) .values .block ≡ some b → b .offset + b .size ≤ length s
     go zero e = block-inside s at b e
     go (suc n) e = let z : _≡_ {A = ℕ} 0 1 = cc in absurd (omega arith)
 
 -- the place behind a block that was given, and the place itself where none was
-module _ (s : List ℕ) (k : Accounts) (at : ℕ) (r : BlockAnswer) (told : outcome s k (block-values r) ≡ list-block s k at) where
-  given-block : list-block s k at .values .block ≡ block-values r .block
+module _ (unit : ℕ → ℕ) (s : List ℕ) (k : Accounts) (at : ℕ) (r : BlockAnswer) (told : outcome s k (block-values r) ≡ list-block unit s k at) where
+  given-block : list-block unit s k at .values .block ≡ block-values r .block
   given-block = sym (ap (λ (o : Outcome). o .values .block) told)
 
-  pub after-some : (b : ListedBlock) → r ≡ Listed b → (b .offset + b .size ≤ length s) × Stepped s k at (Listed b) (b .offset + b .size)
+  pub after-some : (b : ListedBlock) → r ≡ Listed b → (b .offset + b .size ≤ length s) × Stepped unit s k at (Listed b) (b .offset + b .size)
   unfolding block-values place-after
   after-some b e =
-      let g : list-block s k at .values .block ≡ some b = given-block ∙ ap (λ (x : BlockAnswer). block-values x .block) e in
-      (given-inside s k at b g, (rw e at told, rw g))
+      let g : list-block unit s k at .values .block ≡ some b = given-block ∙ ap (λ (x : BlockAnswer). block-values x .block) e in
+      (given-inside unit s k at b g, (rw e at told, rw g))
 
-  pub after-none : block-values r .block ≡ none → Stepped s k at r at
+  pub after-none : block-values r .block ≡ none → Stepped unit s k at r at
   unfolding place-after
   after-none e = (told, rw (given-block, e))
 
@@ -103,20 +103,20 @@ module _ (s : List ℕ) (k : Accounts) (at : ℕ) (r : BlockAnswer) (told : outc
 abbrev pub given : BlockAnswer → Option ListedBlock
 given a = block-values a .block
 
-module _ (s : List ℕ) (k : Accounts) (e : first-refusal (check-lines s k) ≡ 0) where
-  step-given : (at : ℕ) (a : BlockAnswer) (after : ℕ) → Stepped s k at a after → given a ≡ block-at (blocks-of s) at
-  step-given at a after t = ap (λ (o : Outcome). o .values .block) (t .0 ∙ list-block-step s k at e)
+module _ (unit : ℕ → ℕ) (s : List ℕ) (k : Accounts) (e : first-refusal (check-lines unit s k) ≡ 0) where
+  step-given : (at : ℕ) (a : BlockAnswer) (after : ℕ) → Stepped unit s k at a after → given a ≡ block-at (blocks-of s) at
+  step-given at a after t = ap (λ (o : Outcome). o .values .block) (t .0 ∙ list-block-step unit s k at e)
 
-  step-after : (at : ℕ) (a : BlockAnswer) (after : ℕ) (o : Option ListedBlock) → Stepped s k at a after → block-at (blocks-of s) at ≡ o → after ≡ end-of at o
+  step-after : (at : ℕ) (a : BlockAnswer) (after : ℕ) (o : Option ListedBlock) → Stepped unit s k at a after → block-at (blocks-of s) at ≡ o → after ≡ end-of at o
   unfolding place-after
-  step-after at a after o t p = t .1 ∙ ap (end-of at) (ap (λ (o : Outcome). o .values .block) (list-block-step s k at e) ∙ p)
+  step-after at a after o t p = t .1 ∙ ap (end-of at) (ap (λ (o : Outcome). o .values .block) (list-block-step unit s k at e) ∙ p)
 
   both : {x y : Option ListedBlock} {ls ms : List (Option ListedBlock)} → x ≡ y → ls ≡ ms → x ∷ ls ≡ y ∷ ms
   both p q = λ i. p i ∷ q i
 
   -- the steps from behind the blocks xs
   walks-behind : (xs ys : List Block) → blocks-of s ≡ xs ++ ys → (at : ℕ) → at ≡ total size xs
-      → (ws : List BlockAnswer) → Walks s k at ws → map given ws ≡ in-steps (length ws) (listing-from at ys)
+      → (ws : List BlockAnswer) → Walks unit s k at ws → map given ws ≡ in-steps (length ws) (listing-from at ys)
   unfolding Walks in-steps listing-from total
   walks-behind xs ys c at h [] w = refl
   walks-behind xs [] c at h (a ∷ ws) w =
@@ -130,6 +130,6 @@ module _ (s : List ℕ) (k : Accounts) (e : first-refusal (check-lines s k) ≡ 
       (walks-behind (xs ++ (y ∷ [])) ys (c ∙ sym (append-snoc xs y ys)) (at + size y) (omega (arith, total-append size xs (y ∷ []))) ws (rw n at (w .2)))
 
   -- in a state that the check accepts, a walker from 0 on gives the listing: all the blocks in order, and then none
-  pub walker-lists : (ws : List BlockAnswer) → Walks s k 0 ws → map given ws ≡ in-steps (length ws) (listing-from 0 (blocks-of s))
+  pub walker-lists : (ws : List BlockAnswer) → Walks unit s k 0 ws → map given ws ≡ in-steps (length ws) (listing-from 0 (blocks-of s))
   unfolding total
   walker-lists ws w = walks-behind [] (blocks-of s) refl 0 refl ws w

@@ -54,14 +54,14 @@ pub record Located (s : List ℕ) (h : Handle) (m : Met) : Type 0 where
   pub header : 8 ≤ m .size
   pub end : m .at + m .size ≤ 32768
 
-module _ (s : List ℕ) (k : Accounts) (v : Verdict) (told : verdict-values v ≡ check s k .values) (accepts : v ≡ Accepted) where
+module _ (unit : ℕ → ℕ) (s : List ℕ) (k : Accounts) (v : Verdict) (told : verdict-values v ≡ check unit s k .values) (accepts : v ≡ Accepted) where
   cut : parse s ≡ some (blocks-of s)
-  cut = consistent-cut s k (check-consistent s k v told accepts .1) .0
+  cut = consistent-cut s k (check-consistent unit s k v told accepts .1) .0
 
   short : length s ≤ 32768
   unfolding allowed
   short =
-      let e = check-consistent s k v told accepts .0 in
+      let e = check-consistent unit s k v told accepts .0 in
       leb-true (length s) 32768 (and-right (leb 64 (length s)) _ (and-right (eqb (length s % 8) 0) _ e))
 
   -- what the walk finds is the block of the object that the handle names, and where it finds none, the handle names none
@@ -81,15 +81,15 @@ module _ (s : List ℕ) (k : Accounts) (v : Verdict) (told : verdict-values v �
   unnamed h e = lookup-missing s (blocks-of s) cut h e
 
   -- lines 1, 2, 3 and 5 do not hold
-  pub quota-passes : (q : ℕ) (rest : List Line) → q < QUOTAS → first-refusal (line-1 s ∷ line-2 s k ∷ line-3 q ∷ rest) ≡ first-refusal rest
-  quota-passes q rest l = check-accepts s k v told (line-3 q ∷ rest) accepts ∙ line-3-passes q rest l
+  pub quota-passes : (q : ℕ) (rest : List Line) → q < QUOTAS → first-refusal (line-1 s ∷ line-2 unit s k ∷ line-3 q ∷ rest) ≡ first-refusal rest
+  quota-passes q rest l = check-accepts unit s k v told (line-3 q ∷ rest) accepts ∙ line-3-passes q rest l
 
   pub quota-missing : (q : ℕ) (h : Handle) (rest : List Line) → q < QUOTAS → find-object h s ≡ Missing
-      → first-refusal (line-1 s ∷ line-2 s k ∷ line-3 q ∷ line-5 (lookup h s) ∷ rest) ≡ 5
+      → first-refusal (line-1 s ∷ line-2 unit s k ∷ line-3 q ∷ line-5 (lookup h s) ∷ rest) ≡ 5
   quota-missing q h rest l e = quota-passes q (line-5 (lookup h s) ∷ rest) l ∙ line-5-refuses (lookup h s) rest (unnamed h e)
 
   pub quota-found : (q : ℕ) (h : Handle) (m : Met) (rest : List Line) → q < QUOTAS → find-object h s ≡ Found m
-      → first-refusal (line-1 s ∷ line-2 s k ∷ line-3 q ∷ line-5 (lookup h s) ∷ rest) ≡ first-refusal rest
+      → first-refusal (line-1 s ∷ line-2 unit s k ∷ line-3 q ∷ line-5 (lookup h s) ∷ rest) ≡ first-refusal rest
   quota-found q h m rest l e =
       quota-passes q (line-5 (lookup h s) ∷ rest) l ∙ line-5-passes (lookup h s) (object-met m) rest (located h m e .named)
 
@@ -104,40 +104,40 @@ module _ (k : Accounts) (serial q : ℕ) (holds : q < QUOTAS) where
   record-missing e = nothing-some (is-for serial q) (k .holds) 0 (rw (byte-quota q holds) at e)
 
 -- what lend, release and can release are refused with
-module _ (s : List ℕ) (k : Accounts) (v : Verdict) (told : verdict-values v ≡ check s k .values) (accepts : v ≡ Accepted) (h : Handle) where
-  pub lend-missing : find-object h s ≡ Missing → first-refusal (lend-lines s k h) ≡ 5
+module _ (unit : ℕ → ℕ) (s : List ℕ) (k : Accounts) (v : Verdict) (told : verdict-values v ≡ check unit s k .values) (accepts : v ≡ Accepted) (h : Handle) where
+  pub lend-missing : find-object h s ≡ Missing → first-refusal (lend-lines unit s k h) ≡ 5
   unfolding lend-lines
   lend-missing e =
-      check-accepts s k v told (line-5 (lookup h s) ∷ []) accepts ∙ line-5-refuses (lookup h s) [] (unnamed s k v told accepts h e)
+      check-accepts unit s k v told (line-5 (lookup h s) ∷ []) accepts ∙ line-5-refuses (lookup h s) [] (unnamed unit s k v told accepts h e)
 
   module _ (m : Met) (e : find-object h s ≡ Found m) where
-    pub lend-found : first-refusal (lend-lines s k h) ≡ 0
+    pub lend-found : first-refusal (lend-lines unit s k h) ≡ 0
     unfolding lend-lines first-refusal
     lend-found =
-        check-accepts s k v told (line-5 (lookup h s) ∷ []) accepts
-        ∙ line-5-passes (lookup h s) (object-met m) [] (located s k v told accepts h m e .named)
+        check-accepts unit s k v told (line-5 (lookup h s) ∷ []) accepts
+        ∙ line-5-passes (lookup h s) (object-met m) [] (located unit s k v told accepts h m e .named)
 
     -- the part from behind the block's header to the block's end is what lend gives
-    pub lend-is : unchanged s k (lent (record { start = m .at + 8; end = m .at + m .size })) ≡ lend s k h
+    pub lend-is : unchanged s k (lent (record { start = m .at + 8; end = m .at + m .size })) ≡ lend unit s k h
     unfolding lend
     lend-is =
-        let w = located s k v told accepts h m e in
+        let w = located unit s k v told accepts h m e in
         let d : m .at + m .size ≡ m .at + 8 + (m .size - 8) = omega (arith, w .header) in
         ap (λ (n : ℕ). unchanged s k (lent (record { start = m .at + 8; end = n }))) d
         ∙ ap (λ (o : Handle). unchanged s k (lent (record { start = o .base; end = o .base + o .length }))) (sym (w .object))
         ∙ accepted-is _ s k _ lend-found
 
     module _ (q : ℕ) (l : q < QUOTAS) where
-      sixth : first-refusal (release-lines s k q h) ≡ first-refusal (line-6 k q (object-met m) ∷ [])
+      sixth : first-refusal (release-lines unit s k q h) ≡ first-refusal (line-6 k q (object-met m) ∷ [])
       unfolding release-lines
       sixth =
-          quota-found s k v told accepts q h m (line-6 k q (found (lookup h s)) ∷ []) l e
-          ∙ ap (λ (o : Handle). first-refusal (line-6 k q o ∷ [])) (located s k v told accepts h m e .object)
+          quota-found unit s k v told accepts q h m (line-6 k q (found (lookup h s)) ∷ []) l e
+          ∙ ap (λ (o : Handle). first-refusal (line-6 k q o ∷ [])) (located unit s k v told accepts h m e .object)
 
-      pub release-refuses : find-hold (m .serial) (q % 256) k ≡ Nothing → first-refusal (release-lines s k q h) ≡ 6
+      pub release-refuses : find-hold (m .serial) (q % 256) k ≡ Nothing → first-refusal (release-lines unit s k q h) ≡ 6
       unfolding line-6
       release-refuses n = sixth ∙ line-refuses 6 (not (has-record (k .holds) q (m .serial))) [] (rw (record-missing k (m .serial) q l n))
 
-      pub release-passes : (i : ℕ) → find-hold (m .serial) (q % 256) k ≡ At i → first-refusal (release-lines s k q h) ≡ 0
+      pub release-passes : (i : ℕ) → find-hold (m .serial) (q % 256) k ≡ At i → first-refusal (release-lines unit s k q h) ≡ 0
       unfolding line-6 first-refusal
       release-passes i n = sixth ∙ line-passes 6 (not (has-record (k .holds) q (m .serial))) [] (rw (record-found k (m .serial) q l i n))

@@ -5,6 +5,7 @@ use mathlib.Core.Path.{_≡_, refl}
 use mathlib.Core.List.{List, [], _∷_, _++_}
 use mathlib.Core.Option.{none, some}
 use lib.ListN.{replicate}
+use Rattle.rounding.specs.Rounding.{unit}
 use Rattle.accounts.specs.declared.Accounts.{Accounts}
 use Rattle.model.specs.declared.ListedBlock.{ListedBlock}
 use Rattle.model.specs.declared.BlockAnswer.the-variants.{Listed, NoBlock}
@@ -36,9 +37,9 @@ unfolding computing find-block met met-from met-at start-at heap object free
 found-rows = (refl, refl, refl, refl)
 
 -- behind a block; where none is given, and where the accounts are refused, the place itself
-pub place-rows : (place-after heap (accounts 76) 0 ≡ 24) × (place-after heap (accounts 76) 24 ≡ 64) × (place-after heap (accounts 76) 64 ≡ 64)
-    × (place-after heap (accounts 76) 8 ≡ 8) × (place-after heap (accounts 75) 0 ≡ 0)
-unfolding computing place-after heap accounts
+pub place-rows : (place-after unit heap (accounts 76) 0 ≡ 24) × (place-after unit heap (accounts 76) 24 ≡ 64) × (place-after unit heap (accounts 76) 64 ≡ 64)
+    × (place-after unit heap (accounts 76) 8 ≡ 8) × (place-after unit heap (accounts 75) 0 ≡ 0)
+unfolding computing place-after unit heap accounts
 place-rows = (refl, refl, refl, refl, refl)
 
 pub step-rows : (in-steps 1 (object ∷ free ∷ []) ≡ some object ∷ []) × (in-steps 4 (object ∷ free ∷ []) ≡ some object ∷ some free ∷ none ∷ none ∷ [])

@@ -18,25 +18,25 @@ unfoldable pub written : List ℕ → Handle → ℕ → ℕ → List ℕ
 written s o at byte = cond (ltb at (o .length)) (set s (o .base + at) byte) s
 
 -- the write of a history: lend's refusals, and else the byte in the object
-unfoldable pub write-object : List ℕ → Accounts → Handle → ℕ → ℕ → Outcome
-write-object s k h at byte =
+unfoldable pub write-object : (ℕ → ℕ) → List ℕ → Accounts → Handle → ℕ → ℕ → Outcome
+write-object unit s k h at byte =
     let done = unchanged (written s (found (lookup h s)) at byte) k accepted in
-    unless (first-refusal (lend-lines s k h)) s k done
+    unless (first-refusal (lend-lines unit s k h)) s k done
 
 -- lend's refusal, 0 where there is none; its range, from 0 to 0 where it is refused; and the bytes in that range
-abbrev pub lent-refusal : List ℕ → Accounts → Handle → ℕ
-lent-refusal s k h = lend s k h .values .refusal
+abbrev pub lent-refusal : (ℕ → ℕ) → List ℕ → Accounts → Handle → ℕ
+lent-refusal unit s k h = lend unit s k h .values .refusal
 
-abbrev pub lent-range : List ℕ → Accounts → Handle → Range
-lent-range s k h = lend s k h .values .range
+abbrev pub lent-range : (ℕ → ℕ) → List ℕ → Accounts → Handle → Range
+lent-range unit s k h = lend unit s k h .values .range
 
-abbrev pub lent-bytes : List ℕ → Accounts → Handle → List ℕ
-lent-bytes s k h = take (lent-range s k h .end - lent-range s k h .start) (drop (lent-range s k h .start) s)
+abbrev pub lent-bytes : (ℕ → ℕ) → List ℕ → Accounts → Handle → List ℕ
+lent-bytes unit s k h = take (lent-range unit s k h .end - lent-range unit s k h .start) (drop (lent-range unit s k h .start) s)
 
 -- these are what lend gives, and the range lies in the heap
-pub record Spans (s : List ℕ) (k : Accounts) (h : Handle) (refusal start end : ℕ) : Type 0 where
-  pub refuses : refusal ≡ lent-refusal s k h
-  pub starts : start ≡ lent-range s k h .start
-  pub ends : end ≡ lent-range s k h .end
+pub record Spans (unit : ℕ → ℕ) (s : List ℕ) (k : Accounts) (h : Handle) (refusal start end : ℕ) : Type 0 where
+  pub refuses : refusal ≡ lent-refusal unit s k h
+  pub starts : start ≡ lent-range unit s k h .start
+  pub ends : end ≡ lent-range unit s k h .end
   pub ordered : start ≤ end
   pub inside : end ≤ length s

@@ -31,17 +31,17 @@ end-of at none = at
 end-of at (some b) = b .offset + b .size
 
 -- the place behind the block that the listing gives at a place
-unfoldable pub place-after : List ℕ → Accounts → ℕ → ℕ
-place-after s k at = end-of at (list-block s k at .values .block)
+unfoldable pub place-after : (ℕ → ℕ) → List ℕ → Accounts → ℕ → ℕ
+place-after unit s k at = end-of at (list-block unit s k at .values .block)
 
 -- a step from a place gives the listing's answer there, and the place behind
-abbrev pub Stepped : List ℕ → Accounts → ℕ → BlockAnswer → ℕ → Type 0
-Stepped s k at answer after = (outcome s k (block-values answer) ≡ list-block s k at) × (after ≡ place-after s k at)
+abbrev pub Stepped : (ℕ → ℕ) → List ℕ → Accounts → ℕ → BlockAnswer → ℕ → Type 0
+Stepped unit s k at answer after = (outcome s k (block-values answer) ≡ list-block unit s k at) × (after ≡ place-after unit s k at)
 
 -- the answers of a walker's steps from a place on, each from where the last one left it
-unfoldable pub Walks : List ℕ → Accounts → ℕ → List BlockAnswer → Type 0
-Walks s k at [] = Unit {0}
-Walks s k at (a ∷ rest) = (after : ℕ) × Stepped s k at a after × Walks s k after rest
+unfoldable pub Walks : (ℕ → ℕ) → List ℕ → Accounts → ℕ → List BlockAnswer → Type 0
+Walks unit s k at [] = Unit {0}
+Walks unit s k at (a ∷ rest) = (after : ℕ) × Stepped unit s k at a after × Walks unit s k after rest
 
 -- what so many steps give: the blocks in order, and then none
 unfoldable pub in-steps : ℕ → List ListedBlock → List (Option ListedBlock)

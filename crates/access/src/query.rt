@@ -11,12 +11,13 @@ use model::Refusal;
 use model::Verdict;
 ghost use mathlib.Core.Path.{_≡_};
 ghost use Rattle.model.specs.Answers.{amount-values, range-values, verdict-values};
+ghost use Rattle.rounding.specs.Rounding.{unit};
 ghost use Rattle.model.specs.Calls.{can-release, lend, remaining-of};
 ghost use Rattle.access.specs.Results.{outcome};
 
 // Rule 8.30: what remains of a quota.
 pub fn remaining(heap: &[u8], accounts: Accounts, quota: u32) -> AmountAnswer
-    ensures { λ r. ⌜ outcome (now (heap .entry)) accounts (amount-values r) ≡ remaining-of (now (heap .entry)) accounts quota ⌝ }
+    ensures { λ r. ⌜ outcome (now (heap .entry)) accounts (amount-values r) ≡ remaining-of unit (now (heap .entry)) accounts quota ⌝ }
 {
     if let Verdict::Refused(refusal) = checker::check(heap, accounts) {
         return AmountAnswer::Refused(refusal);
@@ -29,7 +30,7 @@ pub fn remaining(heap: &[u8], accounts: Accounts, quota: u32) -> AmountAnswer
 
 // Rule 8.31: whether a quota can release an object, by the refusal that a release would meet.
 pub fn can_release(heap: &[u8], accounts: Accounts, quota: u32, handle: Handle) -> Verdict
-    ensures { λ r. ⌜ outcome (now (heap .entry)) accounts (verdict-values r) ≡ can-release (now (heap .entry)) accounts quota handle ⌝ }
+    ensures { λ r. ⌜ outcome (now (heap .entry)) accounts (verdict-values r) ≡ can-release unit (now (heap .entry)) accounts quota handle ⌝ }
 {
     if let Verdict::Refused(refusal) = checker::check(heap, accounts) {
         return Verdict::Refused(refusal);
@@ -49,7 +50,7 @@ pub fn can_release(heap: &[u8], accounts: Accounts, quota: u32, handle: Handle) 
 
 // Rule 8.29: the part of the heap where the object that a handle names has its bytes.
 pub fn object_range(heap: &[u8], accounts: Accounts, handle: Handle) -> RangeAnswer
-    ensures { λ r. ⌜ outcome (now (heap .entry)) accounts (range-values r) ≡ lend (now (heap .entry)) accounts handle ⌝ }
+    ensures { λ r. ⌜ outcome (now (heap .entry)) accounts (range-values r) ≡ lend unit (now (heap .entry)) accounts handle ⌝ }
 {
     if let Verdict::Refused(refusal) = checker::check(heap, accounts) {
         return RangeAnswer::Refused(refusal);

@@ -57,7 +57,7 @@ pub extern "C" fn lokhazim_claim(
     quota: u32,
     handle: Handle,
 ) -> AmountReply
-    ensures { λ r. ⌜ amount-reply (now (heap .entry)) r ≡ claim (now (heap .entry)) accounts quota handle ⌝ }
+    ensures { λ r. ⌜ amount-reply (now (heap .entry)) r ≡ claim unit (now (heap .entry)) accounts quota handle ⌝ }
 {
     reply_of_amount(heap::claim(heap, accounts, quota, handle))
 }
@@ -70,7 +70,7 @@ pub extern "C" fn lokhazim_release(
     quota: u32,
     handle: Handle,
 ) -> AmountReply
-    ensures { λ r. ⌜ amount-reply (now (heap .exit)) r ≡ release (now (heap .entry)) accounts quota handle ⌝ }
+    ensures { λ r. ⌜ amount-reply (now (heap .exit)) r ≡ release unit (now (heap .entry)) accounts quota handle ⌝ }
 {
     reply_of_amount(heap::release(heap, accounts, quota, handle))
 }
@@ -78,7 +78,7 @@ pub extern "C" fn lokhazim_release(
 // A quota gives up all its holds; the amount is what it gets back.
 #[no_mangle]
 pub extern "C" fn lokhazim_free_all(heap: &mut [u8], accounts: Accounts, quota: u32) -> AmountReply
-    ensures { λ r. ⌜ amount-reply (now (heap .exit)) r ≡ free-all (now (heap .entry)) accounts quota ⌝ }
+    ensures { λ r. ⌜ amount-reply (now (heap .exit)) r ≡ free-all unit (now (heap .entry)) accounts quota ⌝ }
 {
     reply_of_amount(heap::free_all(heap, accounts, quota))
 }

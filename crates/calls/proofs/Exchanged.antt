@@ -20,17 +20,17 @@ use Rattle.calls.specs.Ready.{Checked}
 use Rattle.calls.specs.Releasing.{current}
 use Rattle.calls.proofs.Ready.{accepted-check}
 
-module _ (s : List ℕ) (k : Accounts) (q : ℕ) (c : Checked s k q) (h : Handle) (m : Met) (header : 8 ≤ m .size) (named : lookup h s ≡ some (object-met m)) where
+module _ (unit : ℕ → ℕ) (s : List ℕ) (k : Accounts) (q : ℕ) (c : Checked unit s k q) (h : Handle) (m : Met) (header : 8 ≤ m .size) (named : lookup h s ≡ some (object-met m)) where
   pub found-again : find-object h s ≡ Found (current s m)
   found-again = go (find-object h s) refl
     where
       go : (x : Lookup) → find-object h s ≡ x → find-object h s ≡ Found (current s m)
       go Missing e =
-          let n = sym (unnamed s k Accepted (accepted-check s k q c) refl h e) ∙ named in
+          let n = sym (unnamed unit s k Accepted (accepted-check unit s k q c) refl h e) ∙ named in
           let z : _≡_ {A = ℕ} 0 1 = cc in
           absurd (omega arith)
       go (Found b) e =
-          let l = located s k Accepted (accepted-check s k q c) refl h b e in
+          let l = located unit s k Accepted (accepted-check unit s k q c) refl h b e in
           let n = sym (l .named) ∙ named in
           let o : object-met b ≡ object-met m = cc in
           let w = found-met h s b e in

@@ -31,7 +31,7 @@ use Rattle.model.specs.declared.Verdict.the-variants.{Accepted, Refused}
 use Rattle.model.specs.declared.HandleAnswer.the-variants.{Given, Refused as NotGiven}
 use Rattle.writer.specs.Writes.{carve-bytes}
 use Rattle.writer.proofs.Guards.{room-test, carves}
-use Rattle.rounding.specs.Rounding.{unit, object-length, alignment}
+use Rattle.rounding.specs.Rounding.{Units, object-length, alignment}
 use Rattle.finder.specs.declared.Met.{Met}
 use Rattle.finder.specs.declared.Fit.the-variants.{At as Fits, Nowhere}
 use Rattle.finder.specs.Walk.{find-fit}
@@ -67,10 +67,10 @@ result-of q n place b k = record {
 }
 
 -- the new object, by its base
-abbrev object-at : List ℕ → Accounts → ℕ → Option ℕ → Handle
-object-at s k n o = record { base = or-else 0 o; length = object-length unit n; serial = k .«last_serial» + 1 }
+abbrev object-at : (ℕ → ℕ) → List ℕ → Accounts → ℕ → Option ℕ → Handle
+object-at unit s k n o = record { base = or-else 0 o; length = object-length unit n; serial = k .«last_serial» + 1 }
 
-module _ (s : List ℕ) (k : Accounts) (q n : ℕ) where
+module _ (unit : ℕ → ℕ) (s : List ℕ) (k : Accounts) (q n : ℕ) where
   abbrev pub from-11 : List Line
   from-11 = line-11 unit s n ∷ []
 
@@ -100,92 +100,92 @@ module _ (s : List ℕ) (k : Accounts) (q n : ℕ) where
       ∙ refused-is number s k (leaves (allocated q (new-object unit s k n) (state-of s k)) (given (new-object unit s k n))) f g
 
   -- the first four lines
-  pub refused-check : (v : Verdict) → verdict-values v ≡ check s k .values → (f : Refusal) → v ≡ Refused f → (r : HandleResult) → r ≡ record { accounts = k; answer = NotGiven f }
+  pub refused-check : (v : Verdict) → verdict-values v ≡ check unit s k .values → (f : Refusal) → v ≡ Refused f → (r : HandleResult) → r ≡ record { accounts = k; answer = NotGiven f }
       → handle-outcome s r ≡ allocate unit s k q n
   unfolding allocate-lines
-  refused-check v told f a r e = refused-by r f e (check-refuses s k v told from-3 f a)
+  refused-check v told f a r e = refused-by r f e (check-refuses unit s k v told from-3 f a)
 
-  pub refused-3 : (v : Verdict) → verdict-values v ≡ check s k .values → v ≡ Accepted → QUOTAS ≤ q → (r : HandleResult) → r ≡ record { accounts = k; answer = NotGiven QuotaNumber }
+  pub refused-3 : (v : Verdict) → verdict-values v ≡ check unit s k .values → v ≡ Accepted → QUOTAS ≤ q → (r : HandleResult) → r ≡ record { accounts = k; answer = NotGiven QuotaNumber }
       → handle-outcome s r ≡ allocate unit s k q n
   unfolding allocate-lines
-  refused-3 v told a h r e = refused-by r QuotaNumber e (check-accepts s k v told from-3 a ∙ line-3-refuses q from-4 h)
+  refused-3 v told a h r e = refused-by r QuotaNumber e (check-accepts unit s k v told from-3 a ∙ line-3-refuses q from-4 h)
 
-  pub refused-4 : Checked s k q → first-refusal from-4 ≡ 4 → (r : HandleResult) → r ≡ record { accounts = k; answer = NotGiven ObjectLength }
+  pub refused-4 : Checked unit s k q → first-refusal from-4 ≡ 4 → (r : HandleResult) → r ≡ record { accounts = k; answer = NotGiven ObjectLength }
       → handle-outcome s r ≡ allocate unit s k q n
   unfolding allocate-lines
-  refused-4 c h r e = refused-by r ObjectLength e (checked-passes s k q from-4 c ∙ h)
+  refused-4 c h r e = refused-by r ObjectLength e (checked-passes unit s k q from-4 c ∙ h)
 
 -- the others, of a request that is ready
-module _ (s : List ℕ) (k : Accounts) (q n : ℕ) (y : Ready s k q n) (r : HandleResult) where
-  to-8 : number s k q n ≡ first-refusal (from-8 s k q n)
+module _ (unit : ℕ → ℕ) (units : Units unit) (s : List ℕ) (k : Accounts) (q n : ℕ) (y : Ready unit s k q n) (r : HandleResult) where
+  to-8 : number unit s k q n ≡ first-refusal (from-8 unit s k q n)
   unfolding allocate-lines
-  to-8 = ready-passes s k q n (from-8 s k q n) y
+  to-8 = ready-passes unit s k q n (from-8 unit s k q n) y
 
   pub refused-8 : remaining q k < object-length unit n + 8 → r ≡ record { accounts = k; answer = NotGiven QuotaExceeded } → handle-outcome s r ≡ allocate unit s k q n
   unfolding line-8
   refused-8 h e =
-      refused-by s k q n r QuotaExceeded e
-      (to-8 ∙ line-refuses 8 (ltb (remaining q k) (object-length unit n + 8)) (from-9 s k q n) (lt-ltb (remaining q k) (object-length unit n + 8) h))
+      refused-by unit s k q n r QuotaExceeded e
+      (to-8 ∙ line-refuses 8 (ltb (remaining q k) (object-length unit n + 8)) (from-9 unit s k q n) (lt-ltb (remaining q k) (object-length unit n + 8) h))
 
   module _ (h8 : object-length unit n + 8 ≤ remaining q k) where
-    to-9 : number s k q n ≡ first-refusal (from-9 s k q n)
+    to-9 : number unit s k q n ≡ first-refusal (from-9 unit s k q n)
     unfolding line-8
-    to-9 = to-8 ∙ line-passes 8 (ltb (remaining q k) (object-length unit n + 8)) (from-9 s k q n) (le-ltb (remaining q k) (object-length unit n + 8) h8)
+    to-9 = to-8 ∙ line-passes 8 (ltb (remaining q k) (object-length unit n + 8)) (from-9 unit s k q n) (le-ltb (remaining q k) (object-length unit n + 8) h8)
 
     pub refused-9 : lowest-unused k ≡ Nothing → r ≡ record { accounts = k; answer = NotGiven HoldsExhausted } → handle-outcome s r ≡ allocate unit s k q n
     unfolding line-9 lowest-unused
     refused-9 h e =
-        refused-by s k q n r HoldsExhausted e
-        (to-9 ∙ line-refuses 9 (all used (k .holds)) (from-10 s k q n) (all-used (k .holds) ∙ ap not (nothing-some unused (k .holds) 0 h)))
+        refused-by unit s k q n r HoldsExhausted e
+        (to-9 ∙ line-refuses 9 (all used (k .holds)) (from-10 unit s k q n) (all-used (k .holds) ∙ ap not (nothing-some unused (k .holds) 0 h)))
 
     module _ (place : ℕ) (h9 : lowest-unused k ≡ At place) where
-      to-10 : number s k q n ≡ first-refusal (from-10 s k q n)
+      to-10 : number unit s k q n ≡ first-refusal (from-10 unit s k q n)
       unfolding line-9 lowest-unused
-      to-10 = to-9 ∙ line-passes 9 (all used (k .holds)) (from-10 s k q n) (all-used (k .holds) ∙ ap not (found-some unused (k .holds) place h9))
+      to-10 = to-9 ∙ line-passes 9 (all used (k .holds)) (from-10 unit s k q n) (all-used (k .holds) ∙ ap not (found-some unused (k .holds) place h9))
 
       pub refused-10 : k .«last_serial» ≡ greatest-serial → r ≡ record { accounts = k; answer = NotGiven SerialsExhausted } → handle-outcome s r ≡ allocate unit s k q n
       unfolding line-10
       refused-10 h e =
-          refused-by s k q n r SerialsExhausted e
-          (to-10 ∙ line-refuses 10 (eqb (k .«last_serial») greatest-serial) (from-11 s k q n) (eq-eqb (k .«last_serial») greatest-serial h))
+          refused-by unit s k q n r SerialsExhausted e
+          (to-10 ∙ line-refuses 10 (eqb (k .«last_serial») greatest-serial) (from-11 unit s k q n) (eq-eqb (k .«last_serial») greatest-serial h))
 
       module _ (h10 : k .«last_serial» < greatest-serial) where
-        to-11 : number s k q n ≡ first-refusal (from-11 s k q n)
+        to-11 : number unit s k q n ≡ first-refusal (from-11 unit s k q n)
         unfolding line-10
-        to-11 = to-10 ∙ line-passes 10 (eqb (k .«last_serial») greatest-serial) (from-11 s k q n) (ne-eqb (k .«last_serial») greatest-serial (λ e. omega arith))
+        to-11 = to-10 ∙ line-passes 10 (eqb (k .«last_serial») greatest-serial) (from-11 unit s k q n) (ne-eqb (k .«last_serial») greatest-serial (λ e. omega arith))
 
         pub refused-11 : find-fit (alignment unit n) (object-length unit n) s ≡ Nowhere → r ≡ record { accounts = k; answer = NotGiven NoSpace }
             → handle-outcome s r ≡ allocate unit s k q n
         unfolding line-11 is-none
         refused-11 h e =
-            refused-by s k q n r NoSpace e
-            (to-11 ∙ line-refuses 11 (is-none (base-for unit s n)) [] (rw (no-base s k n (y .checked .sound) h)))
+            refused-by unit s k q n r NoSpace e
+            (to-11 ∙ line-refuses 11 (is-none (base-for unit s n)) [] (rw (no-base unit units s k n (y .checked .consistent) h)))
 
         module _ (m : Met) (b : ℕ) (fit : find-fit (alignment unit n) (object-length unit n) s ≡ Fits m b) where
-          to-end : number s k q n ≡ 0
+          to-end : number unit s k q n ≡ 0
           unfolding line-11 is-none first-refusal
-          to-end = to-11 ∙ line-passes 11 (is-none (base-for unit s n)) [] (rw (the-base s k n (y .checked .sound) m b fit))
+          to-end = to-11 ∙ line-passes 11 (is-none (base-for unit s n)) [] (rw (the-base unit units s k n (y .checked .consistent) m b fit))
 
           granted-whole : Octets s → (t : List ℕ)
               → t ≡ carve-bytes (m .at) (m .at + m .size) b (object-length unit n) (m .back) (k .«last_serial» + 1) s
               → r ≡ result-of q (object-length unit n) place b k → handle-outcome t r ≡ allocate unit s k q n
           unfolding allocate handle-values allocated new-object or-else
           granted-whole o t w e =
-              let ok = y .checked .sound in
+              let ok = y .checked .consistent in
               let serial = k .«last_serial» + 1 in
               let h : Handle = record { base = b; length = object-length unit n; serial = serial } in
-              let x = the-base s k n ok m b fit in
-              let u = w ∙ the-bytes s k n ok m b fit o serial in
+              let x = the-base unit units s k n ok m b fit in
+              let u = w ∙ the-bytes unit units s k n ok m b fit o serial in
               let z = booked-is q (object-length unit n) place serial k h9 in
               ap (handle-outcome t) e
               ∙ (λ i. outcome (u i) (z i) (given h))
-              ∙ accepted-is (number s k q n) s k (leaves (allocated q h (state-of s k)) (given h)) to-end
-              ∙ ap (λ (o : Option ℕ). unless (number s k q n) s k (leaves (allocated q (object-at s k n o) (state-of s k)) (given (object-at s k n o)))) (sym x)
+              ∙ accepted-is (number unit s k q n) s k (leaves (allocated q h (state-of s k)) (given h)) to-end
+              ∙ ap (λ (o : Option ℕ). unless (number unit s k q n) s k (leaves (allocated q (object-at unit s k n o) (state-of s k)) (given (object-at unit s k n o)))) (sym x)
 
           pub granted : Octets s → (t : List ℕ) (z : ℕ) → z ≡ object-length unit n → t ≡ carve-in m b z (k .«last_serial» + 1) s
               → r ≡ result-of q z place b k → handle-outcome t r ≡ allocate unit s k q n
           granted o t z ez w e =
               let serial = k .«last_serial» + 1 in
-              let room = room-test m b (object-length unit n) (the-room s k n (y .checked .sound) m b fit (y .checked .extent)) in
+              let room = room-test m b (object-length unit n) (the-room unit units s k n (y .checked .consistent) m b fit (y .checked .extent)) in
               granted-whole o t (w ∙ ap (λ (l : ℕ). carve-in m b l serial s) ez ∙ sym (carves m b (object-length unit n) serial s room))
               (e ∙ ap (λ (l : ℕ). result-of q l place b k) ez)

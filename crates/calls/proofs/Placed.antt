@@ -27,8 +27,9 @@ use Rattle.model.proofs.Consistent.{consistent-cut, tests-exactly}
 use Rattle.model.proofs.Carve.{Carved}
 use Rattle.writer.specs.Writes.{carve-bytes}
 use Rattle.writer.proofs.CarveBytes.{carve-writes}
-use Rattle.rounding.specs.Rounding.{unit, object-length, alignment}
-use Rattle.rounding.proofs.Rounding.{rounded, alignment-positive, by-row, unit-is}
+use Rattle.rounding.specs.Rounding.{Units, object-length, alignment}
+use Rattle.rounding.proofs.Rounding.{rounded, alignment-positive, alignment-eights}
+use Rattle.invariant.proofs.Requested.{eights}
 use Rattle.finder.specs.declared.Met.{Met}
 use Rattle.finder.specs.declared.Fit.the-variants.{At, Nowhere}
 use Rattle.finder.specs.Walk.{find-fit}
@@ -50,26 +51,25 @@ carved-at base n serial at (x ∷ xs) b ys e low high =
     (ap (λ (l : List Block). x ∷ l) (carved-at base n serial (at + size x) xs b ys e (omega arith) (omega arith)))
 
 -- a multiple of a request's alignment is one of 8
-aligned-8 : (n b : ℕ) → b % alignment unit n ≡ 0 → b % 8 ≡ 0
-unfolding alignment
-aligned-8 n b = by-row (λ (k : ℕ). b % k ≡ 0 → b % 8 ≡ 0) n (λ _ e. e) (λ _ _ e. omega arith) (λ _ e. omega arith)
+aligned-8 : (unit : ℕ → ℕ) (units : Units unit) (n b : ℕ) → b % alignment unit n ≡ 0 → b % 8 ≡ 0
+aligned-8 unit units n b e = eights b (alignment unit n) (alignment-eights unit units n) e
 
 -- no two free blocks of a consistent heap stand side by side
 free-blocks-apart : (s : List ℕ) (k : Accounts) → consistent s k ≡ true → free-apart (blocks-of s) ≡ true
 unfolding well-cut
 free-blocks-apart s k e = and-right (all long-enough (blocks-of s)) (free-apart (blocks-of s)) (tests-exactly (blocks-of s) k .0 (consistent-cut s k e .1) .cut)
 
-module _ (s : List ℕ) (k : Accounts) (n : ℕ) (ok : consistent s k ≡ true) where
+module _ (unit : ℕ → ℕ) (units : Units unit) (s : List ℕ) (k : Accounts) (n : ℕ) (ok : consistent s k ≡ true) where
   -- where the walk finds no base, there is none
   pub no-base : find-fit (alignment unit n) (object-length unit n) s ≡ Nowhere → base-for unit s n ≡ none
   unfolding base-for
   no-base e =
-      base-nowhere (alignment unit n) (object-length unit n) (alignment-positive unit unit-is n) s (blocks-of s) (consistent-cut s k ok .0) (free-blocks-apart s k ok) e
+      base-nowhere (alignment unit n) (object-length unit n) (alignment-positive unit units n) s (blocks-of s) (consistent-cut s k ok .0) (free-blocks-apart s k ok) e
 
   module _ (m : Met) (b : ℕ) (fit : find-fit (alignment unit n) (object-length unit n) s ≡ At m b) where
     fitting : Fitting (alignment unit n) (object-length unit n) s (blocks-of s) m b
     fitting =
-        base-found (alignment unit n) (object-length unit n) (alignment-positive unit unit-is n) s (blocks-of s) (consistent-cut s k ok .0) (free-blocks-apart s k ok) m b fit
+        base-found (alignment unit n) (object-length unit n) (alignment-positive unit units n) s (blocks-of s) (consistent-cut s k ok .0) (free-blocks-apart s k ok) m b fit
 
     -- the base that it finds is the definition's
     pub the-base : base-for unit s n ≡ some b
@@ -116,5 +116,5 @@ module _ (s : List ℕ) (k : Accounts) (n : ℕ) (ok : consistent s k ≡ true) 
         let r = parse-is s (blocks-of s) o .0 (consistent-cut s k ok .0) in
         let p : m .at ≡ total size (w .front) = w .place ∙ total-is (w .front) in
         (λ i. carve-bytes (p i) (p i + w .sized i) b (object-length unit n) (w .back i) serial s)
-        ∙ sym (carve-writes (the-cut serial) (writable-whole (blocks-of s) (r .1)) (aligned-8 n b (f .multiple)) (rounded unit unit-is n .eights)
+        ∙ sym (carve-writes (the-cut serial) (writable-whole (blocks-of s) (r .1)) (aligned-8 unit units n b (f .multiple)) (rounded unit units n .eights)
         ∙ ap (carve-bytes (total size (w .front)) (total size (w .front) + size (w .block)) b (object-length unit n) (back-after 0 (w .front)) serial) (r .0))

@@ -8,7 +8,6 @@ use mathlib.Core.Option.{some}
 use Rattle.accounts.specs.declared.Accounts.{Accounts}
 use Rattle.accounts.specs.declared.Place.the-variants.{At, Nothing}
 use Rattle.accounts.specs.Accounts.{QUOTAS, find-hold}
-use Rattle.rounding.specs.Rounding.{unit}
 use Rattle.model.specs.Answers.{refusal-number, verdict-values, handle-values}
 use Rattle.model.specs.Objects.{lookup, lookup-whole, found}
 use Rattle.model.specs.Consistent.{has-record}
@@ -32,10 +31,10 @@ use Rattle.calls.proofs.Ready.{accepted-check, checked-passes, ready-pa
 use Rattle.calls.proofs.Granted.{from-8}
 use Rattle.calls.proofs.Reallocated.{whole-named}
 
-module _ (s : List ℕ) (k : Accounts) (q : ℕ) (h : Handle) (n : ℕ) where
+module _ (unit : ℕ → ℕ) (s : List ℕ) (k : Accounts) (q : ℕ) (h : Handle) (n : ℕ) where
   -- the lines behind the fourth
   abbrev pub from-5 : List Line
-  from-5 = line-5 (lookup-whole h s) ∷ line-6 k q (found (lookup-whole h s)) ∷ from-8 s k q n
+  from-5 = line-5 (lookup-whole h s) ∷ line-6 k q (found (lookup-whole h s)) ∷ from-8 unit s k q n
 
   -- a refusal as a result
   pub refuses : (r : HandleResult) (x : Refusal) → r ≡ record { accounts = k; answer = Refused x } → first-refusal (reallocate-lines unit s k q h n) ≡ refusal-number x
@@ -44,31 +43,31 @@ module _ (s : List ℕ) (k : Accounts) (q : ℕ) (h : Handle) (n : ℕ) where
   refuses r x e l = ap (handle-outcome s) e ∙ refused-is (first-refusal (reallocate-lines unit s k q h n)) s k _ x l
 
   -- the first three lines, where the check has answered v
-  pub by-check : (v : Verdict) → verdict-values v ≡ check s k .values → (x : Refusal) → v ≡ NotAccepted x → first-refusal (reallocate-lines unit s k q h n) ≡ refusal-number x
+  pub by-check : (v : Verdict) → verdict-values v ≡ check unit s k .values → (x : Refusal) → v ≡ NotAccepted x → first-refusal (reallocate-lines unit s k q h n) ≡ refusal-number x
   unfolding reallocate-lines
-  by-check v told x e = check-refuses s k v told (line-3 q ∷ line-4 n ∷ from-5) x e
+  by-check v told x e = check-refuses unit s k v told (line-3 q ∷ line-4 n ∷ from-5) x e
 
-  pub by-quota : (v : Verdict) → verdict-values v ≡ check s k .values → v ≡ Accepted → QUOTAS ≤ q → first-refusal (reallocate-lines unit s k q h n) ≡ 3
+  pub by-quota : (v : Verdict) → verdict-values v ≡ check unit s k .values → v ≡ Accepted → QUOTAS ≤ q → first-refusal (reallocate-lines unit s k q h n) ≡ 3
   unfolding reallocate-lines
-  by-quota v told a l = check-accepts s k v told (line-3 q ∷ line-4 n ∷ from-5) a ∙ line-3-refuses q (line-4 n ∷ from-5) l
+  by-quota v told a l = check-accepts unit s k v told (line-3 q ∷ line-4 n ∷ from-5) a ∙ line-3-refuses q (line-4 n ∷ from-5) l
 
   -- the fourth
-  pub by-length : Checked s k q → first-refusal (line-4 n ∷ from-5) ≡ 4 → first-refusal (reallocate-lines unit s k q h n) ≡ 4
+  pub by-length : Checked unit s k q → first-refusal (line-4 n ∷ from-5) ≡ 4 → first-refusal (reallocate-lines unit s k q h n) ≡ 4
   unfolding reallocate-lines
-  by-length c e = checked-passes s k q (line-4 n ∷ from-5) c ∙ e
+  by-length c e = checked-passes unit s k q (line-4 n ∷ from-5) c ∙ e
 
   -- the fifth and sixth, of a request that is ready
-  module _ (r : Ready s k q n) where
+  module _ (r : Ready unit s k q n) where
     pub by-object : find-object h s ≡ Missing → first-refusal (reallocate-lines unit s k q h n) ≡ 5
     unfolding reallocate-lines
     by-object e =
-        ready-passes s k q n from-5 r
-        ∙ line-5-refuses (lookup-whole h s) (line-6 k q (found (lookup-whole h s)) ∷ from-8 s k q n)
-        (lookup-whole-is h s ∙ unnamed s k Accepted (accepted-check s k q (r .checked)) refl h e)
+        ready-passes unit s k q n from-5 r
+        ∙ line-5-refuses (lookup-whole h s) (line-6 k q (found (lookup-whole h s)) ∷ from-8 unit s k q n)
+        (lookup-whole-is h s ∙ unnamed unit s k Accepted (accepted-check unit s k q (r .checked)) refl h e)
 
     module _ (m : Met) (e : find-object h s ≡ Found m) where
       pub block-named : lookup h s ≡ some (object-met m)
-      block-named = located s k Accepted (accepted-check s k q (r .checked)) refl h m e .named
+      block-named = located unit s k Accepted (accepted-check unit s k q (r .checked)) refl h m e .named
 
       pub by-record : find-hold (m .serial) q k ≡ Nothing → first-refusal (reallocate-lines unit s k q h n) ≡ 6
       unfolding reallocate-lines line-6
@@ -76,9 +75,9 @@ module _ (s : List ℕ) (k : Accounts) (q : ℕ) (h : Handle) (n : ℕ) where
           let w = whole-named h (object-met m) s block-named in
           let o = found (lookup-whole h s) in
           let l = r .checked .exists in
-          ready-passes s k q n from-5 r
-          ∙ line-5-passes (lookup-whole h s) (object-met m) (line-6 k q o ∷ from-8 s k q n) (w .0)
-          ∙ line-refuses 6 (not (has-record (k .holds) q (o .serial))) (from-8 s k q n) (rw (w .1, record-missing k (m .serial) q l (rw (byte-quota q l) p)))
+          ready-passes unit s k q n from-5 r
+          ∙ line-5-passes (lookup-whole h s) (object-met m) (line-6 k q o ∷ from-8 unit s k q n) (w .0)
+          ∙ line-refuses 6 (not (has-record (k .holds) q (o .serial))) (from-8 unit s k q n) (rw (w .1, record-missing k (m .serial) q l (rw (byte-quota q l) p)))
 
       pub block-held : (i : ℕ) → find-hold (m .serial) q k ≡ At i → has-record (k .holds) q (m .serial) ≡ true
       block-held i p = let l = r .checked .exists in record-found k (m .serial) q l i (rw (byte-quota q l) p)

@@ -12,15 +12,16 @@ use Rattle.accounts.specs.declared.Hold.{Hold}
 use Rattle.accounts.specs.declared.Place.the-variants.{At}
 use Rattle.accounts.specs.Accounts.{used, unused, is-for, first-from, find-hold}
 use Rattle.accounts.proofs.Laws.{for-another}
-use Rattle.rounding.specs.Rounding.{unit}
-use Rattle.rounding.proofs.Rounding.{unit-is}
+use Rattle.rounding.specs.Rounding.{Units}
 use Rattle.layout.specs.Bytes.{Octets, copy-part}
 use Rattle.layout.specs.Blocks.{Block, render}
 use Rattle.model.specs.Answers.{given, handle-values}
 use Rattle.model.specs.Lists.{or-else, change-first}
 use Rattle.model.specs.Holds.{take-record}
 use Rattle.model.specs.Objects.{blocks-of, objects, objects-of, lookup, lookup-whole, found}
-use Rattle.model.specs.Consistent.{allowed, has-record}
+use mathlib.Core.Logic.{⊎-elim}
+use Rattle.model.specs.Consistent.{allowed, consistent, has-record, in-units, sound as is-sound}
+use Rattle.model.proofs.Lists.{all-member, member-all}
 use Rattle.model.specs.Refusals.{Line, first-refusal, line-5, line-6, release-lines, allocate-lines, reallocate-lines}
 use Rattle.model.specs.Calls.{Outcome, State, unless, leaves, state-of, allocated, copied, released, new-object, allocate, release, reallocate}
 use Rattle.model.specs.Step.{step}
@@ -29,17 +30,17 @@ use Rattle.model.specs.declared.Refusal.{Refusal}
 use Rattle.model.specs.declared.HandleAnswer.{HandleAnswer}
 use Rattle.model.specs.declared.HandleAnswer.the-variants.{Given, Refused}
 use Rattle.model.specs.declared.Call.the-variants.{Allocate}
-use Rattle.model.proofs.Bools.{fails}
+use Rattle.model.proofs.Bools.{fails, and-right, and-both}
 use Rattle.model.proofs.Lookup.{lookup-exactly, lookup-whole-is}
 use Rattle.model.proofs.Refusals.{by-lines, refusal-of-lines, accepted-exactly, unless-refused}
 use Rattle.writer.proofs.CopyBytes.{copied-bytes}
 use Rattle.invariant.proofs.Good.{Good}
 use Rattle.invariant.proofs.Recorded.{Limits}
-use Rattle.invariant.proofs.Members.{added-old, added-new}
+use Rattle.invariant.proofs.Members.{added-old, added-new, added-cases}
 use Rattle.invariant.proofs.Heaps.{heap-good, heap-again, Written-out, good-heap}
-use Rattle.invariant.proofs.Transitions.{Room, allocated-good, allocated-objects, copied-good}
+use Rattle.invariant.proofs.Transitions.{Room, allocated-good, allocated-objects, copied-good, copied-objects}
 use Rattle.invariant.proofs.Passed.{Allocatable, allocate-passed}
-use Rattle.invariant.proofs.Requested.{requested-room, requested-fresh, still-releasable}
+use Rattle.invariant.proofs.Requested.{requested-room, requested-fresh, still-releasable, new-in-units}
 use Rattle.calls.specs.declared.HandleResult.{HandleResult}
 use Rattle.quotas.specs.declared.AmountResult.{AmountResult}
 use Rattle.access.specs.Results.{outcome}
@@ -78,30 +79,30 @@ unfolding line-6
 line-6-passes k q o rest e = line-passes 6 (not (has-record (k .holds) q (o .serial))) rest (rw e)
 
 -- what a release of an object that is named and held leaves
-module _ (s : List ℕ) (k : Accounts) (q : ℕ) (h old : Handle) (c : Checked s k q) (named : lookup h s ≡ some old) (held : has-record (k .holds) q (old .serial) ≡ true) where
-  release-passes : first-refusal (release-lines s k q h) ≡ 0
+module _ (unit : ℕ → ℕ) (s : List ℕ) (k : Accounts) (q : ℕ) (h old : Handle) (c : Checked unit s k q) (named : lookup h s ≡ some old) (held : has-record (k .holds) q (old .serial) ≡ true) where
+  release-passes : first-refusal (release-lines unit s k q h) ≡ 0
   unfolding release-lines first-refusal found or-else
   release-passes =
-      checked-passes s k q (line-5 (lookup h s) ∷ line-6 k q (found (lookup h s)) ∷ []) c
+      checked-passes unit s k q (line-5 (lookup h s) ∷ line-6 k q (found (lookup h s)) ∷ []) c
       ∙ line-5-passes (lookup h s) old (line-6 k q (found (lookup h s)) ∷ []) named
       ∙ line-6-passes k q (found (lookup h s)) [] (rw named held)
 
-  release-leaves : (release s k q h .heap ≡ render (released q old (state-of s k) .blocks)) × (release s k q h .accounts ≡ released q old (state-of s k) .accounts)
+  release-leaves : (release unit s k q h .heap ≡ render (released q old (state-of s k) .blocks)) × (release unit s k q h .accounts ≡ released q old (state-of s k) .accounts)
   unfolding release unless found or-else
   release-leaves = rw (release-passes, named) (refl, refl)
 
 -- a request that passes lines 1 to 6: h names the object old, and the quota has a record for it
-module _ (s : List ℕ) (k : Accounts) (q : ℕ) (h : Handle) (n : ℕ) (r : Ready s k q n) (old : Handle) (named : lookup h s ≡ some old) (held : has-record (k .holds) q (old .serial) ≡ true) where
+module _ (unit : ℕ → ℕ) (units : Units unit) (s : List ℕ) (k : Accounts) (q : ℕ) (h : Handle) (n : ℕ) (r : Ready unit s k q n) (old : Handle) (named : lookup h s ≡ some old) (held : has-record (k .holds) q (old .serial) ≡ true) where
   -- the lines behind them are allocate's
   same-number : first-refusal (reallocate-lines unit s k q h n) ≡ first-refusal (allocate-lines unit s k q n)
   unfolding reallocate-lines allocate-lines
   same-number =
       let w = whole-named h old s named in
       let o = found (lookup-whole h s) in
-      ready-passes s k q n (line-5 (lookup-whole h s) ∷ line-6 k q o ∷ from-8 s k q n) r
-      ∙ line-5-passes (lookup-whole h s) old (line-6 k q o ∷ from-8 s k q n) (w .0)
-      ∙ line-6-passes k q o (from-8 s k q n) (rw (w .1) held)
-      ∙ sym (ready-passes s k q n (from-8 s k q n) r)
+      ready-passes unit s k q n (line-5 (lookup-whole h s) ∷ line-6 k q o ∷ from-8 unit s k q n) r
+      ∙ line-5-passes (lookup-whole h s) old (line-6 k q o ∷ from-8 unit s k q n) (w .0)
+      ∙ line-6-passes k q o (from-8 unit s k q n) (rw (w .1) held)
+      ∙ sym (ready-passes unit s k q n (from-8 unit s k q n) r)
 
   -- allocate's number, by what it gave
   number-is : (t : List ℕ) (x : HandleResult) → handle-outcome t x ≡ allocate unit s k q n → first-refusal (allocate-lines unit s k q n) ≡ handle-values (x .answer) .refusal
@@ -128,10 +129,10 @@ module _ (s : List ℕ) (k : Accounts) (q : ℕ) (h : Handle) (n : ℕ) (r : Rea
     filled = copied old new made
 
     start : Good (state-of s k)
-    start = heap-good s k (r .checked .extent) o (r .checked .sound) (l .quotas) (l .narrow) (l .serial)
+    start = heap-good s k (r .checked .extent) o (r .checked .consistent) (l .quotas) (l .narrow) (l .serial)
 
     room : Room q new (state-of s k)
-    room = requested-room unit unit-is s k start (heap-again s k o (r .checked .sound)) q n p
+    room = requested-room unit units s k start (heap-again s k o (r .checked .consistent)) q n p
 
     made-good : Good made
     made-good = allocated-good q new (state-of s k) start room
@@ -145,7 +146,7 @@ module _ (s : List ℕ) (k : Accounts) (q : ℕ) (h : Handle) (n : ℕ) (r : Rea
     there = rw handle-is at (lookup-exactly h s old .0 named .1)
 
     fresh : old .serial ≡ new .serial → ⊥
-    fresh = requested-fresh unit unit-is s k start (heap-again s k o (r .checked .sound)) q n p old there
+    fresh = requested-fresh unit units s k start (heap-again s k o (r .checked .consistent)) q n p old there
 
     -- the heap that copying leaves is written of that state
     filled-bytes : render (filled .blocks) ≡ copy-part (old .base) (new .base) (min (new .length) (old .length)) (render (made .blocks))
@@ -158,8 +159,18 @@ module _ (s : List ℕ) (k : Accounts) (q : ℕ) (h : Handle) (n : ℕ) (r : Rea
     written : Written-out filled
     written = good-heap filled (copied-good old new made made-good)
 
-    filled-checked : Checked (render (filled .blocks)) (filled .accounts) q
-    filled-checked = record { extent = written .allowed; sound = written .sound; exists = r .checked .exists }
+    -- every object of it is in its units: the old ones were, and the new one is
+    filled-fits : is-sound unit (render (filled .blocks)) (filled .accounts) ≡ true
+    unfolding is-sound objects-of
+    filled-fits =
+        let was = all-member (in-units unit) (objects (blocks-of s)) (and-right (consistent s k) _ (r .checked .sound)) in
+        let d = allocated-objects q new (state-of s k) start room in
+        and-both _ _ (written .sound)
+        (member-all (in-units unit) (objects-of (render (filled .blocks)))
+        (λ x m. ⊎-elim (λ (e : x ≡ new). rw e (new-in-units unit units s k q n p)) (λ y. was x y) (added-cases new (objects (blocks-of s)) (objects (made .blocks)) d x (rw (written .objects, copied-objects old new made made-good) at m))))
+
+    filled-checked : Checked unit (render (filled .blocks)) (filled .accounts) q
+    filled-checked = record { extent = written .allowed; consistent = written .sound; sound = filled-fits; exists = r .checked .exists }
 
     -- the old object can be released in it: its handle names it, the quota has its record
     filled-named : lookup h (render (filled .blocks)) ≡ some old
@@ -167,12 +178,12 @@ module _ (s : List ℕ) (k : Accounts) (q : ℕ) (h : Handle) (n : ℕ) (r : Rea
         let x = still-releasable (state-of s k) start q old new room fresh there held in
         lookup-exactly h (render (filled .blocks)) old .1 (handle-is, rw (written .objects, handle-is) (x .0))
 
-    filled-releases : (release (render (filled .blocks)) (filled .accounts) q h .heap ≡ render (released q old filled .blocks))
-        × (release (render (filled .blocks)) (filled .accounts) q h .accounts ≡ released q old filled .accounts)
+    filled-releases : (release unit (render (filled .blocks)) (filled .accounts) q h .heap ≡ render (released q old filled .blocks))
+        × (release unit (render (filled .blocks)) (filled .accounts) q h .accounts ≡ released q old filled .accounts)
     filled-releases =
         let x = still-releasable (state-of s k) start q old new room fresh there held in
         let t : state-of (render (filled .blocks)) (filled .accounts) ≡ filled = ap (λ (bs : List Block). record { blocks = bs; accounts = filled .accounts }) (written .blocks) in
-        rw t at (release-leaves (render (filled .blocks)) (filled .accounts) q h old filled-checked filled-named (x .1))
+        rw t at (release-leaves unit (render (filled .blocks)) (filled .accounts) q h old filled-checked filled-named (x .1))
 
   -- allocate granted an object, and the old one's bytes were copied to it
   module _ (o : Octets s) (l : Limits k) (t : List ℕ) (x : HandleResult) (e : handle-outcome t x ≡ allocate unit s k q n) (new : Handle) (a : x .answer ≡ Given new) (t₂ : List ℕ)
@@ -210,16 +221,16 @@ module _ (s : List ℕ) (k : Accounts) (q : ℕ) (h : Handle) (n : ℕ) (r : Rea
         let w : Hold = record { serial = new-object unit s k n .serial; quota = q; count = 1 } in
         rw accounts-are (record-kept (old .serial) q w (for-another (old .serial) q w (λ z. fresh o l passed (sym z))) (k .holds) 0 ∙ e)
 
-    pub copied-checked : Checked t₂ (x .accounts) q
+    pub copied-checked : Checked unit t₂ (x .accounts) q
     unfolding copied
     copied-checked = rw (bytes-are, accounts-are) (filled-checked o l passed)
 
     -- what it gives makes up what reallocate gives
-    pub given-too : (u : List ℕ) (y : AmountResult) → amount-outcome u y ≡ release t₂ (x .accounts) q h → outcome u (y .accounts) (given new) ≡ reallocate unit s k q h n
+    pub given-too : (u : List ℕ) (y : AmountResult) → amount-outcome u y ≡ release unit t₂ (x .accounts) q h → outcome u (y .accounts) (given new) ≡ reallocate unit s k q h n
     unfolding reallocate copied
     given-too u y f =
         let w = filled-releases o l passed in
-        let g : amount-outcome u y ≡ release (render (filled o l passed .blocks)) (filled o l passed .accounts) q h = f ∙ (λ i. release (bytes-are i) (accounts-are i) q h) in
+        let g : amount-outcome u y ≡ release unit (render (filled o l passed .blocks)) (filled o l passed .accounts) q h = f ∙ (λ i. release unit (bytes-are i) (accounts-are i) q h) in
         let heap-is : u ≡ render (released q old (filled o l passed) .blocks) = ap (λ (z : Outcome). z .heap) g ∙ w .0 in
         let left-is : y .accounts ≡ released q old (filled o l passed) .accounts = ap (λ (z : Outcome). z .accounts) g ∙ w .1 in
         let done = leaves (released q old (filled o l passed)) (given (new-object unit s k n)) in

@@ -54,7 +54,7 @@ fn booked(accounts: Accounts, quota: u8, charge: u32, place: usize, serial: u32)
 
 // Allocation behind the first four lines: the other refusals in their order, then the object is cut out and its quota pays.
 pub(crate) fn grant(heap: &mut [u8], accounts: Accounts, quota: u32, length: u32) -> HandleResult
-    requires { ⌜ Ready (now heap) accounts quota length ⌝ }
+    requires { ⌜ Ready unit (now heap) accounts quota length ⌝ }
     ensures { λ r. ⌜ handle-outcome (now (heap .exit)) r ≡ allocate-of unit (now (heap .entry)) accounts quota length ⌝ }
 {
     let size = rounding::object_length(length) as u32;
@@ -69,7 +69,7 @@ pub(crate) fn grant(heap: &mut [u8], accounts: Accounts, quota: u32, length: u32
     if GREATEST_SERIAL <= last {
         return HandleResult::refused(accounts, Refusal::SerialsExhausted);
     }
-    let alignment = rounding::alignment(length);
+    let alignment = rounding::unit(size);
     let Fit::At(block, base) = finder::find_base(heap, alignment, size as usize) else {
         return HandleResult::refused(accounts, Refusal::NoSpace);
     };

@@ -52,7 +52,7 @@ fn exchange(
     handle: Handle,
     length: u32,
 ) -> HandleResult
-    requires { ⌜ Ready (now heap) accounts quota length ⌝ }
+    requires { ⌜ Ready unit (now heap) accounts quota length ⌝ }
     ensures { λ r. ⌜ handle-outcome (now (heap .exit)) r ≡ reallocate-of unit (now (heap .entry)) accounts quota handle length ⌝ }
 {
     let Lookup::Found(old) = finder::find_object(heap, handle) else {

@@ -6,6 +6,7 @@ pub mod Linking
 pub mod Striking
 pub mod Settling
 pub mod Visiting
+pub mod Fitting
 pub mod Walking
 pub mod Struck
 pub mod Payments

@@ -2,7 +2,7 @@
 -- Assumes nothing.
 use Prim.Native.Nat.{ℕ}
 use mathlib.Core.Path.{_≡_, refl, ap, sym, _∙_}
-use mathlib.Core.Bool.{Bool, true, false, cond}
+use mathlib.Core.Bool.{Bool, true, false, cond, _&&_}
 use mathlib.Core.List.{List}
 use mathlib.Core.Option.{some}
 use lib.ListN.{length, replicate, getD-replicate, length-replicate, length-map}
@@ -13,7 +13,7 @@ use Rattle.model.specs.declared.Refusal.the-variants.{HeapLength, Inconsistent}
 use Rattle.model.specs.declared.Verdict.the-variants.{Accepted, Refused}
 use Rattle.model.specs.Lists.{all}
 use Rattle.model.specs.Answers.{verdict-values}
-use Rattle.model.specs.Consistent.{allowed}
+use Rattle.model.specs.Consistent.{allowed, sound}
 use Rattle.model.specs.Refusals.{first-refusal, line-1, line-2, check-lines}
 use Rattle.model.specs.Calls.{unless, check}
 use Rattle.model.proofs.Bools.{and-no}
@@ -21,6 +21,8 @@ use Rattle.checker.specs.Keys.{well-formed}
 use Rattle.checker.specs.Chains.{SLOTS}
 use Rattle.checker.specs.Audit.{owes, begin, audit-parsed, audited}
 use Rattle.checker.specs.Contracts.{Fresh, Index, Owing, Ready}
+use Rattle.checker.specs.Fitting.{fitting}
+use Rattle.checker.proofs.Fitting.{fitting-sound}
 use Rattle.checker.proofs.Consistency.{audited-is-consistent}
 
 -- new arrays
@@ -35,41 +37,46 @@ fresh =
       no-head = λ x l. getD-replicate SLOTS x HOLDS 0 l;
     }
 
-module _ (s : List ℕ) (k : Accounts) where
+module _ (unit : ℕ → ℕ) (s : List ℕ) (k : Accounts) where
   -- a length that is not allowed
-  pub verdict-length : allowed (length s) ≡ false → verdict-values (Refused HeapLength) ≡ check s k .values
+  pub verdict-length : allowed (length s) ≡ false → verdict-values (Refused HeapLength) ≡ check unit s k .values
   unfolding verdict-values check unless first-refusal check-lines line-1 line-2
   verdict-length e = rw e
 
   module _ (fits : allowed (length s) ≡ true) (long : length (k .quotas) ≡ QUOTAS) where
-    -- an audit that fails, and one that passes
-    verdict-fails : audited (parse s) k ≡ false → verdict-values (Refused Inconsistent) ≡ check s k .values
-    unfolding verdict-values check unless first-refusal check-lines line-1 line-2
-    verdict-fails e = rw (fits, sym (audited-is-consistent s k long) ∙ e)
+    same-verdict : (audited (parse s) k && fitting unit 0 (parse s)) ≡ sound unit s k
+    same-verdict = ap (λ (x : Bool). x && fitting unit 0 (parse s)) (audited-is-consistent s k long) ∙ fitting-sound unit s k
 
-    verdict-passes : audited (parse s) k ≡ true → verdict-values Accepted ≡ check s k .values
+    -- an audit that fails, and one that passes
+    verdict-fails : (audited (parse s) k && fitting unit 0 (parse s)) ≡ false → verdict-values (Refused Inconsistent) ≡ check unit s k .values
     unfolding verdict-values check unless first-refusal check-lines line-1 line-2
-    verdict-passes e = rw (fits, sym (audited-is-consistent s k long) ∙ e)
+    verdict-fails e = rw (fits, sym same-verdict ∙ e)
+
+    verdict-passes : (audited (parse s) k && fitting unit 0 (parse s)) ≡ true → verdict-values Accepted ≡ check unit s k .values
+    unfolding verdict-values check unless first-refusal check-lines line-1 line-2
+    verdict-passes e = rw (fits, sym same-verdict ∙ e)
 
     -- a record that is not well-formed
-    pub verdict-ill : all well-formed (k .holds) ≡ false → verdict-values (Refused Inconsistent) ≡ check s k .values
+    pub verdict-ill : all well-formed (k .holds) ≡ false → verdict-values (Refused Inconsistent) ≡ check unit s k .values
     unfolding audited
     verdict-ill e = verdict-fails (rw e)
 
     -- a remainder above its grant
-    pub verdict-insolvent : {owed : List ℕ} → Owing (k .quotas) false owed → verdict-values (Refused Inconsistent) ≡ check s k .values
+    pub verdict-insolvent : {owed : List ℕ} → Owing (k .quotas) false owed → verdict-values (Refused Inconsistent) ≡ check unit s k .values
     unfolding audited
-    verdict-insolvent w = verdict-fails (rw (sym (w .0)) (and-no (all well-formed (k .holds)) false refl))
+    verdict-insolvent w =
+        let e : audited (parse s) k ≡ false = rw (sym (w .0)) (and-no (all well-formed (k .holds)) false refl) in
+        verdict-fails (ap (λ (x : Bool). x && fitting unit 0 (parse s)) e)
 
     -- the walk
     module _ {keys next heads owed : List ℕ} (i : Index (k .holds) keys next heads) (w : Owing (k .quotas) true owed) where
       pub ready : Ready keys next heads owed
       ready = record { long = i .long; owed-long = ap length (w .1 refl) ∙ length-map (k .quotas) owes ∙ long; up = i .up; linked = i .linked; heads-inside = i .heads-inside }
 
-      audited-walk : audited (parse s) k ≡ audit-parsed (k .«last_serial») (parse s) (some (begin keys owed))
+      audited-walk : (audited (parse s) k && fitting unit 0 (parse s)) ≡ (audit-parsed (k .«last_serial») (parse s) (some (begin keys owed)) && fitting unit 0 (parse s))
       unfolding audited
       audited-walk = rw (i .well, sym (w .0), w .1 refl, i .keyed)
 
-      pub verdict-walk : (t : Bool) → t ≡ audit-parsed (k .«last_serial») (parse s) (some (begin keys owed)) → verdict-values (cond t Accepted (Refused Inconsistent)) ≡ check s k .values
+      pub verdict-walk : (t : Bool) → t ≡ (audit-parsed (k .«last_serial») (parse s) (some (begin keys owed)) && fitting unit 0 (parse s)) → verdict-values (cond t Accepted (Refused Inconsistent)) ≡ check unit s k .values
       verdict-walk true e = verdict-passes (audited-walk ∙ sym e)
       verdict-walk false e = verdict-fails (audited-walk ∙ sym e)

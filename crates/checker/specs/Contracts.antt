@@ -13,6 +13,7 @@ use Rattle.model.specs.Lists.{all}
 use Rattle.checker.specs.Keys.{well-formed, keys-of, strike, struck, Payment, pay, unpaid}
 use Rattle.checker.specs.Chains.{SLOTS, Ascends, Covers, Linked}
 use Rattle.checker.specs.Audit.{owes, solvent, begin, behind, visit, settled}
+use Rattle.checker.specs.Fitting.{fits-block}
 
 -- `find` asks for chains that lead from a place to each key of the serial
 pub record Findable (keys next : List ℕ) (from serial : ℕ) : Type 0 where
@@ -83,9 +84,13 @@ pub record Ready (keys next heads owed : List ℕ) : Type 0 where
   pub linked : Linked keys next heads
   pub heads-inside : (x : ℕ) → x < SLOTS → getD heads x 0 ≤ HOLDS
 
--- `visit` takes a block of 8 bytes or more that is as it must be, and leaves what the definition leaves, and the arrays ready for the next block;
--- or says that the block is shorter or not as it must be
-abbrev pub Visited : ℕ → ℕ → ℕ → ℕ → List ℕ → List ℕ → List ℕ → List ℕ → Bool → List ℕ → List ℕ → Type 0
-Visited last serial size before next heads keys owed true keys′ owed′ =
-    (8 ≤ size) × Ready keys′ next heads owed′ × (visit last serial size (behind before keys owed) ≡ some (behind serial keys′ owed′))
-Visited last serial size before next heads keys owed false keys′ owed′ = 8 ≤ size → visit last serial size (behind before keys owed) ≡ none
+-- `visit` takes a block of 8 bytes or more that is as it must be and fits, and leaves what the definition leaves, and the arrays ready for the next block;
+-- or says that the block is shorter, not as it must be, or does not fit
+abbrev pub Visited : (ℕ → ℕ) → ℕ → ℕ → ℕ → ℕ → ℕ → List ℕ → List ℕ → List ℕ → List ℕ → Bool → List ℕ → List ℕ → Type 0
+Visited unit last serial size end before next heads keys owed true keys′ owed′ =
+    (8 ≤ size)
+    × Ready keys′ next heads owed′
+    × (visit last serial size (behind before keys owed) ≡ some (behind serial keys′ owed′))
+    × (fits-block unit serial size end ≡ true)
+Visited unit last serial size end before next heads keys owed false keys′ owed′ =
+    8 ≤ size → (visit last serial size (behind before keys owed) ≡ none) ⊎ (fits-block unit serial size end ≡ false)

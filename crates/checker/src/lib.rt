@@ -14,13 +14,15 @@ use std::num::wrapping_sub_usize;
 ghost use mathlib.Core.Path.{_≡_};
 ghost use mathlib.Core.Option.{some};
 ghost use mathlib.Core.List.{map};
-ghost use Prim.Native.Nat.{_+_, _*_, _<_};
+ghost use Prim.Native.Nat.{_+_, _*_, _-_, _%_, _^_, _<_, _≤_};
 ghost use mathlib.Core.Bool.{true, _&&_};
 ghost use lib.Dec.{eqb, ltb, leb};
 ghost use lib.ListN.{length};
 ghost use Rattle.model.specs.Answers.{verdict-values};
-ghost use Rattle.model.specs.Consistent.{allowed};
+ghost use Rattle.model.specs.Consistent.{allowed, fits-unit};
 ghost use Rattle.model.specs.Calls.{check as check-of};
+ghost use Rattle.rounding.specs.Rounding.{unit};
+ghost use Rattle.checker.specs.Fitting.{fitting};
 ghost use Rattle.accounts.specs.Accounts.{QUOTAS, HOLDS};
 ghost use Rattle.layout.specs.Blocks.{parse};
 ghost use Rattle.checker.specs.Keys.{quota-of, for-serial, paid-by};
@@ -241,7 +243,30 @@ fn settle(
     settle_others(keys, next, owed, payer, after, serial, charge)
 }
 
-// A block of the walk, behind one with the serial `before`: a live one strikes its keys and is paid for. False where the block is not as it must be.
+// How many sizes from 16 bytes on a live block may have whose object has unit 8.
+const SHORT: usize = 8200 - 16;
+
+// Whether a live block that ends at a place is long enough, and base and length of its object are multiples of its unit. Sizes and ends are multiples of 8,
+// which is the unit of a short object, so one comparison decides most blocks. Where the length is a multiple, the base is one exactly if the end is.
+fn is_fitting(size: usize, end: usize) -> bool
+    requires { ⌜ (size % 8 ≡ 0) × (end % 8 ≡ 0) × (size ≤ end) × (size < 2 ^ 32) ⌝ }
+    ensures { λ r. ⌜ r ≡ (leb 16 size && fits-unit unit (end - (size - 8)) (size - 8)) ⌝ }
+{
+    if wrapping_sub_usize(size, 16) < SHORT {
+        return true;
+    }
+    if size < 16 {
+        return false;
+    }
+    let length = size - 8;
+    let unit = rounding::unit(length as u32) as usize;
+    if length % unit != 0 {
+        return false;
+    }
+    end % unit == 0
+}
+
+// A block of the walk, behind one with the serial `before`: a live one strikes its keys and is paid for. False where the block is not as it must be, or its object does not fit its unit.
 fn visit(
     keys: &mut [usize; HOLDS],
     next: &[u16; HOLDS],
@@ -251,9 +276,10 @@ fn visit(
     before: u32,
     serial: u32,
     size: usize,
+    end: usize,
 ) -> bool
-    requires { ⌜ Ready (now keys) (now next) (now heads) (now owed) ⌝ }
-    ensures { λ r. ⌜ Visited last serial size before (now (next .entry)) (now (heads .entry)) (now (keys .entry)) (now (owed .entry)) r (now (keys .exit)) (now (owed .exit)) ⌝ }
+    requires { ⌜ Ready (now keys) (now next) (now heads) (now owed) × (size % 8 ≡ 0) × (end % 8 ≡ 0) × (size ≤ end) × (size < 2 ^ 32) ⌝ }
+    ensures { λ r. ⌜ Visited unit last serial size end before (now (next .entry)) (now (heads .entry)) (now (keys .entry)) (now (owed .entry)) r (now (keys .exit)) (now (owed .exit)) ⌝ }
 {
     if serial == 0 {
         if before == 0 {
@@ -261,10 +287,10 @@ fn visit(
         }
         return 8 <= size;
     }
-    if size < 16 {
+    if last < serial {
         return false;
     }
-    if last < serial {
+    if !is_fitting(size, end) {
         return false;
     }
     let slot = slot_of(serial);
@@ -301,7 +327,8 @@ fn is_paid(owed: &[usize; QUOTAS]) -> bool
     true
 }
 
-// The walk over the blocks: whether the heap is cut into blocks, each as it must be, and at the end every key is struck and nothing is owed.
+// The walk over the blocks: whether the heap is cut into blocks, each as it must be and with an object that fits its unit, and at the end every key is
+// struck and nothing is owed.
 fn walk(
     heap: &[u8],
     keys: &mut [usize; HOLDS],
@@ -311,7 +338,7 @@ fn walk(
     last: u32,
 ) -> bool
     requires { ⌜ Ready (now keys) (now next) (now heads) (now owed) ⌝ }
-    ensures { λ r. ⌜ r ≡ audit-parsed last (parse (now (heap .entry))) (some (begin (now (keys .entry)) (now (owed .entry)))) ⌝ }
+    ensures { λ r. ⌜ r ≡ (audit-parsed last (parse (now (heap .entry))) (some (begin (now (keys .entry)) (now (owed .entry)))) && fitting unit 0 (parse (now (heap .entry)))) ⌝ }
 {
     let mut before: u32 = 1;
     let mut back: usize = 0;
@@ -326,12 +353,14 @@ fn walk(
             return false;
         }
         let serial = header.serial;
-        if !visit(keys, next, heads, owed, last, before, serial, size) {
+        let after = &rest[size..];
+        let end = heap.len() - after.len();
+        if !visit(keys, next, heads, owed, last, before, serial, size, end) {
             return false;
         }
         before = serial;
         back = header.size;
-        rest = &rest[size..];
+        rest = after;
     }
     if rest.len() != 0 {
         return false;
@@ -344,7 +373,7 @@ fn walk(
 
 // Rule 8.35, the verdict on a heap and its accounting state: refused for its length, refused as inconsistent, or accepted.
 pub fn check(heap: &[u8], accounts: Accounts) -> Verdict
-    ensures { λ r. ⌜ verdict-values r ≡ check-of (now (heap .entry)) accounts .values ⌝ }
+    ensures { λ r. ⌜ verdict-values r ≡ check-of unit (now (heap .entry)) accounts .values ⌝ }
 {
     if !is_allowed(heap.len()) {
         return Verdict::Refused(Refusal::HeapLength);

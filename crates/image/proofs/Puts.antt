@@ -8,6 +8,7 @@ use native.Mathlib.Omega.{arith}
 use lib.ListN.{length, length-append}
 use lib.Dec.{ltb}
 use borrow.Author.Tests.{ltb-true, ltb-false, lt-ltb, le-ltb, le-leb, lt-leb}
+use Rattle.rounding.specs.Rounding.{unit}
 use Rattle.accounts.specs.declared.Accounts.{Accounts}
 use Rattle.model.specs.declared.Refusal.{Refusal}
 use Rattle.model.specs.declared.Verdict.{Verdict}
@@ -76,17 +77,17 @@ module _ (f : Form) (fits : FormFits f) (o s : List ℕ) (k : Accounts) (short :
       ap (as-image o′) (sym g) ∙ ap framed (w ∙ ap (write-frames o) stream-is) ∙ framed-put (ltb (length o) (512 * count)) refl
 
 -- behind the check: what it refuses is refused, what it accepts is put
-module _ (f : Form) (o s : List ℕ) (k : Accounts) (v : Verdict) (told : verdict-values v ≡ check s k .values) where
+module _ (f : Form) (o s : List ℕ) (k : Accounts) (v : Verdict) (told : verdict-values v ≡ check unit s k .values) where
   pub write-refused : (r : Refusal) → v ≡ Refused r → imaged o (NotWritten (Call r)) ≡ write-image f o s k
   unfolding imaged write-image unless-written write-lines
   write-refused r e =
       let n = number-some r in
-      let g : first-refusal (line-1 s ∷ line-2 s k ∷ put-lines f o s k) ≡ suc (n .0) = check-refuses s k v told (put-lines f o s k) r e ∙ n .1 in
+      let g : first-refusal (line-1 s ∷ line-2 unit s k ∷ put-lines f o s k) ≡ suc (n .0) = check-refuses unit s k v told (put-lines f o s k) r e ∙ n .1 in
       rw (n .1, g)
 
   pub write-accepted : v ≡ Accepted → put-image f o s k ≡ write-image f o s k
   unfolding put-image write-image write-lines
-  write-accepted e = rw (check-accepts s k v told (put-lines f o s k) e)
+  write-accepted e = rw (check-accepts unit s k v told (put-lines f o s k) e)
 
 -- the length of an image, where a heap has that length and where none has
 pub length-none : (n : ℕ) → allowed n ≡ false → 0 ≡ length-for n

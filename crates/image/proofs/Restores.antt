@@ -8,6 +8,7 @@ use native.Mathlib.Omega.{arith}
 use lib.ListN.{length, drop}
 use lib.Dec.{leb}
 use borrow.Author.Tests.{eq-eqb, ne-eqb, leb-true}
+use Rattle.rounding.specs.Rounding.{unit}
 use Rattle.accounts.specs.declared.Accounts.{Accounts}
 use Rattle.accounts.specs.Accounts.{zero-accounts}
 use Rattle.model.specs.declared.Refusal.{Refusal}
@@ -15,7 +16,7 @@ use Rattle.model.specs.declared.Verdict.{Verdict}
 use Rattle.model.specs.declared.Verdict.the-variants.{Accepted, Refused}
 use Rattle.model.specs.Answers.{verdict-values}
 use Rattle.model.specs.Lists.{all}
-use Rattle.model.specs.Consistent.{allowed, consistent}
+use Rattle.model.specs.Consistent.{allowed, sound as is-sound}
 use Rattle.model.specs.Refusals.{Line, _when_, first-refusal, line-1, line-2}
 use Rattle.model.specs.Calls.{check}
 use Rattle.model.proofs.Bools.{and-left, and-right}
@@ -36,16 +37,16 @@ use Rattle.image.proofs.Heads.{head-extent}
 use Rattle.image.proofs.Parses.{Found, shape-numbered}
 
 -- an allowed heap is consistent exactly if the check accepts it
-module _ (s r : List ℕ) (k : Accounts) (v : Verdict) (told : verdict-values v ≡ check s k .values) (is : s ≡ r) where
-  pub check-sound : v ≡ Accepted → true ≡ consistent r k
-  check-sound e = sym (check-consistent s k v told e .1) ∙ ap (λ (x : List ℕ). consistent x k) is
+module _ (s r : List ℕ) (k : Accounts) (v : Verdict) (told : verdict-values v ≡ check unit s k .values) (is : s ≡ r) where
+  pub check-sound : v ≡ Accepted → true ≡ is-sound unit r k
+  check-sound e = sym (check-consistent unit s k v told e .2) ∙ ap (λ (x : List ℕ). is-sound unit x k) is
 
-  pub check-unsound : allowed (length s) ≡ true → (x : Refusal) → v ≡ Refused x → false ≡ consistent r k
+  pub check-unsound : allowed (length s) ≡ true → (x : Refusal) → v ≡ Refused x → false ≡ is-sound unit r k
   unfolding line-1 line-2 first-refusal
   check-unsound a x e =
       let n = number-some x in
-      let g : first-refusal (line-1 s ∷ line-2 s k ∷ []) ≡ suc (n .0) = check-refuses s k v told [] x e ∙ n .1 in
-      second (consistent s k) (n .0) (rw a at g) ∙ ap (λ (y : List ℕ). consistent y k) is
+      let g : first-refusal (line-1 s ∷ line-2 unit s k ∷ []) ≡ suc (n .0) = check-refuses unit s k v told [] x e ∙ n .1 in
+      second (is-sound unit s k) (n .0) (rw a at g) ∙ ap (λ (y : List ℕ). is-sound unit y k) is
     where
       second : (b : Bool) (n : ℕ) → first-refusal ((2 when not b) ∷ []) ≡ suc n → false ≡ b
       second true n g = absurd (omega arith)
@@ -61,12 +62,12 @@ module _ (f : Form) (n : ℕ) (t h : List ℕ) (k : Accounts) where
     at-is : at ≡ head-length f
     at-is = is ∙ sym (head-extent f)
 
-    pub restore-unsound : (r : Bool) → r ≡ consistent (padded n (drop at t)) k → r ≡ false
+    pub restore-unsound : (r : Bool) → r ≡ is-sound unit (padded n (drop at t)) k → r ≡ false
         → restored-to h zero-accounts (NotRestored Unsound) ≡ restore f n t h k
     unfolding restore restored-to unless-read first-refusal
     restore-unsound r e g = rw (eq-eqb (length h) n room, ← at-is, sym e ∙ g)
 
-    pub restore-done : (r : Bool) (h′ : List ℕ) → r ≡ consistent (padded n (drop at t)) k → r ≡ true → h′ ≡ padded (length h) (drop at t)
+    pub restore-done : (r : Bool) (h′ : List ℕ) → r ≡ is-sound unit (padded n (drop at t)) k → r ≡ true → h′ ≡ padded (length h) (drop at t)
         → restored-to h′ k Restored ≡ restore f n t h k
     unfolding restore restored-to unless-read first-refusal
     restore-done r h′ e g w = rw (eq-eqb (length h) n room, ← at-is, sym e ∙ g, w, room)

@@ -10,10 +10,11 @@ use native.Mathlib.Omega.{arith}
 use lib.ListN.{length, take, drop, length-drop}
 use lib.Dec.{eqb}
 use borrow.Author.Tests.{eqb-true, not-false}
+use Rattle.rounding.specs.Rounding.{unit}
 use Rattle.layout.specs.Bytes.{Octets, number}
 use Rattle.layout.proofs.Numbers.{octets-drop}
 use Rattle.model.specs.Lists.{any, is-none, or-else}
-use Rattle.model.specs.Consistent.{allowed, consistent}
+use Rattle.model.specs.Consistent.{allowed, sound as is-sound}
 use Rattle.model.specs.Refusals.{line-holds}
 use Rattle.model.proofs.Bools.{and-left, and-right, or-neither}
 use Rattle.framing.specs.Frames.{padded, frames-for, cut-from, cut, stream-of, frames-right}
@@ -39,7 +40,7 @@ pub record Right (i h : List ℕ) : Type 0 where
   pub marks : marks-right (form-of i) (marks-in (stream-of i)) ≡ true
   pub contents : contents-right i ≡ true
   pub room : length h ≡ size-in i
-  pub sound : consistent (heap-in i) (accounts-in i) ≡ true
+  pub sound : is-sound unit (heap-in i) (accounts-in i) ≡ true
 
 some-form : (x : Option Form) → is-none x ≡ false → x ≡ some (or-else form-1 x)
 unfolding is-none or-else
@@ -55,7 +56,7 @@ none-right i h e =
     let x₃ = or-neither (is-none (form-in i) || not (marks-right (or-else form-1 (form-in i)) (marks-in (stream-of i)))) _ (x₂ .1) in
     let x₄ = or-neither (not (contents-right i)) _ (x₃ .1) in
     let x₅ = or-neither (not (eqb (length h) (size-in i))) _ (x₄ .1) in
-    let x₆ = or-neither (not (consistent (heap-in i) (accounts-in i))) _ (x₅ .1) in
+    let x₆ = or-neither (not (is-sound unit (heap-in i) (accounts-in i))) _ (x₅ .1) in
     let l = or-neither (eqb (length i) 0) (not (eqb (length i % 512) 0)) (x₁ .0) in
     let m = or-neither (is-none (form-in i)) (not (marks-right (or-else form-1 (form-in i)) (marks-in (stream-of i)))) (x₃ .0) in
     let z = eqb-true (length i % 512) 0 (not-false (eqb (length i % 512) 0) (l .1)) in
@@ -66,7 +67,7 @@ none-right i h e =
       marks = not-false (marks-right (or-else form-1 (form-in i)) (marks-in (stream-of i))) (m .1);
       contents = not-false (contents-right i) (x₄ .0);
       room = eqb-true (length h) (size-in i) (not-false (eqb (length h) (size-in i)) (x₅ .0));
-      sound = not-false (consistent (heap-in i) (accounts-in i)) (x₆ .0);
+      sound = not-false (is-sound unit (heap-in i) (accounts-in i)) (x₆ .0);
     }
 
 module _ (i h : List ℕ) (o : Octets i) (r : Right i h) where

@@ -12,11 +12,12 @@ use lib.ListN.{length, take, drop}
 use lib.Seq.{take-at, drop-at, take-length, drop-length}
 use lib.Dec.{ltb}
 use borrow.Author.Tests.{ltb-false, le-ltb, not-false}
+use Rattle.rounding.specs.Rounding.{unit}
 use Rattle.accounts.specs.declared.Accounts.{Accounts}
 use Rattle.layout.specs.Bytes.{Octets, overwrite}
 use Rattle.layout.proofs.Overwrite.{overwrite-fits}
 use Rattle.model.specs.Lists.{any}
-use Rattle.model.specs.Consistent.{allowed, consistent}
+use Rattle.model.specs.Consistent.{allowed, sound as is-sound}
 use Rattle.model.specs.Refusals.{line-holds, line-1, line-2}
 use Rattle.model.proofs.Bools.{or-neither}
 use Rattle.image_model.specs.Stream.{carries, image-of, image-length, Typed}
@@ -47,13 +48,13 @@ image-told-apart f g s u k l a b e =
 
 module _ (f : Form) (o s : List ℕ) (k : Accounts) where
   -- no line of the writer holds exactly if the length is allowed, the state is consistent and the lent image has room
-  room : any line-holds (write-lines f o s k) ≡ false → (allowed (length s) ≡ true) × (consistent s k ≡ true) × (image-length f (length s) ≤ length o)
+  room : any line-holds (write-lines f o s k) ≡ false → (allowed (length s) ≡ true) × (is-sound unit s k ≡ true) × (image-length f (length s) ≤ length o)
   unfolding any write-lines put-lines line-1 line-2
   room e =
       let a = or-neither (not (allowed (length s))) _ e in
-      let b = or-neither (not (consistent s k)) _ (a .1) in
+      let b = or-neither (not (is-sound unit s k)) _ (a .1) in
       let c = or-neither (ltb (length o) (image-length f (length s))) false (b .1) in
-      (not-false (allowed (length s)) (a .0), not-false (consistent s k) (b .0), ltb-false (length o) (image-length f (length s)) (c .0))
+      (not-false (allowed (length s)) (a .0), not-false (is-sound unit s k) (b .0), ltb-false (length o) (image-length f (length s)) (c .0))
 
   has-room : Accepts f s k → image-length f (length s) ≤ length o → any line-holds (write-lines f o s k) ≡ false
   unfolding any write-lines put-lines line-1 line-2

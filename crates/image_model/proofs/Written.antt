@@ -10,9 +10,10 @@ use native.Mathlib.Omega.{arith}
 use lib.ListN.{length, drop, replicate}
 use lib.Dec.{leb, eqb}
 use borrow.Author.Tests.{leb-true, eq-eqb, ne-eqb}
+use Rattle.rounding.specs.Rounding.{unit}
 use Rattle.accounts.specs.declared.Accounts.{Accounts}
 use Rattle.model.specs.Lists.{is-none, or-else}
-use Rattle.model.specs.Consistent.{allowed, consistent}
+use Rattle.model.specs.Consistent.{allowed, sound as is-sound}
 use Rattle.model.specs.Refusals.{_when_, first-refusal}
 use Rattle.model.proofs.Bools.{and-right}
 use Rattle.framing.specs.Frames.{frames-for, cut, stream-of, frames-right}

@@ -6,11 +6,12 @@ use mathlib.Core.Bool.{true, not, _||_}
 use mathlib.Core.Option.{some}
 use lib.ListN.{length}
 use lib.Dec.{ltb, eqb}
+use Rattle.rounding.specs.Rounding.{unit}
 use Rattle.accounts.specs.declared.Accounts.{Accounts}
 use Rattle.accounts.specs.Accounts.{zero-accounts}
 use Rattle.layout.specs.Bytes.{Octets, overwrite}
 use Rattle.model.specs.Lists.{is-none}
-use Rattle.model.specs.Consistent.{allowed, consistent}
+use Rattle.model.specs.Consistent.{allowed, sound as is-sound}
 use Rattle.model.specs.Refusals.{Line, _when_, first-refusal, line-1, line-2}
 use Rattle.framing.specs.Frames.{frames-right, stream-of}
 use Rattle.image_model.specs.Stream.{form-numbered, marks-right, carries, image-of, image-length, Typed}
@@ -23,7 +24,7 @@ unfoldable pub put-lines : Form → List ℕ → List ℕ → Accounts → List 
 put-lines f o s k = (25 when ltb (length o) (image-length f (length s))) ∷ []
 
 unfoldable pub write-lines : Form → List ℕ → List ℕ → Accounts → List Line
-write-lines f o s k = line-1 s ∷ line-2 s k ∷ put-lines f o s k
+write-lines f o s k = line-1 s ∷ line-2 unit s k ∷ put-lines f o s k
 
 -- 21: the image has no byte, or not whole frames
 unfoldable pub line-21 : List ℕ → Line
@@ -49,7 +50,7 @@ line-25 i h = 25 when not (eqb (length h) (size-in i))
 
 -- 26: heap and accounts are not consistent
 unfoldable pub line-26 : List ℕ → Line
-line-26 i = 26 when not (consistent (heap-in i) (accounts-in i))
+line-26 i = 26 when not (is-sound unit (heap-in i) (accounts-in i))
 
 unfoldable pub shape-lines : List ℕ → List Line
 shape-lines i = line-21 i ∷ line-22 i ∷ line-23 i ∷ line-24 i ∷ []
@@ -84,6 +85,6 @@ pub record Accepts (f : Form) (s : List ℕ) (k : Accounts) : Type 0 where
   pub known : form-numbered (f .number) ≡ some f
   pub extent : allowed (length s) ≡ true
   pub octets : Octets s
-  pub sound : consistent s k ≡ true
+  pub sound : is-sound unit s k ≡ true
   pub typed : Typed k
   pub carried : carries f k ≡ true

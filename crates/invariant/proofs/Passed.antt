@@ -74,9 +74,9 @@ only-passed true (n when t) e p = e
 only-passed false (n when t) e p = absurd (false≢true p)
 
 -- what the lines of a quota's call have shown
-pub quota-passed : (s : List ℕ) (k : Accounts) (q : ℕ) → any line-holds (quota-lines s k q) ≡ false → q < QUOTAS
+pub quota-passed : (unit : ℕ → ℕ) (s : List ℕ) (k : Accounts) (q : ℕ) → any line-holds (quota-lines unit s k q) ≡ false → q < QUOTAS
 unfolding quota-lines
-quota-passed s k q e = quota-exists q (passed (line-3 q) [] (passed (line-2 s k) _ (passed (line-1 s) _ e .1) .1) .0)
+quota-passed unit s k q e = quota-exists q (passed (line-3 q) [] (passed (line-2 unit s k) _ (passed (line-1 s) _ e .1) .1) .0)
 
 -- those of a release
 pub record Releasable (s : List ℕ) (k : Accounts) (q : ℕ) (h : Handle) : Type 0 where
@@ -85,10 +85,10 @@ pub record Releasable (s : List ℕ) (k : Accounts) (q : ℕ) (h : Handle) : Typ
   pub names : lookup h s ≡ some object
   pub recorded : has-record (k .holds) q (found (lookup h s) .serial) ≡ true
 
-pub release-passed : (s : List ℕ) (k : Accounts) (q : ℕ) (h : Handle) → any line-holds (release-lines s k q h) ≡ false → Releasable s k q h
+pub release-passed : (unit : ℕ → ℕ) (s : List ℕ) (k : Accounts) (q : ℕ) (h : Handle) → any line-holds (release-lines unit s k q h) ≡ false → Releasable s k q h
 unfolding release-lines
-release-passed s k q h e =
-    let p₃ = passed (line-3 q) _ (passed (line-2 s k) _ (passed (line-1 s) _ e .1) .1) in
+release-passed unit s k q h e =
+    let p₃ = passed (line-3 q) _ (passed (line-2 unit s k) _ (passed (line-1 s) _ e .1) .1) in
     let p₅ = passed (line-5 (lookup h s)) _ (p₃ .1) in
     let p₆ = passed (line-6 k q (found (lookup h s))) [] (p₅ .1) in
     let f = object-found (lookup h s) (p₅ .0) in
@@ -102,12 +102,12 @@ pub record Claimable (s : List ℕ) (k : Accounts) (q : ℕ) (h : Handle) : Type
   pub pays : claims-first k q (found (lookup h s)) ≡ true → charge-of (found (lookup h s) .length) ≤ remaining q k
   pub unused : claims-first k q (found (lookup h s)) ≡ true → all used (k .holds) ≡ false
 
-pub claim-passed : (s : List ℕ) (k : Accounts) (q : ℕ) (h : Handle) → any line-holds (claim-lines s k q h) ≡ false → Claimable s k q h
+pub claim-passed : (unit : ℕ → ℕ) (s : List ℕ) (k : Accounts) (q : ℕ) (h : Handle) → any line-holds (claim-lines unit s k q h) ≡ false → Claimable s k q h
 unfolding claim-lines
-claim-passed s k q h e =
+claim-passed unit s k q h e =
     let o = found (lookup h s) in
     let first = claims-first k q o in
-    let p₃ = passed (line-3 q) _ (passed (line-2 s k) _ (passed (line-1 s) _ e .1) .1) in
+    let p₃ = passed (line-3 q) _ (passed (line-2 unit s k) _ (passed (line-1 s) _ e .1) .1) in
     let p₅ = passed (line-5 (lookup h s)) _ (p₃ .1) in
     let p₇ = passed (line-7 k q o) _ (p₅ .1) in
     let p₈ = passed (only-if first (line-8 k q (o .length))) _ (p₇ .1) in
@@ -154,7 +154,7 @@ module _ (unit : ℕ → ℕ) (s : List ℕ) (k : Accounts) where
   pub allocate-passed : (q n : ℕ) → any line-holds (allocate-lines unit s k q n) ≡ false → Allocatable q n
   unfolding allocate-lines
   allocate-passed q n e =
-      let p₃ = passed (line-3 q) _ (passed (line-2 s k) _ (passed (line-1 s) _ e .1) .1) in
+      let p₃ = passed (line-3 q) _ (passed (line-2 unit s k) _ (passed (line-1 s) _ e .1) .1) in
       let p₄ = passed (line-4 n) _ (p₃ .1) in
       rest-passed q n (quota-exists q (p₃ .0)) (p₄ .0) (p₄ .1)
 
@@ -168,7 +168,7 @@ module _ (unit : ℕ → ℕ) (s : List ℕ) (k : Accounts) where
   pub reallocate-passed : (q : ℕ) (h : Handle) (n : ℕ) → any line-holds (reallocate-lines unit s k q h n) ≡ false → Reallocatable q h n
   unfolding reallocate-lines
   reallocate-passed q h n e =
-      let p₃ = passed (line-3 q) _ (passed (line-2 s k) _ (passed (line-1 s) _ e .1) .1) in
+      let p₃ = passed (line-3 q) _ (passed (line-2 unit s k) _ (passed (line-1 s) _ e .1) .1) in
       let p₄ = passed (line-4 n) _ (p₃ .1) in
       let p₅ = passed (line-5 (lookup-whole h s)) _ (p₄ .1) in
       let p₆ = passed (line-6 k q (found (lookup-whole h s))) _ (p₅ .1) in

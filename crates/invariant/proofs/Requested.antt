@@ -10,14 +10,15 @@ use mathlib.Core.List.{List, List·Memᴰ}
 use mathlib.Core.Bool.{true, false}
 use lib.ListN.{length}
 use lib.Dec.{eqb}
-use borrow.Author.Tests.{ne-eqb}
+use borrow.Author.Tests.{eq-eqb, ne-eqb}
 use Rattle.accounts.specs.declared.Accounts.{Accounts}
 use Rattle.rounding.specs.Rounding.{Units, object-length, alignment}
 use Rattle.rounding.proofs.Rounding as R
 use Rattle.layout.specs.Blocks.{size, render}
 use Rattle.model.specs.Lists.{total, or-else}
 use Rattle.model.specs.Objects.{blocks-of, objects}
-use Rattle.model.specs.Consistent.{has-record}
+use Rattle.model.specs.Consistent.{has-record, in-units}
+use Rattle.model.proofs.Bools.{and-both}
 use Rattle.model.specs.Refusals.{base-for}
 use Rattle.model.specs.Calls.{State, state-of, allocated, copied, new-object}
 use Rattle.model.specs.declared.Handle.{Handle}
@@ -31,7 +32,7 @@ use Rattle.invariant.proofs.Transitions.{Room, allocated-good, allocate
 use Rattle.invariant.proofs.Passed.{Allocatable}
 
 -- a multiple of a multiple of 8
-eights : (b a : ℕ) → a % 8 ≡ 0 → b % a ≡ 0 → b % 8 ≡ 0
+pub eights : (b a : ℕ) → a % 8 ≡ 0 → b % a ≡ 0 → b % 8 ≡ 0
 eights b a e f = sym (mod-mod-of-dvd 8 b (dvd-of-mod-eq-zero 8 e)) ∙ ap (λ (x : ℕ). x % 8) f
 
 module _ (unit : ℕ → ℕ) (units : Units unit) (s : List ℕ) (k : Accounts) (g : Good (state-of s k)) (again : render (blocks-of s) ≡ s) (q n : ℕ) (p : Allocatable unit s k q n) where
@@ -61,6 +62,13 @@ module _ (unit : ℕ → ℕ) (units : Units unit) (s : List ℕ) (k : Accounts)
   pub requested-fresh : (x : Handle) → List·Memᴰ x (objects (blocks-of s)) → x .serial ≡ new-object unit s k n .serial → ⊥
   unfolding new-object
   requested-fresh x m e = let f = given-exactly (k .«last_serial») (objects (blocks-of s)) .0 (g .tests .given) x m in omega arith
+
+-- a new object's base and length are multiples of its unit, since a rounded length rounds to itself
+pub new-in-units : (unit : ℕ → ℕ) (units : Units unit) (s : List ℕ) (k : Accounts) (q n : ℕ) → Allocatable unit s k q n → in-units unit (new-object unit s k n) ≡ true
+unfolding in-units new-object or-else alignment base-for
+new-in-units unit units s k q n p =
+    let w = lowest-some (length s) (blocks-of s) (alignment unit n) (object-length unit n) (R.alignment-positive unit units n) (p .base) (p .based) in
+    rw (p .based) (and-both _ _ (eq-eqb _ 0 (R.rounded unit units n .aligned)) (eq-eqb _ 0 (w .multiple)))
 
 -- a record for an object stays when another object is made
 still-held : (q : ℕ) (old new : Handle) (t : State) (g : Good t) (r : Room q new t) → (old .serial ≡ new .serial → ⊥) → has-record (t .accounts .holds) q (old .serial) ≡ true

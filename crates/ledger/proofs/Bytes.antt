@@ -159,17 +159,17 @@ module _ (unit : ℕ → ℕ) (units : Units unit) where
   step-bytes (AllocateArray q count size) l s k a =
       accepted-bytes s k (first-refusal (allocate-lines unit s k q (count * size))) _
       (λ e. allocate-bytes unit units l s k a q (count * size) (allocate-passed unit s k q (count * size) (accepted-exactly (allocate-lines unit s k q (count * size)) (by-lines unit (AllocateArray q count size) s k .numbered) .0 e)))
-  step-bytes (Claim q h) l s k a = accepted-bytes s k (first-refusal (claim-lines s k q h)) _ (λ e o m x. refl)
+  step-bytes (Claim q h) l s k a = accepted-bytes s k (first-refusal (claim-lines unit s k q h)) _ (λ e o m x. refl)
   step-bytes (Release q h) l s k a =
-      accepted-bytes s k (first-refusal (release-lines s k q h)) _
-      (λ e. release-bytes unit units l s k a q h (release-passed s k q h (accepted-exactly (release-lines s k q h) (by-lines unit (Release q h) s k .numbered) .0 e)))
+      accepted-bytes s k (first-refusal (release-lines unit s k q h)) _
+      (λ e. release-bytes unit units l s k a q h (release-passed unit s k q h (accepted-exactly (release-lines unit s k q h) (by-lines unit (Release q h) s k .numbered) .0 e)))
   step-bytes (FreeAll q) l s k a =
-      accepted-bytes s k (first-refusal (quota-lines s k q)) _
-      (λ e. free-bytes unit units l s k a q (quota-passed s k q (accepted-exactly (quota-lines s k q) (by-lines unit (FreeAll q) s k .numbered) .0 e)))
+      accepted-bytes s k (first-refusal (quota-lines unit s k q)) _
+      (λ e. free-bytes unit units l s k a q (quota-passed unit s k q (accepted-exactly (quota-lines unit s k q) (by-lines unit (FreeAll q) s k .numbered) .0 e)))
   step-bytes (Reallocate q h n) l s k a =
       accepted-bytes s k (first-refusal (reallocate-lines unit s k q h n)) _
       (λ e. reallocate-bytes unit units l s k a q h n (reallocate-passed unit s k q h n (accepted-exactly (reallocate-lines unit s k q h n) (by-lines unit (Reallocate q h n) s k .numbered) .0 e)))
-  step-bytes (Lend h) l s k a = accepted-bytes s k (first-refusal (lend-lines s k h)) _ (λ e o m x. refl)
-  step-bytes (Remaining q) l s k a = accepted-bytes s k (first-refusal (quota-lines s k q)) _ (λ e o m x. refl)
-  step-bytes (CanRelease q h) l s k a = accepted-bytes s k (first-refusal (release-lines s k q h)) _ (λ e o m x. refl)
-  step-bytes (ListBlock at) l s k a = accepted-bytes s k (first-refusal (check-lines s k)) _ (λ e o m x. refl)
+  step-bytes (Lend h) l s k a = accepted-bytes s k (first-refusal (lend-lines unit s k h)) _ (λ e o m x. refl)
+  step-bytes (Remaining q) l s k a = accepted-bytes s k (first-refusal (quota-lines unit s k q)) _ (λ e o m x. refl)
+  step-bytes (CanRelease q h) l s k a = accepted-bytes s k (first-refusal (release-lines unit s k q h)) _ (λ e o m x. refl)
+  step-bytes (ListBlock at) l s k a = accepted-bytes s k (first-refusal (check-lines unit s k)) _ (λ e o m x. refl)

@@ -20,7 +20,7 @@ use Rattle.layout.proofs.Parse.{parse-is}
 use Rattle.model.specs.Lists.{total}
 use Rattle.model.specs.Answers.{amount-of}
 use Rattle.model.specs.Objects.{objects, blocks-of, objects-of}
-use Rattle.model.specs.Consistent.{serials-differ, records-differ, charges}
+use Rattle.model.specs.Consistent.{serials-differ, records-differ, charges, sound}
 use Rattle.model.specs.Holds.{count-of}
 use Rattle.model.specs.Refusals.{first-refusal, line-1, line-2, line-3, quota-lines}
 use Rattle.model.specs.Calls.{unless, state-of, remaining-of, listing-from}
@@ -113,6 +113,6 @@ module _ (l : Ledger) (s : List ℕ) (k : Accounts) (a : Agrees l s k) where
       rw (← charges-of q, ← a .grants) (sym b ∙ sym (List·getD-map (λ (x : Quota). x .grant) (k .quotas) q zero-quota))
 
   -- and it is answered to a call that asks for it
-  pub answered-of : (unit : ℕ → ℕ) (q : ℕ) → q < QUOTAS → step unit (Remaining q) s k .values ≡ amount-of (remaining q k)
+  pub answered-of : (unit : ℕ → ℕ) → sound unit s k ≡ true → (q : ℕ) → q < QUOTAS → step unit (Remaining q) s k .values ≡ amount-of (remaining q k)
   unfolding step remaining-of quota-lines line-1 line-2 line-3 first-refusal unless
-  answered-of unit q h = rw (a .extent, a .sound, lt-leb QUOTAS q h)
+  answered-of unit f q h = rw (a .extent, f, lt-leb QUOTAS q h)

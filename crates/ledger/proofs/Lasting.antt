@@ -94,16 +94,16 @@ module _ (unit : ℕ → ℕ) (l : Ledger) (s : List ℕ) (k : Accounts) where
   step-grown (Allocate q n) = accepted-grown (Allocate q n) l s k (first-refusal (allocate-lines unit s k q n)) _ refl (new-grown q n)
   step-grown (AllocateArray q count size) =
       accepted-grown (AllocateArray q count size) l s k (first-refusal (allocate-lines unit s k q (count * size))) _ refl (new-grown q (count * size))
-  step-grown (Claim q h) = accepted-grown (Claim q h) l s k (first-refusal (claim-lines s k q h)) _ refl (λ o m. inr (raised-from q l (h .serial) o m))
-  step-grown (Release q h) = accepted-grown (Release q h) l s k (first-refusal (release-lines s k q h)) _ refl (λ o m. inr (lowered-from q l (h .serial) o m))
-  step-grown (FreeAll q) = accepted-grown (FreeAll q) l s k (first-refusal (quota-lines s k q)) _ refl (λ o m. inr (dropped-from q l o m))
+  step-grown (Claim q h) = accepted-grown (Claim q h) l s k (first-refusal (claim-lines unit s k q h)) _ refl (λ o m. inr (raised-from q l (h .serial) o m))
+  step-grown (Release q h) = accepted-grown (Release q h) l s k (first-refusal (release-lines unit s k q h)) _ refl (λ o m. inr (lowered-from q l (h .serial) o m))
+  step-grown (FreeAll q) = accepted-grown (FreeAll q) l s k (first-refusal (quota-lines unit s k q)) _ refl (λ o m. inr (dropped-from q l o m))
   step-grown (Reallocate q h n) =
       accepted-grown (Reallocate q h n) l s k (first-refusal (reallocate-lines unit s k q h n)) _ refl
       (λ o m. new-grown q n o (lowered-from q (add-object q (new-object unit s k n) l) (h .serial) o m))
-  step-grown (Lend h) = accepted-grown (Lend h) l s k (first-refusal (lend-lines s k h)) _ refl (λ o m. inr m)
-  step-grown (Remaining q) = accepted-grown (Remaining q) l s k (first-refusal (quota-lines s k q)) _ refl (λ o m. inr m)
-  step-grown (CanRelease q h) = accepted-grown (CanRelease q h) l s k (first-refusal (release-lines s k q h)) _ refl (λ o m. inr m)
-  step-grown (ListBlock at) = accepted-grown (ListBlock at) l s k (first-refusal (check-lines s k)) _ refl (λ o m. inr m)
+  step-grown (Lend h) = accepted-grown (Lend h) l s k (first-refusal (lend-lines unit s k h)) _ refl (λ o m. inr m)
+  step-grown (Remaining q) = accepted-grown (Remaining q) l s k (first-refusal (quota-lines unit s k q)) _ refl (λ o m. inr m)
+  step-grown (CanRelease q h) = accepted-grown (CanRelease q h) l s k (first-refusal (release-lines unit s k q h)) _ refl (λ o m. inr m)
+  step-grown (ListBlock at) = accepted-grown (ListBlock at) l s k (first-refusal (check-lines unit s k)) _ refl (λ o m. inr m)
 
   -- an object whose serial is held after a call was there before it, and is the same
   pub step-lasts : (c : Call) → Agrees l s k → (o : Handle) → List·Memᴰ o (objects-in l) → HeldIn (o .serial) (record-call c (step unit c s k .values) l)

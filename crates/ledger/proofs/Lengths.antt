@@ -81,9 +81,9 @@ module _ (unit : ℕ → ℕ) (units : Units unit) (l : Ledger) (s : List ℕ) (
       (λ e.
       (let p = accepted-exactly (allocate-lines unit s k q (count * size)) (by-lines unit (AllocateArray q count size) s k .numbered) .0 e in
       as-long _ (made-total q (count * size) (allocate-passed unit s k q (count * size) p))))
-  step-length (Claim q h) = accepted-length s k (first-refusal (claim-lines s k q h)) _ (λ e. refl)
-  step-length (Release q h) = accepted-length s k (first-refusal (release-lines s k q h)) _ (λ e. as-long _ (released-total q _ (state-of s k)))
-  step-length (FreeAll q) = accepted-length s k (first-refusal (quota-lines s k q)) _ (λ e. as-long _ (freed-total q _ (state-of s k)))
+  step-length (Claim q h) = accepted-length s k (first-refusal (claim-lines unit s k q h)) _ (λ e. refl)
+  step-length (Release q h) = accepted-length s k (first-refusal (release-lines unit s k q h)) _ (λ e. as-long _ (released-total q _ (state-of s k)))
+  step-length (FreeAll q) = accepted-length s k (first-refusal (quota-lines unit s k q)) _ (λ e. as-long _ (freed-total q _ (state-of s k)))
   step-length (Reallocate q h n) =
       accepted-length s k (first-refusal (reallocate-lines unit s k q h n)) _
       (λ e.
@@ -92,14 +92,14 @@ module _ (unit : ℕ → ℕ) (units : Units unit) (l : Ledger) (s : List ℕ) (
       let new = new-object unit s k n in
       let t = allocated q new (state-of s k) in
       as-long _ (released-total q old (copied old new t) ∙ copied-total old new t ∙ made-total q n (p .new))))
-  step-length (Lend h) = accepted-length s k (first-refusal (lend-lines s k h)) _ (λ e. refl)
-  step-length (Remaining q) = accepted-length s k (first-refusal (quota-lines s k q)) _ (λ e. refl)
-  step-length (CanRelease q h) = accepted-length s k (first-refusal (release-lines s k q h)) _ (λ e. refl)
-  step-length (ListBlock at) = accepted-length s k (first-refusal (check-lines s k)) _ (λ e. refl)
+  step-length (Lend h) = accepted-length s k (first-refusal (lend-lines unit s k h)) _ (λ e. refl)
+  step-length (Remaining q) = accepted-length s k (first-refusal (quota-lines unit s k q)) _ (λ e. refl)
+  step-length (CanRelease q h) = accepted-length s k (first-refusal (release-lines unit s k q h)) _ (λ e. refl)
+  step-length (ListBlock at) = accepted-length s k (first-refusal (check-lines unit s k)) _ (λ e. refl)
 
 -- so the heap is as long as when an image of it was written
 module _ (unit : ℕ → ℕ) (units : Units unit) (begun : Ledger) (early : List Event) (s₁ : List ℕ) (k₁ : Accounts) where
-  pub saved-as-long : (mid : List Event) (s : List ℕ) (k : Accounts) → History (step unit) begun (mid ++ (Saved s₁ k₁ ∷ early)) s k → length s ≡ length s₁
+  pub saved-as-long : (mid : List Event) (s : List ℕ) (k : Accounts) → History unit (step unit) begun (mid ++ (Saved s₁ k₁ ∷ early)) s k → length s ≡ length s₁
   saved-as-long [] s k h = ap length (h .1)
   saved-as-long (Called c v ∷ mid) s k h =
       let es = mid ++ (Saved s₁ k₁ ∷ early) in

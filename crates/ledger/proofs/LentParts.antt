@@ -26,7 +26,7 @@ use Rattle.ledger.proofs.Writing.{outside-exactly}
 abbrev pub InRange : ℕ → Range → Type 0
 InRange i r = (r .start ≤ i) × (i < r .end)
 
-module _ (s : List ℕ) (k : Accounts) (h : Handle) where
+module _ (unit : ℕ → ℕ) (s : List ℕ) (k : Accounts) (h : Handle) where
   -- the bytes of what the lookup found, and none where it found nothing
   pub found-inside : (i : ℕ) → in-object i (objects-of s) ≡ false → found (lookup h s) .base ≤ i → i < found (lookup h s) .base + found (lookup h s) .length → ⊥
   unfolding found or-else
@@ -39,18 +39,18 @@ module _ (s : List ℕ) (k : Accounts) (h : Handle) where
           outside-exactly i (objects-of s) .0 e h (n .1) (rw (n .0) (low, high))
 
   -- a byte outside every live object is outside the part
-  pub lent-inside : (i : ℕ) → in-object i (objects-of s) ≡ false → InRange i (lend s k h .values .range) → ⊥
+  pub lent-inside : (i : ℕ) → in-object i (objects-of s) ≡ false → InRange i (lend unit s k h .values .range) → ⊥
   unfolding lend
   lent-inside i e =
-      unless-has (λ (t : Outcome). InRange i (t .values .range) → ⊥) (first-refusal (lend-lines s k h)) s k _ (λ w. found-inside i e (w .0) (w .1))
+      unless-has (λ (t : Outcome). InRange i (t .values .range) → ⊥) (first-refusal (lend-lines unit s k h)) s k _ (λ w. found-inside i e (w .0) (w .1))
       (λ n w. omega arith)
 
   -- bytes of the part are written in whatever way, and nothing else
   pub part-written : (s′ : List ℕ) → length s′ ≡ length s → Octets s′
-      → ((i : ℕ) → (InRange i (lend s k h .values .range) → ⊥) → getD s′ i 0 ≡ getD s i 0) → Written s s′
+      → ((i : ℕ) → (InRange i (lend unit s k h .values .range) → ⊥) → getD s′ i 0 ≡ getD s i 0) → Written s s′
   part-written s′ l o f = record { same-length = l; octets = o; inside = λ i e. f i (lent-inside i e) }
 
   -- so a history goes on with it
-  pub part-history : (run : Run) (begun : Ledger) (es : List Event) (s′ : List ℕ) → History run begun es s k → length s′ ≡ length s → Octets s′
-      → ((i : ℕ) → (InRange i (lend s k h .values .range) → ⊥) → getD s′ i 0 ≡ getD s i 0) → History run begun (Wrote ∷ es) s′ k
+  pub part-history : (run : Run) (begun : Ledger) (es : List Event) (s′ : List ℕ) → History unit run begun es s k → length s′ ≡ length s → Octets s′
+      → ((i : ℕ) → (InRange i (lend unit s k h .values .range) → ⊥) → getD s′ i 0 ≡ getD s i 0) → History unit run begun (Wrote ∷ es) s′ k
   part-history run begun es s′ past l o f = (s, past, part-written s′ l o f)

@@ -10,6 +10,7 @@ pub mod Steps
 pub mod Fields
 pub mod Space
 pub mod Lasting
+pub mod Fitted
 pub mod Theorem
 pub mod Reading
 pub mod Contents

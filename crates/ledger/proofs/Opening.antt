@@ -21,7 +21,7 @@ use Rattle.model.specs.Consistent.{allowed, long-enough, starts-free, free-apar
 use Rattle.model.specs.Refusals.{first-refusal, line-1, open-lines}
 use Rattle.model.specs.Calls.{Outcome, unless, fresh, open-heap}
 use Rattle.model.proofs.Bools.{and-left, and-right}
-use Rattle.model.proofs.Consistent.{Tests, balance-exactly}
+use Rattle.model.proofs.Consistent.{Tests, balance-exactly, sound-consistent}
 use Rattle.ledger.specs.Ledger.{Ledger, empty, read-ledger}
 use Rattle.ledger.specs.History.{Opened, Restorable, Begins, Opening, Restoring}
 use Rattle.ledger.proofs.Reading.{consistent-agrees}
@@ -133,10 +133,10 @@ opening-agrees grants s k o =
     rw (f .heap, f .accounts) at (fresh-agrees (f .extent) (f .fits) grants (o .quotas) (o .narrow))
 
 -- a state that is restored agrees with the ledger that is read off it
-pub restored-agrees : (s : List ℕ) (k : Accounts) → Restorable s k → Agrees (read-ledger s k) s k
-restored-agrees s k r = consistent-agrees s k (r .extent) (r .octets) (r .sound) (r .quotas) (r .narrow) (r .serial)
+pub restored-agrees : (unit : ℕ → ℕ) (s : List ℕ) (k : Accounts) → Restorable unit s k → Agrees (read-ledger s k) s k
+restored-agrees unit s k r = consistent-agrees s k (r .extent) (r .octets) (sound-consistent unit s k (r .sound)) (r .quotas) (r .narrow) (r .serial)
 
 -- every beginning agrees with its ledger
-pub beginning-agrees : (begun : Ledger) (s : List ℕ) (k : Accounts) → Begins begun s k → Agrees begun s k
-beginning-agrees begun s k (Opening grants e o) = rw e (opening-agrees grants s k o)
-beginning-agrees begun s k (Restoring e r) = rw e (restored-agrees s k r)
+pub beginning-agrees : (unit : ℕ → ℕ) (begun : Ledger) (s : List ℕ) (k : Accounts) → Begins unit begun s k → Agrees begun s k
+beginning-agrees unit begun s k (Opening grants e o) = rw e (opening-agrees grants s k o)
+beginning-agrees unit begun s k (Restoring e r) = rw e (restored-agrees unit s k r)

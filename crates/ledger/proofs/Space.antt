@@ -108,13 +108,13 @@ module _ (unit : ℕ → ℕ) (units : Units unit) (s : List ℕ) (k : Accounts)
   allocate-decided : (q n : ℕ) → passes-others (allocate-lines unit s k q n) ≡ true → Decided unit s n (first-refusal (allocate-lines unit s k q n))
   unfolding passes-others allocate-lines keep line-1 line-2 line-3 line-4 line-8 line-9 line-10 line-11
   allocate-decided q n e =
-      line-decides unit units s n (line-1 s ∷ line-2 s k ∷ line-3 q ∷ line-4 n ∷ line-8 k q (object-length unit n) ∷ line-9 k ∷ line-10 k ∷ []) (not-true _ e)
+      line-decides unit units s n (line-1 s ∷ line-2 unit s k ∷ line-3 q ∷ line-4 n ∷ line-8 k q (object-length unit n) ∷ line-9 k ∷ line-10 k ∷ []) (not-true _ e)
 
   reallocate-decided : (q : ℕ) (h : Handle) (n : ℕ) → passes-others (reallocate-lines unit s k q h n) ≡ true → Decided unit s n (first-refusal (reallocate-lines unit s k q h n))
   unfolding passes-others reallocate-lines keep line-1 line-2 line-3 line-4 line-5 line-6 line-8 line-9 line-10 line-11
   reallocate-decided q h n e =
       line-decides unit units s n
-      (line-1 s ∷ line-2 s k ∷ line-3 q ∷ line-4 n ∷ line-5 (lookup-whole h s) ∷ line-6 k q (found (lookup-whole h s)) ∷ line-8 k q (object-length unit n) ∷ line-9 k ∷ line-10 k ∷ [])
+      (line-1 s ∷ line-2 unit s k ∷ line-3 q ∷ line-4 n ∷ line-5 (lookup-whole h s) ∷ line-6 k q (found (lookup-whole h s)) ∷ line-8 k q (object-length unit n) ∷ line-9 k ∷ line-10 k ∷ [])
       (not-true _ e)
 
   -- the lines of a call give its refusal

@@ -214,18 +214,18 @@ module _ (unit : ℕ → ℕ) (units : Units unit) where
       accepted-step (AllocateArray q count size) l s k (first-refusal (allocate-lines unit s k q (count * size))) _ a refl
       (λ e. allocates unit units l s k a q (count * size) (allocate-passed unit s k q (count * size) (accepted-exactly (allocate-lines unit s k q (count * size)) (by-lines unit (AllocateArray q count size) s k .numbered) .0 e)))
   step-agrees (Claim q h) l s k a =
-      accepted-step (Claim q h) l s k (first-refusal (claim-lines s k q h)) _ a refl
-      (λ e. claims l s k a q h (claim-passed s k q h (accepted-exactly (claim-lines s k q h) (by-lines unit (Claim q h) s k .numbered) .0 e)))
+      accepted-step (Claim q h) l s k (first-refusal (claim-lines unit s k q h)) _ a refl
+      (λ e. claims l s k a q h (claim-passed unit s k q h (accepted-exactly (claim-lines unit s k q h) (by-lines unit (Claim q h) s k .numbered) .0 e)))
   step-agrees (Release q h) l s k a =
-      accepted-step (Release q h) l s k (first-refusal (release-lines s k q h)) _ a refl
-      (λ e. releases l s k a q h (release-passed s k q h (accepted-exactly (release-lines s k q h) (by-lines unit (Release q h) s k .numbered) .0 e)))
+      accepted-step (Release q h) l s k (first-refusal (release-lines unit s k q h)) _ a refl
+      (λ e. releases l s k a q h (release-passed unit s k q h (accepted-exactly (release-lines unit s k q h) (by-lines unit (Release q h) s k .numbered) .0 e)))
   step-agrees (FreeAll q) l s k a =
-      accepted-step (FreeAll q) l s k (first-refusal (quota-lines s k q)) _ a refl
-      (λ e. frees l s k a q (quota-passed s k q (accepted-exactly (quota-lines s k q) (by-lines unit (FreeAll q) s k .numbered) .0 e)))
+      accepted-step (FreeAll q) l s k (first-refusal (quota-lines unit s k q)) _ a refl
+      (λ e. frees l s k a q (quota-passed unit s k q (accepted-exactly (quota-lines unit s k q) (by-lines unit (FreeAll q) s k .numbered) .0 e)))
   step-agrees (Reallocate q h n) l s k a =
       accepted-step (Reallocate q h n) l s k (first-refusal (reallocate-lines unit s k q h n)) _ a refl
       (λ e. reallocates unit units l s k a q h n (reallocate-passed unit s k q h n (accepted-exactly (reallocate-lines unit s k q h n) (by-lines unit (Reallocate q h n) s k .numbered) .0 e)))
-  step-agrees (Lend h) l s k a = accepted-step (Lend h) l s k (first-refusal (lend-lines s k h)) _ a refl (λ e. a)
-  step-agrees (Remaining q) l s k a = accepted-step (Remaining q) l s k (first-refusal (quota-lines s k q)) _ a refl (λ e. a)
-  step-agrees (CanRelease q h) l s k a = accepted-step (CanRelease q h) l s k (first-refusal (release-lines s k q h)) _ a refl (λ e. a)
-  step-agrees (ListBlock at) l s k a = accepted-step (ListBlock at) l s k (first-refusal (check-lines s k)) _ a refl (λ e. a)
+  step-agrees (Lend h) l s k a = accepted-step (Lend h) l s k (first-refusal (lend-lines unit s k h)) _ a refl (λ e. a)
+  step-agrees (Remaining q) l s k a = accepted-step (Remaining q) l s k (first-refusal (quota-lines unit s k q)) _ a refl (λ e. a)
+  step-agrees (CanRelease q h) l s k a = accepted-step (CanRelease q h) l s k (first-refusal (release-lines unit s k q h)) _ a refl (λ e. a)
+  step-agrees (ListBlock at) l s k a = accepted-step (ListBlock at) l s k (first-refusal (check-lines unit s k)) _ a refl (λ e. a)

@@ -31,6 +31,7 @@ use Rattle.ledger.proofs.Steps.{step-agrees}
 use Rattle.ledger.proofs.Fields.{live-once-of, apart-of, off-headers-of, inside-of, record-held-of, hold-recorded-of, records-once-of, balanced-of, answered-of}
 use Rattle.ledger.proofs.Space.{space-decided}
 use Rattle.ledger.proofs.Lasting.{step-lasts}
+use Rattle.ledger.proofs.Fitted.{Fitted, restored-fits, beginning-fits, step-fits, sound-of}
 use Rattle.ledger.proofs.Wrong
 
 -- no two objects of the ledger, at two places, share a byte: their serials differ, and each is the object of a live block
@@ -85,18 +86,29 @@ Lasts begun front back =
 
 module _ (unit : ℕ → ℕ) (units : Units unit) where
   -- along a history ledger, heap and accounts agree
-  pub history-agrees : (begun : Ledger) (es : List Event) (s : List ℕ) (k : Accounts) → History (step unit) begun es s k → Agrees (ledger-of begun es) s k
+  pub history-agrees : (begun : Ledger) (es : List Event) (s : List ℕ) (k : Accounts) → History unit (step unit) begun es s k → Agrees (ledger-of begun es) s k
   unfolding ledger-of record-event
-  history-agrees begun [] s k h = beginning-agrees begun s k h
+  history-agrees begun [] s k h = beginning-agrees unit begun s k h
   history-agrees begun (Called c v ∷ es) s k h =
       subst (λ (t : Outcome). Agrees (record-call c (t .values) (ledger-of begun es)) (t .heap) (t .accounts)) (h .3)
       (step-agrees unit units c (ledger-of begun es) (h .0) (h .1) (history-agrees begun es (h .0) (h .1) (h .2)))
   history-agrees begun (Wrote ∷ es) s k h = written-agrees (ledger-of begun es) (h .0) s k (history-agrees begun es (h .0) k (h .1)) (h .2)
   history-agrees begun (Saved s₀ k₀ ∷ es) s k h = history-agrees begun es s k (h .0)
-  history-agrees begun (Restored s₁ k₁ ∷ es) s k h = rw (← h .5, ← h .6) (restored-agrees s k (h .4))
+  history-agrees begun (Restored s₁ k₁ ∷ es) s k h = rw (← h .5, ← h .6) (restored-agrees unit s k (h .4))
+
+  -- along a history every object of the ledger fits its unit
+  pub history-fits : (begun : Ledger) (es : List Event) (s : List ℕ) (k : Accounts) → History unit (step unit) begun es s k → Fitted unit (ledger-of begun es)
+  unfolding ledger-of record-event
+  history-fits begun [] s k h = beginning-fits unit begun s k h
+  history-fits begun (Called c v ∷ es) s k h =
+      subst (λ (t : Outcome). Fitted unit (record-call c (t .values) (ledger-of begun es))) (h .3)
+      (step-fits unit units c (ledger-of begun es) (h .0) (h .1) (history-fits begun es (h .0) (h .1) (h .2)))
+  history-fits begun (Wrote ∷ es) s k h = history-fits begun es (h .0) k (h .1)
+  history-fits begun (Saved s₀ k₀ ∷ es) s k h = history-fits begun es s k (h .0)
+  history-fits begun (Restored s₁ k₁ ∷ es) s k h = rw (← h .5, ← h .6) (restored-fits unit s k (h .4))
 
   -- an event takes away no object whose serial is held after it
-  history-lasts : (begun : Ledger) (front back : List Event) (s : List ℕ) (k : Accounts) → History (step unit) begun (back ++ front) s k
+  history-lasts : (begun : Ledger) (front back : List Event) (s : List ℕ) (k : Accounts) → History unit (step unit) begun (back ++ front) s k
       → Lasts begun front back
   unfolding ledger-of record-event unrestored
   history-lasts begun front [] s k h u o m f = m
@@ -111,8 +123,8 @@ module _ (unit : ℕ → ℕ) (units : Units unit) where
 
   -- what demand 3 says of a history is what agreement says of its end
   holds-after : (begun : Ledger) (front back : List Event) (s : List ℕ) (k : Accounts) → Lasts begun front back
-      → Agrees (ledger-of begun (back ++ front)) s k → Holds unit (step unit) begun front back s k
-  holds-after begun front back s k lasts a =
+      → Agrees (ledger-of begun (back ++ front)) s k → Fitted unit (ledger-of begun (back ++ front)) → Holds unit (step unit) begun front back s k
+  holds-after begun front back s k lasts a f =
       let l = ledger-of begun (back ++ front) in
       record {
         as-defined = λ c. refl;
@@ -130,11 +142,11 @@ module _ (unit : ℕ → ℕ) (units : Units unit) where
         grants-kept = a .grants;
         grants-begun = ledger-grants begun (back ++ front);
         balanced = balanced-of l s k a;
-        answered = answered-of l s k a unit;
+        answered = answered-of l s k a unit (sound-of unit l s k a f);
         no-space = λ c r e p. space-decided unit units s k c r e p .no-space;
         space = λ c r e p. space-decided unit units s k c r e p .space;
         length-allowed = a .extent;
-        kept-consistent = a .sound;
+        kept-sound = sound-of unit l s k a f;
       }
 
   -- THE THEOREM
@@ -143,7 +155,8 @@ module _ (unit : ℕ → ℕ) (units : Units unit) where
       record {
         always =
             λ begun front back s k h.
-            holds-after begun front back s k (history-lasts begun front back s k h) (history-agrees begun (back ++ front) s k h);
+            holds-after begun front back s k (history-lasts begun front back s k h) (history-agrees begun (back ++ front) s k h)
+            (history-fits begun (back ++ front) s k h);
       }
 
 -- and so of the table of rule 6.1

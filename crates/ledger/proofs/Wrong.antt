@@ -37,7 +37,7 @@ below [] e q = omega arith
 below (g ∷ gs) e zero = ltb-true g (2 ^ 32) (and-left (ltb g (2 ^ 32)) (all (λ g. ltb g (2 ^ 32)) gs) e)
 below (g ∷ gs) e (suc q) = below gs (and-right (ltb g (2 ^ 32)) (all (λ g. ltb g (2 ^ 32)) gs) e) q
 
-opening : Begins (empty grants) (fresh .heap) (fresh .accounts)
+opening : Begins unit (empty grants) (fresh .heap) (fresh .accounts)
 unfolding computing grants fresh
 opening = Opening grants refl (record { before = replicate 64 0; quotas = refl; narrow = below grants refl; opens = refl })
 
@@ -50,7 +50,7 @@ events : Run → List Call → List Event
 events run [] = []
 events run (c ∷ cs) = Called c (run c (after run cs .heap) (after run cs .accounts) .values) ∷ events run cs
 
-history : (run : Run) (cs : List Call) → History run (empty grants) (events run cs) (after run cs .heap) (after run cs .accounts)
+history : (run : Run) (cs : List Call) → History unit run (empty grants) (events run cs) (after run cs .heap) (after run cs .accounts)
 unfolding after events
 history run [] = opening
 history run (c ∷ cs) = (after run cs .heap, after run cs .accounts, history run cs, refl)

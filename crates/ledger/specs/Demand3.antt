@@ -15,7 +15,7 @@ use Rattle.rounding.specs.Rounding.{object-length, alignment}
 use Rattle.model.specs.Lists.{any, keep, total}
 use Rattle.model.specs.Answers.{amount-of, zero-handle}
 use Rattle.model.specs.Objects.{blocks-of, objects-of}
-use Rattle.model.specs.Consistent.{allowed, consistent, serials-differ, records-differ}
+use Rattle.model.specs.Consistent.{allowed, sound, serials-differ, records-differ}
 use Rattle.model.specs.Refusals.{Line, line-number, line-holds, allocate-lines, reallocate-lines}
 use Rattle.model.specs.Calls.{listing-from}
 use Rattle.model.specs.Step.{step}
@@ -109,7 +109,7 @@ pub record Holds (unit : ℕ → ℕ) (run : Run) (begun : Ledger) (front back :
       → (b : ℕ) → SuitableRun unit s (r .asked) b → run c s k .values .refusal ≡ 0
   -- rule 10.10: no call is refused by 1 or 2
   pub length-allowed : allowed (length s) ≡ true
-  pub kept-consistent : consistent s k ≡ true
+  pub kept-sound : sound unit s k ≡ true
 
 pub record Demand3 (unit : ℕ → ℕ) (run : Run) : Type 0 where
-  pub always : (begun : Ledger) (front back : List Event) (s : List ℕ) (k : Accounts) → History run begun (back ++ front) s k → Holds unit run begun front back s k
+  pub always : (begun : Ledger) (front back : List Event) (s : List ℕ) (k : Accounts) → History unit run begun (back ++ front) s k → Holds unit run begun front back s k

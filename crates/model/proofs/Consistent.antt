@@ -23,8 +23,8 @@ use Rattle.layout.specs.Blocks.{Block, size, live, render, parse, AllWritable}
 use Rattle.layout.proofs.Parse.{parse-is}
 use Rattle.model.specs.Lists.{all, any, or-else}
 use Rattle.model.specs.Answers.{zero-handle}
-use Rattle.model.specs.Objects.{objects, blocks-of}
-use Rattle.model.specs.Consistent.{long-enough, starts-free, free-apart, well-cut, has-serial, serials-differ, serials-given, record-valid, records-differ, is-of, held, charges, balanced-from, consistent-blocks, consistent-parsed, consistent}
+use Rattle.model.specs.Objects.{objects, objects-of, blocks-of}
+use Rattle.model.specs.Consistent.{long-enough, starts-free, free-apart, well-cut, has-serial, serials-differ, serials-given, record-valid, records-differ, is-of, held, charges, balanced-from, consistent-blocks, consistent-parsed, consistent, sound, in-units}
 use Rattle.model.specs.declared.Handle.{Handle}
 use Rattle.model.proofs.Bools.{and-left, and-right, and-both, or-cases, or-left, or-right, implies, implied, fails}
 use Rattle.model.proofs.Lists.{all-member, member-all, none-member, all-exactly, any-exactly, any-and, unrelated, unrelated-places, places-unrelated}
@@ -328,3 +328,12 @@ consistent-is s k o = (
       record { blocks = r .0; cut = p .0; writable = p .1; facts = facts-exactly (r .0) k .0 (r .2) }),
   λ c. consistent-exactly s k .1 (c .blocks, parse-is s (c .blocks) o .1 (c .cut, c .writable), facts-exactly (c .blocks) k .1 (c .facts)),
 )
+
+-- what is sound is consistent, and each of its objects fits its unit
+pub sound-consistent : (unit : ℕ → ℕ) (s : List ℕ) (k : Accounts) → sound unit s k ≡ true → consistent s k ≡ true
+unfolding sound
+sound-consistent unit s k e = and-left (consistent s k) _ e
+
+pub sound-fits : (unit : ℕ → ℕ) (s : List ℕ) (k : Accounts) → sound unit s k ≡ true → (o : Handle) → List·Memᴰ o (objects-of s) → in-units unit o ≡ true
+unfolding sound
+sound-fits unit s k e = all-member (in-units unit) (objects-of s) (and-right (consistent s k) _ e)

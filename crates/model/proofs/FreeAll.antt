@@ -64,10 +64,10 @@ module _ (s : List ℕ) (k : Accounts) (o : Octets s) (c : consistent s k ≡ tr
       }
 
   -- free-all leaves heap and accounts as they are and answers 0
-  pub free-all-none : free-all s k q ≡ unless (first-refusal (quota-lines s k q)) s k (unchanged s k (amount-of 0))
+  pub free-all-none : (unit : ℕ → ℕ) → free-all unit s k q ≡ unless (first-refusal (quota-lines unit s k q)) s k (unchanged s k (amount-of 0))
   unfolding free-all
-  free-all-none =
+  free-all-none unit =
       let again : render (blocks-of s) ≡ s = parse-is s (blocks-of s) o .0 (consistent-cut s k c .0) .0 in
       rw (charges-none q (k .holds) none (objects-of s))
-      (ap (λ (t : State). unless (first-refusal (quota-lines s k q)) s k (leaves t (amount-of 0))) freed-none
-      ∙ ap (λ (x : List ℕ). unless (first-refusal (quota-lines s k q)) s k (unchanged x k (amount-of 0))) again)
+      (ap (λ (t : State). unless (first-refusal (quota-lines unit s k q)) s k (leaves t (amount-of 0))) freed-none
+      ∙ ap (λ (x : List ℕ). unless (first-refusal (quota-lines unit s k q)) s k (unchanged x k (amount-of 0))) again)

@@ -1,6 +1,7 @@
 pub mod Computing
 pub mod Marked
 pub mod Cases
+pub mod Units
 pub mod Lines
 pub mod Inconsistent
 pub mod Bools

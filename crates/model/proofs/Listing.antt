@@ -37,9 +37,9 @@ abbrev pub block-at : List Block → ℕ → Option ListedBlock
 block-at bs at = block-at-from 0 bs at
 
 -- the listing's call answers such a step
-pub list-block-step : (s : List ℕ) (k : Accounts) (at : ℕ) → first-refusal (check-lines s k) ≡ 0 → list-block s k at ≡ unchanged s k (listed (block-at (blocks-of s) at))
+pub list-block-step : (unit : ℕ → ℕ) (s : List ℕ) (k : Accounts) (at : ℕ) → first-refusal (check-lines unit s k) ≡ 0 → list-block unit s k at ≡ unchanged s k (listed (block-at (blocks-of s) at))
 unfolding list-block unless
-list-block-step s k at e = rw e
+list-block-step unit s k at e = rw e
 
 -- behind the blocks xs it gives the block that starts there
 step-from : (from : ℕ) (xs : List Block) (b : Block) (ys : List Block) (at : ℕ) → at ≡ from + total size xs → block-at-from from (xs ++ (b ∷ ys)) at ≡ some (listed-at at b)

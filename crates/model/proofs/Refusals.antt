@@ -77,12 +77,12 @@ tables = tt
 module _ (unit : ℕ → ℕ) (s : List ℕ) (k : Accounts) (q : ℕ) (h : Handle) (n : ℕ) where
   -- rule 7.2: the lines of each call
   pub columns : (map line-number (open-lines s) ≡ 1 ∷ [])
-      × (map line-number (check-lines s k) ≡ 1 ∷ 2 ∷ [])
-      × (map line-number (quota-lines s k q) ≡ 1 ∷ 2 ∷ 3 ∷ [])
+      × (map line-number (check-lines unit s k) ≡ 1 ∷ 2 ∷ [])
+      × (map line-number (quota-lines unit s k q) ≡ 1 ∷ 2 ∷ 3 ∷ [])
       × (map line-number (allocate-lines unit s k q n) ≡ 1 ∷ 2 ∷ 3 ∷ 4 ∷ 8 ∷ 9 ∷ 10 ∷ 11 ∷ [])
-      × (map line-number (lend-lines s k h) ≡ 1 ∷ 2 ∷ 5 ∷ [])
-      × (map line-number (release-lines s k q h) ≡ 1 ∷ 2 ∷ 3 ∷ 5 ∷ 6 ∷ [])
-      × (map line-number (claim-lines s k q h) ≡ 1 ∷ 2 ∷ 3 ∷ 5 ∷ 7 ∷ 8 ∷ 9 ∷ [])
+      × (map line-number (lend-lines unit s k h) ≡ 1 ∷ 2 ∷ 5 ∷ [])
+      × (map line-number (release-lines unit s k q h) ≡ 1 ∷ 2 ∷ 3 ∷ 5 ∷ 6 ∷ [])
+      × (map line-number (claim-lines unit s k q h) ≡ 1 ∷ 2 ∷ 3 ∷ 5 ∷ 7 ∷ 8 ∷ 9 ∷ [])
       × (map line-number (reallocate-lines unit s k q h n) ≡ 1 ∷ 2 ∷ 3 ∷ 4 ∷ 5 ∷ 6 ∷ 8 ∷ 9 ∷ 10 ∷ 11 ∷ [])
   unfolding tables
   columns = (refl, refl, refl, refl, refl, refl, refl, refl)
@@ -91,14 +91,14 @@ module _ (unit : ℕ → ℕ) (s : List ℕ) (k : Accounts) (q : ℕ) (h : Handl
 abbrev pub lines-of : (ℕ → ℕ) → Call → List ℕ → Accounts → List Line
 lines-of unit (Allocate q n) s k = allocate-lines unit s k q n
 lines-of unit (AllocateArray q count size) s k = allocate-lines unit s k q (count * size)
-lines-of unit (Claim q h) s k = claim-lines s k q h
-lines-of unit (Release q h) s k = release-lines s k q h
-lines-of unit (FreeAll q) s k = quota-lines s k q
+lines-of unit (Claim q h) s k = claim-lines unit s k q h
+lines-of unit (Release q h) s k = release-lines unit s k q h
+lines-of unit (FreeAll q) s k = quota-lines unit s k q
 lines-of unit (Reallocate q h n) s k = reallocate-lines unit s k q h n
-lines-of unit (Lend h) s k = lend-lines s k h
-lines-of unit (Remaining q) s k = quota-lines s k q
-lines-of unit (CanRelease q h) s k = release-lines s k q h
-lines-of unit (ListBlock at) s k = check-lines s k
+lines-of unit (Lend h) s k = lend-lines unit s k h
+lines-of unit (Remaining q) s k = quota-lines unit s k q
+lines-of unit (CanRelease q h) s k = release-lines unit s k q h
+lines-of unit (ListBlock at) s k = check-lines unit s k
 
 -- t is what `unless` gives over these lines, of which none has the number 0, with an outcome that answers no refusal
 pub record ByLines (ls : List Line) (s : List ℕ) (k : Accounts) (t : Outcome) : Type 0 where
@@ -126,9 +126,9 @@ pub open-by-lines : (s grants : List ℕ) → ByLines (open-lines s) s zero-acco
 unfolding all tables open-heap
 open-by-lines s grants = record { done = _; outcome = refl; accepts = refl; numbered = refl }
 
-pub check-by-lines : (s : List ℕ) (k : Accounts) → ByLines (check-lines s k) s k (check s k)
+pub check-by-lines : (unit : ℕ → ℕ) (s : List ℕ) (k : Accounts) → ByLines (check-lines unit s k) s k (check unit s k)
 unfolding all tables check
-check-by-lines s k = record { done = _; outcome = refl; accepts = refl; numbered = refl }
+check-by-lines unit s k = record { done = _; outcome = refl; accepts = refl; numbered = refl }
 
 -- what holds of the outcome that is due and of every refusal holds of `unless`
 pub unless-has : (P : Outcome → Type 0) (n : ℕ) (s : List ℕ) (k : Accounts) (done : Outcome) → P done
@@ -185,10 +185,10 @@ refused-open s grants = refused-unchanged (open-by-lines s grants)
 abbrev pub Kept : List ℕ → Accounts → Outcome → Type 0
 Kept s k t = (t .heap ≡ s) × (t .accounts ≡ k)
 
-module _ (s : List ℕ) (k : Accounts) (q : ℕ) (h : Handle) (at : ℕ) where
+module _ (unit : ℕ → ℕ) (s : List ℕ) (k : Accounts) (q : ℕ) (h : Handle) (at : ℕ) where
   -- lend, remaining, can release, the listing and the check change nothing, accepted or not; claim never changes the heap
-  pub changes-nothing : Kept s k (lend s k h) × Kept s k (remaining-of s k q) × Kept s k (can-release s k q h) × Kept s k (list-block s k at) × Kept s k (check s k)
-      × (claim s k q h .heap ≡ s)
+  pub changes-nothing : Kept s k (lend unit s k h) × Kept s k (remaining-of unit s k q) × Kept s k (can-release unit s k q h) × Kept s k (list-block unit s k at) × Kept s k (check unit s k)
+      × (claim unit s k q h .heap ≡ s)
   unfolding lend remaining-of can-release list-block check claim
   changes-nothing = (kept _ _, kept _ _, kept _ _, kept _ _, kept _ _, unless-has (λ t. t .heap ≡ s) _ s k _ refl (λ m. refl))
     where
@@ -196,6 +196,6 @@ module _ (s : List ℕ) (k : Accounts) (q : ℕ) (h : Handle) (at : ℕ) where
       kept n v = unless-has (Kept s k) n s k (unchanged s k v) (refl, refl) (λ m. (refl, refl))
 
 -- can release gives the refusal that release would give
-pub can-release-is-release : (s : List ℕ) (k : Accounts) (q : ℕ) (h : Handle) → can-release s k q h .values .refusal ≡ release s k q h .values .refusal
+pub can-release-is-release : (unit : ℕ → ℕ) (s : List ℕ) (k : Accounts) (q : ℕ) (h : Handle) → can-release unit s k q h .values .refusal ≡ release unit s k q h .values .refusal
 unfolding step
-can-release-is-release s k q h = refusal-of-lines (by-lines (λ n. n) (CanRelease q h) s k) ∙ sym (refusal-of-lines (by-lines (λ n. n) (Release q h) s k))
+can-release-is-release unit s k q h = refusal-of-lines (by-lines unit (CanRelease q h) s k) ∙ sym (refusal-of-lines (by-lines unit (Release q h) s k))

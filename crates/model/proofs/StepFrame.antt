@@ -63,20 +63,20 @@ module _ (unit : ℕ → ℕ) where
       unless-keeps (eqb q) (beside-unused (k .holds)) (first-refusal (allocate-lines unit s k q (count * size))) s k _
       (allocated-keeps q (new-object unit s k (count * size)) (state-of s k))
   step-keeps (Claim q h) s k =
-      unless-keeps (eqb q) (beside-claim q (found (lookup h s)) k) (first-refusal (claim-lines s k q h)) s k _ (claimed-keeps q (found (lookup h s)) k)
+      unless-keeps (eqb q) (beside-claim q (found (lookup h s)) k) (first-refusal (claim-lines unit s k q h)) s k _ (claimed-keeps q (found (lookup h s)) k)
   step-keeps (Release q h) s k =
-      unless-keeps (eqb q) (other-record (found (lookup h s) .serial) q (k .holds)) (first-refusal (release-lines s k q h)) s k _
+      unless-keeps (eqb q) (other-record (found (lookup h s) .serial) q (k .holds)) (first-refusal (release-lines unit s k q h)) s k _
       (released-keeps q (found (lookup h s)) (state-of s k))
   step-keeps (FreeAll q) s k =
-      unless-keeps (eqb q) (other-quota q (k .holds)) (first-refusal (quota-lines s k q)) s k _
+      unless-keeps (eqb q) (other-quota q (k .holds)) (first-refusal (quota-lines unit s k q)) s k _
       (freed-keeps q (charges (k .holds) q (objects-of s)) (state-of s k))
   step-keeps (Reallocate q h n) s k =
       unless-keeps (eqb q) (beside-both q (found (lookup-whole h s)) k) (first-refusal (reallocate-lines unit s k q h n)) s k _
       (reallocated-keeps q (found (lookup-whole h s)) (new-object unit s k n) (state-of s k))
-  step-keeps (Lend h) s k = unless-keeps (λ j. false) (λ x. true) (first-refusal (lend-lines s k h)) s k _ (kept-same _ _ k)
-  step-keeps (Remaining q) s k = unless-keeps (λ j. false) (λ x. true) (first-refusal (quota-lines s k q)) s k _ (kept-same _ _ k)
-  step-keeps (CanRelease q h) s k = unless-keeps (λ j. false) (λ x. true) (first-refusal (release-lines s k q h)) s k _ (kept-same _ _ k)
-  step-keeps (ListBlock at) s k = unless-keeps (λ j. false) (λ x. true) (first-refusal (check-lines s k)) s k _ (kept-same _ _ k)
+  step-keeps (Lend h) s k = unless-keeps (λ j. false) (λ x. true) (first-refusal (lend-lines unit s k h)) s k _ (kept-same _ _ k)
+  step-keeps (Remaining q) s k = unless-keeps (λ j. false) (λ x. true) (first-refusal (quota-lines unit s k q)) s k _ (kept-same _ _ k)
+  step-keeps (CanRelease q h) s k = unless-keeps (λ j. false) (λ x. true) (first-refusal (release-lines unit s k q h)) s k _ (kept-same _ _ k)
+  step-keeps (ListBlock at) s k = unless-keeps (λ j. false) (λ x. true) (first-refusal (check-lines unit s k)) s k _ (kept-same _ _ k)
 
 -- payments leave the last serial
 set-serial : (t : Bool) (q n : ℕ) (k : Accounts) → cond t (set-remaining q n k) k .«last_serial» ≡ k .«last_serial»
@@ -137,15 +137,15 @@ module _ (unit : ℕ → ℕ) where
   unfolding step allocate allocate-array claim release free-all reallocate lend remaining-of can-release list-block allocated released freed copied new-object
   step-serial (Allocate q n) s k = unless-next (first-refusal (allocate-lines unit s k q n)) s k _ refl refl
   step-serial (AllocateArray q count size) s k = unless-next (first-refusal (allocate-lines unit s k q (count * size))) s k _ refl refl
-  step-serial (Claim q h) s k = unless-same (first-refusal (claim-lines s k q h)) s k _ (claimed-serial q (found (lookup h s)) k)
-  step-serial (Release q h) s k = unless-same (first-refusal (release-lines s k q h)) s k _ (refund-serial q (given-back q (found (lookup h s)) k) k)
-  step-serial (FreeAll q) s k = unless-same (first-refusal (quota-lines s k q)) s k _ (refund-serial q (charges (k .holds) q (objects-of s)) k)
+  step-serial (Claim q h) s k = unless-same (first-refusal (claim-lines unit s k q h)) s k _ (claimed-serial q (found (lookup h s)) k)
+  step-serial (Release q h) s k = unless-same (first-refusal (release-lines unit s k q h)) s k _ (refund-serial q (given-back q (found (lookup h s)) k) k)
+  step-serial (FreeAll q) s k = unless-same (first-refusal (quota-lines unit s k q)) s k _ (refund-serial q (charges (k .holds) q (objects-of s)) k)
   step-serial (Reallocate q h n) s k =
       unless-next (first-refusal (reallocate-lines unit s k q h n)) s k _ refl (refund-serial q _ (allocated q (new-object unit s k n) (state-of s k) .accounts))
-  step-serial (Lend h) s k = unless-same (first-refusal (lend-lines s k h)) s k _ refl
-  step-serial (Remaining q) s k = unless-same (first-refusal (quota-lines s k q)) s k _ refl
-  step-serial (CanRelease q h) s k = unless-same (first-refusal (release-lines s k q h)) s k _ refl
-  step-serial (ListBlock at) s k = unless-same (first-refusal (check-lines s k)) s k _ refl
+  step-serial (Lend h) s k = unless-same (first-refusal (lend-lines unit s k h)) s k _ refl
+  step-serial (Remaining q) s k = unless-same (first-refusal (quota-lines unit s k q)) s k _ refl
+  step-serial (CanRelease q h) s k = unless-same (first-refusal (release-lines unit s k q h)) s k _ refl
+  step-serial (ListBlock at) s k = unless-same (first-refusal (check-lines unit s k)) s k _ refl
 
 -- what a call leaves of the accounts beside what its rule names: every grant, every quota but its own, every record but those that it is about, how
 -- many quotas and records there are, and the last serial but for the one that it gives

@@ -91,6 +91,11 @@ copied old new t = record { blocks = copy-into (new .serial) (body-of (old .seri
 abbrev pub state-of : List ℕ → Accounts → State
 state-of s k = record { blocks = blocks-of s; accounts = k }
 
+-- The listing, rules 8.32 and 8.33: the blocks in order, each with its offset; and a step of it, the block that starts at a place
+unfoldable pub listing-from : ℕ → List Block → List ListedBlock
+listing-from at [] = []
+listing-from at (b ∷ bs) = record { offset = at; size = size b; serial = b .serial } ∷ listing-from (at + size b) bs
+
 module _ (unit : ℕ → ℕ) where
   -- rules 8.5, 8.6 and 8.9: the new object for a request of n bytes
   unfoldable pub new-object : List ℕ → Accounts → ℕ → Handle
@@ -106,59 +111,53 @@ module _ (unit : ℕ → ℕ) where
   unfoldable pub allocate-array : List ℕ → Accounts → ℕ → ℕ → ℕ → Outcome
   allocate-array s k q count size = allocate s k q (count * size)
 
--- rule 8.15
-unfoldable pub claim : List ℕ → Accounts → ℕ → Handle → Outcome
-claim s k q h =
-    let o = found (lookup h s) in
-    let done = unchanged s (claimed q o k) (amount-of (o .length)) in
-    unless (first-refusal (claim-lines s k q h)) s k done
+  -- rule 8.15
+  unfoldable pub claim : List ℕ → Accounts → ℕ → Handle → Outcome
+  claim s k q h =
+      let o = found (lookup h s) in
+      let done = unchanged s (claimed q o k) (amount-of (o .length)) in
+      unless (first-refusal (claim-lines unit s k q h)) s k done
 
-unfoldable pub release : List ℕ → Accounts → ℕ → Handle → Outcome
-release s k q h =
-    let o = found (lookup h s) in
-    let done = leaves (released q o (state-of s k)) (amount-of (given-back q o k)) in
-    unless (first-refusal (release-lines s k q h)) s k done
+  unfoldable pub release : List ℕ → Accounts → ℕ → Handle → Outcome
+  release s k q h =
+      let o = found (lookup h s) in
+      let done = leaves (released q o (state-of s k)) (amount-of (given-back q o k)) in
+      unless (first-refusal (release-lines unit s k q h)) s k done
 
--- rule 8.22
-unfoldable pub free-all : List ℕ → Accounts → ℕ → Outcome
-free-all s k q =
-    let back = charges (k .holds) q (objects-of s) in
-    let done = leaves (freed q back (state-of s k)) (amount-of back) in
-    unless (first-refusal (quota-lines s k q)) s k done
+  -- rule 8.22
+  unfoldable pub free-all : List ℕ → Accounts → ℕ → Outcome
+  free-all s k q =
+      let back = charges (k .holds) q (objects-of s) in
+      let done = leaves (freed q back (state-of s k)) (amount-of back) in
+      unless (first-refusal (quota-lines unit s k q)) s k done
 
-module _ (unit : ℕ → ℕ) where
   -- Reallocate, rules 8.23 and 8.24: allocate while the old object still counts, copy, then release once
   unfoldable pub reallocate : List ℕ → Accounts → ℕ → Handle → ℕ → Outcome
   reallocate s k q h n =
       let old = found (lookup-whole h s) in
-      let new = new-object unit s k n in
+      let new = new-object s k n in
       let done = leaves (released q old (copied old new (allocated q new (state-of s k)))) (given new) in
       unless (first-refusal (reallocate-lines unit s k q h n)) s k done
 
--- Lend, rule 8.29
-unfoldable pub lend : List ℕ → Accounts → Handle → Outcome
-lend s k h =
-    let o = found (lookup h s) in
-    let done = unchanged s k (lent (record { start = o .base; end = o .base + o .length })) in
-    unless (first-refusal (lend-lines s k h)) s k done
+  -- Lend, rule 8.29
+  unfoldable pub lend : List ℕ → Accounts → Handle → Outcome
+  lend s k h =
+      let o = found (lookup h s) in
+      let done = unchanged s k (lent (record { start = o .base; end = o .base + o .length })) in
+      unless (first-refusal (lend-lines unit s k h)) s k done
 
--- Remaining and can release, rules 8.30 and 8.31
-unfoldable pub remaining-of : List ℕ → Accounts → ℕ → Outcome
-remaining-of s k q = unless (first-refusal (quota-lines s k q)) s k (unchanged s k (amount-of (remaining q k)))
+  -- Remaining and can release, rules 8.30 and 8.31
+  unfoldable pub remaining-of : List ℕ → Accounts → ℕ → Outcome
+  remaining-of s k q = unless (first-refusal (quota-lines unit s k q)) s k (unchanged s k (amount-of (remaining q k)))
 
-unfoldable pub can-release : List ℕ → Accounts → ℕ → Handle → Outcome
-can-release s k q h = unless (first-refusal (release-lines s k q h)) s k (unchanged s k accepted)
+  unfoldable pub can-release : List ℕ → Accounts → ℕ → Handle → Outcome
+  can-release s k q h = unless (first-refusal (release-lines unit s k q h)) s k (unchanged s k accepted)
 
--- rule 8.35: the check that every call but open begins with
-unfoldable pub check : List ℕ → Accounts → Outcome
-check s k = unless (first-refusal (check-lines s k)) s k (unchanged s k accepted)
+  -- rule 8.35: the check that every call but open begins with
+  unfoldable pub check : List ℕ → Accounts → Outcome
+  check s k = unless (first-refusal (check-lines unit s k)) s k (unchanged s k accepted)
 
--- The listing, rules 8.32 and 8.33: the blocks in order, each with its offset; and a step of it, the block that starts at a place
-unfoldable pub listing-from : ℕ → List Block → List ListedBlock
-listing-from at [] = []
-listing-from at (b ∷ bs) = record { offset = at; size = size b; serial = b .serial } ∷ listing-from (at + size b) bs
-
-unfoldable pub list-block : List ℕ → Accounts → ℕ → Outcome
-list-block s k at =
-    let b = first (λ l. eqb (l .offset) at) (listing-from 0 (blocks-of s)) in
-    unless (first-refusal (check-lines s k)) s k (unchanged s k (listed b))
+  unfoldable pub list-block : List ℕ → Accounts → ℕ → Outcome
+  list-block s k at =
+      let b = first (λ l. eqb (l .offset) at) (listing-from 0 (blocks-of s)) in
+      unless (first-refusal (check-lines unit s k)) s k (unchanged s k (listed b))

@@ -23,12 +23,13 @@ block at size serial = listed (some (record { offset = at; size = size; serial =
 -- both sides of each row of the rounding table, of the product and of line 4
 unfoldable pub lengths : List Case
 lengths =
-    case (opened-heap 8208 100000 0) (Allocate 0 8191 ∷ []) (given (handle 8 8192 1) ∷ [])
-    0 (1 ∷ 4 ∷ 0 ∷ 0 ∷ 1 ∷ 0 ∷ 0 ∷ 0 ∷ []) (accounts-of (quota 100000 91800 ∷ []) 1 (hold 1 0 1 ∷ []))
+    case (opened-heap 8208 100000 0) (Allocate 0 8191 ∷ []) (given (handle 16 8192 1) ∷ [])
+    0 (parts (head 1 0 0 ∷ (1 ∷ 4 ∷ 1 ∷ 0 ∷ 1 ∷ 0 ∷ 0 ∷ 0 ∷ []) ∷ [])) (accounts-of (quota 100000 91800 ∷ []) 1 (hold 1 0 1 ∷ []))
     -- 8 bytes are left in front and behind
     ∷ case (opened-heap 8216 100000 0) (Allocate 0 8192 ∷ ListBlock 8208 ∷ []) (given (handle 16 8192 1) ∷ block 8208 8 0 ∷ [])
     0 (parts (head 1 0 0 ∷ (1 ∷ 4 ∷ 1 ∷ 0 ∷ 1 ∷ 0 ∷ 0 ∷ 0 ∷ []) ∷ [])) (accounts-of (quota 100000 91800 ∷ []) 1 (hold 1 0 1 ∷ []))
-    ∷ case (opened-heap 16400 100000 0) (Allocate 0 16383 ∷ []) (given (handle 16 16384 1) ∷ []) 0 (head 1 0 0) (accounts-of (quota 100000 83608 ∷ []) 1 (hold 1 0 1 ∷ []))
+    ∷ case (opened-heap 16400 100000 0) (Allocate 0 16383 ∷ Allocate 0 16368 ∷ []) (refused 11 ∷ given (handle 16 16368 1) ∷ [])
+    0 (head 1 0 0) (accounts-of (quota 100000 83624 ∷ []) 1 (hold 1 0 1 ∷ []))
     ∷ case (opened-heap 16416 100000 0) (Allocate 0 16384 ∷ []) (given (handle 32 16384 1) ∷ []) 0 (head 3 0 0) (accounts-of (quota 100000 83608 ∷ []) 1 (hold 1 0 1 ∷ []))
     ∷ case (opened-heap 32768 100000 0) (Allocate 0 32737 ∷ Allocate 0 32736 ∷ []) (refused 11 ∷ given (handle 32 32736 1) ∷ [])
     0 (head 3 0 0) (accounts-of (quota 100000 67256 ∷ []) 1 (hold 1 0 1 ∷ []))

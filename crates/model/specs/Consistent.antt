@@ -1,4 +1,4 @@
--- When heap and accounts are consistent (rules, section 5): one test for each rule, in their order.
+-- When heap and accounts are consistent (rules, section 5): one test for each rule, in their order. `sound` is all of them.
 use Prim.Native.Nat.{ℕ, suc, _+_, _%_}
 use mathlib.Core.List.{List, [], _∷_}
 use mathlib.Core.Bool.{Bool, true, false, not, cond, _&&_, _||_}
@@ -10,7 +10,7 @@ use Rattle.accounts.specs.declared.Accounts.{Accounts}
 use Rattle.accounts.specs.Accounts.{QUOTAS, used, is-for}
 use Rattle.layout.specs.Blocks.{Block, size, live, parse, greatest-heap}
 use Rattle.model.specs.Lists.{all, any, total}
-use Rattle.model.specs.Objects.{objects}
+use Rattle.model.specs.Objects.{objects, objects-of}
 use Rattle.model.specs.declared.Handle.{Handle}
 
 -- rule 2.1: a heap length that is allowed
@@ -100,3 +100,15 @@ consistent-parsed (some bs) k = consistent-blocks bs k
 
 unfoldable pub consistent : List ℕ → Accounts → Bool
 consistent s k = consistent-parsed (parse s) k
+
+-- rule 5.10: base and length of an object are multiples of the unit of its length
+abbrev pub fits-unit : (ℕ → ℕ) → ℕ → ℕ → Bool
+fits-unit unit base length = eqb (length % unit length) 0 && eqb (base % unit length) 0
+
+unfoldable pub in-units : (ℕ → ℕ) → Handle → Bool
+in-units unit o = fits-unit unit (o .base) (o .length)
+
+-- the whole of section 5, which line 2 asks for: the state is consistent (5.1 to 5.8), and every base and length fits its object's unit (5.10). Rules that
+-- speak of a table of units or of settings stand here, so that the laws of `consistent` know of none.
+unfoldable pub sound : (ℕ → ℕ) → List ℕ → Accounts → Bool
+sound unit s k = consistent s k && all (in-units unit) (objects-of s)

@@ -7,6 +7,7 @@ use Rattle.accounts.specs.declared.Quota.{Quota}
 use Rattle.accounts.specs.declared.Hold.{Hold}
 use Rattle.accounts.specs.declared.Accounts.{Accounts}
 use Rattle.accounts.specs.Accounts.{QUOTAS, HOLDS, zero-hold}
+use Rattle.rounding.specs.Rounding.{unit}
 use Rattle.model.specs.Calls.{check}
 use Rattle.model.specs.Tables.{head, zeros, parts, quota, hold, accounts-of}
 
@@ -15,7 +16,7 @@ pub data Judged : Type 0 where
   judged : ℕ → List ℕ → Accounts → Judged
 
 unfoldable pub given-refusal : Judged → ℕ
-given-refusal (judged n s k) = check s k .values .refusal
+given-refusal (judged n s k) = check unit s k .values .refusal
 
 unfoldable pub stated-refusal : Judged → ℕ
 stated-refusal (judged n s k) = n

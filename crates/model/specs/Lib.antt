@@ -10,6 +10,7 @@ pub mod Step
 pub mod Marked
 pub mod Tables
 pub mod Cases
+pub mod Units
 pub mod Lines
 pub mod Inconsistent
 pub mod Joining

@@ -10,7 +10,7 @@ use Rattle.accounts.specs.Accounts.{QUOTAS, used, remaining}
 use Rattle.rounding.specs.Rounding.{object-length, alignment}
 use Rattle.model.specs.Lists.{all, is-none}
 use Rattle.model.specs.Objects.{blocks-of, lookup, lookup-whole, found}
-use Rattle.model.specs.Consistent.{allowed, consistent, charge-of, has-record}
+use Rattle.model.specs.Consistent.{allowed, sound, charge-of, has-record}
 use Rattle.model.specs.Space.{lowest-base}
 use Rattle.model.specs.Holds.{count-of}
 use Rattle.model.specs.declared.Handle.{Handle}
@@ -47,8 +47,8 @@ unfoldable pub line-1 : List ℕ → Line
 line-1 s = 1 when not (allowed (length s))
 
 -- line 2: the state is not consistent (rules, section 5)
-unfoldable pub line-2 : List ℕ → Accounts → Line
-line-2 s k = 2 when not (consistent s k)
+unfoldable pub line-2 : (ℕ → ℕ) → List ℕ → Accounts → Line
+line-2 unit s k = 2 when not (sound unit s k)
 
 -- line 3: there is no such quota
 unfoldable pub line-3 : ℕ → Line
@@ -93,27 +93,27 @@ claims-first k q o = not (has-record (k .holds) q (o .serial))
 unfoldable pub open-lines : List ℕ → List Line
 open-lines s = line-1 s ∷ []
 
-unfoldable pub check-lines : List ℕ → Accounts → List Line
-check-lines s k = line-1 s ∷ line-2 s k ∷ []
-
-unfoldable pub quota-lines : List ℕ → Accounts → ℕ → List Line
-quota-lines s k q = line-1 s ∷ line-2 s k ∷ line-3 q ∷ []
-
-unfoldable pub lend-lines : List ℕ → Accounts → Handle → List Line
-lend-lines s k h = line-1 s ∷ line-2 s k ∷ line-5 (lookup h s) ∷ []
-
-unfoldable pub release-lines : List ℕ → Accounts → ℕ → Handle → List Line
-release-lines s k q h =
-    let o = found (lookup h s) in
-    line-1 s ∷ line-2 s k ∷ line-3 q ∷ line-5 (lookup h s) ∷ line-6 k q o ∷ []
-
-unfoldable pub claim-lines : List ℕ → Accounts → ℕ → Handle → List Line
-claim-lines s k q h =
-    let o = found (lookup h s) in
-    let pays = claims-first k q o in
-    line-1 s ∷ line-2 s k ∷ line-3 q ∷ line-5 (lookup h s) ∷ line-7 k q o ∷ only-if pays (line-8 k q (o .length)) ∷ only-if pays (line-9 k) ∷ []
-
 module _ (unit : ℕ → ℕ) where
+  unfoldable pub check-lines : List ℕ → Accounts → List Line
+  check-lines s k = line-1 s ∷ line-2 unit s k ∷ []
+
+  unfoldable pub quota-lines : List ℕ → Accounts → ℕ → List Line
+  quota-lines s k q = line-1 s ∷ line-2 unit s k ∷ line-3 q ∷ []
+
+  unfoldable pub lend-lines : List ℕ → Accounts → Handle → List Line
+  lend-lines s k h = line-1 s ∷ line-2 unit s k ∷ line-5 (lookup h s) ∷ []
+
+  unfoldable pub release-lines : List ℕ → Accounts → ℕ → Handle → List Line
+  release-lines s k q h =
+      let o = found (lookup h s) in
+      line-1 s ∷ line-2 unit s k ∷ line-3 q ∷ line-5 (lookup h s) ∷ line-6 k q o ∷ []
+
+  unfoldable pub claim-lines : List ℕ → Accounts → ℕ → Handle → List Line
+  claim-lines s k q h =
+      let o = found (lookup h s) in
+      let pays = claims-first k q o in
+      line-1 s ∷ line-2 unit s k ∷ line-3 q ∷ line-5 (lookup h s) ∷ line-7 k q o ∷ only-if pays (line-8 k q (o .length)) ∷ only-if pays (line-9 k) ∷ []
+
   -- rule 8.6: the base of a new object for a request of n bytes
   unfoldable pub base-for : List ℕ → ℕ → Option ℕ
   base-for s n = lowest-base (length s) (blocks-of s) (alignment unit n) (object-length unit n)
@@ -124,10 +124,10 @@ module _ (unit : ℕ → ℕ) where
 
   unfoldable pub allocate-lines : List ℕ → Accounts → ℕ → ℕ → List Line
   allocate-lines s k q n =
-      line-1 s ∷ line-2 s k ∷ line-3 q ∷ line-4 n ∷ line-8 k q (object-length unit n) ∷ line-9 k ∷ line-10 k ∷ line-11 s n ∷ []
+      line-1 s ∷ line-2 unit s k ∷ line-3 q ∷ line-4 n ∷ line-8 k q (object-length unit n) ∷ line-9 k ∷ line-10 k ∷ line-11 s n ∷ []
 
   unfoldable pub reallocate-lines : List ℕ → Accounts → ℕ → Handle → ℕ → List Line
   reallocate-lines s k q h n =
       let o = found (lookup-whole h s) in
-      line-1 s ∷ line-2 s k ∷ line-3 q ∷ line-4 n ∷ line-5 (lookup-whole h s) ∷ line-6 k q o
+      line-1 s ∷ line-2 unit s k ∷ line-3 q ∷ line-4 n ∷ line-5 (lookup-whole h s) ∷ line-6 k q o
       ∷ line-8 k q (object-length unit n) ∷ line-9 k ∷ line-10 k ∷ line-11 s n ∷ []

@@ -18,14 +18,14 @@ module _ (unit : ℕ → ℕ) where
   unfoldable pub step : Call → List ℕ → Accounts → Outcome
   step (Allocate q n) s k = allocate unit s k q n
   step (AllocateArray q count size) s k = allocate-array unit s k q count size
-  step (Claim q h) s k = claim s k q h
-  step (Release q h) s k = release s k q h
-  step (FreeAll q) s k = free-all s k q
+  step (Claim q h) s k = claim unit s k q h
+  step (Release q h) s k = release unit s k q h
+  step (FreeAll q) s k = free-all unit s k q
   step (Reallocate q h n) s k = reallocate unit s k q h n
-  step (Lend h) s k = lend s k h
-  step (Remaining q) s k = remaining-of s k q
-  step (CanRelease q h) s k = can-release s k q h
-  step (ListBlock at) s k = list-block s k at
+  step (Lend h) s k = lend unit s k h
+  step (Remaining q) s k = remaining-of unit s k q
+  step (CanRelease q h) s k = can-release unit s k q h
+  step (ListBlock at) s k = list-block unit s k at
 
   unfoldable pub performed : Call → List ℕ → Accounts → Answered
   performed c s k =

@@ -182,18 +182,18 @@ module _ (s : List ℕ) (k : Accounts) (q : ℕ) (l : q < QUOTAS) (o : Handle) w
         go false x = rw x (paid-is x (lowest-unused k) refl)
 
 -- so the call's outcome is the definition's
-module _ (s : List ℕ) (k : Accounts) (v : Verdict) (told : verdict-values v ≡ check s k .values) (accepts : v ≡ Accepted) (h : Handle) (m : Met) (e : find-object h s ≡ Found m) (q : ℕ) (l : q < QUOTAS) where
-  due : unless (first-refusal (claim-rest k q (object-met m))) s k (claim-done s k q (object-met m)) ≡ claim s k q h
+module _ (unit : ℕ → ℕ) (s : List ℕ) (k : Accounts) (v : Verdict) (told : verdict-values v ≡ check unit s k .values) (accepts : v ≡ Accepted) (h : Handle) (m : Met) (e : find-object h s ≡ Found m) (q : ℕ) (l : q < QUOTAS) where
+  due : unless (first-refusal (claim-rest k q (object-met m))) s k (claim-done s k q (object-met m)) ≡ claim unit s k q h
   unfolding claim claim-lines
   due =
-      let p = located s k v told accepts h m e .object in
+      let p = located unit s k v told accepts h m e .object in
       ap (λ (o : Handle). unless (first-refusal (claim-rest k q o)) s k (claim-done s k q o)) (sym p)
       ∙ ap (λ (n : ℕ). unless n s k (claim-done s k q (found (lookup h s))))
-      (sym (quota-found s k v told accepts q h m (claim-rest k q (found (lookup h s))) l e))
+      (sym (quota-found unit s k v told accepts q h m (claim-rest k q (found (lookup h s))) l e))
 
-  pub claims-again : (i : ℕ) → find-hold (m .serial) (q % 256) k ≡ At i → amount-outcome s (claim-again i (object-met m .length) k) ≡ claim s k q h
+  pub claims-again : (i : ℕ) → find-hold (m .serial) (q % 256) k ≡ At i → amount-outcome s (claim-again i (object-met m .length) k) ≡ claim unit s k q h
   claims-again i f = again-is s k q l (object-met m) i f ∙ due
 
   pub claims-anew : find-hold (m .serial) (q % 256) k ≡ Nothing
-      → amount-outcome s (claim-first q (record { serial = m .serial; quota = q % 256; count = 1 }) (object-met m .length) k) ≡ claim s k q h
+      → amount-outcome s (claim-first q (record { serial = m .serial; quota = q % 256; count = 1 }) (object-met m .length) k) ≡ claim unit s k q h
   claims-anew f = first-is s k q l (object-met m) f ∙ due

@@ -39,27 +39,27 @@ use Rattle.quotas.proofs.Collected.{flagged}
 use Rattle.quotas.proofs.Emptied.{emptying-start}
 
 -- the lines, where the check has answered v
-module _ (s : List ℕ) (k : Accounts) (q : ℕ) (v : Verdict) (told : verdict-values v ≡ check s k .values) where
-  pub all-by-check : (x : Refusal) → v ≡ NotAccepted x → first-refusal (quota-lines s k q) ≡ refusal-number x
+module _ (unit : ℕ → ℕ) (s : List ℕ) (k : Accounts) (q : ℕ) (v : Verdict) (told : verdict-values v ≡ check unit s k .values) where
+  pub all-by-check : (x : Refusal) → v ≡ NotAccepted x → first-refusal (quota-lines unit s k q) ≡ refusal-number x
   unfolding quota-lines
-  all-by-check x e = check-refuses s k v told (line-3 q ∷ []) x e
+  all-by-check x e = check-refuses unit s k v told (line-3 q ∷ []) x e
 
-  pub all-by-quota : v ≡ Accepted → QUOTAS ≤ q → first-refusal (quota-lines s k q) ≡ 3
+  pub all-by-quota : v ≡ Accepted → QUOTAS ≤ q → first-refusal (quota-lines unit s k q) ≡ 3
   unfolding quota-lines
-  all-by-quota e l = check-accepts s k v told (line-3 q ∷ []) e ∙ line-3-refuses q [] l
+  all-by-quota e l = check-accepts unit s k v told (line-3 q ∷ []) e ∙ line-3-refuses q [] l
 
-  pub all-passes : v ≡ Accepted → q < QUOTAS → first-refusal (quota-lines s k q) ≡ 0
+  pub all-passes : v ≡ Accepted → q < QUOTAS → first-refusal (quota-lines unit s k q) ≡ 0
   unfolding quota-lines first-refusal
-  all-passes e l = check-accepts s k v told (line-3 q ∷ []) e ∙ line-3-passes q [] l
+  all-passes e l = check-accepts unit s k v told (line-3 q ∷ []) e ∙ line-3-passes q [] l
 
 -- a refusal as a result
-pub all-refuses : (s : List ℕ) (k : Accounts) (q : ℕ) (r : AmountResult) (x : Refusal) → r ≡ record { accounts = k; answer = Refused x }
-    → first-refusal (quota-lines s k q) ≡ refusal-number x → amount-outcome s r ≡ free-all s k q
+pub all-refuses : (unit : ℕ → ℕ) (s : List ℕ) (k : Accounts) (q : ℕ) (r : AmountResult) (x : Refusal) → r ≡ record { accounts = k; answer = Refused x }
+    → first-refusal (quota-lines unit s k q) ≡ refusal-number x → amount-outcome s r ≡ free-all unit s k q
 unfolding free-all amount-values
-all-refuses s k q r x e n = ap (amount-outcome s) e ∙ refused-is (first-refusal (quota-lines s k q)) s k _ x n
+all-refuses unit s k q r x e n = ap (amount-outcome s) e ∙ refused-is (first-refusal (quota-lines unit s k q)) s k _ x n
 
 -- heap and accounts are consistent, and the records of the quota q are dropped: k₁ are the accounts after the refund, and k₂ those that are left
-module _ (s : List ℕ) (k : Accounts) (o : Octets s) (short : length s ≤ 32768) (ok : consistent s k ≡ true) (sized : Sized k) (q : ℕ) (below : q < QUOTAS) (back : ℕ) (be : back ≡ spent q k)
+module _ (unit : ℕ → ℕ) (s : List ℕ) (k : Accounts) (o : Octets s) (short : length s ≤ 32768) (ok : consistent s k ≡ true) (sized : Sized k) (q : ℕ) (below : q < QUOTAS) (back : ℕ) (be : back ≡ spent q k)
     (k₁ k₂ : Accounts) (e₁ : k₁ ≡ refund q back k) (e₂ : k₂ ≡ with-holds (drop-records q (k₁ .holds)) k₁) where
   -- the records that are left, and the accounts
   left-holds : k₂ .holds ≡ drop-records q (k .holds)
@@ -90,13 +90,13 @@ module _ (s : List ℕ) (k : Accounts) (o : Octets s) (short : length s ≤ 3276
         (flagged (drop-records q (k .holds)) kept serials told s k ok (sized .holds-long) se)
 
     -- so the walk may start, and what it leaves is the definition's
-    pub all-freed : first-refusal (quota-lines s k q) ≡ 0
+    pub all-freed : first-refusal (quota-lines unit s k q) ≡ 0
         → Emptiable kept s
-        × ((s′ : List ℕ) → Emptied kept s s′ → (r : AmountResult) → r ≡ record { accounts = k₂; answer = Amount back } → amount-outcome s′ r ≡ free-all s k q)
+        × ((s′ : List ℕ) → Emptied kept s s′ → (r : AmountResult) → r ≡ record { accounts = k₂; answer = Amount back } → amount-outcome s′ r ≡ free-all unit s k q)
     unfolding free-all freed
     all-freed z = ((drop-records q (k .holds), blocks-of s, emptying), leaves-all)
       where
-        leaves-all : (s′ : List ℕ) → Emptied kept s s′ → (r : AmountResult) → r ≡ record { accounts = k₂; answer = Amount back } → amount-outcome s′ r ≡ free-all s k q
+        leaves-all : (s′ : List ℕ) → Emptied kept s s′ → (r : AmountResult) → r ≡ record { accounts = k₂; answer = Amount back } → amount-outcome s′ r ≡ free-all unit s k q
         leaves-all s′ f r re =
             let heap : s′ ≡ render (settle (drop-records q (k .holds)) (blocks-of s)) = f (drop-records q (k .holds)) (blocks-of s) emptying in
-            gives s′ k₂ back r re ∙ (λ i. outcome (heap i) (left i) (amount-of (paid i))) ∙ accepted-is (first-refusal (quota-lines s k q)) s k _ z
+            gives s′ k₂ back r re ∙ (λ i. outcome (heap i) (left i) (amount-of (paid i))) ∙ accepted-is (first-refusal (quota-lines unit s k q)) s k _ z

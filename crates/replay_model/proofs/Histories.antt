@@ -24,8 +24,8 @@ use Rattle.replay_model.proofs.Openings.{opening-granted, begins}
 
 -- the lines of a history lead to a history
 module _ (grants : List ℕ) where
-  ran-history : (ls : List (List ℕ)) (s : List ℕ) (k : Accounts) (es : List Event) → History (step unit) (empty grants) es s k
-      → History (step unit) (empty grants) (ran-lines ls s k es .events) (ran-lines ls s k es .heap) (ran-lines ls s k es .accounts)
+  ran-history : (ls : List (List ℕ)) (s : List ℕ) (k : Accounts) (es : List Event) → History unit (step unit) (empty grants) es s k
+      → History unit (step unit) (empty grants) (ran-lines ls s k es .events) (ran-lines ls s k es .heap) (ran-lines ls s k es .accounts)
   unfolding ran-lines ran-call
   ran-history [] s k es h = h
   ran-history (l ∷ []) s k es h = h
@@ -38,10 +38,10 @@ module _ (grants : List ℕ) where
       stopped = record { heap = s; accounts = k; events = es; last = bad-line }
 
       go : (o : Option Call)
-          → ((s′ : List ℕ) (k′ : Accounts) (es′ : List Event) → History (step unit) (empty grants) es′ s′ k′
-          → History (step unit) (empty grants) (ran-lines (m ∷ ls) s′ k′ es′ .events) (ran-lines (m ∷ ls) s′ k′ es′ .heap)
+          → ((s′ : List ℕ) (k′ : Accounts) (es′ : List Event) → History unit (step unit) (empty grants) es′ s′ k′
+          → History unit (step unit) (empty grants) (ran-lines (m ∷ ls) s′ k′ es′ .events) (ran-lines (m ∷ ls) s′ k′ es′ .heap)
           (ran-lines (m ∷ ls) s′ k′ es′ .accounts))
-          → History (step unit) (empty grants) (ran-call o stopped after .events) (ran-call o stopped after .heap) (ran-call o stopped after .accounts)
+          → History unit (step unit) (empty grants) (ran-call o stopped after .events) (ran-call o stopped after .heap) (ran-call o stopped after .accounts)
       go none ih = h
       go (some c) ih =
           let t = step unit c s k in
@@ -100,5 +100,5 @@ replay-history s l m ls o h e q z =
       holds =
           λ front back d.
           demand-3 .always (empty (o .grants)) front back (r .heap) (r .accounts)
-          (subst (λ (es : List Event). History (step unit) (empty (o .grants)) es (r .heap) (r .accounts)) d leads);
+          (subst (λ (es : List Event). History unit (step unit) (empty (o .grants)) es (r .heap) (r .accounts)) d leads);
     }

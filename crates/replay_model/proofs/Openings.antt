@@ -10,6 +10,7 @@ use lib.Dec.{leb, eqb}
 use borrow.Author.Tests.{leb-true, eqb-true}
 use lib.ListN.{length, drop, getD, length-drop}
 use lib.Seq.{getD-drop}
+use Rattle.rounding.specs.Rounding.{unit}
 use Rattle.accounts.specs.declared.Accounts.{Accounts}
 use Rattle.accounts.specs.Accounts.{QUOTAS, zero-accounts}
 use Rattle.model.specs.Answers.{Values, accepted}
@@ -117,7 +118,7 @@ unless-accepted zero s k done e z = e
 unless-accepted (suc n) s k done e z = absurd (omega arith)
 
 pub begins : (s grants : List ℕ) → Granted grants → open-heap s grants .values .refusal ≡ 0
-    → Begins (empty grants) (open-heap s grants .heap) (open-heap s grants .accounts)
+    → Begins unit (empty grants) (open-heap s grants .heap) (open-heap s grants .accounts)
 unfolding open-heap
 begins s grants g z =
     let o = open-heap s grants in

@@ -25,9 +25,9 @@ module _ (s : List ℕ) (k : Accounts) (r : Reached s k) where
   reached-holds : Holds unit (step unit) (empty (r .grants)) (r .events) [] s k
   reached-holds = demand-3 .always (empty (r .grants)) (r .events) [] s k (r .history)
 
-  pub reached-checked : first-refusal (check-lines s k) ≡ 0
+  pub reached-checked : first-refusal (check-lines unit s k) ≡ 0
   unfolding first-refusal check-lines line-1 line-2
-  reached-checked = rw (reached-holds .length-allowed, reached-holds .kept-consistent)
+  reached-checked = rw (reached-holds .length-allowed, reached-holds .kept-sound)
 
   pub reached-length : length s ≤ 32768
   unfolding allowed

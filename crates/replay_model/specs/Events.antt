@@ -47,14 +47,14 @@ answer-lines (Restored s k ∷ es) = answer-lines es
 -- the events into a front and a back
 pub record Historical (s grants : List ℕ) (r : Ran) : Type 0 where
   pub printed : replay s ≡ ok-line [] ++ (answer-lines (r .events) ++ r .last)
-  pub history : History (step unit) (empty grants) (r .events) (r .heap) (r .accounts)
+  pub history : History unit (step unit) (empty grants) (r .events) (r .heap) (r .accounts)
   pub holds : (front back : List Event) → r .events ≡ back ++ front → Holds unit (step unit) (empty grants) front back (r .heap) (r .accounts)
 
 -- a heap and its accounts that a history leads to, from an accepted opening
 pub record Reached (s : List ℕ) (k : Accounts) : Type 0 where
   pub grants : List ℕ
   pub events : List Event
-  pub history : History (step unit) (empty grants) events s k
+  pub history : History unit (step unit) (empty grants) events s k
 
 -- grants as an opening takes them: one for each quota, of 32 bits
 pub record Granted (grants : List ℕ) : Type 0 where

@@ -1,11 +1,11 @@
--- The table of units, computed at both ends of each row, with the object's lengths and the hardware's alignment there (rules 6.1 to 6.4).
+-- The table of units, computed at both ends of each row, with the object's lengths, the alignments and the hardware's alignment there (rules 6.1 to 6.4).
 -- Assumes nothing.
 use mathlib.Core.Path.{_≡_, refl}
 use mathlib.Core.List.{[], _∷_, map}
 use Rattle.rounding.specs.Rounding.{unit, object-length, alignment, leading-zeros, exponent, representable-alignment}
 
 -- the unit at both ends of each row
-pub unit-rows : map unit (1 ∷ 8191 ∷ 8192 ∷ 16383 ∷ 16384 ∷ 32767 ∷ []) ≡ 8 ∷ 8 ∷ 16 ∷ 16 ∷ 32 ∷ 32 ∷ []
+pub unit-rows : map unit (1 ∷ 8191 ∷ 8192 ∷ 16383 ∷ 16384 ∷ 32767 ∷ 32768 ∷ []) ≡ 8 ∷ 8 ∷ 16 ∷ 16 ∷ 32 ∷ 32 ∷ 64 ∷ []
 unfolding unit
 unit-rows = refl
 
@@ -19,12 +19,16 @@ pub longer-rows : map (object-length unit) (8192 ∷ 8193 ∷ 16383 ∷ 16384 �
 unfolding unit object-length
 longer-rows = refl
 
--- the base's alignment goes by the request
-pub alignment-rows : map (alignment unit) (1 ∷ 8185 ∷ 8191 ∷ 8192 ∷ 16383 ∷ 16384 ∷ 32760 ∷ []) ≡ 8 ∷ 8 ∷ 8 ∷ 16 ∷ 16 ∷ 32 ∷ 32 ∷ []
-unfolding unit alignment
+-- the alignment of a request: that of its object's length, also where this falls into the next row
+pub alignment-rows : map (alignment unit) (8184 ∷ 8185 ∷ 8191 ∷ 8192 ∷ 16368 ∷ 16369 ∷ 16383 ∷ 16384 ∷ []) ≡ 8 ∷ 16 ∷ 16 ∷ 16 ∷ 16 ∷ 32 ∷ 32 ∷ 32 ∷ []
+unfolding unit object-length alignment
 alignment-rows = refl
 
+pub longest-rows : map (alignment unit) (32736 ∷ 32737 ∷ 32760 ∷ []) ≡ 32 ∷ 64 ∷ 64 ∷ []
+unfolding unit object-length alignment
+longest-rows = refl
+
 -- the hardware's alignment at the ends of the rows from 4 KiB on
-pub formula-rows : map representable-alignment (4096 ∷ 8191 ∷ 8192 ∷ 16383 ∷ 16384 ∷ 32767 ∷ []) ≡ 8 ∷ 8 ∷ 16 ∷ 16 ∷ 32 ∷ 32 ∷ []
+pub formula-rows : map representable-alignment (4096 ∷ 8191 ∷ 8192 ∷ 16383 ∷ 16384 ∷ 32767 ∷ 32768 ∷ []) ≡ 8 ∷ 8 ∷ 16 ∷ 16 ∷ 32 ∷ 32 ∷ 64 ∷ []
 unfolding leading-zeros exponent representable-alignment
 formula-rows = refl

@@ -31,11 +31,11 @@ octets-set [] i b h o = o
 octets-set (x ∷ s) zero b h o = elim [ zero ↦ h | suc j ↦ o (suc j) ]
 octets-set (x ∷ s) (suc i) b h o = elim [ zero ↦ o 0 | suc j ↦ octets-set s i b h (λ n. o (suc n)) j ]
 
-module _ (s : List ℕ) (k : Accounts) (h : Handle) (at byte : ℕ) where
+module _ (unit : ℕ → ℕ) (s : List ℕ) (k : Accounts) (h : Handle) (at byte : ℕ) where
   -- the accounts stay
-  pub write-accounts : write-object s k h at byte .accounts ≡ k
+  pub write-accounts : write-object unit s k h at byte .accounts ≡ k
   unfolding write-object
-  write-accounts = unless-has (λ (t : Outcome). t .accounts ≡ k) (first-refusal (lend-lines s k h)) s k _ refl (λ n. refl)
+  write-accounts = unless-has (λ (t : Outcome). t .accounts ≡ k) (first-refusal (lend-lines unit s k h)) s k _ refl (λ n. refl)
 
   module _ (octets : Octets s) (small : byte < 256) where
     same : Written s s
@@ -54,17 +54,17 @@ module _ (s : List ℕ) (k : Accounts) (h : Handle) (at byte : ℕ) where
             record {
               same-length = length-set s (o .base + at) byte;
               octets = octets-set s (o .base + at) byte small octets;
-              inside = λ i e. getD-set-other s (o .base + at) i byte 0 (λ q. found-inside s k h i e (omega arith) (omega (arith, ltb-true at (o .length) l)));
+              inside = λ i e. getD-set-other s (o .base + at) i byte 0 (λ q. found-inside unit s k h i e (omega arith) (omega (arith, ltb-true at (o .length) l)));
             }
         go false l = same
 
-    pub write-written : Written s (write-object s k h at byte .heap)
+    pub write-written : Written s (write-object unit s k h at byte .heap)
     unfolding write-object
-    write-written = unless-has (λ (t : Outcome). Written s (t .heap)) (first-refusal (lend-lines s k h)) s k _ byte-written (λ n. same)
+    write-written = unless-has (λ (t : Outcome). Written s (t .heap)) (first-refusal (lend-lines unit s k h)) s k _ byte-written (λ n. same)
 
 -- a history goes on with a write, accepted or refused
-module _ (unit : ℕ → ℕ) (units : Units unit) (begun : Ledger) (es : List Event) (s : List ℕ) (k : Accounts) (past : History (step unit) begun es s k) where
+module _ (unit : ℕ → ℕ) (units : Units unit) (begun : Ledger) (es : List Event) (s : List ℕ) (k : Accounts) (past : History unit (step unit) begun es s k) where
   pub write-history : (h : Handle) (at byte : ℕ) → byte < 256
-      → History (step unit) begun (Wrote ∷ es) (write-object s k h at byte .heap) (write-object s k h at byte .accounts)
+      → History unit (step unit) begun (Wrote ∷ es) (write-object unit s k h at byte .heap) (write-object unit s k h at byte .accounts)
   write-history h at byte small =
-      (s, rw (write-accounts s k h at byte) past, write-written s k h at byte (history-agrees unit units begun es s k past .octets) small)
+      (s, rw (write-accounts unit s k h at byte) past, write-written unit s k h at byte (history-agrees unit units begun es s k past .octets) small)

@@ -203,6 +203,82 @@ fn sentence_6_grants_are_remainders_and_charges_in_whole_numbers() {
     is_refused_as_not_sound("a charge for each count", &count);
 }
 
+/// Makes a heap of this length with one object, which quota 0 holds.
+fn with_object(heap_length: u32, base: u32, length: u32) -> State {
+    let (front, behind) = (base - 8, heap_length - base - length);
+    let pieces = [(front, 0), (length + 8, 1), (behind, 0)];
+    let pieces: Vec<Piece> = pieces.into_iter().filter(|piece| piece.0 > 0).collect();
+    state_of(&pieces, &[hold(1, 0, 1)])
+}
+
+/// Bases and lengths of objects that fit their units.
+const FITTING: [(u32, u32); 14] = [
+    (8, 8),
+    (24, 8_176),
+    (8, 8_184),
+    (16, 8_192),
+    (8_208, 8_192),
+    (16, 8_208),
+    (48, 16_352),
+    (16, 16_368),
+    (32, 16_384),
+    (64, 16_384),
+    (16_352, 16_384),
+    (32, 16_416),
+    (64, 32_704),
+    (32, 32_736),
+];
+
+/// Bases and lengths of objects of which one does not fit the unit.
+const UNFITTING: [(u32, u32); 16] = [
+    (8, 8_192),
+    (24, 8_192),
+    (8_200, 8_192),
+    (16, 8_200),
+    (8, 8_200),
+    (8, 8_208),
+    (16, 16_376),
+    (8, 16_368),
+    (8, 16_384),
+    (16, 16_384),
+    (48, 16_384),
+    (32, 16_400),
+    (32, 16_392),
+    (16, 32_736),
+    (16, 32_752),
+    (8, 32_760),
+];
+
+#[test]
+fn rule_5_10_bases_and_lengths_fit_their_units() {
+    for (base, length) in FITTING {
+        let state = with_object(32_768, base, length);
+        assert!(naive::is_sound(&state.heap, &state.accounts));
+        assert_eq!(
+            check(&state.heap, &state.accounts),
+            Ok(()),
+            "{base} {length}"
+        );
+    }
+    for (base, length) in UNFITTING {
+        let name = format!("{length} bytes at {base}");
+        is_refused_as_not_sound(&name, &with_object(32_768, base, length));
+    }
+}
+
+#[test]
+fn rule_5_10_asks_nothing_of_free_blocks_and_looks_at_every_object() {
+    let holds = [hold(1, 0, 1), hold(2, 0, 1), hold(3, 0, 1)];
+    let long_free = [(16, 1), (8_208, 0), (16, 2), (16_400, 0), (16, 3)];
+    let all_fit = [(16, 1), (8, 0), (8_200, 2), (8, 0), (8_200, 3)];
+    for pieces in [long_free, all_fit] {
+        let state = state_of(&pieces, &holds);
+        assert_eq!(check(&state.heap, &state.accounts), Ok(()));
+    }
+    let last_off = [(16, 1), (8, 0), (8_200, 2), (16, 0), (8_200, 3)];
+    is_refused_as_not_sound("the last object", &state_of(&last_off, &holds));
+}
+
 #[test]
 fn record_places_need_no_order_and_last_serial_may_be_higher() {
     let mut state = sound();

@@ -51,6 +51,12 @@ fn unit_of(request: u64) -> Option<u32> {
     }
 }
 
+/// Gives the alignment of an object of this length: 8, doubled at the start of each further row.
+fn alignment_of(length: u32) -> u32 {
+    let starts = [8_192, 16_384, 32_768];
+    8 << starts.iter().filter(|start| **start <= length).count()
+}
+
 /// Gives the object length for a request: the least multiple that covers it.
 fn object_length(request: u64, unit: u32) -> u32 {
     let multiples = (1..).map(|times| times * unit);
@@ -135,9 +141,9 @@ impl Ledger {
     }
 
     /// Gives the base of the lowest suitable run for a length, trying every one.
-    pub fn lowest_run(&self, unit: u32, length: u32) -> Option<u32> {
+    pub fn lowest_run(&self, length: u32) -> Option<u32> {
         let taken = self.taken();
-        let bases = (0..=self.heap_length).step_by(unit as usize);
+        let bases = (0..=self.heap_length).step_by(alignment_of(length) as usize);
         let mut in_heap = bases.filter(|b| *b >= 8 && b + length <= self.heap_length);
         in_heap.find(|b| {
             let run = &taken[*b as usize - 8..(*b + length) as usize];
@@ -242,7 +248,7 @@ impl Ledger {
         let length = object_length(request, unit);
         self.payable(quota, length + 8)?;
         let serial = self.last_serial.checked_add(1).ok_or(10)?;
-        let base = self.lowest_run(unit, length).ok_or(11)?;
+        let base = self.lowest_run(length).ok_or(11)?;
         Ok(Answer::Object(Handle {
             base,
             length,

@@ -129,8 +129,8 @@ pub fn space_is_refused_exactly_without_a_run(
         _ => 32,
     };
     match answer {
-        Ok(_) => assert!(before.lowest_run(unit, round(request, unit)).is_some()),
-        Err(11) => assert!(before.lowest_run(unit, round(request, unit)).is_none()),
+        Ok(_) => assert!(before.lowest_run(round(request, unit)).is_some()),
+        Err(11) => assert!(before.lowest_run(round(request, unit)).is_none()),
         Err(_) => {}
     }
 }

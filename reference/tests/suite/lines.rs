@@ -100,8 +100,16 @@ fn request_of_8192_gets_base_16_behind_a_free_block_of_8_bytes() {
 }
 
 #[test]
-fn lowest_bases_are_8_16_and_32_for_the_three_units() {
-    for (request, base) in [(8_191, 8), (8_192, 16), (16_383, 16), (16_384, 32)] {
+fn lowest_bases_go_by_the_rounded_length() {
+    let bases = [
+        (8_184, 8),
+        (8_185, 16),
+        (8_192, 16),
+        (16_368, 16),
+        (16_369, 32),
+        (16_384, 32),
+    ];
+    for (request, base) in bases {
         let mut state = opened(32_768, &[u32::MAX]);
         assert_eq!(state.allocated(0, request).base, base, "request {request}");
     }
@@ -114,21 +122,21 @@ fn rounding_on_both_sides_of_each_line_of_the_table() {
         (8, 8, 8),
         (9, 8, 16),
         (8_184, 8, 8_184),
-        (8_185, 8, 8_192),
-        (8_191, 8, 8_192),
+        (8_185, 16, 8_192),
+        (8_191, 16, 8_192),
         (8_192, 16, 8_192),
         (8_193, 16, 8_208),
         (16_368, 16, 16_368),
-        (16_369, 16, 16_384),
-        (16_383, 16, 16_384),
+        (16_369, 32, 16_384),
+        (16_383, 32, 16_384),
         (16_384, 32, 16_384),
         (16_385, 32, 16_416),
         (32_736, 32, 32_736),
-        (32_737, 32, 32_768),
-        (32_760, 32, 32_768),
+        (32_737, 64, 32_768),
+        (32_760, 64, 32_768),
     ];
-    for (request, unit, length) in table {
-        assert_eq!(round_request(request), Ok(Rounded { unit, length }));
+    for (request, alignment, length) in table {
+        assert_eq!(round_request(request), Ok(Rounded { alignment, length }));
     }
     for request in [0, 32_761, 65_536, 1 << 32, (1 << 32) + 8, u64::MAX] {
         assert_eq!(round_request(request), Err(Refusal::RequestLength));
@@ -139,9 +147,24 @@ fn rounding_on_both_sides_of_each_line_of_the_table() {
 fn rounded_length_is_at_least_the_request_and_less_than_one_unit_more() {
     for request in 1..=MAX_REQUEST {
         let rounded = round_request(request).expect("the request is in the table");
-        let length = u64::from(rounded.length);
-        assert!(length.is_multiple_of(u64::from(rounded.unit)));
-        assert!(request <= length && length < request + u64::from(rounded.unit));
+        let (unit, length) = (
+            u64::from(unit_of(request as u32)),
+            u64::from(rounded.length),
+        );
+        assert!(length.is_multiple_of(unit));
+        assert!(request <= length && length < request + unit);
+    }
+}
+
+#[test]
+fn rounded_length_is_a_multiple_of_its_own_unit_and_rounds_to_itself() {
+    for request in 1..=MAX_REQUEST {
+        let rounded = round_request(request).expect("the request is in the table");
+        assert_eq!(rounded.alignment, unit_of(rounded.length));
+        assert!(rounded.length.is_multiple_of(rounded.alignment));
+        if u64::from(rounded.length) <= MAX_REQUEST {
+            assert_eq!(round_request(u64::from(rounded.length)), Ok(rounded));
+        }
     }
 }
 

@@ -46,6 +46,7 @@ pub fn is_sound(heap: &[u8], accounts: &Accounts) -> bool {
     serials_are_sound(&live, accounts)
         && records_are_sound(&live, accounts)
         && sums_are_sound(&live, accounts)
+        && live.iter().all(fits_its_unit)
 }
 
 /// Judges the rules about live serials (5.3 and 5.4).
@@ -98,4 +99,19 @@ fn sums_are_sound(live: &[Block], accounts: &Accounts) -> bool {
         }
     }
     (0..QUOTAS).all(|quota| sums[quota] == i128::from(accounts.quotas[quota].grant))
+}
+
+/// Judges whether an object's base and length are multiples of its unit (5.10).
+fn fits_its_unit(block: &Block) -> bool {
+    let (base, length) = (block.offset + 8, block.size - 8);
+    let unit = if length >= 32_768 {
+        64
+    } else if length >= 16_384 {
+        32
+    } else if length >= 8_192 {
+        16
+    } else {
+        8
+    };
+    base % unit == 0 && length % unit == 0
 }

@@ -4,9 +4,9 @@ mod plan;
 mod written;
 
 use plan::{
-    add_record, change_record, further_high_quota, no_record_at_all, object_without_record,
-    record_of_no_object, record_twice, serial_above_last, serial_twice, short_live_block,
-    two_free_blocks,
+    add_record, base_by_the_request, change_record, further_high_quota, no_record_at_all,
+    object_without_record, record_of_no_object, record_twice, serial_above_last, serial_twice,
+    short_live_block, two_free_blocks, unfitting_base, unfitting_length,
 };
 use written::{
     add_to_quota, charge_each_count, charge_without_header, first_back_size, last_size,
@@ -46,7 +46,7 @@ const fn kind(name: &'static str, sentence: Sentence, way: Way) -> Damage {
 }
 
 /// Every kind of damage.
-pub const DAMAGES: [Damage; 34] = [
+pub const DAMAGES: [Damage; 37] = [
     kind(
         "a live block of 8 bytes",
         Sentence::Cut,
@@ -208,6 +208,21 @@ pub const DAMAGES: [Damage; 34] = [
         "charges without the header",
         Sentence::Sums,
         Way::State(charge_without_header),
+    ),
+    kind(
+        "a length that is no multiple of its unit",
+        Sentence::Units,
+        Way::Plan(unfitting_length),
+    ),
+    kind(
+        "a base that is no multiple of its object's unit",
+        Sentence::Units,
+        Way::Plan(unfitting_base),
+    ),
+    kind(
+        "a base by the unit of the request",
+        Sentence::Units,
+        Way::Plan(base_by_the_request),
     ),
 ];
 

@@ -23,6 +23,59 @@ pub(super) fn short_live_block(plan: &mut Plan, seed: &mut Seed) -> Option<()> {
     Some(())
 }
 
+/// Gives the places of live pieces whose object has a unit above 8.
+fn long(plan: &Plan) -> Vec<usize> {
+    let mut places = plan.live();
+    places.retain(|place| plan.pieces[*place].size >= 8_200);
+    places
+}
+
+/// Adds bytes to the free piece at a place, or takes them from it; where none stands there, one is
+/// put there.
+fn change_free(plan: &mut Plan, place: usize, by: i32) -> Option<()> {
+    let there = plan.pieces.get(place);
+    if there.is_none_or(|piece| piece.serial != 0) {
+        plan.pieces.insert(place, Piece { size: 0, serial: 0 });
+    }
+    plan.pieces[place].size = plan.pieces[place].size.checked_add_signed(by)?;
+    Some(())
+}
+
+/// Less than a unit, up or down.
+const SHIFTS: [i32; 6] = [-24, -16, -8, 8, 16, 24];
+
+/// Makes a long object longer or shorter by less than a unit.
+pub(super) fn unfitting_length(plan: &mut Plan, seed: &mut Seed) -> Option<()> {
+    let place = seed.any_of(&long(plan))?;
+    let by = seed.pick(&SHIFTS);
+    change_free(plan, place + 1, -by)?;
+    plan.pieces[place].size = plan.pieces[place].size.checked_add_signed(by)?;
+    plan.pieces.retain(|piece| piece.size > 0);
+    Some(())
+}
+
+/// Moves a long object up or down by less than a unit.
+pub(super) fn unfitting_base(plan: &mut Plan, seed: &mut Seed) -> Option<()> {
+    let place = seed.any_of(&long(plan))?;
+    let by = seed.pick(&SHIFTS);
+    change_free(plan, place + 1, -by)?;
+    let free_in_front = place > 0 && plan.pieces[place - 1].serial == 0;
+    change_free(plan, place - usize::from(free_in_front), by)?;
+    plan.pieces.retain(|piece| piece.size > 0);
+    Some(())
+}
+
+/// Puts one object where the unit of its request would: half its own unit, and as long as the
+/// first object of its row.
+pub(super) fn base_by_the_request(plan: &mut Plan, seed: &mut Seed) -> Option<()> {
+    let length = seed.pick(&[8_192, 16_384]);
+    let unit = length / 1_024;
+    let base = (2 * seed.below(100) + 1) * unit;
+    let behind = 8 * seed.below(1_000);
+    *plan = Plan::of_object(base + length + behind, base, length);
+    Some(())
+}
+
 /// Splits a free block in two.
 pub(super) fn two_free_blocks(plan: &mut Plan, seed: &mut Seed) -> Option<()> {
     let places: Vec<usize> = (0..plan.pieces.len())

@@ -13,6 +13,7 @@ use Rattle.model.specs.declared.Verdict.the-variants.{Accepted, Refused}
 use Rattle.model.specs.Answers.{verdict-values}
 use Rattle.model.specs.Consistent.{allowed}
 use Rattle.model.specs.Calls.{check as check-of}
+use Rattle.rounding.specs.Rounding.{unit}
 use Rattle.checker.specs.Contracts.{Indexed, Owing}
 use Rattle.checker.proofs.Verdicts.{fresh, verdict-length, verdict-ill, verdict-insolvent, ready, verdict-walk}
 use Rattle.checker.proofs.check.Statement.{statement}
@@ -24,7 +25,7 @@ is-allowed-requires c κs = search needs
 returns : tie.Need-returns
 returns c =
     let a = c .before .before .before .args in
-    verdict-length (a .heap .now) (a .accounts) (sym (c .before .is-allowed .ensures) ∙ not-true _ (c .if1 .taken))
+    verdict-length unit (a .heap .now) (a .accounts) (sym (c .before .is-allowed .ensures) ∙ not-true _ (c .if1 .taken))
 
 cast-end : tie.Need-cast-end
 cast-end c = search needs
@@ -51,7 +52,7 @@ returns-2 c =
     let x = c .before in
     let f = x .before .before .before .before .before in
     let s = f .before .before .before in
-    verdict-ill (s .args .heap .now) (s .args .accounts) (fits f) (long s) (index-is x false (not-true _ (c .if2 .taken)))
+    verdict-ill unit (s .args .heap .now) (s .args .accounts) (fits f) (long s) (index-is x false (not-true _ (c .if2 .taken)))
 
 owing-requires : tie.Need-owing-requires
 owing-requires c κs = search needs
@@ -68,7 +69,7 @@ returns-3 c =
     let o = c .before in
     let f = o .before .before .before .before .before .before .before .before .before in
     let s = f .before .before .before in
-    verdict-insolvent (s .args .heap .now) (s .args .accounts) (fits f) (long s) (owing-is o false (not-true _ (c .if3 .taken)))
+    verdict-insolvent unit (s .args .heap .now) (s .args .accounts) (fits f) (long s) (owing-is o false (not-true _ (c .if3 .taken)))
 
 walk-requires : tie.Need-walk-requires
 walk-requires c κs =
@@ -77,21 +78,21 @@ walk-requires c κs =
     let x = o .before .before .before .before in
     let f = x .before .before .before .before .before in
     let s = f .before .before .before in
-    ready (s .args .heap .now) (s .args .accounts) (fits f) (long s) (index-is x true (not-false _ (o .before .before .before .if2 .left))) (owing-is o true (not-false _ (e .if3 .left)))
+    ready unit (s .args .heap .now) (s .args .accounts) (fits f) (long s) (index-is x true (not-false _ (o .before .before .before .if2 .left))) (owing-is o true (not-false _ (e .if3 .left)))
 
 -- the verdict, by the answer of `walk`
 abbrev owing-before : tie.After-walk → tie.After-owing
 owing-before c = c .before .before .before .before .before .before
 
 walked : (c : tie.After-walk) (t : Bool) → c .walk .result ≡ t
-    → verdict-values (cond t Accepted (Refused Inconsistent)) ≡ check-of (entry (owing-before c) .args .heap .now) (entry (owing-before c) .args .accounts) .values
+    → verdict-values (cond t Accepted (Refused Inconsistent)) ≡ check-of unit (entry (owing-before c) .args .heap .now) (entry (owing-before c) .args .accounts) .values
 walked c t r =
     let e = c .before .before .before .before .before in
     let o = e .before in
     let x = o .before .before .before .before in
     let f = x .before .before .before .before .before in
     let s = f .before .before .before in
-    verdict-walk (s .args .heap .now) (s .args .accounts) (fits f) (long s) (index-is x true (not-false _ (o .before .before .before .if2 .left))) (owing-is o true (not-false _ (e .if3 .left))) t (sym r ∙ c .walk .ensures)
+    verdict-walk unit (s .args .heap .now) (s .args .accounts) (fits f) (long s) (index-is x true (not-false _ (o .before .before .before .if2 .left))) (owing-is o true (not-false _ (e .if3 .left))) t (sym r ∙ c .walk .ensures)
 
 returns-4 : tie.Need-returns-4
 returns-4 c = walked (c .before) false (not-true _ (c .if4 .taken))

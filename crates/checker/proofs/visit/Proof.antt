@@ -5,9 +5,11 @@
 use Prim.Native.Nat.{ℕ}
 use native.Mathlib.Omega.{arith}
 use borrow.Author.Needs.{needs}
-use mathlib.Core.Path.{ap, _∙_}
+use borrow.Author.Tests.{not-true, not-false}
+use mathlib.Core.Path.{ap, sym, _∙_}
 use lib.ListN.{getD}
-use Rattle.checker.proofs.Visiting.{visit-behind, visit-apart, visit-short, visit-late, payable, visit-settled}
+use Rattle.rounding.specs.Rounding.{unit}
+use Rattle.checker.proofs.Visiting.{visit-behind, visit-apart, visit-late, visit-unfit, payable, visit-settled}
 use Rattle.checker.proofs.visit.Statement.{statement}
 use Rattle.checker.proofs.visit.Tie as tie
 
@@ -15,25 +17,29 @@ returns : tie.Need-returns
 returns c =
     let s = c .before .before in
     let a = s .args in
-    visit-behind (a .last) (a .serial) (a .size) (a .before) (s .pre) (c .before .if1 .taken) (c .if2 .taken)
+    visit-behind unit (a .last) (a .serial) (a .size) (a .end) (a .before) (s .pre .0) (c .before .if1 .taken) (c .if2 .taken)
 
 returns-2 : tie.Need-returns-2
 returns-2 c =
     let s = c .before .before in
     let a = s .args in
-    visit-apart (a .last) (a .serial) (a .size) (a .before) (s .pre) (c .before .if1 .taken) (c .if2 .left)
+    visit-apart unit (a .last) (a .serial) (a .size) (a .end) (a .before) (s .pre .0) (c .before .if1 .taken) (c .if2 .left)
 
 returns-3 : tie.Need-returns-3
 returns-3 c =
     let s = c .before .before in
     let a = s .args in
-    visit-short (a .last) (a .serial) (a .size) (a .before) (s .pre) (c .before .if1 .left) (omega arith)
+    visit-late unit (a .last) (a .serial) (a .size) (a .end) (a .before) (s .pre .0) (c .before .if1 .left) (omega arith)
+
+is-fitting-requires : tie.Need-is-fitting-requires
+is-fitting-requires c κs = let p = c .before .before .pre in (p .1, p .2, p .3, p .4)
 
 returns-4 : tie.Need-returns-4
 returns-4 c =
-    let s = c .before .before .before in
+    let f = c .before in
+    let s = f .before .before .before in
     let a = s .args in
-    visit-late (a .last) (a .serial) (a .size) (a .before) (s .pre) (c .before .before .if1 .left) (omega arith)
+    visit-unfit unit (a .last) (a .serial) (a .size) (a .end) (a .before) (s .pre .0) (f .before .before .if1 .left) (sym (f .is-fitting .ensures) ∙ not-true _ (c .if4 .taken))
 
 slot-of-requires : tie.Need-slot-of-requires
 slot-of-requires c κs = search needs
@@ -50,17 +56,19 @@ place-requires c κs = search needs
 settle-requires : tie.Need-settle-requires
 settle-requires c κs =
     let g = c .before .before .before .before .before in
-    let s = g .before .before .before in
+    let s = g .before .before .before .before in
     let a = s .args in
-    payable (s .pre) (a .serial) (g .before .before .if1 .left)
+    payable (s .pre .0) (a .serial) (g .before .before .before .if1 .left)
     (c .before .before .place .ensures ∙ ap (λ (x : ℕ). getD (a .heads .now) x 0) (c .before .before .before .before .slot-of .ensures .0))
 
 returns-5 : tie.Need-returns-5
 returns-5 c =
     let g = c .before .before .before .before .before .before in
-    let s = g .before .before .before in
+    let f = g .before in
+    let s = f .before .before .before in
     let a = s .args in
-    visit-settled (a .last) (a .serial) (a .size) (a .before) (s .pre) (g .before .before .if1 .left) (omega arith) (omega arith) (c .settle .result) (c .settle .last .0) (c .settle .last .1 .1 .0) (c .settle .ensures)
+    visit-settled unit (a .last) (a .serial) (a .size) (a .end) (a .before) (s .pre .0) (f .before .before .if1 .left)
+    (sym (f .is-fitting .ensures) ∙ not-false _ (g .if4 .left)) (omega arith) (c .settle .result) (c .settle .last .0) (c .settle .last .1 .1 .0) (c .settle .ensures)
 
 pub visit-spec : {M : Type 1} → statement M
 visit-spec =
@@ -69,6 +77,7 @@ visit-spec =
     returns
     returns-2
     returns-3
+    is-fitting-requires
     returns-4
     slot-of-requires
     mul-place

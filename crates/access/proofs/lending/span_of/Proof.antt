@@ -5,6 +5,7 @@ use Prim.Native.Nat.{_+_, _≤_}
 use native.Mathlib.Omega.{arith}
 use borrow.Author.Needs.{needs}
 use lib.ListN.{length}
+use Rattle.rounding.specs.Rounding.{unit}
 use Rattle.model.specs.declared.Refusal.the-variants.{NoSuchObject}
 use Rattle.finder.specs.declared.Lookup.the-variants.{Found}
 use Rattle.finder.specs.Walk.{find-object}
@@ -26,8 +27,8 @@ returns c =
     let r = c .before .before in
     let k = r .before .before in
     let a = k .before .before .args in
-    spans-refused (a .heap .now) (a .accounts) (a .handle) (c .number .result) (r .refusal .given .0 .0) (c .number .ensures)
-    (lend-refused (a .heap .now) (a .accounts) (a .handle) (k .check .result) (k .check .ensures) (r .refusal .given .0 .0) (r .refusal .given .1))
+    spans-refused unit (a .heap .now) (a .accounts) (a .handle) (c .number .result) (r .refusal .given .0 .0) (c .number .ensures)
+    (lend-refused unit (a .heap .now) (a .accounts) (a .handle) (k .check .result) (k .check .ensures) (r .refusal .given .0 .0) (r .refusal .given .1))
 
 enum-told : tie.Need-enum-told
 enum-told c = search needs
@@ -50,8 +51,8 @@ returns-2 c =
     let f = n .before .before in
     let k = f .before .before .before in
     let a = k .before .before .args in
-    spans-refused (a .heap .now) (a .accounts) (a .handle) (c .number2 .result) NoSuchObject (c .number2 .ensures)
-    (lend-missing (a .heap .now) (a .accounts) (a .handle) (k .check .result) (k .check .ensures) (f .before .enum-told .given .1)
+    spans-refused unit (a .heap .now) (a .accounts) (a .handle) (c .number2 .result) NoSuchObject (c .number2 .ensures)
+    (lend-missing unit (a .heap .now) (a .accounts) (a .handle) (k .check .result) (k .check .ensures) (f .before .enum-told .given .1)
     (sym (f .find-object .ensures) ∙ n .enum-told2 .given .1))
 
 -- the block that was found
@@ -67,7 +68,7 @@ inside c =
     let t = c .before .before .before in
     let k = t .before .before in
     let a = k .before .before .args in
-    lend-inside (a .heap .now) (a .accounts) (a .handle) (k .check .result) (k .check .ensures) (t .enum-told .given .1) (c .block .given .0 .0) (found c)
+    lend-inside unit (a .heap .now) (a .accounts) (a .handle) (k .check .result) (k .check .ensures) (t .enum-told .given .1) (c .block .given .0 .0) (found c)
 
 add-t11 : tie.Need-add-t11
 add-t11 c = let i = inside (c .before .before) in omega arith
@@ -82,9 +83,9 @@ returns-3 c =
     let k = t .before .before in
     let a = k .before .before .args in
     let m = b .block .given .0 .0 in
-    spans-lent (a .heap .now) (a .accounts) (a .handle) m
-    (lend-accepted (a .heap .now) (a .accounts) (a .handle) (k .check .result) (k .check .ensures) (t .enum-told .given .1) m (found b))
-    (lend-object (a .heap .now) (a .accounts) (a .handle) (k .check .result) (k .check .ensures) (t .enum-told .given .1) m (found b))
+    spans-lent unit (a .heap .now) (a .accounts) (a .handle) m
+    (lend-accepted unit (a .heap .now) (a .accounts) (a .handle) (k .check .result) (k .check .ensures) (t .enum-told .given .1) m (found b))
+    (lend-object unit (a .heap .now) (a .accounts) (a .handle) (k .check .result) (k .check .ensures) (t .enum-told .given .1) m (found b))
     (inside b)
 
 pub span-of-spec : {M : Type 1} → statement M

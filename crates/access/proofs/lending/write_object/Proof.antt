@@ -6,6 +6,7 @@ use Prim.Native.Nat.{_+_, _≤_}
 use native.Mathlib.Omega.{arith}
 use borrow.Author.Needs.{needs}
 use lib.ListN.{length}
+use Rattle.rounding.specs.Rounding.{unit}
 use Rattle.model.specs.Answers.{verdict-values}
 use Rattle.model.specs.declared.Refusal.the-variants.{NoSuchObject}
 use Rattle.finder.specs.declared.Lookup.the-variants.{Found}
@@ -32,7 +33,7 @@ returns c =
     let k = r .before .before in
     let a = k .before .before .before .args in
     refused-is _ (a .heap .now) (a .accounts) _ (r .refusal .given .0 .0)
-    (lend-refused (a .heap .now) (a .accounts) (a .handle) (k .check .result) (k .check .ensures) (r .refusal .given .0 .0) (r .refusal .given .1))
+    (lend-refused unit (a .heap .now) (a .accounts) (a .handle) (k .check .result) (k .check .ensures) (r .refusal .given .0 .0) (r .refusal .given .1))
 
 enum-told : tie.Need-enum-told
 enum-told c = search needs
@@ -57,7 +58,7 @@ returns-2 c =
     let k = t .before .before in
     let a = k .before .before .before .args in
     refused-is _ (a .heap .now) (a .accounts) _ NoSuchObject
-    (lend-missing (a .heap .now) (a .accounts) (a .handle) (k .check .result) (k .check .ensures) (t .enum-told .given .1)
+    (lend-missing unit (a .heap .now) (a .accounts) (a .handle) (k .check .result) (k .check .ensures) (t .enum-told .given .1)
     (sym (f .find-object .ensures) ∙ c .enum-told2 .given .1))
 
 -- the block that was found
@@ -73,7 +74,7 @@ inside c =
     let t = c .before .before .before .before in
     let k = t .before .before in
     let a = k .before .before .before .args in
-    lend-inside (a .heap .now) (a .accounts) (a .handle) (k .check .result) (k .check .ensures) (t .enum-told .given .1) (c .block .given .0 .0) (found c)
+    lend-inside unit (a .heap .now) (a .accounts) (a .handle) (k .check .result) (k .check .ensures) (t .enum-told .given .1) (c .block .given .0 .0) (found c)
 
 sub-if1 : tie.Need-sub-if1
 sub-if1 c = let i = inside (c .before .before) in omega arith
@@ -98,9 +99,9 @@ returns-3 c =
     let k = t .before .before in
     let a = k .before .before .before .args in
     let m = b .block .given .0 .0 in
-    writes (a .heap .now) (a .accounts) (a .handle) m
-    (lend-accepted (a .heap .now) (a .accounts) (a .handle) (k .check .result) (k .check .ensures) (t .enum-told .given .1) m (found b))
-    (lend-object (a .heap .now) (a .accounts) (a .handle) (k .check .result) (k .check .ensures) (t .enum-told .given .1) m (found b))
+    writes unit (a .heap .now) (a .accounts) (a .handle) m
+    (lend-accepted unit (a .heap .now) (a .accounts) (a .handle) (k .check .result) (k .check .ensures) (t .enum-told .given .1) m (found b))
+    (lend-object unit (a .heap .now) (a .accounts) (a .handle) (k .check .result) (k .check .ensures) (t .enum-told .given .1) m (found b))
     (inside b) (a .at) (a .byte) (c .before .if1 .taken)
 
 same-length-4 : tie.Need-same-length-4
@@ -114,9 +115,9 @@ returns-4 c =
     let k = t .before .before in
     let a = k .before .before .before .args in
     let m = b .block .given .0 .0 in
-    passes (a .heap .now) (a .accounts) (a .handle) m
-    (lend-accepted (a .heap .now) (a .accounts) (a .handle) (k .check .result) (k .check .ensures) (t .enum-told .given .1) m (found b))
-    (lend-object (a .heap .now) (a .accounts) (a .handle) (k .check .result) (k .check .ensures) (t .enum-told .given .1) m (found b))
+    passes unit (a .heap .now) (a .accounts) (a .handle) m
+    (lend-accepted unit (a .heap .now) (a .accounts) (a .handle) (k .check .result) (k .check .ensures) (t .enum-told .given .1) m (found b))
+    (lend-object unit (a .heap .now) (a .accounts) (a .handle) (k .check .result) (k .check .ensures) (t .enum-told .given .1) m (found b))
     (inside b) (a .at) (a .byte) (c .if1 .left)
 
 pub write-object-spec : {M : Type 1} → statement M

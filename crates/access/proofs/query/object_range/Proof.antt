@@ -5,6 +5,7 @@ use native.Mathlib.Omega.{arith}
 use mathlib.Core.Path.{sym, _∙_}
 use mathlib.Core.List.{[], _∷_}
 use borrow.Author.Needs.{needs}
+use Rattle.rounding.specs.Rounding.{unit}
 use Rattle.model.specs.Answers.{range-values}
 use Rattle.model.specs.Objects.{lookup}
 use Rattle.model.specs.Refusals.{line-5, lend-lines}
@@ -28,7 +29,7 @@ returns c =
     let r = c .before .refusal .given in
     let k = c .before .before .before .check in
     refused-is _ (a .heap .now) (a .accounts) _ (r .0 .0)
-    (check-refuses (a .heap .now) (a .accounts) (k .result) (k .ensures) (line-5 (lookup (a .handle) (a .heap .now)) ∷ []) (r .0 .0) (r .1))
+    (check-refuses unit (a .heap .now) (a .accounts) (k .result) (k .ensures) (line-5 (lookup (a .handle) (a .heap .now)) ∷ []) (r .0 .0) (r .1))
 
 enum-told : tie.Need-enum-told
 enum-told c = search needs
@@ -49,7 +50,7 @@ returns-2 c =
     let a = e .before .before .before .before .args in
     let k = e .before .before .check in
     refused-is _ (a .heap .now) (a .accounts) _ NoSuchObject
-    (lend-missing (a .heap .now) (a .accounts) (k .result) (k .ensures) (e .enum-told .given .1) (a .handle) (sym (c .before .before .find-object .ensures) ∙ c .enum-told2 .given .1))
+    (lend-missing unit (a .heap .now) (a .accounts) (k .result) (k .ensures) (e .enum-told .given .1) (a .handle) (sym (c .before .before .find-object .ensures) ∙ c .enum-told2 .given .1))
 
 add-t9 : tie.Need-add-t9
 add-t9 c =
@@ -57,7 +58,7 @@ add-t9 c =
     let e = b .before .before .before in
     let a = e .before .before .before .before .args in
     let k = e .before .before .check in
-    let l = located (a .heap .now) (a .accounts) (k .result) (k .ensures) (e .enum-told .given .1) (a .handle) (b .block .given .0 .0) (sym (b .before .before .find-object .ensures) ∙ b .block .given .1) in
+    let l = located unit (a .heap .now) (a .accounts) (k .result) (k .ensures) (e .enum-told .given .1) (a .handle) (b .block .given .0 .0) (sym (b .before .before .find-object .ensures) ∙ b .block .given .1) in
     record { fits = omega (arith, l .header, l .end) }
 
 add-t10 : tie.Need-add-t10
@@ -66,7 +67,7 @@ add-t10 c =
     let e = b .before .before .before in
     let a = e .before .before .before .before .args in
     let k = e .before .before .check in
-    let l = located (a .heap .now) (a .accounts) (k .result) (k .ensures) (e .enum-told .given .1) (a .handle) (b .block .given .0 .0) (sym (b .before .before .find-object .ensures) ∙ b .block .given .1) in
+    let l = located unit (a .heap .now) (a .accounts) (k .result) (k .ensures) (e .enum-told .given .1) (a .handle) (b .block .given .0 .0) (sym (b .before .before .find-object .ensures) ∙ b .block .given .1) in
     record { fits = omega (arith, l .header, l .end) }
 
 returns-3 : tie.Need-returns-3
@@ -76,7 +77,7 @@ returns-3 c =
     let e = b .before .before .before in
     let a = e .before .before .before .before .args in
     let k = e .before .before .check in
-    lend-is (a .heap .now) (a .accounts) (k .result) (k .ensures) (e .enum-told .given .1) (a .handle) (b .block .given .0 .0) (sym (b .before .before .find-object .ensures) ∙ b .block .given .1)
+    lend-is unit (a .heap .now) (a .accounts) (k .result) (k .ensures) (e .enum-told .given .1) (a .handle) (b .block .given .0 .0) (sym (b .before .before .find-object .ensures) ∙ b .block .given .1)
 
 pub object-range-spec : {M : Type 1} → statement M
 object-range-spec =

@@ -3,6 +3,7 @@
 -- Assumes nothing.
 use mathlib.Core.Path.{_≡_}
 use native.Mathlib.Omega.{arith}
+use Rattle.rounding.specs.Rounding.{unit}
 use Rattle.calls.specs.Ready.{Checked}
 use Rattle.calls.proofs.Ready.{checked-is, line-4-zero, line-4-long}
 use Rattle.calls.proofs.Granted.{from-8, refused-check, refused-3, refused-4}
@@ -27,7 +28,7 @@ returns c =
     let x = c .before .before in
     let k = x .before .before in
     let a = k .before .before .before .args in
-    refused-check (a .heap .now) (a .accounts) (a .quota) (a .length) (k .check .result) (k .check .ensures) (x .refusal .given .0 .0) (x .refusal .given .1) (c .refused .result)
+    refused-check unit (a .heap .now) (a .accounts) (a .quota) (a .length) (k .check .result) (k .check .ensures) (x .refusal .given .0 .0) (x .refusal .given .1) (c .refused .result)
     (c .refused .ensures)
 
 enum-told : tie.Need-enum-told
@@ -44,16 +45,16 @@ returns-2 c =
     let t = c .before .before in
     let k = t .before .before in
     let a = k .before .before .before .args in
-    refused-3 (a .heap .now) (a .accounts) (a .quota) (a .length) (k .check .result) (k .check .ensures) (t .enum-told .given .1) (c .before .if1 .taken) (c .refused2 .result)
+    refused-3 unit (a .heap .now) (a .accounts) (a .quota) (a .length) (k .check .result) (k .check .ensures) (t .enum-told .given .1) (c .before .if1 .taken) (c .refused2 .result)
     (c .refused2 .ensures)
 
 -- what is known once the quota's number was tested
-checked : (e : tie.Else1) → let a = e .before .before .before .before .before .before .args in Checked (a .heap .now) (a .accounts) (a .quota)
+checked : (e : tie.Else1) → let a = e .before .before .before .before .before .before .args in Checked unit (a .heap .now) (a .accounts) (a .quota)
 checked e =
     let t = e .before in
     let k = t .before .before in
     let a = k .before .before .before .args in
-    checked-is (a .heap .now) (a .accounts) (k .check .result) (k .check .ensures) (t .enum-told .given .1) (a .quota) (e .if1 .left)
+    checked-is unit (a .heap .now) (a .accounts) (k .check .result) (k .check .ensures) (t .enum-told .given .1) (a .quota) (e .if1 .left)
 
 refused-requires-3 : tie.Need-refused-requires-3
 refused-requires-3 c κs = search needs
@@ -65,7 +66,7 @@ returns-3 : tie.Need-returns-3
 returns-3 c =
     let e = c .before .before in
     let a = e .before .before .before .before .before .before .args in
-    refused-4 (a .heap .now) (a .accounts) (a .quota) (a .length) (checked e) (line-4-zero (a .length) (from-8 (a .heap .now) (a .accounts) (a .quota) (a .length)) (c .before .if2 .taken))
+    refused-4 unit (a .heap .now) (a .accounts) (a .quota) (a .length) (checked e) (line-4-zero (a .length) (from-8 unit (a .heap .now) (a .accounts) (a .quota) (a .length)) (c .before .if2 .taken))
     (c .refused3 .result) (c .refused3 .ensures)
 
 refused-requires-4 : tie.Need-refused-requires-4
@@ -78,7 +79,7 @@ returns-4 : tie.Need-returns-4
 returns-4 c =
     let e = c .before .before .before in
     let a = e .before .before .before .before .before .before .args in
-    refused-4 (a .heap .now) (a .accounts) (a .quota) (a .length) (checked e) (line-4-long (a .length) (from-8 (a .heap .now) (a .accounts) (a .quota) (a .length)) (c .before .if3 .taken))
+    refused-4 unit (a .heap .now) (a .accounts) (a .quota) (a .length) (checked e) (line-4-long (a .length) (from-8 unit (a .heap .now) (a .accounts) (a .quota) (a .length)) (c .before .if3 .taken))
     (c .refused4 .result) (c .refused4 .ensures)
 
 cast-grant : tie.Need-cast-grant

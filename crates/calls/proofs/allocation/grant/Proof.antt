@@ -8,7 +8,7 @@ use Rattle.accounts.specs.declared.Accounts.{Accounts}
 use Rattle.accounts.specs.Accounts.{remaining}
 use Rattle.model.specs.declared.HandleAnswer.the-variants.{Given}
 use Rattle.rounding.specs.Rounding.{unit, object-length, alignment}
-use Rattle.rounding.proofs.Rounding.{within-heap}
+use Rattle.rounding.proofs.Rounding.{unit-is, within-heap}
 use Rattle.finder.specs.Walk.{find-fit}
 use Rattle.writer.specs.Carving.{Room}
 use Rattle.calls.proofs.Placed.{the-room}
@@ -45,7 +45,7 @@ returns c =
     let z = c .before .before in
     let e = z .before .before in
     let a = e .args in
-    refused-8 (a .heap .now) (a .t2) (a .quota) (a .length) (e .pre) (c .refused .result) (omega (arith, c .before .if1 .taken, z .object-length .ensures))
+    refused-8 unit unit-is (a .heap .now) (a .t2) (a .quota) (a .length) (e .pre) (c .refused .result) (omega (arith, c .before .if1 .taken, z .object-length .ensures))
     (c .refused .ensures)
 
 lowest-unused-requires : tie.Need-lowest-unused-requires
@@ -68,7 +68,7 @@ returns-2 c =
     let z = x .before in
     let e = z .before .before in
     let a = e .args in
-    refused-9 (a .heap .now) (a .t2) (a .quota) (a .length) (e .pre) (c .refused2 .result) (omega (arith, x .if1 .left, z .object-length .ensures))
+    refused-9 unit unit-is (a .heap .now) (a .t2) (a .quota) (a .length) (e .pre) (c .refused2 .result) (omega (arith, x .if1 .left, z .object-length .ensures))
     (sym (u .lowest-unused .ensures) ∙ c .before .enum-told .given .1) (c .refused2 .ensures)
 
 refused-requires-3 : tie.Need-refused-requires-3
@@ -83,11 +83,11 @@ returns-3 c =
     let z = x .before in
     let e = z .before .before in
     let a = e .args in
-    refused-10 (a .heap .now) (a .t2) (a .quota) (a .length) (e .pre) (c .refused3 .result) (omega (arith, x .if1 .left, z .object-length .ensures))
+    refused-10 unit unit-is (a .heap .now) (a .t2) (a .quota) (a .length) (e .pre) (c .refused3 .result) (omega (arith, x .if1 .left, z .object-length .ensures))
     (p .place .given .0 .0) (sym (u .lowest-unused .ensures) ∙ p .place .given .1) (omega (arith, c .before .if2 .taken, e .good .1 .0 .1 .1 .1 .0 .1)) (c .refused3 .ensures)
 
-alignment-requires : tie.Need-alignment-requires
-alignment-requires c κs = search needs
+unit-requires : tie.Need-unit-requires
+unit-requires c κs = search needs
 
 cast-find-base : tie.Need-cast-find-base
 cast-find-base c = search needs
@@ -98,11 +98,12 @@ find-base-requires c κs = search needs
 -- the search for a base is the definition's
 searched : (b : tie.After-find-base) → let a = b .before .before .before .before .before .before .before .before .before .before .before .args in
     b .find-base .result ≡ find-fit (alignment unit (a .length)) (object-length unit (a .length)) (a .heap .now)
+unfolding alignment
 searched b =
     let l = b .before .before in
     let z = l .before .before .before .before .before .before .before in
     let a = z .before .before .args in
-    b .find-base .ensures ∙ (λ i. find-fit (l .alignment .ensures i) (z .object-length .ensures i) (a .heap .now))
+    b .find-base .ensures ∙ (λ i. find-fit ((l .unit .ensures ∙ ap unit (z .object-length .ensures)) i) (z .object-length .ensures i) (a .heap .now))
 
 -- the object lies in the block that was found
 room : (l : tie.After-block) → let a = l .before .before .before .before .before .before .before .before .before .before .before .before .before .args in
@@ -111,7 +112,7 @@ room l =
     let b = l .before .before in
     let e = b .before .before .before .before .before .before .before .before .before .before .before in
     let a = e .args in
-    the-room (a .heap .now) (a .t2) (a .length) (e .pre .checked .sound) (l .block .given .0 .0) (l .block .given .0 .1 .0) (sym (searched b) ∙ l .block .given .1)
+    the-room unit unit-is (a .heap .now) (a .t2) (a .length) (e .pre .checked .consistent) (l .block .given .0 .0) (l .block .given .0 .1 .0) (sym (searched b) ∙ l .block .given .1)
     (e .pre .checked .extent)
 
 enum-known-block : tie.Need-enum-known-block
@@ -137,7 +138,7 @@ returns-4 c =
     let z = x .before in
     let e = z .before .before in
     let a = e .args in
-    refused-11 (a .heap .now) (a .t2) (a .quota) (a .length) (e .pre) (c .refused4 .result) (omega (arith, x .if1 .left, z .object-length .ensures))
+    refused-11 unit unit-is (a .heap .now) (a .t2) (a .quota) (a .length) (e .pre) (c .refused4 .result) (omega (arith, x .if1 .left, z .object-length .ensures))
     (p .place .given .0 .0) (sym (u .lowest-unused .ensures) ∙ p .place .given .1) (y .if2 .left) (sym (searched b) ∙ c .before .enum-told2 .given .1) (c .refused4 .ensures)
 
 add-serial : tie.Need-add-serial
@@ -176,7 +177,7 @@ returns-5 c =
     let a = e .args in
     let q = l .block .given in
     let n = a .t2 .«last_serial» + 1 in
-    granted (a .heap .now) (a .t2) (a .quota) (a .length) (e .pre) (c .given .result) (omega (arith, x .if1 .left, z .object-length .ensures)) (p .place .given .0 .0)
+    granted unit unit-is (a .heap .now) (a .t2) (a .quota) (a .length) (e .pre) (c .given .result) (omega (arith, x .if1 .left, z .object-length .ensures)) (p .place .given .0 .0)
     (sym (u .lowest-unused .ensures) ∙ p .place .given .1) (y .if2 .left) (q .0 .0) (q .0 .1 .0) (sym (searched b) ∙ q .1) (λ i. omega (arith, z .before .slice-known .given i)) (v .carve .last .0)
     (z .object-length .result) (z .object-length .ensures) (v .carve .ensures)
     (c .given .ensures ∙ ap (λ (w : Accounts). record { accounts = w; answer = Given (record { base = q .0 .1 .0; length = z .object-length .result; serial = n }) }) (c .before .booked .ensures))
@@ -199,7 +200,7 @@ grant-spec =
     returns-2
     refused-requires-3
     returns-3
-    alignment-requires
+    unit-requires
     cast-find-base
     find-base-requires
     enum-known-block

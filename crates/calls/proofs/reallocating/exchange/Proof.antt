@@ -7,6 +7,8 @@ use mathlib.Core.Path.{_≡_, ap, sym, _∙_}
 use mathlib.Core.Bool.{true}
 use mathlib.Core.Option.{some}
 use lib.ListN.{length-map}
+use Rattle.rounding.specs.Rounding.{unit}
+use Rattle.rounding.proofs.Rounding.{unit-is}
 use Rattle.layout.specs.Bytes.{Octets, copy-part}
 use Rattle.model.specs.Answers.{handle-values}
 use Rattle.model.specs.Objects.{lookup}
@@ -61,8 +63,8 @@ returns c =
     let f = c .before .before .before in
     let e = f .before .before .before in
     let a = e .args in
-    refuses (a .heap .now) (a .accounts) (a .quota) (a .handle) (a .length) (c .refused .result) NoSuchObject (c .refused .ensures)
-    (by-object (a .heap .now) (a .accounts) (a .quota) (a .handle) (a .length) (e .pre) (sym (f .find-object .ensures) ∙ c .before .enum-told .given .1))
+    refuses unit (a .heap .now) (a .accounts) (a .quota) (a .handle) (a .length) (c .refused .result) NoSuchObject (c .refused .ensures)
+    (by-object unit (a .heap .now) (a .accounts) (a .quota) (a .handle) (a .length) (e .pre) (sym (f .find-object .ensures) ∙ c .before .enum-told .given .1))
 
 -- the block that the lookup found
 block-is : (b : tie.After-old) → let a = b .before .before .before .before .before .args in find-object (a .handle) (a .heap .now) ≡ Found (b .old .given .0 .0)
@@ -92,8 +94,8 @@ returns-2 c =
     let b = p .before .before in
     let e = b .before .before .before .before .before in
     let a = e .args in
-    refuses (a .heap .now) (a .accounts) (a .quota) (a .handle) (a .length) (c .refused2 .result) NotHeld (c .refused2 .ensures)
-    (by-record (a .heap .now) (a .accounts) (a .quota) (a .handle) (a .length) (e .pre) (b .old .given .0 .0) (block-is b) (sym (p .find-hold .ensures) ∙ c .before .enum-told2 .given .1))
+    refuses unit (a .heap .now) (a .accounts) (a .quota) (a .handle) (a .length) (c .refused2 .result) NotHeld (c .refused2 .ensures)
+    (by-record unit (a .heap .now) (a .accounts) (a .quota) (a .handle) (a .length) (e .pre) (b .old .given .0 .0) (block-is b) (sym (p .find-hold .ensures) ∙ c .before .enum-told2 .given .1))
 
 -- the handle names the block's object, the quota has a record for it, and the block lies in the heap
 named : (c : tie.After-place) → let b = c .before .before .before .before in let a = b .before .before .before .before .before .args in
@@ -102,7 +104,7 @@ named c =
     let b = c .before .before .before .before in
     let e = b .before .before .before .before .before in
     let a = e .args in
-    block-named (a .heap .now) (a .accounts) (a .quota) (a .handle) (a .length) (e .pre) (b .old .given .0 .0) (block-is b)
+    block-named unit (a .heap .now) (a .accounts) (a .quota) (a .handle) (a .length) (e .pre) (b .old .given .0 .0) (block-is b)
 
 held : (c : tie.After-place) → let b = c .before .before .before .before in let a = b .before .before .before .before .before .args in
     has-record (a .accounts .holds) (a .quota) (b .old .given .0 .0 .serial) ≡ true
@@ -111,7 +113,7 @@ held c =
     let b = p .before .before in
     let e = b .before .before .before .before .before in
     let a = e .args in
-    block-held (a .heap .now) (a .accounts) (a .quota) (a .handle) (a .length) (e .pre) (b .old .given .0 .0) (block-is b) (c .place .given .0 .0)
+    block-held unit (a .heap .now) (a .accounts) (a .quota) (a .handle) (a .length) (e .pre) (b .old .given .0 .0) (block-is b) (c .place .given .0 .0)
     (sym (p .find-hold .ensures) ∙ c .place .given .1)
 
 lies : (c : tie.After-place) → let b = c .before .before .before .before in Inside (b .old .given .0 .0) (b .before .before .before .before .before .args .heap .now)
@@ -121,7 +123,7 @@ lies c =
     let k = b .before .before .before .before in
     let e = k .before in
     let a = e .args in
-    holding-inside (a .heap .now) (a .accounts) (octets k) (a .quota) (b .old .given .0 .0) (c .place .given .0 .0)
+    holding-inside unit (a .heap .now) (a .accounts) (octets k) (a .quota) (b .old .given .0 .0) (c .place .given .0 .0)
     (record { checked = e .pre .checked; handle = a .handle; named = block-is b; place = sym (p .find-hold .ensures) ∙ c .place .given .1 })
 
 grant-requires : tie.Need-grant-requires
@@ -143,7 +145,7 @@ returns-3 c =
     let b = t .before .before .before .before in
     let e = b .before .before .before .before .before in
     let a = e .args in
-    refused-too (a .heap .now) (a .accounts) (a .quota) (a .handle) (a .length) (e .pre) (object-met (b .old .given .0 .0)) (named t) (held t) (g .grant .last .0) (g .grant .result)
+    refused-too unit unit-is (a .heap .now) (a .accounts) (a .quota) (a .handle) (a .length) (e .pre) (object-met (b .old .given .0 .0)) (named t) (held t) (g .grant .last .0) (g .grant .result)
     (c .enum-told3 .given .0 .0) (c .enum-told3 .given .1) (g .grant .ensures)
 
 cast-shorter : tie.Need-cast-shorter
@@ -185,7 +187,7 @@ current-requires c κs =
 
 -- release may be asked for in what the copy leaves
 ready : (m : tie.After-copy-part) → let g = m .before .before .before .before .before .before .before .before .before .before .before .before in
-    Checked (m .copy-part .last .0) (g .grant .result .accounts) (g .before .before .before .before .before .before .before .before .before .before .before .before .args .quota)
+    Checked unit (m .copy-part .last .0) (g .grant .result .accounts) (g .before .before .before .before .before .before .before .before .before .before .before .before .args .quota)
 ready m =
     let w = m .before .before .before .before .before .before .before .before in
     let g = w .before .before .before .before in
@@ -194,7 +196,7 @@ ready m =
     let k = b .before .before .before .before in
     let e = k .before in
     let a = e .args in
-    copied-checked (a .heap .now) (a .accounts) (a .quota) (a .handle) (a .length) (e .pre) (object-met (b .old .given .0 .0)) (named t) (held t) (octets k) (limits e) (g .grant .last .0) (g .grant .result)
+    copied-checked unit unit-is (a .heap .now) (a .accounts) (a .quota) (a .handle) (a .length) (e .pre) (object-met (b .old .given .0 .0)) (named t) (held t) (octets k) (limits e) (g .grant .last .0) (g .grant .result)
     (g .grant .ensures) (w .answer .given .0 .0) (w .answer .given .1) (m .copy-part .last .0) (copied m)
 
 -- the old block is found where it stood, and the quota's record too
@@ -209,8 +211,8 @@ again n =
     let k = b .before .before .before .before in
     let e = k .before in
     let a = e .args in
-    found-again (m .copy-part .last .0) (g .grant .result .accounts) (a .quota) (ready m) (a .handle) (b .old .given .0 .0) (lies t .header)
-    (copied-named (a .heap .now) (a .accounts) (a .quota) (a .handle) (a .length) (e .pre) (object-met (b .old .given .0 .0)) (named t) (held t) (octets k) (limits e) (g .grant .last .0) (g .grant .result)
+    found-again unit (m .copy-part .last .0) (g .grant .result .accounts) (a .quota) (ready m) (a .handle) (b .old .given .0 .0) (lies t .header)
+    (copied-named unit unit-is (a .heap .now) (a .accounts) (a .quota) (a .handle) (a .length) (e .pre) (object-met (b .old .given .0 .0)) (named t) (held t) (octets k) (limits e) (g .grant .last .0) (g .grant .result)
     (g .grant .ensures) (w .answer .given .0 .0) (w .answer .given .1) (m .copy-part .last .0) (copied m))
     ∙ ap Found (sym (n .current .ensures))
 
@@ -227,7 +229,7 @@ placed n =
     let e = k .before in
     let a = e .args in
     ap (λ (x : Met). find-hold (x .serial) (a .quota) (g .grant .result .accounts)) (n .current .ensures)
-    ∙ copied-place (a .heap .now) (a .accounts) (a .quota) (a .handle) (a .length) (e .pre) (object-met (b .old .given .0 .0)) (named t) (held t) (octets k) (limits e) (g .grant .last .0) (g .grant .result)
+    ∙ copied-place unit unit-is (a .heap .now) (a .accounts) (a .quota) (a .handle) (a .length) (e .pre) (object-met (b .old .given .0 .0)) (named t) (held t) (octets k) (limits e) (g .grant .last .0) (g .grant .result)
     (g .grant .ensures) (w .answer .given .0 .0) (w .answer .given .1) (m .copy-part .last .0) (copied m)
     (t .place .given .0 .0) (sym (t .before .before .find-hold .ensures) ∙ t .place .given .1)
 
@@ -270,10 +272,10 @@ returns-4 c =
     let s = u .drop-claim .last .0 in
     ap (handle-outcome s) (c .with-accounts .ensures)
     ∙ ap (λ (x : HandleAnswer). outcome s (u .drop-claim .result .accounts) (handle-values x)) (w .answer .given .1)
-    ∙ given-too (a .heap .now) (a .accounts) (a .quota) (a .handle) (a .length) (e .pre) (object-met (b .old .given .0 .0)) (named t) (held t) (octets k) (limits e) (g .grant .last .0) (g .grant .result)
+    ∙ given-too unit unit-is (a .heap .now) (a .accounts) (a .quota) (a .handle) (a .length) (e .pre) (object-met (b .old .given .0 .0)) (named t) (held t) (octets k) (limits e) (g .grant .last .0) (g .grant .result)
     (g .grant .ensures) (w .answer .given .0 .0) (w .answer .given .1) (m .copy-part .last .0) (copied m) (u .drop-claim .last .0) (u .drop-claim .result)
     (u .drop-claim .ensures
-    ∙ dropped (m .copy-part .last .0) (g .grant .result .accounts) (a .quota) (a .handle) (ready m) (n .current .result) (again n) (t .place .given .0 .0) (placed n))
+    ∙ dropped unit (m .copy-part .last .0) (g .grant .result .accounts) (a .quota) (a .handle) (ready m) (n .current .result) (again n) (t .place .given .0 .0) (placed n))
 
 pub exchange-spec : {M : Type 1} → statement M
 exchange-spec =

@@ -3,6 +3,7 @@
 -- Assumes nothing.
 use mathlib.Core.Path.{_≡_}
 use native.Mathlib.Omega.{arith}
+use Rattle.rounding.specs.Rounding.{unit}
 use Rattle.model.specs.declared.Refusal.the-variants.{QuotaNumber, ObjectLength}
 use Rattle.calls.specs.Ready.{Checked}
 use Rattle.calls.proofs.Ready.{checked-is, line-4-zero, line-4-long}
@@ -28,8 +29,8 @@ returns c =
     let x = c .before .before in
     let k = x .before .before in
     let a = k .before .before .before .args in
-    refuses (a .heap .now) (a .accounts) (a .quota) (a .handle) (a .length) (c .refused .result) (x .refusal .given .0 .0) (c .refused .ensures)
-    (by-check (a .heap .now) (a .accounts) (a .quota) (a .handle) (a .length) (k .check .result) (k .check .ensures) (x .refusal .given .0 .0) (x .refusal .given .1))
+    refuses unit (a .heap .now) (a .accounts) (a .quota) (a .handle) (a .length) (c .refused .result) (x .refusal .given .0 .0) (c .refused .ensures)
+    (by-check unit (a .heap .now) (a .accounts) (a .quota) (a .handle) (a .length) (k .check .result) (k .check .ensures) (x .refusal .given .0 .0) (x .refusal .given .1))
 
 enum-told : tie.Need-enum-told
 enum-told c = search needs
@@ -45,16 +46,16 @@ returns-2 c =
     let t = c .before .before in
     let k = t .before .before in
     let a = k .before .before .before .args in
-    refuses (a .heap .now) (a .accounts) (a .quota) (a .handle) (a .length) (c .refused2 .result) QuotaNumber (c .refused2 .ensures)
-    (by-quota (a .heap .now) (a .accounts) (a .quota) (a .handle) (a .length) (k .check .result) (k .check .ensures) (t .enum-told .given .1) (c .before .if1 .taken))
+    refuses unit (a .heap .now) (a .accounts) (a .quota) (a .handle) (a .length) (c .refused2 .result) QuotaNumber (c .refused2 .ensures)
+    (by-quota unit (a .heap .now) (a .accounts) (a .quota) (a .handle) (a .length) (k .check .result) (k .check .ensures) (t .enum-told .given .1) (c .before .if1 .taken))
 
 -- what is known once the quota's number was tested
-checked : (e : tie.Else1) → let a = e .before .before .before .before .before .before .args in Checked (a .heap .now) (a .accounts) (a .quota)
+checked : (e : tie.Else1) → let a = e .before .before .before .before .before .before .args in Checked unit (a .heap .now) (a .accounts) (a .quota)
 checked e =
     let t = e .before in
     let k = t .before .before in
     let a = k .before .before .before .args in
-    checked-is (a .heap .now) (a .accounts) (k .check .result) (k .check .ensures) (t .enum-told .given .1) (a .quota) (e .if1 .left)
+    checked-is unit (a .heap .now) (a .accounts) (k .check .result) (k .check .ensures) (t .enum-told .given .1) (a .quota) (e .if1 .left)
 
 refused-requires-3 : tie.Need-refused-requires-3
 refused-requires-3 c κs = search needs
@@ -66,9 +67,9 @@ returns-3 : tie.Need-returns-3
 returns-3 c =
     let e = c .before .before in
     let a = e .before .before .before .before .before .before .args in
-    refuses (a .heap .now) (a .accounts) (a .quota) (a .handle) (a .length) (c .refused3 .result) ObjectLength (c .refused3 .ensures)
-    (by-length (a .heap .now) (a .accounts) (a .quota) (a .handle) (a .length) (checked e)
-    (line-4-zero (a .length) (from-5 (a .heap .now) (a .accounts) (a .quota) (a .handle) (a .length)) (c .before .if2 .taken)))
+    refuses unit (a .heap .now) (a .accounts) (a .quota) (a .handle) (a .length) (c .refused3 .result) ObjectLength (c .refused3 .ensures)
+    (by-length unit (a .heap .now) (a .accounts) (a .quota) (a .handle) (a .length) (checked e)
+    (line-4-zero (a .length) (from-5 unit (a .heap .now) (a .accounts) (a .quota) (a .handle) (a .length)) (c .before .if2 .taken)))
 
 refused-requires-4 : tie.Need-refused-requires-4
 refused-requires-4 c κs = search needs
@@ -80,9 +81,9 @@ returns-4 : tie.Need-returns-4
 returns-4 c =
     let e = c .before .before .before in
     let a = e .before .before .before .before .before .before .args in
-    refuses (a .heap .now) (a .accounts) (a .quota) (a .handle) (a .length) (c .refused4 .result) ObjectLength (c .refused4 .ensures)
-    (by-length (a .heap .now) (a .accounts) (a .quota) (a .handle) (a .length) (checked e)
-    (line-4-long (a .length) (from-5 (a .heap .now) (a .accounts) (a .quota) (a .handle) (a .length)) (c .before .if3 .taken)))
+    refuses unit (a .heap .now) (a .accounts) (a .quota) (a .handle) (a .length) (c .refused4 .result) ObjectLength (c .refused4 .ensures)
+    (by-length unit (a .heap .now) (a .accounts) (a .quota) (a .handle) (a .length) (checked e)
+    (line-4-long (a .length) (from-5 unit (a .heap .now) (a .accounts) (a .quota) (a .handle) (a .length)) (c .before .if3 .taken)))
 
 exchange-requires : tie.Need-exchange-requires
 exchange-requires c κs =

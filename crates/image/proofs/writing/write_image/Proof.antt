@@ -3,6 +3,7 @@
 use mathlib.Core.Path.{ap, _∙_}
 use borrow.Author.Needs.{needs}
 use lib.ListN.{length}
+use Rattle.rounding.specs.Rounding.{unit}
 use Rattle.access.proofs.Lines.{check-consistent}
 use Rattle.image_model.specs.declared.Form.{Form}
 use Rattle.image_model.specs.Stream.{form-1}
@@ -26,7 +27,7 @@ put-image-requires : tie.Need-put-image-requires
 put-image-requires c κs =
     let k = c .before .before .before .before in
     let a = k .before .before .before .args in
-    let w = check-consistent (a .heap .now) (a .accounts) (k .check .result) (k .check .ensures) (c .before .before .enum-told .given .1) in
+    let w = check-consistent unit (a .heap .now) (a .accounts) (k .check .result) (k .check .ensures) (c .before .before .enum-told .given .1) in
     (form-1-fits (c .form-1 .result) (c .form-1 .ensures), allowed-most (length (a .heap .now)) (w .0))
 
 enum-known-refusal : tie.Need-enum-known-refusal

@@ -5,6 +5,7 @@ use native.Mathlib.Omega.{arith}
 use mathlib.Core.Path.{ap, sym, _∙_}
 use mathlib.Core.List.{_∷_}
 use borrow.Author.Needs.{needs}
+use Rattle.rounding.specs.Rounding.{unit}
 use Rattle.model.specs.Answers.{amount-values}
 use Rattle.model.specs.Objects.{lookup, found}
 use Rattle.model.specs.Refusals.{line-3, line-5, claim-lines}
@@ -35,7 +36,7 @@ returns c =
     let o = lookup (a .handle) (a .heap .now) in
     ap (amount-outcome (a .heap .now)) (c .refused .ensures)
     ∙ refused-is _ (a .heap .now) (a .accounts) _ (r .0 .0)
-    (check-refuses (a .heap .now) (a .accounts) (k .result) (k .ensures) (line-3 (a .quota) ∷ line-5 o ∷ claim-rest (a .accounts) (a .quota) (found o)) (r .0 .0) (r .1))
+    (check-refuses unit (a .heap .now) (a .accounts) (k .result) (k .ensures) (line-3 (a .quota) ∷ line-5 o ∷ claim-rest (a .accounts) (a .quota) (found o)) (r .0 .0) (r .1))
 
 enum-told : tie.Need-enum-told
 enum-told c = search needs
@@ -53,7 +54,7 @@ returns-2 c =
     let rest = line-5 o ∷ claim-rest (a .accounts) (a .quota) (found o) in
     ap (amount-outcome (a .heap .now)) (c .refused2 .ensures)
     ∙ refused-is _ (a .heap .now) (a .accounts) _ QuotaNumber
-    (check-accepts (a .heap .now) (a .accounts) (k .result) (k .ensures) (line-3 (a .quota) ∷ rest) (e .enum-told .given .1) ∙ line-3-refuses (a .quota) rest (c .before .if1 .taken))
+    (check-accepts unit (a .heap .now) (a .accounts) (k .result) (k .ensures) (line-3 (a .quota) ∷ rest) (e .enum-told .given .1) ∙ line-3-refuses (a .quota) rest (c .before .if1 .taken))
 
 find-object-requires : tie.Need-find-object-requires
 find-object-requires c κs = search needs
@@ -76,7 +77,7 @@ returns-3 c =
     let k = e .before .before .check in
     ap (amount-outcome (a .heap .now)) (c .refused3 .ensures)
     ∙ refused-is _ (a .heap .now) (a .accounts) _ NoSuchObject
-    (quota-missing (a .heap .now) (a .accounts) (k .result) (k .ensures) (e .enum-told .given .1) (a .quota) (a .handle)
+    (quota-missing unit (a .heap .now) (a .accounts) (k .result) (k .ensures) (e .enum-told .given .1) (a .quota) (a .handle)
     (claim-rest (a .accounts) (a .quota) (found (lookup (a .handle) (a .heap .now)))) (f .before .if1 .left) (sym (f .find-object .ensures) ∙ c .before .enum-told2 .given .1))
 
 sub-length : tie.Need-sub-length
@@ -86,7 +87,7 @@ sub-length c =
     let e = f .before .before in
     let a = e .before .before .before .before .args in
     let k = e .before .before .check in
-    let l = located (a .heap .now) (a .accounts) (k .result) (k .ensures) (e .enum-told .given .1) (a .handle) (b .block .given .0 .0) (sym (f .find-object .ensures) ∙ b .block .given .1) in
+    let l = located unit (a .heap .now) (a .accounts) (k .result) (k .ensures) (e .enum-told .given .1) (a .handle) (b .block .given .0 .0) (sym (f .find-object .ensures) ∙ b .block .given .1) in
     omega (arith, l .header)
 
 cast-length : tie.Need-cast-length
@@ -96,7 +97,7 @@ cast-length c =
     let e = f .before .before in
     let a = e .before .before .before .before .args in
     let k = e .before .before .check in
-    let l = located (a .heap .now) (a .accounts) (k .result) (k .ensures) (e .enum-told .given .1) (a .handle) (b .block .given .0 .0) (sym (f .find-object .ensures) ∙ b .block .given .1) in
+    let l = located unit (a .heap .now) (a .accounts) (k .result) (k .ensures) (e .enum-told .given .1) (a .handle) (b .block .given .0 .0) (sym (f .find-object .ensures) ∙ b .block .given .1) in
     record { fits = omega (arith, l .header, l .end) }
 
 cast-holder : tie.Need-cast-holder
@@ -121,7 +122,7 @@ returns-4 c =
     let a = e .before .before .before .before .args in
     let k = e .before .before .check in
     ap (amount-outcome (a .heap .now)) (c .claim-again .ensures)
-    ∙ claims-again (a .heap .now) (a .accounts) (k .result) (k .ensures) (e .enum-told .given .1) (a .handle) (b .block .given .0 .0) (sym (f .find-object .ensures) ∙ b .block .given .1)
+    ∙ claims-again unit (a .heap .now) (a .accounts) (k .result) (k .ensures) (e .enum-told .given .1) (a .handle) (b .block .given .0 .0) (sym (f .find-object .ensures) ∙ b .block .given .1)
     (a .quota) (f .before .if1 .left) (p .at .given .0 .0) (sym (d .find-hold .ensures) ∙ p .at .given .1)
 
 enum-told-3 : tie.Need-enum-told-3
@@ -134,7 +135,7 @@ claim-first-requires c κs =
     let e = f .before .before in
     let a = e .before .before .before .before .args in
     let k = e .before .before .check in
-    let l = located (a .heap .now) (a .accounts) (k .result) (k .ensures) (e .enum-told .given .1) (a .handle) (b .block .given .0 .0) (sym (f .find-object .ensures) ∙ b .block .given .1) in
+    let l = located unit (a .heap .now) (a .accounts) (k .result) (k .ensures) (e .enum-told .given .1) (a .handle) (b .block .given .0 .0) (sym (f .find-object .ensures) ∙ b .block .given .1) in
     (omega (arith, f .before .if1 .left), omega (arith, l .header, l .end))
 
 returns-5 : tie.Need-returns-5
@@ -147,7 +148,7 @@ returns-5 c =
     let a = e .before .before .before .before .args in
     let k = e .before .before .check in
     ap (amount-outcome (a .heap .now)) (c .claim-first .ensures)
-    ∙ claims-anew (a .heap .now) (a .accounts) (k .result) (k .ensures) (e .enum-told .given .1) (a .handle) (b .block .given .0 .0) (sym (f .find-object .ensures) ∙ b .block .given .1)
+    ∙ claims-anew unit (a .heap .now) (a .accounts) (k .result) (k .ensures) (e .enum-told .given .1) (a .handle) (b .block .given .0 .0) (sym (f .find-object .ensures) ∙ b .block .given .1)
     (a .quota) (f .before .if1 .left) (sym (d .find-hold .ensures) ∙ t .enum-told3 .given .1)
 
 pub claim-spec : {M : Type 1} → statement M

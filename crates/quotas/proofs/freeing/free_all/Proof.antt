@@ -6,6 +6,7 @@ use mathlib.Core.Path.{_≡_}
 use mathlib.Core.List.{List}
 use lib.ListN.{length-map}
 use Prim.Native.Nat.{ℕ}
+use Rattle.rounding.specs.Rounding.{unit}
 use Rattle.accounts.proofs.Laws.{Sized}
 use Rattle.layout.specs.Bytes.{Octets}
 use Rattle.model.specs.Calls.{free-all}
@@ -48,8 +49,8 @@ returns c =
     let a = c .before .before .before .before .before .before .before .args in
     let k = c .before .before .before .before .check in
     let x = c .before .before .refusal .given in
-    all-refuses (a .heap .now) (a .accounts) (a .quota) (c .refused .result) (x .0 .0) (c .refused .ensures)
-    (all-by-check (a .heap .now) (a .accounts) (a .quota) (k .result) (k .ensures) (x .0 .0) (x .1))
+    all-refuses unit (a .heap .now) (a .accounts) (a .quota) (c .refused .result) (x .0 .0) (c .refused .ensures)
+    (all-by-check unit (a .heap .now) (a .accounts) (a .quota) (k .result) (k .ensures) (x .0 .0) (x .1))
 
 enum-told : tie.Need-enum-told
 enum-told c = search needs
@@ -64,8 +65,8 @@ returns-2 : tie.Need-returns-2
 returns-2 c =
     let a = c .before .before .before .before .before .before .before .args in
     let k = c .before .before .before .before .check in
-    all-refuses (a .heap .now) (a .accounts) (a .quota) (c .refused2 .result) QuotaNumber (c .refused2 .ensures)
-    (all-by-quota (a .heap .now) (a .accounts) (a .quota) (k .result) (k .ensures) (c .before .before .enum-told .given .1) (c .before .if1 .taken))
+    all-refuses unit (a .heap .now) (a .accounts) (a .quota) (c .refused2 .result) QuotaNumber (c .refused2 .ensures)
+    (all-by-quota unit (a .heap .now) (a .accounts) (a .quota) (k .result) (k .ensures) (c .before .before .enum-told .given .1) (c .before .if1 .taken))
 
 spent-requires : tie.Need-spent-requires
 spent-requires c κs = search needs
@@ -93,19 +94,19 @@ walked : (c : tie.After-held-each)
     → Emptiable (c .held-each .result) (start c .args .heap .now)
     × ((s : List ℕ) → Emptied (c .held-each .result) (start c .args .heap .now) s
     → (r : AmountResult) → r ≡ record { accounts = c .before .before .before .before .drop-holds .result; answer = Amount (c .before .before .before .before .before .before .spent .result) }
-    → amount-outcome s r ≡ free-all (start c .args .heap .now) (start c .args .accounts) (start c .args .quota))
+    → amount-outcome s r ≡ free-all unit (start c .args .heap .now) (start c .args .accounts) (start c .args .quota))
 walked c =
     let a = start c .args in
     let l = c .before .before .before .before in
     let p = l .before .before in
     let k = p .before .before .before .before .check in
     let yes = p .before .before .enum-told .given .1 in
-    let sound = check-consistent (a .heap .now) (a .accounts) (k .result) (k .ensures) yes in
+    let sound = check-consistent unit (a .heap .now) (a .accounts) (k .result) (k .ensures) yes in
     let below = p .before .if1 .left in
-    all-freed (a .heap .now) (a .accounts) (octets (p .before .before .before .before .before .before)) (allowed-most _ (sound .0)) (sound .1) (sized (start c)) (a .quota) below (p .spent .result) (p .spent .ensures)
+    all-freed unit (a .heap .now) (a .accounts) (octets (p .before .before .before .before .before .before)) (allowed-most _ (sound .0)) (sound .1) (sized (start c)) (a .quota) below (p .spent .result) (p .spent .ensures)
     (l .before .refund .result) (l .drop-holds .result) (l .before .refund .ensures) (l .drop-holds .ensures)
     (c .before .live-serials .result) (c .before .live-serials .ensures) (c .held-each .result) (c .held-each .ensures)
-    (all-passes (a .heap .now) (a .accounts) (a .quota) (k .result) (k .ensures) yes below)
+    (all-passes unit (a .heap .now) (a .accounts) (a .quota) (k .result) (k .ensures) yes below)
 
 free-unkept-requires : tie.Need-free-unkept-requires
 free-unkept-requires c κs = walked (c .before) .0

@@ -1,0 +1,66 @@
+-- Objects in their units, of any table: block by block, a block in front adding its own test; and the tests of one object by its block's size and end.
+-- Assumes nothing.
+use Prim.Native.Nat.{ℕ, _+_, _*_, _-_, _/_, _%_, _≤_}
+use native.Mathlib.Nat.{div-add-mod', add-mul-mod-self-right}
+use native.Mathlib.Omega.{arith}
+use mathlib.Core.Path.{_≡_, refl, ap, sym, _∙_}
+use mathlib.Core.Bool.{Bool, true, false, not, cond, _&&_, _||_}
+use mathlib.Core.List.{List, [], _∷_}
+use mathlib.Core.Option.{Option, none, some}
+use borrow.Author.Tests.{le-leb, eq-eqb, ne-eqb}
+use lib.Dec.{eqb, leb}
+use lib.ListN.{length}
+use Rattle.accounts.specs.declared.Accounts.{Accounts}
+use Rattle.layout.specs.Blocks.{Block, size, in-front, parse}
+use Rattle.model.specs.Lists.{all, or-else}
+use Rattle.model.specs.Objects.{object, objects-from, objects, blocks-of, objects-of}
+use Rattle.model.specs.Consistent.{fits-unit, in-units, consistent-parsed, consistent, sound}
+use Rattle.model.proofs.Bools.{and-no}
+use Rattle.checker.specs.Fitting.{fits-block, fitting}
+
+-- a block's size is its object's length and the header; behind the header is the object's base
+own-length : (b : Block) → size b - 8 ≡ length (b .body)
+own-length b = omega arith
+
+own-base : (at : ℕ) (b : Block) → at + size b - length (b .body) ≡ at + 8
+own-base at b = omega arith
+
+pub fitting-front : (unit : ℕ → ℕ) (at : ℕ) (b : Block) (rest : Option (List Block))
+    → fitting unit at (in-front b rest) ≡ (fits-block unit (b .serial) (size b) (at + size b) && fitting unit (at + size b) rest)
+unfolding fitting in-front fits-block all in-units objects-from
+fitting-front unit at b none = sym (and-no (fits-block unit (b .serial) (size b) (at + size b)) false refl)
+fitting-front unit at b (some bs) = go (eqb (b .serial) 0)
+  where
+    go : (t : Bool) → all (in-units unit) (cond (not t) (object at b ∷ objects-from (at + size b) bs) (objects-from (at + size b) bs))
+        ≡ ((t || fits-unit unit (at + size b - (size b - 8)) (size b - 8)) && all (in-units unit) (objects-from (at + size b) bs))
+    go true = refl
+    go false = rw (own-length b, own-base at b)
+
+-- the test of a heap is consistency with that
+pub fitting-sound : (unit : ℕ → ℕ) (s : List ℕ) (k : Accounts) → (consistent s k && fitting unit 0 (parse s)) ≡ sound unit s k
+unfolding sound consistent consistent-parsed fitting objects-of objects blocks-of or-else
+fitting-sound unit s k = go (parse s)
+  where
+    go : (o : Option (List Block)) → (consistent-parsed o k && fitting unit 0 o) ≡ (consistent-parsed o k && all (in-units unit) (objects-from 0 (or-else [] o)))
+    go none = refl
+    go (some bs) = refl
+
+-- where a length is a multiple of the unit, the base is one exactly if the end is
+same-remainder : (u end length : ℕ) → length ≤ end → length % u ≡ 0 → end % u ≡ (end - length) % u
+same-remainder u end length i m =
+    let l : length / u * u ≡ length = omega (arith, div-add-mod' length u) in
+    let e : end ≡ end - length + length / u * u = omega arith in
+    ap (λ (x : ℕ). x % u) e ∙ add-mul-mod-self-right (end - length) (length / u) u
+
+-- the tests of a live block's object, whose length has the unit u
+module _ (unit : ℕ → ℕ) (size end u : ℕ) (i : size ≤ end) (own : u ≡ unit (size - 8)) where
+  -- multiples of 8 fit unit 8
+  pub fits-eights : 16 ≤ size → u ≡ 8 → size % 8 ≡ 0 → end % 8 ≡ 0 → (leb 16 size && fits-unit unit (end - (size - 8)) (size - 8)) ≡ true
+  fits-eights l e m n =
+      rw (le-leb 16 size l, ← own, e, eq-eqb ((size - 8) % 8) 0 (omega arith), eq-eqb ((end - (size - 8)) % 8) 0 (omega arith))
+
+  pub length-unfit : ((size - 8) % u ≡ 0 → ⊥) → (leb 16 size && fits-unit unit (end - (size - 8)) (size - 8)) ≡ false
+  length-unfit m = and-no (leb 16 size) (fits-unit unit (end - (size - 8)) (size - 8)) (rw (← own, ne-eqb ((size - 8) % u) 0 m))
+
+  pub base-fits : 16 ≤ size → (size - 8) % u ≡ 0 → (leb 16 size && fits-unit unit (end - (size - 8)) (size - 8)) ≡ eqb (end % u) 0
+  base-fits l m = rw (le-leb 16 size l, ← own, eq-eqb ((size - 8) % u) 0 m, same-remainder u end (size - 8) (omega arith) m)
