@@ -18,7 +18,8 @@ use Rattle.accounts.specs.declared.Hold.{Hold}
 use Rattle.accounts.specs.Accounts.{zero-quota, zero-hold}
 use Rattle.image_model.proofs.Items.{All, all-both}
 use Rattle.model.proofs.Bools.{and-left, and-right, and-both}
-use Rattle.comparison.specs.Differences.{State, Run, same-quota, same-record, serial-part, quota-part, record-part, runs, bytes-of, byte-part, differences}
+use Rattle.comparison.specs.Differences.{State, Run, same-quota, same-record, serial-part, quota-part, record-part, runs, bytes-of, byte-part}
+use Rattle.comparison.specs.Differences.{differences}
 use Rattle.comparison.specs.Listing.{part-of, start-of, Before, Longest, OneSize}
 use Rattle.comparison.specs.declared.Difference.{Difference}
 use Rattle.comparison.specs.declared.Difference.the-variants.{LastSerial, Quota as QuotaAt, Record as RecordAt, Bytes}
@@ -167,7 +168,9 @@ module _ (a b : State) where
   -- what is listed is exactly what differs
   pub serial-exact : List·Memᴰ LastSerial (differences a b) ↔ (a .accounts .«last_serial» ≢ b .accounts .«last_serial»)
   unfolding differences serials quotas records bytes
-  serial-exact = then (only-part LastSerial 0 serials (quotas ++ (records ++ bytes)) quotas-above refl) (serial-is (a .accounts .«last_serial») (b .accounts .«last_serial»))
+  serial-exact =
+      then (only-part LastSerial 0 serials (quotas ++ (records ++ bytes)) quotas-above refl)
+      (serial-is (a .accounts .«last_serial») (b .accounts .«last_serial»))
 
   behind-serial : (d : Difference) → 0 < part-of d → List·Memᴰ d (differences a b) ↔ List·Memᴰ d (quotas ++ (records ++ bytes))
   unfolding differences serials quotas records bytes
@@ -189,7 +192,8 @@ module _ (a b : State) where
     quota-exact q =
         then (behind-serial (QuotaAt q) (omega arith))
         (then (only-part (QuotaAt q) 1 quotas (records ++ bytes) (records-above 1 (omega arith)) refl)
-        (items-exact same-quota QuotaAt (λ j k e. ap start-of e) same-quota-self same-quota-is zero-quota (a .accounts .quotas) (b .accounts .quotas) (w .quotas) q))
+        (items-exact same-quota QuotaAt (λ j k e. ap start-of e) same-quota-self same-quota-is zero-quota (a .accounts .quotas)
+        (b .accounts .quotas) (w .quotas) q))
 
     pub record-exact : (p : ℕ) → List·Memᴰ (RecordAt p) (differences a b)
         ↔ (getD (a .accounts .holds) p zero-hold ≢ getD (b .accounts .holds) p zero-hold)
@@ -197,7 +201,8 @@ module _ (a b : State) where
     record-exact p =
         then (behind-quotas (RecordAt p) (omega arith))
         (then (only-part (RecordAt p) 2 records bytes (bytes-above 2 (omega arith)) refl)
-        (items-exact same-record RecordAt (λ j k e. ap start-of e) same-record-self same-record-is zero-hold (a .accounts .holds) (b .accounts .holds) (w .holds) p))
+        (items-exact same-record RecordAt (λ j k e. ap start-of e) same-record-self same-record-is zero-hold (a .accounts .holds)
+        (b .accounts .holds) (w .holds) p))
 
     -- runs: exactly the longest ones; and a byte differs exactly if it is in one of them
     pub run-exact : (at n : ℕ) → List·Memᴰ (Bytes at n) (differences a b) ↔ Longest (a .heap) (b .heap) at n
