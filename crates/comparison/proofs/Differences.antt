@@ -1,4 +1,5 @@
--- The list of differences: what is in it differs and what differs is in it, it is in order and has nothing twice, and it is empty exactly for equal states.
+-- The list of differences: what is in it differs and what differs is in it, it is in order and has nothing twice, and there is nothing in it if and only if
+-- the states are equal.
 -- Each part is judged by its own laws; a difference tells by its part where in the list it can be.
 -- Assumes nothing.
 use mathlib.Core.Path.{_≡_, refl, ap}
@@ -219,7 +220,7 @@ module _ (a b : State) where
           λ x. e .1 (x .0, x .1, m (x .0) (x .1) .0 (x .2), x .3, x .4),
         )
 
--- the list is empty exactly for equal states
+-- nothing is listed if and only if the two states are equal
 no-front : (xs ys : List Difference) → xs ++ ys ≡ [] → (xs ≡ []) × (ys ≡ [])
 no-front [] ys e = (refl, e)
 no-front (x ∷ xs) ys e = let no : _≡_ {A = ℕ} 0 1 = cc in absurd (omega arith)
