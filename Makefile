@@ -2,6 +2,7 @@
 # make test      prove everything from nothing, try every must-fail edit, run every test
 # make wrong     try the wrong programs that the gate leaves out
 # make lib       prove the exported calls, and write build/lib/liblokhazim.a with its header
+# make cli       prove the library and build the command build/bin/lokhazim over it
 # make figures   print the library's code size, the stack that calls need, and the bytes of accounts
 # make bench     time the proved calls, the reference and glibc under mcheck_pedantic
 # make fuzz      compare the proved code with the reference from a fresh seed: SECONDS=600 SEED=..
@@ -10,7 +11,7 @@
 SECONDS := 60
 SEED :=
 
-.PHONY: run test wrong lib figures bench fuzz sanitize clean
+.PHONY: run test wrong lib cli figures bench fuzz sanitize clean
 
 run:
 	@scripts/run
@@ -23,6 +24,9 @@ wrong:
 
 lib:
 	@scripts/lib
+
+cli:
+	@scripts/cli
 
 figures:
 	@scripts/figures

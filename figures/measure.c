@@ -2,11 +2,11 @@
  * Prints the bytes of accounts and of a handle, and the stack that each call has used: 'call_NAME BYTES'.
  *
  * Each call is made once, on a stack of its own that was painted before; what has lost its paint was used.
- * A call_NAME does nothing but call the function of lokhazim.h, so that the copies which that function makes
+ * A call_NAME does nothing but call the function of lokhazim.h or lokhazim_image.h, so that the copies which that function makes
  * of accounts and reply are counted too.
  */
 #define _XOPEN_SOURCE 700
-#include "lokhazim.h"
+#include "lokhazim_image.h"
 
 #include <stdio.h>
 #include <stdlib.h>
@@ -54,6 +54,21 @@ __attribute__((noinline)) void call_check(void)
     refusal = lokhazim_heap_check(heap, sizeof heap, &accounts);
 }
 
+static uint8_t image[LOKHAZIM_IMAGE_MAX];
+static size_t image_length;
+
+void call_save(void);
+__attribute__((noinline)) void call_save(void)
+{
+    refusal = (enum lokhazim_refusal)lokhazim_heap_save(heap, sizeof heap, &accounts, image, sizeof image, &image_length);
+}
+
+void call_restore(void);
+__attribute__((noinline)) void call_restore(void)
+{
+    refusal = (enum lokhazim_refusal)lokhazim_heap_restore(heap, sizeof heap, &accounts, image, image_length);
+}
+
 static void expect_accepted(const char *name)
 {
     if (refusal != LOKHAZIM_ACCEPTED) {
@@ -77,9 +92,11 @@ static void prepare(void)
         expect_accepted("release");
     }
     middle = objects[OBJECTS / 2];
+    call_save();
+    expect_accepted("save");
 }
 
-static _Alignas(64) unsigned char stack[65536];
+static _Alignas(64) unsigned char stack[131072];
 
 /* The stack pointer when a function begins on that stack: at its return address. */
 static unsigned char *beginning;
@@ -135,5 +152,7 @@ int main(void)
     MEASURE(can_release);
     MEASURE(list_block);
     MEASURE(check);
+    MEASURE(save);
+    MEASURE(restore);
     return EXIT_SUCCESS;
 }

@@ -1,8 +1,8 @@
 /*
  * Lokhazim: a heap that parts of a firmware share without trusting each other.
  *
- * Each part has a quota. An object's length is the request rounded up to a
- * multiple of 8, from 8,192 on of 16, from 16,384 on of 32; it costs that plus
+ * Each part has a quota. A request is rounded up: to a multiple of 8, from 8,192
+ * on of 16, from 16,384 on of 32. An object costs its rounded length plus
  * LOKHAZIM_HEADER, and a part may hold an object that another part made. Every
  * call but open checks the whole heap and its accounts for itself, on any bytes
  * and any numbers. A call answers, or gives one of eleven refusals and changes
@@ -15,6 +15,8 @@
  * What the library can't check is the caller's duty:
  *   - `heap` points to `length` bytes that nobody else uses during the call, and
  *     accounts and answers lie outside of them. `heap` is not a null pointer.
+ *   - `accounts` is not a null pointer either, nor is a pointer that takes a
+ *     handle, a block or an object; one that takes a number may be null.
  *   - The heap begins at an address that is a multiple of LOKHAZIM_ALIGNMENT:
  *         static _Alignas(LOKHAZIM_ALIGNMENT) uint8_t heap[4096];
  *     An object's base is a multiple of 8, 16 or 32, by its length, counted from
@@ -26,6 +28,14 @@
  */
 #ifndef LOKHAZIM_H
 #define LOKHAZIM_H
+
+#ifdef __cplusplus
+#if __cplusplus < 201103L
+#error "lokhazim.h needs C++11 or newer: compile with -std=c++11"
+#endif
+#elif !defined(__STDC_VERSION__) || __STDC_VERSION__ < 201112L
+#error "lokhazim.h needs C11 or newer: compile with -std=c11"
+#endif
 
 #include <assert.h>
 #include <stddef.h>
@@ -295,9 +305,9 @@ uint32_t lokhazim_check(
 
 /* ---- The same calls with the accounts by pointer ----
  *
- * Each gives its refusal. `accounts` is read, and written where it is not const.
- * The last pointers take the answer, which is zero where the call is refused;
- * a pointer to a number may be null if the number isn't wanted.
+ * Each gives its refusal. `accounts` is read, and written where it is not const;
+ * it may not be null. The last pointers take the answer, which is zero where the
+ * call is refused; a pointer to a number may be null if the number isn't wanted.
  * Any of them can give refusal 1, and any but open 2; the others are named.
  */
 
@@ -379,7 +389,9 @@ static inline enum lokhazim_refusal lokhazim_heap_free_all(
 
 /*
  * Makes *moved with the old object's bytes, as far as both lengths go, then drops one hold on the old object.
- * Quota, records and heap need room for both. Refusals 3 to 6, 8 to 11.
+ * Quota, records and heap need room for both. Where it is refused, *moved becomes zero and the old object stays
+ * as it was: with `&handle` for `moved` the only copy of its handle would be lost, so take the answer in another
+ * handle and copy that once the call is accepted. Refusals 3 to 6, 8 to 11.
  */
 static inline enum lokhazim_refusal lokhazim_heap_reallocate(
     uint8_t *heap, size_t length, struct lokhazim_accounts *accounts, uint32_t quota,

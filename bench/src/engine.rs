@@ -20,7 +20,7 @@ pub trait Engine {
     fn call_claim(&mut self, quota: u32, handle: Handle) -> u32;
     /// Reallocates an object.
     fn call_reallocate(&mut self, quota: u32, handle: Handle, length: u32) -> Handle;
-    /// Takes a claim back, which gives the quota nothing: a release that is not measured.
+    /// Takes a hold back, which gives the quota nothing: a release that is not measured.
     fn drop_claim(&mut self, quota: u32, handle: Handle);
     /// Looks at the heap's bytes, or changes them where no rule names them.
     fn look<A>(&mut self, look: impl FnOnce(&mut [u8]) -> A) -> A;

@@ -1,7 +1,7 @@
 //! The operations that every program runs: sizes and choices from a fixed seed.
 //!
 //! A step starts with one object less than the plan's live count. It allocates one, claims one and
-//! drops the claim, releases one and reallocates one. So at each of the four calls the heap has
+//! drops the hold, releases one and reallocates one. So at each of the four calls the heap has
 //! exactly the live count at its fullest: a reallocation needs a hold record for both objects, and
 //! there are 128 records.
 

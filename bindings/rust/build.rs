@@ -1,28 +1,61 @@
-//! Finds `liblokhazim.a`: in the folder that `LOKHAZIM_LIB_DIR` names, else where `make lib`
-//! writes it.
+//! Finds `liblokhazim.a` and `liblokhazim_image.a`: in the folder that `LOKHAZIM_LIB_DIR` names, else
+//! where `make lib` writes them.
 
 use std::env;
 use std::path::{Path, PathBuf};
 
-/// Tells cargo where the library is. Where it is missing, the crate says so itself when it is
-/// built; lints and documentation need no library.
+/// The libraries, as the linker names them.
+const LIBRARIES: [&str; 2] = ["lokhazim", "lokhazim_image"];
+
+/// Tells cargo where the libraries are. Where one is missing, the crate says so itself when it is
+/// built, and where it was looked for; lints and documentation need no library.
 fn main() {
-    let library = folder().join("liblokhazim.a");
+    let folders = folders();
+    let found = folders.iter().find(|folder| has_all(folder));
     println!("cargo:rerun-if-env-changed=LOKHAZIM_LIB_DIR");
-    println!("cargo:rerun-if-changed={}", library.display());
-    println!("cargo:rustc-env=LOKHAZIM_LIBRARY={}", library.display());
+    for folder in &folders {
+        for name in LIBRARIES {
+            println!("cargo:rerun-if-changed={}", file(folder, name).display());
+        }
+    }
     println!("cargo:rustc-check-cfg=cfg(library_missing)");
-    if library.is_file() {
-        println!("cargo:rustc-link-search=native={}", folder().display());
-        println!("cargo:rustc-link-lib=static=lokhazim");
-    } else {
+    let Some(folder) = found else {
+        let looked: Vec<String> = folders.iter().map(|f| f.display().to_string()).collect();
+        println!("cargo:rustc-env=LOKHAZIM_LIBRARIES=");
+        println!("cargo:rustc-env=LOKHAZIM_LOOKED={}", looked.join(" and "));
         println!("cargo:rustc-cfg=library_missing");
+        return;
+    };
+    println!("cargo:rustc-env=LOKHAZIM_LIBRARIES={}", folder.display());
+    println!("cargo:rustc-link-search=native={}", folder.display());
+    for name in LIBRARIES {
+        println!("cargo:rustc-link-lib=static={name}");
     }
 }
 
-/// The folder that has the library.
-fn folder() -> PathBuf {
-    let crate_folder = env::var("CARGO_MANIFEST_DIR").expect("cargo names the crate's folder");
-    let named = env::var_os("LOKHAZIM_LIB_DIR").map(PathBuf::from);
-    named.unwrap_or_else(|| Path::new(&crate_folder).join("../../build/lib"))
+/// A library's file in a folder.
+fn file(folder: &Path, name: &str) -> PathBuf {
+    folder.join(format!("lib{name}.a"))
+}
+
+/// Whether a folder has every library.
+fn has_all(folder: &Path) -> bool {
+    LIBRARIES.iter().all(|name| file(folder, name).is_file())
+}
+
+/// The folders that may have the libraries; the first that has them is taken. A relative
+/// `LOKHAZIM_LIB_DIR` counts from the folder in which cargo was started, and else from this crate's.
+fn folders() -> Vec<PathBuf> {
+    let this_crate =
+        PathBuf::from(env::var_os("CARGO_MANIFEST_DIR").expect("cargo names the crate's folder"));
+    let Some(named) = env::var_os("LOKHAZIM_LIB_DIR").map(PathBuf::from) else {
+        return vec![this_crate.join("../../build/lib")];
+    };
+    if named.is_absolute() {
+        return vec![named];
+    }
+    println!("cargo:rerun-if-env-changed=PWD");
+    let started = env::var_os("PWD").map(|folder| PathBuf::from(folder).join(&named));
+    let beside = this_crate.join(&named);
+    started.into_iter().chain([beside]).collect()
 }

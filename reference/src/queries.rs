@@ -14,7 +14,7 @@ pub fn lend(heap: &[u8], accounts: &Accounts, handle: Handle) -> Result<Range<us
     Ok(object.object_bytes())
 }
 
-/// Gives the object's bytes as a part of the heap, to be read and written.
+/// Gives the part of the heap that is the object, to be read and written (rule 8.29).
 pub fn lend_mut<'heap>(
     heap: &'heap mut [u8],
     accounts: &Accounts,
@@ -24,14 +24,15 @@ pub fn lend_mut<'heap>(
     Ok(&mut heap[range])
 }
 
-/// Gives the remainder of the quota.
+/// Gives the remainder of the quota (rule 8.30).
 pub fn remaining(heap: &[u8], accounts: &Accounts, quota: u32) -> Result<u32, Refusal> {
     sound_layout(heap, accounts)?;
     let quota = QuotaNumber::new(quota)?;
     Ok(accounts.remainder(quota))
 }
 
-/// Gives the block that starts at the place, if one does: a step of the listing.
+/// Gives the block that starts at the place, if one does: a step of the listing (rules 8.32
+/// and 8.33).
 pub fn block_at(heap: &[u8], accounts: &Accounts, place: usize) -> Result<Option<Block>, Refusal> {
     let layout = sound_layout(heap, accounts)?;
     let mut blocks = layout.blocks().into_iter();
@@ -54,7 +55,7 @@ impl<'heap> Walker<'heap> {
     }
 
     /// Gives the block at the place and moves the place behind it.
-    // OPEN: where the place goes after no block is free; here it stays.
+    // OPEN: that the place stays where it is after no block is a choice of rule 8.34.
     pub fn step(&mut self, accounts: &Accounts) -> Result<Option<Block>, Refusal> {
         let block = block_at(self.heap, accounts, self.place)?;
         if let Some(block) = block {

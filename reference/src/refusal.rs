@@ -1,4 +1,4 @@
-//! The refusals and their numbers.
+//! The refusals and their numbers (rule 7.1).
 
 use std::fmt;
 
@@ -7,7 +7,7 @@ use std::fmt;
 pub enum Refusal {
     /// 1: the heap length is not allowed.
     HeapLength,
-    /// 2: heap and accounts are not sound.
+    /// 2: heap and accounts are not consistent.
     NotSound,
     /// 3: the quota number is not below the number of quotas.
     QuotaNumber,
@@ -15,7 +15,7 @@ pub enum Refusal {
     RequestLength,
     /// 5: the handle names no live object.
     NoObject,
-    /// 6: this quota has no record for the object.
+    /// 6: the quota does not hold the object.
     NoRecord,
     /// 7: this quota's count is at its greatest value.
     CountFull,
@@ -25,7 +25,7 @@ pub enum Refusal {
     RecordsFull,
     /// 10: the last serial is the greatest 32-bit number.
     SerialsSpent,
-    /// 11: no suitable run of bytes exists.
+    /// 11: the request has no base.
     NoSpace,
 }
 

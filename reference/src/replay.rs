@@ -1,4 +1,4 @@
-//! The replay program: lines of calls in, lines of answers out.
+//! The replay program: lines of calls in, lines of answers out (rules, section 11).
 
 use std::fmt::Write;
 
@@ -25,7 +25,7 @@ struct Session {
 /// Any input is accepted, of any length and with any bytes.
 pub fn replay(input: &[u8]) -> Vec<u8> {
     let mut output = String::new();
-    // OPEN: too long an input prints `bad` alone, whatever its first lines are.
+    // OPEN: that the length is judged before the lines is a choice of rule 11.1.
     let ended = if input.len() > MAX_INPUT {
         Err(Bad)
     } else {
@@ -69,7 +69,7 @@ fn parse_line(line: &[u8]) -> Result<(&str, Vec<u32>), Bad> {
     Ok((name, numbers))
 }
 
-/// Reads a decimal number of 32 bits without leading zeros.
+/// Reads a decimal number of 32 bits without leading zeros (rule 11.3).
 fn parse_number(word: &str) -> Result<u32, Bad> {
     let all_digits = !word.is_empty() && word.bytes().all(|byte| byte.is_ascii_digit());
     let leading_zero = word.len() > 1 && word.starts_with('0');
@@ -151,7 +151,7 @@ fn one_number(number: u32) -> Vec<u32> {
     vec![number]
 }
 
-/// Prints `ok` and the numbers, or `no` and the refusal.
+/// Prints the line of an answer (rules 11.4 and 11.6).
 fn print_answer(answer: Result<Vec<u32>, Refusal>, output: &mut String) {
     match answer {
         Ok(numbers) if numbers.is_empty() => print_line("ok", output),

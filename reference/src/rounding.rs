@@ -1,4 +1,4 @@
-//! Rounding of a requested length to the length of the object.
+//! Rounding of a requested length to the length of the object (rules, section 6).
 
 use crate::Refusal;
 

@@ -1,7 +1,6 @@
-//! The checks that every call makes first: heap length and soundness.
+//! The checks that every call makes first: heap length (rule 2.1) and consistency.
 //!
-//! Soundness follows its paragraph in the rules sentence by sentence; each
-//! sentence is one function, and they are asked in the order of the rules.
+//! Rules 5.1 to 5.8 are asked in their order, by one function for each rule or pair of rules.
 
 use std::collections::BTreeSet;
 
@@ -28,7 +27,7 @@ pub fn check(heap: &[u8], accounts: &Accounts) -> Result<(), Refusal> {
     sound_layout(heap, accounts).map(|_| ())
 }
 
-/// Gives the layout of a sound heap, or refusal 1 or 2.
+/// Gives the layout of a consistent heap, or refusal 1 or 2.
 pub(crate) fn sound_layout(heap: &[u8], accounts: &Accounts) -> Result<Layout, Refusal> {
     if !length_is_allowed(heap.len()) {
         return Err(Refusal::HeapLength);
@@ -59,15 +58,14 @@ fn used_records(accounts: &Accounts) -> impl Iterator<Item = Hold> + '_ {
     accounts.holds.iter().copied().filter(|hold| hold.is_used())
 }
 
-/// Sentence 1: the heap is cut into blocks with every size and back size true
-/// and the last block ending at the heap's end.
+/// Rules 5.1 and 5.2: the heap is cut into blocks.
 ///
 /// The walk itself has shown that the sizes lead from offset 0 to the end.
 fn heap_is_cut_truly(found: &[Found]) -> bool {
     back_sizes_are_true(found) && live_blocks_are_long_enough(found) && no_two_free_touch(found)
 }
 
-/// Sentence 1, back sizes: 0 for the first block, else the size of the block before.
+/// Rule 5.1, back sizes: 0 for the first block, else the size of the block before.
 fn back_sizes_are_true(found: &[Found]) -> bool {
     let sizes_before = [0]
         .into_iter()
@@ -78,28 +76,27 @@ fn back_sizes_are_true(found: &[Found]) -> bool {
         .all(|(found, size_before)| found.back_size == size_before)
 }
 
-/// Sentence 1, block sizes: a live block is at least 16 bytes long.
+/// Rule 5.2, live blocks: 16 bytes or more.
 fn live_blocks_are_long_enough(found: &[Found]) -> bool {
     found
         .iter()
         .all(|found| found.block.is_free() || found.block.size >= MIN_LIVE_BLOCK)
 }
 
-/// Sentence 1, free blocks: two free blocks never stand side by side.
+/// Rule 5.2, free blocks: no two are neighbours.
 fn no_two_free_touch(found: &[Found]) -> bool {
     found
         .windows(2)
         .all(|pair| !(pair[0].block.is_free() && pair[1].block.is_free()))
 }
 
-/// Sentence 2: live serials differ from each other and are at most the last serial.
+/// Rules 5.3 and 5.4: live serials differ, and none is above the last serial.
 fn live_serials_differ_and_were_given(live: &[Block], accounts: &Accounts) -> bool {
     let serials: BTreeSet<u32> = live.iter().map(|block| block.serial).collect();
     serials.len() == live.len() && serials.iter().all(|serial| *serial <= accounts.last_serial)
 }
 
-/// Sentence 3: every used record has a live object's serial, a quota number in
-/// range and a count of at least 1.
+/// Rule 5.5: a used record is of a live object, with a quota that exists and a count.
 fn used_records_are_proper(live: &[Block], accounts: &Accounts) -> bool {
     let serials: BTreeSet<u32> = live.iter().map(|block| block.serial).collect();
     used_records(accounts).all(|hold| {
@@ -107,20 +104,19 @@ fn used_records_are_proper(live: &[Block], accounts: &Accounts) -> bool {
     })
 }
 
-/// Sentence 4: no two used records have the same serial and quota.
+/// Rule 5.6: used records differ in serial or quota.
 fn no_two_used_records_agree(accounts: &Accounts) -> bool {
     let mut seen = BTreeSet::new();
     used_records(accounts).all(|hold| seen.insert((hold.serial, hold.quota)))
 }
 
-/// Sentence 5: every live object has a record.
+/// Rule 5.7: every object is held.
 fn every_object_has_a_record(live: &[Block], accounts: &Accounts) -> bool {
     let held: BTreeSet<u32> = used_records(accounts).map(|hold| hold.serial).collect();
     live.iter().all(|block| held.contains(&block.serial))
 }
 
-/// Sentence 6: each grant is the remainder and the sum of the charges of the
-/// objects that the quota has a record for, in whole numbers.
+/// Rule 5.8: a grant is the remainder and the charges of what the quota holds.
 fn every_grant_is_accounted_for(live: &[Block], accounts: &Accounts) -> bool {
     let held: BTreeSet<(u32, u8)> = used_records(accounts)
         .map(|hold| (hold.serial, hold.quota))
@@ -128,7 +124,7 @@ fn every_grant_is_accounted_for(live: &[Block], accounts: &Accounts) -> bool {
     let mut sums = accounts.quotas.map(|quota| u64::from(quota.remainder));
     for block in live {
         for (_, quota) in held.range((block.serial, 0)..=(block.serial, u8::MAX)) {
-            // Sentence 3 holds here, so the quota number is in range.
+            // Rule 5.5 holds here, so the quota number is in range.
             if let Some(sum) = sums.get_mut(usize::from(*quota)) {
                 *sum += u64::from(block.charge());
             }

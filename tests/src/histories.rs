@@ -1,4 +1,4 @@
-//! Undamaged histories: lists of calls from an opening or from a sound state, with the caller's
+//! Undamaged histories: lists of calls from an opening or from a consistent state, with the caller's
 //! writes between them, compared call by call and checked against the ledger.
 
 use lokhazim_reference::{Accounts, Handle, HOLDS, QUOTAS};
@@ -8,6 +8,7 @@ use crate::choice::{choose, grants, Habits, Weights, GROWING, MIXED, SHARING, SH
 use crate::compare::{call_failure, Failure};
 use crate::cut::blocks;
 use crate::forged::View;
+use crate::image_cases::image_of;
 use crate::judge::broken;
 use crate::ledger::Ledger;
 use crate::seed::Seed;
@@ -22,7 +23,7 @@ pub enum Beginning {
     Opening,
     /// By an accepted opening, many small objects, and claims until no record is unused.
     Crowd,
-    /// By a sound state that was made directly.
+    /// By a consistent state that was made directly.
     SoundState,
 }
 
@@ -69,7 +70,7 @@ pub fn run(
     Ok(())
 }
 
-/// Makes one call on a state, and checks the sentences about the ledger if the state is sound.
+/// Makes one call on a state, and checks the rules about the ledger if the state is consistent.
 pub fn once(pair: &mut Pair, state: State, call: Call) -> Result<Answer, Failure> {
     if !broken(&state).is_empty() {
         return pair.call(&mut state.clone(), call);
@@ -139,7 +140,7 @@ impl History<'_> {
         self.call(call)
     }
 
-    /// Makes a call, records it in the ledger and checks every sentence.
+    /// Makes a call, records it in the ledger and checks every rule.
     fn call(&mut self, call: Call) -> Result<Answer, Failure> {
         let (before, ledger_before) = (self.state.clone(), self.ledger.clone());
         let answer = self.pair.call(&mut self.state, call)?;
@@ -165,6 +166,22 @@ impl History<'_> {
         Ok(answer)
     }
 
+    /// Writes an image of the state, reads it back into other bytes, and goes on with what was read.
+    fn go_through_an_image(&mut self, seed: &mut Seed) -> Result<(), Failure> {
+        let image = image_of(self.pair, &self.state)?;
+        let mut other = self.state.heap.clone();
+        other.fill_with(|| seed.byte());
+        let (refusal, restored) = self.pair.read_image(&image, &other)?;
+        if refusal != 0 || restored != self.state {
+            return Err(Failure(format!(
+                "{}: the image of a history is not read back",
+                self.pair.origin
+            )));
+        }
+        self.state = restored;
+        Ok(())
+    }
+
     /// Does now and then what a single call does not.
     fn now_and_then(&mut self, seed: &mut Seed) -> Result<(), Failure> {
         match seed.below(400) {
@@ -172,6 +189,7 @@ impl History<'_> {
             12..=17 => self.list_and_ask()?,
             18 => self.claim_to_the_end(seed)?,
             19..=21 => self.fill_records(seed)?,
+            22..=25 => self.go_through_an_image(seed)?,
             _ => {}
         }
         Ok(())

@@ -1,28 +1,28 @@
-//! The paragraph "Sound" of document 01, judged sentence by sentence with plain loops.
+//! Rules 5.1 to 5.8, judged one by one with plain loops.
 
 use lokhazim_reference::{Block, Hold, QUOTAS};
 
 use crate::cut::{walk, Stated};
 use crate::state::State;
 
-/// The sentences of the paragraph, in its order.
+/// The rules, or pairs of them, in their order.
 #[derive(Clone, Copy, Debug, PartialEq, Eq, PartialOrd, Ord)]
 pub enum Sentence {
-    /// The heap is cut as above, every size and back size true, the last block ending at H.
+    /// 5.1 and 5.2: the heap is cut into blocks.
     Cut,
-    /// Live serials differ from each other and are at most the last serial.
+    /// 5.3 and 5.4: live serials differ, and none is above the last serial.
     Serials,
-    /// Every used record has a live object's serial, a quota below 8 and a count of at least 1.
+    /// 5.5: a used record is of a live object, with a quota that exists and a count.
     Records,
-    /// No two used records have the same serial and quota.
+    /// 5.6: used records differ in serial or quota.
     Twice,
-    /// Every live object has a record.
+    /// 5.7: every object is held.
     Held,
-    /// Each grant is the remainder and the charges, in whole numbers.
+    /// 5.8: a grant is the remainder and the charges.
     Sums,
 }
 
-/// Every sentence.
+/// All of them.
 pub const SENTENCES: [Sentence; 6] = [
     Sentence::Cut,
     Sentence::Serials,
@@ -32,7 +32,7 @@ pub const SENTENCES: [Sentence; 6] = [
     Sentence::Sums,
 ];
 
-/// Gives the sentences that a state of an allowed heap length breaks. Where the sizes do not lead
+/// Gives the rules that a state of an allowed heap length breaks. Where the sizes do not lead
 /// to the heap's end, the others speak of nothing and only the first is given.
 pub fn broken(state: &State) -> Vec<Sentence> {
     let walk = walk(&state.heap);

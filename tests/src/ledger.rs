@@ -1,5 +1,4 @@
-//! Document 01's ledger: it is fed the arguments and the answer of each call, and nothing of heap
-//! or accounts.
+//! The ledger (rules, section 9), made from the arguments and the answers of calls alone.
 
 use lokhazim_reference::{Handle, HOLDS, QUOTAS};
 
@@ -51,7 +50,7 @@ pub struct Request {
     pub length: u32,
 }
 
-/// Rounds a request by document 01's table; none for what refusal 4 is given for.
+/// Rounds a request (rules 6.1 to 6.3); none for what refusal 4 is given for.
 pub fn request(bytes: u64) -> Option<Request> {
     let unit = match bytes {
         0 | 32_761.. => return None,
@@ -74,8 +73,8 @@ impl Ledger {
         }
     }
 
-    /// The ledger of a sound state that no list of calls led to: its grants as opened, its live
-    /// objects, and its records' counts as the holds so far.
+    /// The ledger of a consistent state that no list of calls led to: an entry for each live
+    /// object, with the counts of its records as holds, and the accounts' grants.
     pub fn read_off(state: &State) -> Ledger {
         let accounts = &state.accounts;
         let objects = live_handles(&state.heap).into_iter().map(|handle| {

@@ -9,7 +9,7 @@
 
 #[cfg(all(library_missing, not(clippy)))]
 compile_error!(
-    "target/staticlib/libc_api.a is missing: run 'rt staticlib c_api' in the repository's folder, then build again"
+    "a library of target/staticlib is missing: run 'make lib' in the repository's folder, then build again"
 );
 
 #[allow(unsafe_code)]
@@ -22,6 +22,8 @@ pub mod cut;
 pub mod damage;
 pub mod forged;
 pub mod histories;
+pub mod image_cases;
+pub mod images;
 pub mod judge;
 pub mod ledger;
 pub mod lent;

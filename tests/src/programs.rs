@@ -1,4 +1,4 @@
-//! The two replay programs, run on the same input.
+//! The two replay programs and the command's replay, run on the same input.
 
 use std::env;
 use std::io::Write;
@@ -8,10 +8,11 @@ use std::thread;
 
 use crate::compare::{repository, save, Failure};
 
-/// Where the two programs are.
+/// Where the programs are.
 pub struct Programs {
     proved: PathBuf,
     reference: PathBuf,
+    command: PathBuf,
 }
 
 /// How an input is written to a program: whole, or in pieces of so many bytes.
@@ -24,26 +25,27 @@ pub enum Feed {
 }
 
 impl Programs {
-    /// Finds both programs, or says what to run.
+    /// Finds the programs, or says what to run.
     pub fn find() -> Result<Programs, Failure> {
         let proved = repository().join("target/bin/replay");
         need(&proved, "rt check replay")?;
-        let own = env::current_exe().unwrap_or_default();
-        let folders = own.ancestors().skip(1).take(2);
-        let reference = folders
-            .map(|folder| folder.join("replay-reference"))
-            .find(|program| program.is_file())
-            .unwrap_or_else(|| repository().join("build/cargo/debug/replay-reference"));
+        let (reference, command) = (built("replay-reference"), built("lokhazim"));
         need(&reference, "cargo build --offline --workspace")?;
-        Ok(Programs { proved, reference })
+        need(&command, "cargo build --offline --workspace")?;
+        Ok(Programs {
+            proved,
+            reference,
+            command,
+        })
     }
 
-    /// Runs both programs on an input and gives the output, or saves the input where they differ.
+    /// Runs the programs on an input and gives the output, or saves the input where they differ.
     pub fn compare(&self, name: &str, input: &[u8], feed: Feed) -> Result<Vec<u8>, Failure> {
-        let proved = run(&self.proved, input, feed)?;
-        let reference = run(&self.reference, input, Feed::Whole)?;
+        let proved = run(&self.proved, &[], input, feed)?;
+        let reference = run(&self.reference, &[], input, Feed::Whole)?;
         let alike = proved.stdout == reference.stdout && proved.status == reference.status;
         if alike && proved.status.success() && proved.stderr.is_empty() {
+            self.command_agrees(name, input, &proved.stdout)?;
             return Ok(reference.stdout);
         }
         let script = save(&format!("script-{name}.in"), input)?;
@@ -55,6 +57,35 @@ impl Programs {
             script.display()
         )))
     }
+}
+
+impl Programs {
+    /// Holds the command's replay to the same output; its status is 1 exactly behind a bad line.
+    fn command_agrees(&self, name: &str, input: &[u8], printed: &[u8]) -> Result<(), Failure> {
+        let command = run(&self.command, &["replay", "-"], input, Feed::Whole)?;
+        let status = i32::from(printed.ends_with(b"bad\n"));
+        if command.stdout == printed && command.status.code() == Some(status) {
+            return Ok(());
+        }
+        let script = save(&format!("script-{name}.in"), input)?;
+        Err(Failure(format!(
+            "script {name}: 'lokhazim replay' ended with {} and does not print what the proved program prints. The input is saved in {}",
+            command.status,
+            script.display()
+        )))
+    }
+}
+
+/// A program that cargo built, beside this one or where it is built by default.
+fn built(name: &str) -> PathBuf {
+    let own = env::current_exe().unwrap_or_default();
+    let mut folders = own.ancestors().skip(1).take(2);
+    folders
+        .find(|folder| folder.join(name).is_file())
+        .map_or_else(
+            || repository().join("build/cargo/debug").join(name),
+            |f| f.join(name),
+        )
 }
 
 /// Says what to run if a program is missing.
@@ -92,8 +123,8 @@ fn difference(proved: &Output, reference: &Output) -> String {
     )
 }
 
-/// Runs a program on an input and gives all that it left.
-fn run(program: &Path, input: &[u8], feed: Feed) -> Result<Output, Failure> {
+/// Runs a program with some words on an input and gives all that it left.
+fn run(program: &Path, words: &[&str], input: &[u8], feed: Feed) -> Result<Output, Failure> {
     let failed = |error: std::io::Error| {
         Failure(format!(
             "the program {} could not be run: {error}",
@@ -101,6 +132,7 @@ fn run(program: &Path, input: &[u8], feed: Feed) -> Result<Output, Failure> {
         ))
     };
     let mut child = Command::new(program)
+        .args(words)
         .stdin(Stdio::piped())
         .stdout(Stdio::piped())
         .stderr(Stdio::piped())

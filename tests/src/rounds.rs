@@ -4,6 +4,7 @@ use crate::calls::Pair;
 use crate::compare::Failure;
 use crate::damage::DAMAGES;
 use crate::histories::{self, Beginning};
+use crate::image_cases;
 use crate::programs::{Feed, Programs};
 use crate::seed::Seed;
 use crate::tally::Tally;
@@ -49,6 +50,18 @@ pub fn calls(pair: &mut Pair, seed: u64, n: u64) -> Result<(), Failure> {
     for turn in 0..8 {
         let place = (8 * n + turn) as usize % DAMAGES.len();
         unsound::alone(pair, &DAMAGES[place], seed, 8 * n + turn)?;
+    }
+    Ok(())
+}
+
+/// Compares images for the n-th case of a seed: some dozens.
+pub fn images(pair: &mut Pair, seed: u64, n: u64) -> Result<(), Failure> {
+    image_cases::states(pair, seed, n)?;
+    for turn in 0..18 {
+        image_cases::harmed(pair, seed, 18 * n + turn)?;
+    }
+    for turn in 0..4 {
+        image_cases::forged(pair, seed, 4 * n + turn)?;
     }
     Ok(())
 }

@@ -1,4 +1,5 @@
-//! The sentences about the ledger, each checked after a call of an undamaged history.
+//! What section 10 of the rules says of the ledger, each rule checked after a call of an
+//! undamaged history.
 
 use lokhazim_reference::{Handle, QUOTAS};
 
@@ -23,7 +24,7 @@ pub struct Step<'a> {
     pub after: &'a State,
 }
 
-/// Gives what is wrong with a call and the state that it left; nothing if every sentence holds.
+/// Gives what is wrong with a call and the state that it left; nothing if every rule holds.
 pub fn wrong(step: &Step) -> Vec<String> {
     let checks: [(&str, bool); 11] = [
         ("heap and accounts are sound", broken(step.after).is_empty()),
@@ -67,12 +68,12 @@ fn ledger_handles(ledger: &Ledger) -> Vec<Handle> {
     handles
 }
 
-/// The objects of live blocks are exactly the ledger's, in base, length and serial.
+/// Rule 10.4: live objects and the ledger's objects are the same.
 fn objects_are_the_ledgers(step: &Step) -> bool {
     live_handles(&step.after.heap) == ledger_handles(step.ledger)
 }
 
-/// The used records are exactly the holds above 0, by serial, quota and count.
+/// Rule 10.7: used records and the ledger's holds are the same.
 fn records_are_the_holds(step: &Step) -> bool {
     let used = step.after.accounts.holds.iter().filter(|h| h.is_used());
     let mut records: Vec<(u32, usize, u32)> = used
@@ -82,21 +83,22 @@ fn records_are_the_holds(step: &Step) -> bool {
     records == step.ledger.records()
 }
 
-/// The accounts' grants are the ledger's, and the last serial is the last one answered.
+/// Rule 10.8: the accounts' grants are the ledger's, and the last serial is the last one answered.
 fn grants_are_the_ledgers(step: &Step) -> bool {
     let accounts = &step.after.accounts;
     let grants = accounts.quotas.map(|quota| quota.grant);
     grants == step.ledger.grants && accounts.last_serial == step.ledger.last_serial
 }
 
-/// A remainder is the grant less the charges, in whole numbers.
+/// Rule 10.8: a remainder is the grant less the charges, in whole numbers.
 fn remainders_hold(step: &Step) -> bool {
     let quotas = &step.after.accounts.quotas;
     let remainders = quotas.map(|quota| i64::from(quota.remainder));
     (0..QUOTAS).all(|number| remainders[number] == step.ledger.remainder(number))
 }
 
-/// Every object lies in the heap and shares no byte with another object or with a header.
+/// Rule 10.6: every object lies in the heap and shares no byte with another object or with a
+/// header.
 fn bytes_have_one_owner(step: &Step) -> bool {
     let mut owners = vec![0_u32; step.after.heap.len()];
     let headers = blocks(&step.after.heap).into_iter();
@@ -112,7 +114,8 @@ fn bytes_have_one_owner(step: &Step) -> bool {
     owners.iter().all(|owner| *owner <= 1)
 }
 
-/// An object that the ledger had before and still has is at the same base with the same length.
+/// Rule 10.5: an object that the ledger had before and still has is at the same base with the
+/// same length.
 fn objects_stay(step: &Step) -> bool {
     if matches!(step.call, Call::Open(_)) {
         return true;
@@ -126,8 +129,7 @@ fn objects_stay(step: &Step) -> bool {
     })
 }
 
-/// A refusal is given exactly when its line holds and no earlier one; only line 11 is left to
-/// the sentence about space.
+/// Rule 7.2: the first line that holds refuses a call; only line 11 is left to rule 10.9.
 fn refusal_is_the_tables(step: &Step) -> bool {
     match step.ledger_before.refusal_before_space(step.call) {
         0 => matches!(step.answer.refusal, 0 | 11),
@@ -135,8 +137,8 @@ fn refusal_is_the_tables(step: &Step) -> bool {
     }
 }
 
-/// A request that passes every other check is refused by 11 exactly if no suitable run exists,
-/// and else gets the lowest.
+/// Rule 10.9: a request that no other line refuses is refused by 11 exactly if it has no base,
+/// and else gets the lowest (rule 8.6).
 fn space_holds(step: &Step) -> bool {
     let bytes = match step.call {
         Call::Allocate(_, n) | Call::Reallocate(_, _, n) => u64::from(n),
@@ -213,7 +215,7 @@ fn wanted_bytes(step: &Step, object: &Object) -> Vec<u8> {
     bytes
 }
 
-/// An object that stays keeps its bytes but for a write to it; a new one is all zero, or has the
+/// Rule 10.12: an object that stays keeps its bytes but for a write to it; a new one is all zero, or has the
 /// old one's bytes and then zeros.
 fn contents_hold(step: &Step) -> bool {
     step.ledger

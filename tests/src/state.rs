@@ -16,7 +16,7 @@ pub struct State {
     pub accounts: Accounts,
 }
 
-/// A call with its arguments, in document 01's order.
+/// A call with its arguments (rules, section 8).
 #[derive(Clone, Copy, Debug, PartialEq, Eq)]
 pub enum Call {
     /// Open with the grants.

@@ -1,4 +1,4 @@
-//! Sound states that are made directly, most of which no list of calls reaches: any cut, serials
+//! Consistent states that are made directly, most of which no list of calls reaches: any cut, serials
 //! in any order, records at any place, any bytes in free blocks and objects.
 
 use std::collections::BTreeSet;
@@ -44,7 +44,7 @@ pub fn heap_length(seed: &mut Seed) -> u32 {
 }
 
 impl Plan {
-    /// Makes a sound plan for a heap of this length.
+    /// Makes a consistent plan for a heap of this length.
     pub fn new(seed: &mut Seed, length: u32) -> Plan {
         let mut pieces = cut(seed, length);
         let live = pieces.iter().filter(|piece| piece.serial != 0).count();
@@ -119,7 +119,7 @@ impl Plan {
     }
 }
 
-/// Makes a sound state.
+/// Makes a consistent state.
 pub fn sound(seed: &mut Seed) -> State {
     let length = heap_length(seed);
     Plan::new(seed, length).render(seed)

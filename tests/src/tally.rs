@@ -31,6 +31,8 @@ pub struct Tally {
     pub look_alikes: u64,
     /// Cases by a name of their own: the kinds of damage.
     pub cases: BTreeMap<&'static str, u64>,
+    /// Images written and read, by refusal, 0 where accepted.
+    pub images: BTreeMap<(&'static str, u32), u64>,
 }
 
 impl Tally {
@@ -78,6 +80,16 @@ impl Tally {
         *self.cases.entry(name).or_default() += 1;
     }
 
+    /// Counts an image that was written or read.
+    pub fn count_image(&mut self, what: &'static str, refusal: u32) {
+        *self.images.entry((what, refusal)).or_default() += 1;
+    }
+
+    /// Gives how many images were written or read with this refusal, 0 for accepted ones.
+    pub fn images(&self, what: &'static str, refusal: u32) -> u64 {
+        self.images.get(&(what, refusal)).copied().unwrap_or(0)
+    }
+
     /// Gives the number of calls.
     pub fn all_calls(&self) -> u64 {
         self.calls.iter().flatten().sum()
@@ -116,6 +128,9 @@ impl fmt::Display for Tally {
         )?;
         for (text, n) in &self.lines {
             writeln!(f, "  lines '{text}': {}", share(*n, lines))?;
+        }
+        for ((what, refusal), n) in &self.images {
+            writeln!(f, "  images {what}, refusal {refusal}: {n}")?;
         }
         if calls == 0 {
             return Ok(());

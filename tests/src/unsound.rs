@@ -16,7 +16,7 @@ use crate::states::sound;
 /// How often a state is made anew where there was no place for a kind of damage.
 const TRIES: u64 = 40;
 
-/// The habits of calls on damaged states: such that most would be accepted on a sound one.
+/// The habits of calls on damaged states: such that most would be accepted on a consistent one.
 const HABITS: Habits = Habits {
     weights: MIXED,
     quotas: QUOTAS as u32,
@@ -24,7 +24,7 @@ const HABITS: Habits = Habits {
     longest: 40,
 };
 
-/// Makes every call on a state in which one kind of damage breaks its sentence alone.
+/// Makes every call on a state in which one kind of damage breaks its rule alone.
 pub fn alone(pair: &mut Pair, damage: &Damage, seed: u64, n: u64) -> Result<(), Failure> {
     pair.begin(damage.name, seed, n);
     let mut numbers = Seed::of_case(seed, n);
@@ -59,7 +59,7 @@ fn every_call(pair: &mut Pair, seed: &mut Seed, state: &State) -> Result<(), Fai
     Ok(())
 }
 
-/// Makes the check's call and holds it to the sentences of "Sound", judged one by one.
+/// Makes the check's call and holds it to rules 5.1 to 5.8, judged one by one.
 pub fn check_is_the_judges(pair: &mut Pair, state: &State) -> Result<(), Failure> {
     let answer = pair.call(&mut state.clone(), Call::Check)?;
     let length = state.heap.len();
@@ -77,7 +77,7 @@ pub fn check_is_the_judges(pair: &mut Pair, state: &State) -> Result<(), Failure
     Err(call_failure(&pair.origin, state, Call::Check, &wrong))
 }
 
-/// Makes calls on a sound state after a few changes anywhere, or on bytes and numbers of any kind.
+/// Makes calls on a consistent state after a few changes anywhere, or on bytes and numbers of any kind.
 pub fn noise(pair: &mut Pair, seed: u64, n: u64) -> Result<(), Failure> {
     pair.begin("noise", seed, n);
     let mut numbers = Seed::of_case(seed, n);

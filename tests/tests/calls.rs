@@ -2,6 +2,8 @@
 //!
 //! Each test also checks that its calls reached what they are for.
 
+use std::sync::OnceLock;
+
 use lokhazim_tests::calls::Pair;
 use lokhazim_tests::compare::Failure;
 use lokhazim_tests::damage::DAMAGES;
@@ -13,32 +15,86 @@ use lokhazim_tests::unsound;
 /// The seed of every generated call in the gate.
 const SEED: u64 = 20_260_102;
 
-/// The least number of calls of each test: histories from an opening in two tests, histories from
-/// a sound state, damage alone, damage together, noise, and heap lengths.
-const HISTORIES: u64 = 60_000;
-const SOUND_STATES: u64 = 80_000;
-const ALONE: u64 = 40_000;
-const TOGETHER: u64 = 20_000;
-const NOISE: u64 = 30_000;
-const LENGTHS: u64 = 10_000;
+/// How many calls all parts together compare at least.
+const ALL_CALLS: u64 = 200_000;
 
 /// How many states each kind of damage is at least done to.
 const DAMAGED: u64 = 75;
 
-/// Compares cases until so many calls were made, and gives what was compared.
-fn compare(
+/// Makes the case with a number and compares its calls.
+type Case = fn(&mut Pair, u64) -> Result<(), Failure>;
+
+/// Cases of one kind, compared once, whichever test asks first.
+struct Part {
+    /// How many calls are compared at least.
     least: u64,
+    /// The number of the first case.
     first: u64,
-    mut case: impl FnMut(&mut Pair, u64) -> Result<(), Failure>,
-) -> Tally {
-    let mut pair = Pair::new();
-    let mut n = first;
-    while pair.tally.all_calls() < least {
-        case(&mut pair, n).unwrap_or_else(|failure| panic!("{failure}"));
-        n += 1;
+    /// The cases.
+    case: Case,
+    /// What was compared, counted call by call.
+    compared: OnceLock<Tally>,
+}
+
+impl Part {
+    /// Starts with nothing compared.
+    const fn new(least: u64, first: u64, case: Case) -> Part {
+        Part {
+            least,
+            first,
+            case,
+            compared: OnceLock::new(),
+        }
     }
-    println!("{}", pair.tally);
-    pair.tally
+
+    /// Compares cases until so many calls were compared, unless that was done, and gives what was.
+    fn tally(&self) -> &Tally {
+        self.compared.get_or_init(|| {
+            let mut pair = Pair::new();
+            let mut n = self.first;
+            while pair.tally.all_calls() < self.least {
+                (self.case)(&mut pair, n).unwrap_or_else(|failure| panic!("{failure}"));
+                n += 1;
+            }
+            println!("{}", pair.tally);
+            pair.tally
+        })
+    }
+}
+
+static HISTORIES: Part = Part::new(60_000, 0, history);
+static MORE_HISTORIES: Part = Part::new(60_000, 1_000_000, history);
+static SOUND_STATES: Part = Part::new(80_000, 0, |pair, n| {
+    histories::run(pair, Beginning::SoundState, SEED, n, 40)
+});
+static ALONE: Part = Part::new(40_000, 0, |pair, n| {
+    let kind = (n % DAMAGES.len() as u64) as usize;
+    unsound::alone(pair, &DAMAGES[kind], SEED, n)
+});
+static TOGETHER: Part = Part::new(20_000, 0, |pair, n| unsound::together(pair, SEED, n));
+static NOISE: Part = Part::new(30_000, 0, |pair, n| unsound::noise(pair, SEED, n));
+static LENGTHS: Part = Part::new(10_000, 0, |pair, n| unsound::lengths(pair, SEED, n));
+
+/// Every part.
+static PARTS: [&Part; 7] = [
+    &HISTORIES,
+    &MORE_HISTORIES,
+    &SOUND_STATES,
+    &ALONE,
+    &TOGETHER,
+    &NOISE,
+    &LENGTHS,
+];
+
+/// Makes an undamaged history from an opening, every eighth with a full table of records.
+fn history(pair: &mut Pair, n: u64) -> Result<(), Failure> {
+    let crowded = n.is_multiple_of(8);
+    let beginning = if crowded {
+        Beginning::Crowd
+    } else {
+        Beginning::Opening
+    };
+    histories::run(pair, beginning, SEED, n, 250)
 }
 
 /// Checks that the calls were refused by these numbers at least so often.
@@ -58,20 +114,11 @@ fn all_accepted(tally: &Tally, least: u64) {
     }
 }
 
-/// Compares undamaged histories from an opening and checks what they reach.
-fn histories_from(first: u64) {
-    let tally = compare(HISTORIES, first, |pair, n| {
-        let crowded = n.is_multiple_of(8);
-        let beginning = if crowded {
-            Beginning::Crowd
-        } else {
-            Beginning::Opening
-        };
-        histories::run(pair, beginning, SEED, n, 250)
-    });
-    reached(&tally, &[3, 4, 6, 7, 9], 20);
-    reached(&tally, &[5, 8, 11], 500);
-    all_accepted(&tally, 100);
+/// Checks what undamaged histories from an opening reach.
+fn histories_reach(tally: &Tally) {
+    reached(tally, &[3, 4, 6, 7, 9], 20);
+    reached(tally, &[5, 8, 11], 500);
+    all_accepted(tally, 100);
     assert!(
         2 * tally.refused(0) > tally.all_calls(),
         "most calls are accepted"
@@ -88,22 +135,20 @@ fn histories_from(first: u64) {
 
 #[test]
 fn undamaged_histories_and_the_ledger() {
-    histories_from(0);
+    histories_reach(HISTORIES.tally());
 }
 
 #[test]
 fn more_undamaged_histories_and_the_ledger() {
-    histories_from(1_000_000);
+    histories_reach(MORE_HISTORIES.tally());
 }
 
 #[test]
 fn sound_states_that_no_replay_reaches_and_the_ledger() {
-    let tally = compare(SOUND_STATES, 0, |pair, n| {
-        histories::run(pair, Beginning::SoundState, SEED, n, 40)
-    });
-    reached(&tally, &[3, 4, 6, 7, 9], 100);
-    reached(&tally, &[5, 8, 10, 11], 500);
-    all_accepted(&tally, 20);
+    let tally = SOUND_STATES.tally();
+    reached(tally, &[3, 4, 6, 7, 9], 100);
+    reached(tally, &[5, 8, 10, 11], 500);
+    all_accepted(tally, 20);
     assert!(
         2 * tally.refused(0) > tally.all_calls(),
         "most calls are accepted"
@@ -120,10 +165,7 @@ fn sound_states_that_no_replay_reaches_and_the_ledger() {
 
 #[test]
 fn each_sentence_of_sound_broken_alone() {
-    let kinds = DAMAGES.len() as u64;
-    let tally = compare(ALONE, 0, |pair, n| {
-        unsound::alone(pair, &DAMAGES[(n % kinds) as usize], SEED, n)
-    });
+    let tally = ALONE.tally();
     for damage in &DAMAGES {
         let states = tally.cases.get(damage.name).copied().unwrap_or(0);
         assert!(states >= DAMAGED, "{}: {states} states", damage.name);
@@ -138,7 +180,7 @@ fn each_sentence_of_sound_broken_alone() {
 
 #[test]
 fn sentences_of_sound_broken_together() {
-    let tally = compare(TOGETHER, 0, |pair, n| unsound::together(pair, SEED, n));
+    let tally = TOGETHER.tally();
     let refused: u64 = tally.refused(2);
     assert_eq!(
         refused + tally.calls[0][0],
@@ -149,19 +191,20 @@ fn sentences_of_sound_broken_together() {
 
 #[test]
 fn any_bytes_and_any_numbers() {
-    let tally = compare(NOISE, 0, |pair, n| unsound::noise(pair, SEED, n));
+    let tally = NOISE.tally();
     assert!(tally.refused(0) >= 3_000 && tally.refused(2) >= 3_000);
 }
 
 #[test]
 fn heaps_of_any_length() {
-    let tally = compare(LENGTHS, 0, |pair, n| unsound::lengths(pair, SEED, n));
-    reached(&tally, &[1], 3_000);
+    let tally = LENGTHS.tally();
+    reached(tally, &[1], 3_000);
     assert!(tally.refused(0) >= 500);
 }
 
 #[test]
-fn there_are_at_least_200000_calls() {
-    let all = 2 * HISTORIES + SOUND_STATES + ALONE + TOGETHER + NOISE + LENGTHS;
-    assert!(all >= 200_000);
+fn at_least_200000_calls_were_compared() {
+    let compared: u64 = PARTS.iter().map(|part| part.tally().all_calls()).sum();
+    println!("calls compared in all parts: {compared}");
+    assert!(compared >= ALL_CALLS, "only {compared} calls were compared");
 }

@@ -1,4 +1,4 @@
-//! Document 01's runs, with the answers that it gives, by both replay programs and by the calls.
+//! The runs of section 12 of the rules, by both replay programs and by the calls.
 
 use lokhazim_reference::{Accounts, Handle, QUOTAS};
 use lokhazim_tests::calls::Pair;

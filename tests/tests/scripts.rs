@@ -2,6 +2,8 @@
 //!
 //! Each test also checks that its scripts reached what they are for, by the lines printed.
 
+use std::sync::OnceLock;
+
 use lokhazim_tests::malformed::{make, KINDS};
 use lokhazim_tests::programs::{Feed, Programs};
 use lokhazim_tests::rounds;
@@ -55,24 +57,47 @@ const PARTS: [Part; 13] = [
     ),
 ];
 
-/// Compares every script of a theme, checks what was printed, and gives all of it.
-fn compare_theme(name: &str) -> String {
+/// How many scripts the themes and the malformed inputs together compare at least.
+const ALL_SCRIPTS: u64 = 2_000;
+
+/// What was compared of a theme, and all that was printed.
+struct Compared {
+    tally: Tally,
+    printed: String,
+}
+
+/// What was compared of each theme, once a test has asked for it.
+static COMPARED: [OnceLock<Compared>; PARTS.len()] = [const { OnceLock::new() }; PARTS.len()];
+
+/// How many malformed inputs were compared, once a test has asked for it.
+static MALFORMED_COMPARED: OnceLock<u64> = OnceLock::new();
+
+/// Compares every script of a theme, unless that was done, and checks what was printed.
+fn compare_theme(name: &str) -> &'static Compared {
+    let mut parts = PARTS.iter().zip(&COMPARED);
+    let ((_, count, least), compared) = parts.find(|part| part.0 .0 == name).expect("a part");
+    let compared = compared.get_or_init(|| run_theme(name, *count));
+    assert_eq!(compared.tally.scripts, *count);
+    for (text, n) in least.iter() {
+        let lines = compared.tally.lines_of(text);
+        assert!(lines >= *n, "too few lines '{text}'");
+    }
+    compared
+}
+
+/// Compares so many scripts of a theme.
+fn run_theme(name: &str, count: u64) -> Compared {
     let programs = Programs::find().unwrap_or_else(|failure| panic!("{failure}"));
     let mut themes = THEMES.iter();
     let theme = themes.find(|theme| theme.name == name).expect("a theme");
-    let mut parts = PARTS.iter();
-    let (_, count, least) = parts.find(|part| part.0 == name).expect("a part");
     let (mut tally, mut printed) = (Tally::default(), Vec::new());
-    for n in 0..*count {
+    for n in 0..count {
         let compared = rounds::script(&programs, &mut tally, theme, SEED, n);
         printed.extend(compared.unwrap_or_else(|failure| panic!("{failure}")));
     }
     println!("{name}: {tally}");
-    assert_eq!(tally.scripts, *count);
-    for (text, n) in least.iter() {
-        assert!(tally.lines_of(text) >= *n, "too few lines '{text}'");
-    }
-    String::from_utf8_lossy(&printed).into_owned()
+    let printed = String::from_utf8_lossy(&printed).into_owned();
+    Compared { tally, printed }
 }
 
 /// Makes one test of each theme.
@@ -107,7 +132,7 @@ themes! {
 
 #[test]
 fn both_sides_of_every_row_of_the_rounding_table() {
-    let printed = compare_theme("rounding-edges");
+    let printed = &compare_theme("rounding-edges").printed;
     let answered = |base: u32, length: u32| {
         let mut lines = printed.lines().filter(|line| line.starts_with("ok "));
         lines.any(|line| line.starts_with(&format!("ok {base} {length} ")))
@@ -125,9 +150,10 @@ fn both_sides_of_every_row_of_the_rounding_table() {
 }
 
 #[test]
-fn there_are_at_least_2000_scripts_and_every_theme_is_tested() {
-    let generated: u64 = PARTS.iter().map(|part| part.1).sum();
-    assert!(generated + MALFORMED * KINDS.len() as u64 >= 2_000);
+fn at_least_2000_scripts_were_compared_and_every_theme_is_tested() {
+    let scripts = |part: &Part| compare_theme(part.0).tally.scripts;
+    let compared: u64 = PARTS.iter().map(scripts).sum::<u64>() + malformed_compared();
+    assert!(compared >= ALL_SCRIPTS, "only {compared} scripts");
     let of_their_own = ["rounding-edges", "malformed"];
     let tested = |name: &str| TESTED.contains(&name) || of_their_own.contains(&name);
     assert!(THEMES.iter().all(|theme| tested(theme.name)));
@@ -135,24 +161,39 @@ fn there_are_at_least_2000_scripts_and_every_theme_is_tested() {
 
 #[test]
 fn every_kind_of_malformed_line() {
-    let programs = Programs::find().unwrap_or_else(|failure| panic!("{failure}"));
-    for (kind, place) in KINDS.iter().zip(0..) {
-        for n in 0..MALFORMED {
-            let case = place * MALFORMED + n;
-            let malformed = make(&mut Seed::of_case(SEED, case), place as usize);
-            let name = format!("malformed-seed-{SEED}-case-{case}");
-            let output = programs
-                .compare(&name, &malformed.input, Feed::Whole)
-                .unwrap_or_else(|failure| panic!("{}: {failure}", kind.name));
-            let text = String::from_utf8_lossy(&output).into_owned();
-            assert!(text.ends_with("bad\n"), "{}: {text}", kind.name);
-            assert_eq!(
-                text.lines().count(),
-                malformed.answered + 1,
-                "{}: {text}",
-                kind.name
-            );
-            assert_eq!(text.matches("bad").count(), 1, "{}: {text}", kind.name);
+    assert_eq!(malformed_compared(), MALFORMED * KINDS.len() as u64);
+}
+
+/// Compares inputs of every kind of malformed line, unless that was done, and counts them.
+fn malformed_compared() -> u64 {
+    *MALFORMED_COMPARED.get_or_init(|| {
+        let programs = Programs::find().unwrap_or_else(|failure| panic!("{failure}"));
+        let mut compared = 0;
+        for place in 0..KINDS.len() {
+            for n in 0..MALFORMED {
+                compare_malformed(&programs, place, n);
+                compared += 1;
+            }
         }
-    }
+        compared
+    })
+}
+
+/// Compares one malformed input: it is answered up to the malformed line, and then by `bad`.
+fn compare_malformed(programs: &Programs, place: usize, n: u64) {
+    let kind = KINDS[place].name;
+    let case = place as u64 * MALFORMED + n;
+    let malformed = make(&mut Seed::of_case(SEED, case), place);
+    let name = format!("malformed-seed-{SEED}-case-{case}");
+    let output = programs
+        .compare(&name, &malformed.input, Feed::Whole)
+        .unwrap_or_else(|failure| panic!("{kind}: {failure}"));
+    let text = String::from_utf8_lossy(&output).into_owned();
+    assert!(text.ends_with("bad\n"), "{kind}: {text}");
+    assert_eq!(
+        text.lines().count(),
+        malformed.answered + 1,
+        "{kind}: {text}"
+    );
+    assert_eq!(text.matches("bad").count(), 1, "{kind}: {text}");
 }

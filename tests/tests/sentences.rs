@@ -1,4 +1,4 @@
-//! Each sentence about the ledger notices what it is for: a right step, and then one thing wrong.
+//! Each rule about the ledger notices what it is for: a right step, and then one thing wrong.
 
 use lokhazim_reference::{Accounts, Handle};
 use lokhazim_tests::ledger::Ledger;
@@ -33,7 +33,7 @@ impl Recorded {
         }
     }
 
-    /// Gives the sentences that are broken.
+    /// Gives the rules that are broken.
     fn wrong(&self) -> Vec<String> {
         wrong(&Step {
             call: self.call,
@@ -45,7 +45,7 @@ impl Recorded {
         })
     }
 
-    /// Checks that a change breaks the sentence with this name.
+    /// Checks that a change breaks the rule with this name.
     fn breaks(&self, sentence: &str, change: impl FnOnce(&mut Recorded)) {
         let mut changed = self.clone();
         change(&mut changed);

@@ -80,6 +80,11 @@ impl<'a> Heap<'a> {
         Ok(Heap { bytes, accounts })
     }
 
+    /// The bytes and the accounts that belong to them, to be read.
+    pub fn parts(&self) -> (&[u8], &Accounts) {
+        (self.bytes, &self.accounts)
+    }
+
     /// Gives the bytes back, with the accounts that belong to them.
     pub fn into_parts(self) -> (&'a mut [u8], Accounts) {
         (self.bytes, self.accounts)

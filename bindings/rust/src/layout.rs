@@ -1,6 +1,6 @@
 //! The structs that cross the boundary, field by field as the library has them.
 //!
-//! `include/lokhazim.h` has the same structs for C, and the same numbers in its assertions.
+//! `include/lokhazim.h` and `include/lokhazim_image.h` have the same structs for C, and the same numbers in its assertions.
 
 use core::mem::{offset_of, size_of};
 
@@ -133,6 +133,35 @@ pub struct BlockReply {
     pub serial: u32,
 }
 
+/// The reply of writing an image.
+#[repr(C)]
+pub struct ImageReply {
+    /// The refusal's number.
+    pub refusal: u32,
+    /// The length of what was written.
+    pub length: usize,
+}
+
+/// The reply of reading an image.
+#[repr(C)]
+pub struct RestoreReply {
+    /// The accounts in the image, all zero where the call is refused.
+    pub accounts: Accounts,
+    /// The refusal's number.
+    pub refusal: u32,
+}
+
+/// The reply of examining an image.
+#[repr(C)]
+pub struct ExamineReply {
+    /// The refusal's number.
+    pub refusal: u32,
+    /// The number of the image's form.
+    pub form: u32,
+    /// The length of the heap in it.
+    pub heap_length: usize,
+}
+
 /// Holds a struct to its size and to the offset of each field, when the crate is compiled.
 macro_rules! lies {
     ($type:ty, $size:literal: $($field:ident at $offset:literal),+) => {
@@ -154,3 +183,6 @@ lies!(AmountReply, 1100: accounts at 0, refusal at 1092, amount at 1096);
 lies!(Amount, 8: refusal at 0, amount at 4);
 lies!(RangeReply, 24: refusal at 0, start at 8, end at 16);
 lies!(BlockReply, 32: refusal at 0, found at 4, offset at 8, size at 16, serial at 24);
+lies!(ImageReply, 16: refusal at 0, length at 8);
+lies!(RestoreReply, 1096: accounts at 0, refusal at 1092);
+lies!(ExamineReply, 16: refusal at 0, form at 4, heap_length at 8);

@@ -42,8 +42,8 @@
 //! # Ok::<(), Refusal>(())
 //! ```
 //!
-//! `make lib` writes the library to `build/lib/`, where this crate looks for it; the variable
-//! `LOKHAZIM_LIB_DIR` names another folder. The crate is for x86-64; it needs `memcpy`, `memmove` and
+//! `make lib` writes the libraries to `build/lib/`, where this crate looks for them; the variable
+//! `LOKHAZIM_LIB_DIR` names another folder, from the root or from where cargo is started. The crate is for x86-64; it needs `memcpy`, `memmove` and
 //! `memset`, no operating system and no memory of its own.
 
 #![no_std]
@@ -51,12 +51,15 @@
 #![deny(unsafe_code)]
 
 #[cfg(all(library_missing, not(clippy), not(doc)))]
-compile_error!(
-    "liblokhazim.a is missing: run 'make lib' in the repository, or name its folder in LOKHAZIM_LIB_DIR, then build again"
-);
+compile_error!(concat!(
+    "liblokhazim.a or liblokhazim_image.a is missing in ",
+    env!("LOKHAZIM_LOOKED"),
+    ": run 'make lib' in the repository, or name its folder in LOKHAZIM_LIB_DIR, then build again"
+));
 
 mod blocks;
 mod heap;
+mod image;
 mod layout;
 mod queries;
 #[allow(unsafe_code)]
@@ -65,6 +68,7 @@ mod refusal;
 
 pub use blocks::{Block, Blocks};
 pub use heap::Heap;
+pub use image::{examine_image, image_length, ImageFacts, ImageRefusal, IMAGE_MAX};
 pub use layout::{Accounts, Handle, Hold, Quota, HOLDS, QUOTAS};
 pub use refusal::Refusal;
 

@@ -1,12 +1,13 @@
 //! The library's functions, each behind a safe one. All `unsafe` code of the crate is here.
 //!
-//! The library keeps no pointer and has no memory of its own. It reads and writes only the heap's
-//! bytes, is proved to do so inside `length`, and takes any bytes, accounts and numbers. So a call
+//! The library keeps no pointer and has no memory of its own. It reads and writes only the bytes
+//! that it is lent, is proved to do so inside their length, and takes any bytes, accounts and numbers. So a call
 //! is safe exactly if pointer and length are those of memory that is borrowed for the call, which
 //! a slice is. The memory of a `&[u8]` is not written.
 
 use crate::layout::{
-    Accounts, Amount, AmountReply, BlockReply, Grants, Handle, HandleReply, OpenReply, RangeReply,
+    Accounts, Amount, AmountReply, BlockReply, ExamineReply, Grants, Handle, HandleReply,
+    ImageReply, OpenReply, RangeReply, RestoreReply,
 };
 
 extern "C" {
@@ -84,6 +85,21 @@ extern "C" {
         at: usize,
     ) -> BlockReply;
     fn lokhazim_check(heap: *const u8, length: usize, accounts: Accounts) -> u32;
+    fn lokhazim_image_length(heap_length: usize) -> usize;
+    fn lokhazim_image_write(
+        image: *mut u8,
+        image_length: usize,
+        heap: *const u8,
+        length: usize,
+        accounts: Accounts,
+    ) -> ImageReply;
+    fn lokhazim_image_examine(image: *const u8, image_length: usize) -> ExamineReply;
+    fn lokhazim_image_read(
+        image: *const u8,
+        image_length: usize,
+        heap: *mut u8,
+        length: usize,
+    ) -> RestoreReply;
 }
 
 /// Makes a safe function of one of the library's: the slice becomes its pointer and its length,
@@ -120,6 +136,28 @@ safe!(ref remaining = lokhazim_remaining(quota: u32) -> Amount);
 safe!(ref can_release = lokhazim_can_release(quota: u32, handle: Handle) -> u32);
 safe!(ref list_block = lokhazim_list_block(at: usize) -> BlockReply);
 safe!(ref check = lokhazim_check() -> u32);
+
+pub fn image_length(heap_length: usize) -> usize {
+    // SAFETY: the function takes and gives a number.
+    unsafe { lokhazim_image_length(heap_length) }
+}
+
+pub fn image_write(image: &mut [u8], heap: &[u8], accounts: &Accounts) -> ImageReply {
+    let (at, room) = (image.as_mut_ptr(), image.len());
+    // SAFETY: pointers and lengths are those of two slices that are borrowed for the call.
+    unsafe { lokhazim_image_write(at, room, heap.as_ptr(), heap.len(), accounts.clone()) }
+}
+
+pub fn image_examine(image: &[u8]) -> ExamineReply {
+    // SAFETY: pointer and length are those of a slice that is borrowed for the call.
+    unsafe { lokhazim_image_examine(image.as_ptr(), image.len()) }
+}
+
+pub fn image_read(image: &[u8], heap: &mut [u8]) -> RestoreReply {
+    let (at, length) = (image.as_ptr(), image.len());
+    // SAFETY: pointers and lengths are those of two slices that are borrowed for the call.
+    unsafe { lokhazim_image_read(at, length, heap.as_mut_ptr(), heap.len()) }
+}
 
 #[cfg(test)]
 mod tests;

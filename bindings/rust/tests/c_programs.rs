@@ -16,6 +16,13 @@ fn the_valve_example_tells_its_story() {
 }
 
 #[test]
+fn an_image_goes_from_c_and_back() {
+    for level in ["-O0", "-O2"] {
+        run(&compile("bindings/rust/tests/c/images.c", level), &[], b"");
+    }
+}
+
+#[test]
 fn every_field_goes_through_the_library_from_c() {
     for level in ["-O0", "-O2"] {
         run(&compile("bindings/rust/tests/c/library.c", level), &[], b"");

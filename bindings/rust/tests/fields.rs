@@ -12,8 +12,8 @@ use std::mem::MaybeUninit;
 use std::slice;
 
 use layout::{
-    Accounts, Amount, AmountReply, BlockReply, Grants, Handle, HandleReply, Hold, OpenReply, Quota,
-    RangeReply,
+    Accounts, Amount, AmountReply, BlockReply, ExamineReply, Grants, Handle, HandleReply, Hold,
+    ImageReply, OpenReply, Quota, RangeReply, RestoreReply,
 };
 use support::{compile, run};
 
@@ -146,6 +146,28 @@ impl Fields for BlockReply {
     }
 }
 
+impl Fields for ImageReply {
+    fn visit(&mut self, visitor: &mut Visitor) {
+        visitor.visit32(&mut self.refusal);
+        visitor.visit_size(&mut self.length);
+    }
+}
+
+impl Fields for RestoreReply {
+    fn visit(&mut self, visitor: &mut Visitor) {
+        self.accounts.visit(visitor);
+        visitor.visit32(&mut self.refusal);
+    }
+}
+
+impl Fields for ExamineReply {
+    fn visit(&mut self, visitor: &mut Visitor) {
+        visitor.visit32(&mut self.refusal);
+        visitor.visit32(&mut self.form);
+        visitor.visit_size(&mut self.heap_length);
+    }
+}
+
 /// Takes the bytes of a struct from the front, visits its fields where they lie, and puts the bytes
 /// behind what is there.
 fn exchange<T: Fields>(visitor: &mut Visitor, bytes: &mut Vec<u8>) {
@@ -174,6 +196,9 @@ fn exchange_all(visitor: &mut Visitor, bytes: &mut Vec<u8>) {
     exchange::<Amount>(visitor, bytes);
     exchange::<RangeReply>(visitor, bytes);
     exchange::<BlockReply>(visitor, bytes);
+    exchange::<ImageReply>(visitor, bytes);
+    exchange::<RestoreReply>(visitor, bytes);
+    exchange::<ExamineReply>(visitor, bytes);
 }
 
 /// The bytes of all structs as Rust sets them, and the number that each field got.

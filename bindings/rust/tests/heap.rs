@@ -29,7 +29,7 @@ fn fill(bytes: &mut [u8]) -> Result<(Heap<'_>, Vec<Handle>), Refusal> {
     Ok((heap, handles))
 }
 
-/// Document 01's run M: 128 bytes, grants 100 and 1,000.
+/// The run M (rule 12.1): 128 bytes, grants 100 and 1,000.
 #[test]
 fn the_marked_run() -> Result<(), Refusal> {
     let mut memory = [255; 128];

@@ -1,17 +1,18 @@
--- The listing's walk finds what document 01's listing has: on a heap that is cut into blocks, the block that starts at the place, or none.
+-- The listing's walk finds what rules 8.32 and 8.33 say: on a heap that is cut into blocks, the block that starts at the place, or none.
 -- The walk meets the blocks in the order of the listing, at the same places. So a walker from 0 on gives all the blocks in order, and then none.
 -- Assumes nothing.
 use mathlib.Core.Path.{_≡_, refl, ap, sym, _∙_}
-use mathlib.Core.List.{List, [], _∷_}
+use mathlib.Core.List.{List, [], _∷_, _++_, append-nil, map}
 use mathlib.Core.Bool.{Bool, true, false}
 use mathlib.Core.Option.{Option, none, some}
 use Prim.Native.Nat.{ℕ, zero, suc, _+_, _≤_}
 use native.Mathlib.Omega.{arith}
 use lib.Dec.{eqb}
 use lib.ListN.{length}
+use lib.Seq.{append-snoc}
 use Rattle.accounts.specs.declared.Accounts.{Accounts}
 use Rattle.layout.specs.Blocks.{Block, size, units, total-size, parse}
-use Rattle.model.specs.Lists.{first, or-else}
+use Rattle.model.specs.Lists.{first, or-else, total}
 use Rattle.model.specs.Answers.{listed, block-values}
 use Rattle.model.specs.Objects.{blocks-of}
 use Rattle.model.specs.Refusals.{first-refusal, check-lines}
@@ -20,20 +21,22 @@ use Rattle.model.specs.declared.ListedBlock.{ListedBlock}
 use Rattle.model.specs.declared.BlockAnswer.{BlockAnswer}
 use Rattle.model.specs.declared.BlockAnswer.the-variants.{Listed}
 use Rattle.model.proofs.Consistent.{blocks-parsed}
-use Rattle.model.proofs.Listing.{listed-at, block-at, block-at-from, list-block-step, walk-on, walk, walk-all}
+use Rattle.model.proofs.Lists.{total-append}
+use Rattle.model.proofs.Listing.{listed-at, block-at, block-at-from, list-block-step, step-at, step-end}
 use Rattle.finder.proofs.Parsed.{met-of, met-parsed, total-parsed}
 use Rattle.access.specs.Results.{outcome}
-use Rattle.access.specs.Listing.{starts-at, answered, find-block, place-after}
+use Rattle.finder.specs.Walk.{stands-at}
+use Rattle.access.specs.Listing.{answered, find-block, end-of, place-after, Stepped, Walks, in-steps}
 
 -- among the blocks from a place on
-listing-met : (at from back : ℕ) (bs : List Block) → block-values (answered (first (starts-at at) (met-of from back bs))) ≡ listed (block-at-from from bs at)
+listing-met : (at from back : ℕ) (bs : List Block) → block-values (answered (first (stands-at at) (met-of from back bs))) ≡ listed (block-at-from from bs at)
 unfolding first met-of listing-from block-values
 listing-met at from back [] = refl
 listing-met at from back (b ∷ bs) = go (eqb from at) refl (listing-met at (from + size b) (units b) bs)
   where
     go : (x : Bool) → eqb from at ≡ x
-        → block-values (answered (first (starts-at at) (met-of (from + size b) (units b) bs))) ≡ listed (block-at-from (from + size b) bs at)
-        → block-values (answered (first (starts-at at) (met-of from back (b ∷ bs)))) ≡ listed (block-at-from from (b ∷ bs) at)
+        → block-values (answered (first (stands-at at) (met-of (from + size b) (units b) bs))) ≡ listed (block-at-from (from + size b) bs at)
+        → block-values (answered (first (stands-at at) (met-of from back (b ∷ bs)))) ≡ listed (block-at-from from (b ∷ bs) at)
     go true e ih = rw e
     go false e ih = rw e ih
 
@@ -86,43 +89,47 @@ module _ (s : List ℕ) (k : Accounts) (at : ℕ) (r : BlockAnswer) (told : outc
   given-block : list-block s k at .values .block ≡ block-values r .block
   given-block = sym (ap (λ (o : Outcome). o .values .block) told)
 
-  pub after-some : (b : ListedBlock) → r ≡ Listed b → (b .offset + b .size ≤ length s) × (b .offset + b .size ≡ place-after s k at)
+  pub after-some : (b : ListedBlock) → r ≡ Listed b → (b .offset + b .size ≤ length s) × Stepped s k at (Listed b) (b .offset + b .size)
   unfolding block-values place-after
   after-some b e =
       let g : list-block s k at .values .block ≡ some b = given-block ∙ ap (λ (x : BlockAnswer). block-values x .block) e in
-      (given-inside s k at b g, rw g)
+      (given-inside s k at b g, (rw e at told, rw g))
 
-  pub after-none : block-values r .block ≡ none → at ≡ place-after s k at
+  pub after-none : block-values r .block ≡ none → Stepped s k at r at
   unfolding place-after
-  after-none e = rw (given-block, e)
+  after-none e = (told, rw (given-block, e))
 
--- the blocks that a walker gives from a place on, each step from where the last one left it, until none is given; at most `fuel` blocks
-unfoldable pub given-on : Option ListedBlock → List ListedBlock → List ListedBlock
-given-on none rest = []
-given-on (some b) rest = b ∷ rest
-
-unfoldable pub given-from : ℕ → ℕ → List ℕ → Accounts → List ListedBlock
-given-from zero at s k = []
-given-from (suc fuel) at s k = given-on (list-block s k at .values .block) (given-from fuel (place-after s k at) s k)
+-- the block that an answer gives
+abbrev pub given : BlockAnswer → Option ListedBlock
+given a = block-values a .block
 
 module _ (s : List ℕ) (k : Accounts) (e : first-refusal (check-lines s k) ≡ 0) where
-  step-given : (at : ℕ) → list-block s k at .values .block ≡ block-at (blocks-of s) at
-  step-given at = ap (λ (o : Outcome). o .values .block) (list-block-step s k at e)
+  step-given : (at : ℕ) (a : BlockAnswer) (after : ℕ) → Stepped s k at a after → given a ≡ block-at (blocks-of s) at
+  step-given at a after t = ap (λ (o : Outcome). o .values .block) (t .0 ∙ list-block-step s k at e)
 
-  place-some : (at : ℕ) (b : ListedBlock) → block-at (blocks-of s) at ≡ some b → place-after s k at ≡ b .offset + b .size
+  step-after : (at : ℕ) (a : BlockAnswer) (after : ℕ) (o : Option ListedBlock) → Stepped s k at a after → block-at (blocks-of s) at ≡ o → after ≡ end-of at o
   unfolding place-after
-  place-some at b p = rw (step-given at, p)
+  step-after at a after o t p = t .1 ∙ ap (end-of at) (ap (λ (o : Outcome). o .values .block) (list-block-step s k at e) ∙ p)
 
-  given-walk : (fuel at : ℕ) → given-from fuel at s k ≡ walk fuel at (blocks-of s)
-  unfolding given-from given-on walk walk-on
-  given-walk zero at = refl
-  given-walk (suc fuel) at = rw (step-given at) (go (block-at (blocks-of s) at) refl (λ next. given-walk fuel next))
-    where
-      go : (o : Option ListedBlock) → block-at (blocks-of s) at ≡ o → ((next : ℕ) → given-from fuel next s k ≡ walk fuel next (blocks-of s))
-          → given-on o (given-from fuel (place-after s k at) s k) ≡ walk-on o (λ next. walk fuel next (blocks-of s))
-      go none p ih = refl
-      go (some b) p ih = ap (λ (bs : List ListedBlock). b ∷ bs) (ap (λ (n : ℕ). given-from fuel n s k) (place-some at b p) ∙ ih (b .offset + b .size))
+  both : {x y : Option ListedBlock} {ls ms : List (Option ListedBlock)} → x ≡ y → ls ≡ ms → x ∷ ls ≡ y ∷ ms
+  both p q = λ i. p i ∷ q i
 
-  -- in a state that the check accepts, a walker from 0 on gives the listing: all the blocks in order
-  pub walker-lists : (fuel : ℕ) → length (blocks-of s) ≤ fuel → given-from fuel 0 s k ≡ listing-from 0 (blocks-of s)
-  walker-lists fuel h = given-walk fuel 0 ∙ walk-all (blocks-of s) fuel h
+  -- the steps from behind the blocks xs
+  walks-behind : (xs ys : List Block) → blocks-of s ≡ xs ++ ys → (at : ℕ) → at ≡ total size xs
+      → (ws : List BlockAnswer) → Walks s k at ws → map given ws ≡ in-steps (length ws) (listing-from at ys)
+  unfolding Walks in-steps listing-from total
+  walks-behind xs ys c at h [] w = refl
+  walks-behind xs [] c at h (a ∷ ws) w =
+      let p : block-at (blocks-of s) at ≡ none = rw (c, append-nil) (step-end xs at (omega arith)) in
+      let n : w .0 ≡ at = step-after at a (w .0) none (w .1) p in
+      both (step-given at a (w .0) (w .1) ∙ p) (walks-behind xs [] c at h ws (rw n at (w .2)))
+  walks-behind xs (y ∷ ys) c at h (a ∷ ws) w =
+      let p : block-at (blocks-of s) at ≡ some (listed-at at y) = rw (c, h) (step-at xs y ys) in
+      let n : w .0 ≡ at + size y = step-after at a (w .0) (some (listed-at at y)) (w .1) p in
+      both (step-given at a (w .0) (w .1) ∙ p)
+      (walks-behind (xs ++ (y ∷ [])) ys (c ∙ sym (append-snoc xs y ys)) (at + size y) (omega (arith, total-append size xs (y ∷ []))) ws (rw n at (w .2)))
+
+  -- in a state that the check accepts, a walker from 0 on gives the listing: all the blocks in order, and then none
+  pub walker-lists : (ws : List BlockAnswer) → Walks s k 0 ws → map given ws ≡ in-steps (length ws) (listing-from 0 (blocks-of s))
+  unfolding total
+  walker-lists ws w = walks-behind [] (blocks-of s) refl 0 refl ws w

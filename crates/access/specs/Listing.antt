@@ -1,21 +1,18 @@
 -- The listing's walk, on any bytes: the first block that the walk meets at a place.
-use Prim.Native.Nat.{ℕ, _+_}
-use mathlib.Core.List.{List}
-use mathlib.Core.Bool.{Bool}
+use Prim.Native.Nat.{ℕ, zero, suc, _+_}
+use mathlib.Core.Path.{_≡_}
+use mathlib.Core.List.{List, [], _∷_}
 use mathlib.Core.Option.{Option, none, some}
-use lib.Dec.{eqb}
 use Rattle.accounts.specs.declared.Accounts.{Accounts}
 use Rattle.model.specs.Lists.{first}
+use Rattle.model.specs.Answers.{block-values}
 use Rattle.model.specs.Calls.{list-block}
 use Rattle.model.specs.declared.ListedBlock.{ListedBlock}
 use Rattle.model.specs.declared.BlockAnswer.{BlockAnswer}
 use Rattle.model.specs.declared.BlockAnswer.the-variants.{Listed, NoBlock}
 use Rattle.finder.specs.declared.Met.{Met}
-use Rattle.finder.specs.Walk.{met}
-
--- a block that was met starts at a place
-abbrev pub starts-at : ℕ → Met → Bool
-starts-at at m = eqb (m .at) at
+use Rattle.finder.specs.Walk.{met, stands-at}
+use Rattle.access.specs.Results.{outcome}
 
 -- a block that was met, as the listing gives it
 abbrev pub listed-met : Met → ListedBlock
@@ -26,7 +23,7 @@ answered none = NoBlock
 answered (some m) = Listed (listed-met m)
 
 unfoldable pub find-block : ℕ → List ℕ → BlockAnswer
-find-block at s = answered (first (starts-at at) (met s))
+find-block at s = answered (first (stands-at at) (met s))
 
 -- the end of a block that was given; where none was, the place itself
 abbrev pub end-of : ℕ → Option ListedBlock → ℕ
@@ -36,3 +33,18 @@ end-of at (some b) = b .offset + b .size
 -- the place behind the block that the listing gives at a place
 unfoldable pub place-after : List ℕ → Accounts → ℕ → ℕ
 place-after s k at = end-of at (list-block s k at .values .block)
+
+-- a step from a place gives the listing's answer there, and the place behind
+abbrev pub Stepped : List ℕ → Accounts → ℕ → BlockAnswer → ℕ → Type 0
+Stepped s k at answer after = (outcome s k (block-values answer) ≡ list-block s k at) × (after ≡ place-after s k at)
+
+-- the answers of a walker's steps from a place on, each from where the last one left it
+unfoldable pub Walks : List ℕ → Accounts → ℕ → List BlockAnswer → Type 0
+Walks s k at [] = Unit {0}
+Walks s k at (a ∷ rest) = (after : ℕ) × Stepped s k at a after × Walks s k after rest
+
+-- what so many steps give: the blocks in order, and then none
+unfoldable pub in-steps : ℕ → List ListedBlock → List (Option ListedBlock)
+in-steps zero bs = []
+in-steps (suc n) [] = none ∷ in-steps n []
+in-steps (suc n) (b ∷ bs) = some b ∷ in-steps n bs

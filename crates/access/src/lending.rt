@@ -1,4 +1,4 @@
-// An object's bytes: a write of one byte, and the bytes as a part of the caller's heap.
+// An object's bytes: a write of one byte, and the part of the heap where they lie.
 use accounts::Accounts;
 use finder::Lookup;
 use model::Handle;
@@ -17,7 +17,7 @@ pub(crate) struct Span {
     end: usize,
 }
 
-// The range of the object that a handle names; an empty one with the refusal's number where lend is refused.
+// Rule 8.29: the range of the object that a handle names; an empty one with the refusal's number where lend is refused.
 fn span_of(heap: &[u8], accounts: Accounts, handle: Handle) -> Span
     ensures { λ r. ⌜ Spans (now (heap .entry)) accounts handle (r .refusal) (r .start) (r .end) ⌝ }
 {
@@ -30,7 +30,7 @@ fn span_of(heap: &[u8], accounts: Accounts, handle: Handle) -> Span
     }
     let Lookup::Found(block) = finder::find_object(heap, handle) else {
         return Span {
-            refusal: 5,
+            refusal: Refusal::NoSuchObject.number(),
             start: 0,
             end: 0,
         };
@@ -42,7 +42,7 @@ fn span_of(heap: &[u8], accounts: Accounts, handle: Handle) -> Span
     }
 }
 
-// One byte of an object is written, at a place that counts from its base. A place at or beyond its length is accepted, and nothing is written.
+// Rule 8.36: one byte of an object is written, at a place that counts from its base. A place at or beyond its length is accepted, and nothing is written.
 pub fn write_object(
     heap: &mut [u8],
     accounts: Accounts,
@@ -66,7 +66,7 @@ pub fn write_object(
     Verdict::Accepted
 }
 
-// An object's bytes, as a part of the heap; an empty part where it is refused. The refusal's number, 0 where there is none, is left in refusal.
+// Rule 8.29: an object's bytes, as a part of the heap; an empty part where it is refused. The refusal's number, 0 where there is none, is left in refusal.
 pub fn lend<'a>(
     heap: &'a mut [u8],
     accounts: Accounts,

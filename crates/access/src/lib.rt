@@ -1,4 +1,5 @@
-// The calls that leave blocks and accounts as they are: remaining, can release, lend and the write of a byte, and the listing. Each checks heap and accounts for itself.
+// The calls that leave blocks and accounts as they are: remaining, can release, lend and the write of a byte, and the listing. Each checks heap and
+// accounts for itself.
 mod lending;
 mod listing;
 mod query;
@@ -6,12 +7,11 @@ mod walker;
 
 pub use lending::lend;
 pub use lending::write_object;
-pub use listing::list_block;
 pub use query::can_release;
 pub use query::object_range;
 pub use query::remaining;
+pub use walker::Step;
 pub use walker::Walker;
-pub use walker::advance;
 pub use walker::list_from;
 pub use walker::next;
 pub use walker::walk;

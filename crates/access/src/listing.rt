@@ -1,4 +1,4 @@
-// The listing: the block that starts at a place, found by the walk from offset 0.
+// The listing (rules 8.32 and 8.33): the block that starts at a place, found by the walk from offset 0.
 use accounts::Accounts;
 use layout::Start;
 use model::BlockAnswer;
@@ -32,7 +32,7 @@ fn find_block(heap: &[u8], at: usize) -> BlockAnswer
 }
 
 // The block that starts at a place of the heap, if one does.
-pub fn list_block(heap: &[u8], accounts: Accounts, at: usize) -> BlockAnswer
+pub(crate) fn list_block(heap: &[u8], accounts: Accounts, at: usize) -> BlockAnswer
     ensures { λ r. ⌜ outcome (now (heap .entry)) accounts (block-values r) ≡ list-block (now (heap .entry)) accounts at ⌝ }
 {
     if let Verdict::Refused(refusal) = checker::check(heap, accounts) {

@@ -14,7 +14,7 @@ ghost use Rattle.model.specs.Answers.{amount-values, range-values, verdict-valu
 ghost use Rattle.model.specs.Calls.{can-release, lend, remaining-of};
 ghost use Rattle.access.specs.Results.{outcome};
 
-// What remains of a quota.
+// Rule 8.30: what remains of a quota.
 pub fn remaining(heap: &[u8], accounts: Accounts, quota: u32) -> AmountAnswer
     ensures { λ r. ⌜ outcome (now (heap .entry)) accounts (amount-values r) ≡ remaining-of (now (heap .entry)) accounts quota ⌝ }
 {
@@ -27,7 +27,7 @@ pub fn remaining(heap: &[u8], accounts: Accounts, quota: u32) -> AmountAnswer
     AmountAnswer::Amount(accounts.remaining(quota))
 }
 
-// Whether a quota can release an object: the refusal that release would give, or none.
+// Rule 8.31: whether a quota can release an object, by the refusal that a release would meet.
 pub fn can_release(heap: &[u8], accounts: Accounts, quota: u32, handle: Handle) -> Verdict
     ensures { λ r. ⌜ outcome (now (heap .entry)) accounts (verdict-values r) ≡ can-release (now (heap .entry)) accounts quota handle ⌝ }
 {
@@ -47,7 +47,7 @@ pub fn can_release(heap: &[u8], accounts: Accounts, quota: u32, handle: Handle) 
     Verdict::Accepted
 }
 
-// The part of the heap where the object that a handle names has its bytes.
+// Rule 8.29: the part of the heap where the object that a handle names has its bytes.
 pub fn object_range(heap: &[u8], accounts: Accounts, handle: Handle) -> RangeAnswer
     ensures { λ r. ⌜ outcome (now (heap .entry)) accounts (range-values r) ≡ lend (now (heap .entry)) accounts handle ⌝ }
 {

@@ -1,4 +1,4 @@
-// A walker over the heap's blocks: it holds the heap and a place, and gives the blocks in order.
+// A walker over the heap's blocks (rule 8.34): it has the heap and a place, and its steps give the blocks in order.
 use crate::listing::list_block;
 use accounts::Accounts;
 use model::BlockAnswer;
@@ -6,7 +6,7 @@ ghost use mathlib.Core.Path.{_≡_};
 ghost use Rattle.model.specs.Answers.{block-values};
 ghost use Rattle.model.specs.Calls.{list-block};
 ghost use Rattle.access.specs.Results.{outcome};
-ghost use Rattle.access.specs.Listing.{place-after};
+ghost use Rattle.access.specs.Listing.{Stepped};
 
 // The heap, and the place of the block that comes next.
 pub struct Walker<'a> {
@@ -14,14 +14,31 @@ pub struct Walker<'a> {
     pub at: usize,
 }
 
-// The place behind the block that starts at a place; where none is given, the same place.
-fn place_after(heap: &[u8], accounts: Accounts, at: usize) -> usize
-    ensures { λ r. ⌜ r ≡ place-after (now (heap .entry)) accounts at ⌝ }
+// A step: what it answers, and the walker behind it.
+pub struct Step<'a> {
+    pub heap: &'a [u8],
+    pub at: usize,
+    pub answer: BlockAnswer,
+}
+
+// What a step from a place answers, and the place behind it.
+struct Given {
+    answer: BlockAnswer,
+    at: usize,
+}
+
+// The block that starts at a place, and the place behind it; where none is given, the same place.
+fn step_from(heap: &[u8], accounts: Accounts, at: usize) -> Given
+    ensures { λ r. ⌜ Stepped (now (heap .entry)) accounts at (r .answer) (r .at) ⌝ }
 {
-    let BlockAnswer::Listed(block) = list_block(heap, accounts, at) else {
-        return at;
+    let answer = list_block(heap, accounts, at);
+    let BlockAnswer::Listed(block) = answer else {
+        return Given { answer, at };
     };
-    block.offset + block.size
+    Given {
+        answer,
+        at: block.offset + block.size,
+    }
 }
 
 // A walker at the first block.
@@ -31,34 +48,21 @@ pub fn walk<'a>(heap: &'a [u8]) -> Walker<'a>
     Walker { heap, at: 0 }
 }
 
-// A walker at a place.
-fn place<'a>(heap: &'a [u8], at: usize) -> Walker<'a>
-    ensures { λ r. ⌜ (r .heap ≡ heap .entry) × (r .at ≡ at) ⌝ }
+// A step: the block that starts at the walker's place, and the walker moved on to the block's end. Where no block is given, it stays.
+pub fn next<'a>(walker: Walker<'a>, accounts: Accounts) -> Step<'a>
+    ensures { λ r. ⌜ (r .heap ≡ walker .entry .heap) × Stepped (now (walker .entry .heap)) accounts (walker .entry .at) (r .answer) (r .at) ⌝ }
 {
-    Walker { heap, at }
-}
-
-// The block that starts at the walker's place, if one does.
-pub fn next<'a>(walker: Walker<'a>, accounts: Accounts) -> BlockAnswer
-    ensures { λ r. ⌜ outcome (now (walker .entry .heap)) accounts (block-values r) ≡ list-block (now (walker .entry .heap)) accounts (walker .entry .at) ⌝ }
-{
-    list_block(walker.heap, accounts, walker.at)
-}
-
-// The walker behind the block at its place; where none is given, the walker as it is.
-pub fn advance<'a>(walker: Walker<'a>, accounts: Accounts) -> Walker<'a>
-    ensures { λ r. ⌜ (r .heap ≡ walker .entry .heap) × (r .at ≡ place-after (now (walker .entry .heap)) accounts (walker .entry .at)) ⌝ }
-{
-    let next = place_after(walker.heap, accounts, walker.at);
-    Walker {
+    let given = step_from(walker.heap, accounts, walker.at);
+    Step {
         heap: walker.heap,
-        at: next,
+        at: given.at,
+        answer: given.answer,
     }
 }
 
-// The block that a walker at a place gives: with plain parameters.
+// What a step of a walker at a place answers: with plain parameters.
 pub fn list_from(heap: &[u8], accounts: Accounts, at: usize) -> BlockAnswer
     ensures { λ r. ⌜ outcome (now (heap .entry)) accounts (block-values r) ≡ list-block (now (heap .entry)) accounts at ⌝ }
 {
-    next(place(heap, at), accounts)
+    next(Walker { heap, at }, accounts).answer
 }

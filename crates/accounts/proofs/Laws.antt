@@ -1,14 +1,15 @@
 -- Laws of the accounting state: the search for a hold record, what charging and refunding do, and what storing a record does.
 -- Assumes nothing.
 use Prim.Native.Nat.{ℕ, zero, suc, _+_, _-_, _^_, _≤_, _<_}
+use native.Mathlib.Nat.{add-zero}
 use native.Mathlib.Omega.{arith}
 use mathlib.Core.Path.{_≡_, refl, ap, sym, subst, _∙_}
-use mathlib.Core.Bool.{Bool, true, false, cond, _&&_, and-false, true≢false}
+use mathlib.Core.Bool.{Bool, true, false, cond, and-false, true≢false}
 use mathlib.Core.Logic.{_⊎_, inl, inr, ⊎-elim, _≢_}
 use mathlib.Core.List.{List, [], _∷_, map}
 use lib.ListN.{length, getD, set, length-set, length-map, length-replicate, List·getD-map, List·getD-eq-default}
 use lib.Seq.{getD-set-same, getD-set-other, set-set, set-getD, set-out, map-set-same, ext-getD}
-use lib.Dec.{leb, ltb}
+use lib.Dec.{ltb}
 use borrow.Author.Count.{below-more}
 use borrow.Author.Tests.{lt-ltb, le-ltb, le-leb, ne-eqb}
 use Rattle.accounts.specs.declared.Quota.{Quota}
@@ -16,7 +17,7 @@ use Rattle.accounts.specs.declared.Hold.{Hold}
 use Rattle.accounts.specs.declared.Accounts.{Accounts}
 use Rattle.accounts.specs.declared.Place.the-variants.{At, Nothing}
 use Rattle.accounts.specs.Accounts.{QUOTAS, HOLDS, zero-quota, zero-hold, zero-accounts, with-remainder, with-quotas, with-holds, with-last-serial, grants, granted, opened}
-use Rattle.accounts.specs.Accounts.{quota-at, remaining, spent, set-remaining, charged, refunded, charge, refund, used, is-for, first-from, hold-at, put-hold}
+use Rattle.accounts.specs.Accounts.{quota-at, remaining, spent, set-remaining, less-paid, paid-back, charged, refunded, charge, refund, used, is-for, first-from, hold-at, put-hold}
 use Rattle.accounts.proofs.Rows
 
 -- the first record that passes a test stands at place i
@@ -154,14 +155,6 @@ pub spent-out : (q : ℕ) (k : Accounts) → length (k .quotas) ≤ q → spent 
 unfolding spent
 spent-out q k h = ap (λ (x : Quota). x .grant - remaining q k) (List·getD-eq-default (k .quotas) zero-quota h) ∙ omega arith
 
--- a payment: the quota is there and a test of the amount passes, or nothing changes
-module _ (q : ℕ) (t : Bool) (paid k : Accounts) where
-  pub pays : q < QUOTAS → t ≡ true → cond (ltb q QUOTAS && t) paid k ≡ paid
-  pays h e = rw (lt-ltb q QUOTAS h, e) refl
-
-  pub no-quota : QUOTAS ≤ q → cond (ltb q QUOTAS && t) paid k ≡ k
-  no-quota h = rw (le-ltb q QUOTAS h) refl
-
 -- what holds of both outcomes holds of the one that a test picks
 either : (P : Accounts → Type 0) (t : Bool) (x y : Accounts) → P x → P y → P (cond t x y)
 either P true x y h l = h
@@ -170,44 +163,49 @@ either P false x y h l = l
 module _ (q n : ℕ) (k : Accounts) where
   -- charging takes the amount off where it is allowed, and changes nothing where it is not
   pub charge-pays : q < QUOTAS → n ≤ remaining q k → charge q n k ≡ set-remaining q (remaining q k - n) k
-  unfolding charge
-  charge-pays h l = pays q (leb n (remaining q k)) (set-remaining q (remaining q k - n) k) k h (le-leb n (remaining q k) l)
+  unfolding charge less-paid
+  charge-pays h l = rw (lt-ltb q QUOTAS h, le-leb n (remaining q k) l) refl
 
   pub charge-no-quota : QUOTAS ≤ q → charge q n k ≡ k
   unfolding charge
-  charge-no-quota h = no-quota q (leb n (remaining q k)) (set-remaining q (remaining q k - n) k) k h
+  charge-no-quota h = rw (le-ltb q QUOTAS h) refl
 
   -- refunding adds it where it is allowed, and changes nothing where it is not
   pub refund-pays : q < QUOTAS → remaining q k + n < 2 ^ 32 → refund q n k ≡ set-remaining q (remaining q k + n) k
-  unfolding refund
-  refund-pays h l = pays q (ltb (remaining q k + n) (2 ^ 32)) (set-remaining q (remaining q k + n) k) k h (lt-ltb (remaining q k + n) (2 ^ 32) l)
+  unfolding refund paid-back
+  refund-pays h l = rw (lt-ltb q QUOTAS h, lt-ltb (remaining q k + n) (2 ^ 32) l) refl
 
   pub refund-no-quota : QUOTAS ≤ q → refund q n k ≡ k
   unfolding refund
-  refund-no-quota h = no-quota q (ltb (remaining q k + n) (2 ^ 32)) (set-remaining q (remaining q k + n) k) k h
+  refund-no-quota h = rw (le-ltb q QUOTAS h) refl
 
   -- a quota that is there changes by itself
-  by-amount : (t : Bool) (m : ℕ) → cond t (set-remaining q m k) k ≡ with-quotas (set (k .quotas) q (cond t (with-remainder m (quota-at q k)) (quota-at q k))) k
-  unfolding set-remaining
-  by-amount true m = refl
-  by-amount false m = sym (ap (λ (qs : List Quota). with-quotas qs k) (set-getD (k .quotas) q zero-quota))
-
   pub charge-charged : q < QUOTAS → charge q n k ≡ with-quotas (set (k .quotas) q (charged n (quota-at q k))) k
-  unfolding charge remaining
-  charge-charged h = rw (lt-ltb q QUOTAS h) (by-amount (leb n (remaining q k)) (remaining q k - n))
+  unfolding charge set-remaining remaining
+  charge-charged h = rw (lt-ltb q QUOTAS h) refl
 
   pub refund-refunded : q < QUOTAS → refund q n k ≡ with-quotas (set (k .quotas) q (refunded n (quota-at q k))) k
-  unfolding refund remaining
-  refund-refunded h = rw (lt-ltb q QUOTAS h) (by-amount (ltb (remaining q k + n) (2 ^ 32)) (remaining q k + n))
+  unfolding refund set-remaining remaining
+  refund-refunded h = rw (lt-ltb q QUOTAS h) refl
 
   -- neither changes anything but what remains of that quota
   pub charge-kept : Kept q k (charge q n k)
   unfolding charge
-  charge-kept = either (Kept q k) (ltb q QUOTAS && leb n (remaining q k)) (set-remaining q (remaining q k - n) k) k (set-kept q k (remaining q k - n)) (kept q k)
+  charge-kept = either (Kept q k) (ltb q QUOTAS) (set-remaining q (less-paid n (remaining q k)) k) k (set-kept q k (less-paid n (remaining q k))) (kept q k)
 
   pub refund-kept : Kept q k (refund q n k)
   unfolding refund
-  refund-kept = either (Kept q k) (ltb q QUOTAS && ltb (remaining q k + n) (2 ^ 32)) (set-remaining q (remaining q k + n) k) k (set-kept q k (remaining q k + n)) (kept q k)
+  refund-kept = either (Kept q k) (ltb q QUOTAS) (set-remaining q (paid-back n (remaining q k)) k) k (set-kept q k (paid-back n (remaining q k))) (kept q k)
+
+-- a refund of nothing
+pub refund-nothing : (q : ℕ) (k : Accounts) → refund q 0 k ≡ k
+unfolding refund paid-back
+refund-nothing q k = go (ltb (remaining q k + 0) (2 ^ 32)) (ltb q QUOTAS)
+  where
+    go : (t u : Bool) → cond u (set-remaining q (cond t (remaining q k + 0) (remaining q k)) k) k ≡ k
+    go true true = rw (add-zero (remaining q k)) (set-same q k)
+    go false true = set-same q k
+    go t false = refl
 
 -- what remains after a charge and after a refund
 module _ (q n : ℕ) (k : Accounts) (sized : Sized k) (h : q < QUOTAS) where
@@ -288,7 +286,7 @@ module _ (i : ℕ) (h : Hold) (serial : ℕ) (q : ℕ) (k : Accounts) where
 
   pub charge-last : (n : ℕ) → charge q n (put-hold i h (with-last-serial serial k)) ≡ with-last-serial serial (put-hold i h (charge q n k))
   unfolding charge remaining put-hold
-  charge-last n = moved (ltb q QUOTAS && leb n (remaining q k)) (remaining q k - n)
+  charge-last n = moved (ltb q QUOTAS) (less-paid n (remaining q k))
 
 pub hold-at-out : (i : ℕ) (k : Accounts) → length (k .holds) ≤ i → hold-at i k ≡ zero-hold
 unfolding hold-at

@@ -1,5 +1,6 @@
 -- Small cases of the definitions, computed: both sides of what a charge and a refund allow, and the places that a search finds.
 -- Assumes nothing.
+use Prim.Native.Nat.{_+_, _-_}
 use mathlib.Core.Path.{_≡_, refl}
 use mathlib.Core.Bool.{true, false}
 use mathlib.Core.List.{[], _∷_, map}
@@ -7,7 +8,9 @@ use lib.ListN.{replicate}
 use Rattle.accounts.specs.declared.Hold.{Hold}
 use Rattle.accounts.specs.declared.Accounts.{Accounts}
 use Rattle.accounts.specs.declared.Place.the-variants.{At, Nothing}
-use Rattle.accounts.specs.Accounts.{QUOTAS, HOLDS, opened, remaining, spent, set-remaining, charge, refund, used, unused, is-for, first-from, find-hold, lowest-unused, put-hold, drop-hold, drop-records}
+use Rattle.accounts.specs.Accounts.{QUOTAS, HOLDS, zero-hold, zero-accounts, with-last-serial, opened}
+use Rattle.accounts.specs.Accounts.{remaining, spent, set-remaining, less-paid, paid-back, charged, refunded, charge, refund}
+use Rattle.accounts.specs.Accounts.{used, unused, is-for, first-from, find-hold, lowest-unused, hold-at, put-hold, drop-hold, record-of, drop-records}
 
 -- every quota has 5
 unfoldable pub five : Accounts
@@ -20,30 +23,66 @@ holder = record { serial = 7; quota = 1; count = 1 }
 unfoldable pub held : Accounts
 held = put-hold 2 holder five
 
+-- accounts of zeros, opened ones, and another last serial
+pub opening-rows : (zero-accounts
+    ≡ record {
+      quotas = replicate 8 (record { grant = 0; remainder = 0 });
+      «last_serial» = 0;
+      holds = replicate 128 (record { serial = 0; quota = 0; count = 0 });
+    })
+    × (opened (5 ∷ 6 ∷ [])
+    ≡ record { quotas = record { grant = 5; remainder = 5 } ∷ record { grant = 6; remainder = 6 } ∷ []; «last_serial» = 0; holds = zero-accounts .holds })
+    × (with-last-serial 9 five ≡ record { quotas = five .quotas; «last_serial» = 9; holds = five .holds })
+unfolding five opened
+opening-rows = (refl, refl, refl)
+
+-- a quota alone: up to what remains it pays, and up to 32 bits it is paid back
+pub quota-rows : (map (λ n. charged n (record { grant = 9; remainder = 5 }) .remainder) (0 ∷ 5 ∷ 6 ∷ []) ≡ 5 ∷ 0 ∷ 5 ∷ [])
+    × (map (λ n. refunded n (record { grant = 9; remainder = 5 }) .remainder) (1 ∷ 4294967290 ∷ 4294967291 ∷ []) ≡ 6 ∷ 4294967295 ∷ 5 ∷ [])
+    × (charged 2 (record { grant = 9; remainder = 5 }) .grant ≡ 9) × (refunded 2 (record { grant = 9; remainder = 5 }) .grant ≡ 9)
+unfolding less-paid paid-back
+quota-rows = (refl, refl, refl, refl)
+
+-- one quota more than there are
+unfoldable pub too-many : Accounts
+too-many = opened (replicate (QUOTAS + 1) 5)
+
 -- a charge up to what remains is paid, one more is not, and a quota that is not there pays nothing
-pub charge-rows : (map (λ n. remaining 1 (charge 1 n five)) (0 ∷ 4 ∷ 5 ∷ 6 ∷ []) ≡ 5 ∷ 1 ∷ 0 ∷ 5 ∷ []) × (charge QUOTAS 1 five ≡ five)
-unfolding five opened remaining set-remaining charge
-charge-rows = (refl, refl)
+pub charge-rows : (map (λ n. remaining 1 (charge 1 n five)) (0 ∷ 4 ∷ 5 ∷ 6 ∷ []) ≡ 5 ∷ 1 ∷ 0 ∷ 5 ∷ [])
+    × (remaining (QUOTAS - 1) (charge (QUOTAS - 1) 2 five) ≡ 3)
+    × (charge QUOTAS 1 five ≡ five) × (charge QUOTAS 1 too-many ≡ too-many)
+unfolding five too-many opened remaining set-remaining less-paid charge
+charge-rows = (refl, refl, refl, refl)
 
 -- a refund is paid up to 32 bits, one more is not
-pub refund-rows : (map (λ n. remaining 1 (refund 1 n five)) (1 ∷ 4294967290 ∷ 4294967291 ∷ []) ≡ 6 ∷ 4294967295 ∷ 5 ∷ []) × (refund QUOTAS 1 five ≡ five)
-unfolding five opened remaining set-remaining refund
-refund-rows = (refl, refl)
+pub refund-rows : (map (λ n. remaining 1 (refund 1 n five)) (1 ∷ 4294967290 ∷ 4294967291 ∷ []) ≡ 6 ∷ 4294967295 ∷ 5 ∷ [])
+    × (remaining (QUOTAS - 1) (refund (QUOTAS - 1) 2 five) ≡ 7)
+    × (refund QUOTAS 1 five ≡ five) × (refund QUOTAS 1 too-many ≡ too-many)
+unfolding five too-many opened remaining set-remaining paid-back refund
+refund-rows = (refl, refl, refl, refl)
 
 -- what was charged is spent, nothing where more remains than was granted, and nothing of a quota that is not there
 pub spent-rows : (map (λ n. spent 1 (charge 1 n five)) (0 ∷ 4 ∷ 5 ∷ []) ≡ 0 ∷ 4 ∷ 5 ∷ []) × (spent 1 (refund 1 1 five) ≡ 0) × (spent QUOTAS five ≡ 0)
-unfolding five opened remaining spent set-remaining charge refund
+unfolding five opened remaining spent set-remaining less-paid paid-back charge refund
 spent-rows = (refl, refl, refl)
 
 -- each number of a record makes it used
-pub used-rows : map used (record { serial = 0; quota = 0; count = 0 } ∷ record { serial = 1; quota = 0; count = 0 } ∷ record { serial = 0; quota = 1; count = 0 } ∷ record { serial = 0; quota = 0; count = 1 } ∷ []) ≡ false ∷ true ∷ true ∷ true ∷ []
+pub used-rows : map used (record { serial = 0; quota = 0; count = 0 } ∷ record { serial = 1; quota = 0; count = 0 }
+    ∷ record { serial = 0; quota = 1; count = 0 } ∷ record { serial = 0; quota = 0; count = 1 } ∷ []) ≡ false ∷ true ∷ true ∷ true ∷ []
 unfolding used
 used-rows = refl
 
 -- the search finds the record by serial and quota; dropping it leaves none; a place past the table stores nothing
-pub place-rows : (map (λ s. find-hold s 1 held) (7 ∷ 8 ∷ 0 ∷ []) ≡ At 2 ∷ Nothing ∷ Nothing ∷ []) × (find-hold 7 0 held ≡ Nothing) × (lowest-unused held ≡ At 0) × (drop-hold 2 held ≡ five) × (put-hold HOLDS holder five ≡ five)
+pub place-rows : (map (λ s. find-hold s 1 held) (7 ∷ 8 ∷ 0 ∷ []) ≡ At 2 ∷ Nothing ∷ Nothing ∷ [])
+    × (find-hold 7 0 held ≡ Nothing) × (lowest-unused held ≡ At 0) × (drop-hold 2 held ≡ five) × (put-hold HOLDS holder five ≡ five)
 unfolding five holder held opened used unused is-for first-from find-hold lowest-unused put-hold drop-hold
 place-rows = (refl, refl, refl, refl, refl)
+
+-- an unused record is nobody's; the record at a place, zeros past the table
+pub unused-rows : (find-hold 0 0 held ≡ Nothing) × (record-of 0 zero-hold ≡ false)
+    × (map (λ i. hold-at i held) (1 ∷ 2 ∷ 3 ∷ HOLDS ∷ []) ≡ zero-hold ∷ holder ∷ zero-hold ∷ zero-hold ∷ [])
+unfolding five holder held opened used is-for first-from find-hold put-hold hold-at
+unused-rows = (refl, refl, refl)
 
 -- the records of the quota are dropped, and no others
 pub drop-rows : (drop-records 1 (held .holds) ≡ five .holds) × (drop-records 0 (held .holds) ≡ held .holds)

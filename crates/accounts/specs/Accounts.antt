@@ -1,4 +1,4 @@
--- The accounting state ("books" in document 01): quotas, the last serial given, and hold records.
+-- The accounts (rules, section 3): quotas, the last serial given, and hold records.
 use Prim.Native.Nat.{ℕ, suc, _+_, _-_, _^_}
 use mathlib.Core.List.{List, [], _∷_, map}
 use mathlib.Core.Bool.{Bool, not, cond, _&&_}
@@ -10,14 +10,14 @@ use Rattle.accounts.specs.declared.Accounts.{Accounts}
 use Rattle.accounts.specs.declared.Place.{Place}
 use Rattle.accounts.specs.declared.Place.the-variants.{At, Nothing}
 
--- the number of quotas and of hold records
+-- rule 3.2: the number of quotas and of hold records
 abbrev pub QUOTAS : ℕ
 QUOTAS = 8
 
 abbrev pub HOLDS : ℕ
 HOLDS = 128
 
--- zeros
+-- rule 3.8: zeros
 abbrev pub zero-quota : Quota
 zero-quota = record { grant = 0; remainder = 0 }
 
@@ -44,7 +44,7 @@ with-holds hs k = record { quotas = k .quotas; «last_serial» = k .«last_seria
 abbrev pub grants : Accounts → List ℕ
 grants k = map (λ x. x .grant) (k .quotas)
 
--- the accounts at opening: each grant is there whole, no serial has been given and no record is used
+-- rule 8.3, the accounts at opening: each grant is there whole, no serial has been given and no record is used
 abbrev pub granted : ℕ → Quota
 granted g = record { grant = g; remainder = g }
 
@@ -65,29 +65,35 @@ spent q k = quota-at q k .grant - remaining q k
 unfoldable pub set-remaining : ℕ → ℕ → Accounts → Accounts
 set-remaining q n k = with-quotas (set (k .quotas) q (with-remainder n (quota-at q k))) k
 
--- a quota after it has paid, as it is where it has less than that; and after it was paid back, as it is where the sum needs more than 32 bits
+-- what is left of a remainder r after a payment of n, r where that is less than n; and after n was paid back, r where the sum needs more than 32 bits
+unfoldable pub less-paid : ℕ → ℕ → ℕ
+less-paid n r = cond (leb n r) (r - n) r
+
+unfoldable pub paid-back : ℕ → ℕ → ℕ
+paid-back n r = cond (ltb (r + n) (2 ^ 32)) (r + n) r
+
+-- a quota after it has paid, and after it was paid back
 abbrev pub charged : ℕ → Quota → Quota
-charged n x = cond (leb n (x .remainder)) (with-remainder (x .remainder - n) x) x
+charged n x = with-remainder (less-paid n (x .remainder)) x
 
 abbrev pub refunded : ℕ → Quota → Quota
-refunded n x = cond (ltb (x .remainder + n) (2 ^ 32)) (with-remainder (x .remainder + n) x) x
+refunded n x = with-remainder (paid-back n (x .remainder)) x
 
--- the quota pays; where there is no such quota, or it has less than that, nothing changes
+-- the quota with a number pays, and is paid back; where there is no such quota nothing changes
 unfoldable pub charge : ℕ → ℕ → Accounts → Accounts
-charge q n k = cond (ltb q QUOTAS && leb n (remaining q k)) (set-remaining q (remaining q k - n) k) k
+charge q n k = cond (ltb q QUOTAS) (set-remaining q (less-paid n (remaining q k)) k) k
 
--- the quota is paid back; where there is no such quota, or the sum needs more than 32 bits, nothing changes
 unfoldable pub refund : ℕ → ℕ → Accounts → Accounts
-refund q n k = cond (ltb q QUOTAS && ltb (remaining q k + n) (2 ^ 32)) (set-remaining q (remaining q k + n) k) k
+refund q n k = cond (ltb q QUOTAS) (set-remaining q (paid-back n (remaining q k)) k) k
 
--- an unused record is all zero; any other is used
+-- rule 3.3: a record is used if one of its numbers is not 0
 unfoldable pub used : Hold → Bool
 used h = not (eqb (h .serial) 0 && eqb (h .quota) 0 && eqb (h .count) 0)
 
 unfoldable pub unused : Hold → Bool
 unused h = not (used h)
 
--- h is the record of this quota for the object with this serial
+-- rule 3.4: h is the record of this quota for the object with this serial
 unfoldable pub is-for : ℕ → ℕ → Hold → Bool
 is-for serial q h = used h && eqb (h .serial) serial && eqb (h .quota) q
 
@@ -120,7 +126,7 @@ drop-hold i k = put-hold i zero-hold k
 abbrev pub record-of : ℕ → Hold → Bool
 record-of q h = used h && eqb (h .quota) q
 
--- "drops every record of the quota, whatever its count"
+-- rule 8.20: the records of a quota become zero, with any count
 abbrev pub dropped : ℕ → Hold → Hold
 dropped q h = cond (record-of q h) zero-hold h
 

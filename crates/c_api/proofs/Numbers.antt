@@ -31,6 +31,10 @@ pub amount-reply-injective : (s t : List ℕ) (a b : AmountReply) → amount-rep
 amount-reply-injective s t a b e =
     (λ i. e i .heap, λ i. record { accounts = e i .accounts; refusal = e i .values .refusal; amount = e i .values .amount })
 
+-- the number of write, can release and check
+pub refused-injective : (m n : ℕ) → refused m ≡ refused n → m ≡ n
+refused-injective m n e = ap (λ (v : Values). v .refusal) e
+
 -- the reply with these values
 pub amount-numbers-injective : (a b : Amount) → amount-numbers a ≡ amount-numbers b → a ≡ b
 amount-numbers-injective a b e = λ i. record { refusal = e i .refusal; amount = e i .amount }

@@ -1,4 +1,5 @@
-// The calls for programs in C and Rust, under plain names. A reply holds numbers alone: the refusal's number, 0 where the call is accepted, and what is answered, else zeros.
+// The calls for programs in C and Rust, under plain names. A reply holds numbers alone: the refusal's number, 0 where the call is accepted, and what is
+// answered, else zeros.
 // No call asks anything of its caller but that the heap's pointer and length are those of memory that is its own.
 use accounts::Accounts;
 use accounts::QUOTAS;

@@ -64,7 +64,7 @@ pub extern "C" fn lokhazim_list_block(heap: &[u8], accounts: Accounts, at: usize
     ensures answers { λ r. ⌜ outcome (now (heap .entry)) accounts (block-numbers r) ≡ list-block (now (heap .entry)) accounts at ⌝ }
     ensures zeros { λ r. ⌜ Exact r ⌝ }
 {
-    reply_of_block(heap::list_block(heap, accounts, at))
+    reply_of_block(heap::list_from(heap, accounts, at))
 }
 
 // The refusal that every call but open begins with: 1, 2 or none.

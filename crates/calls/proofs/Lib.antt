@@ -1,3 +1,4 @@
+pub mod Results
 pub mod Ready
 pub mod Typed
 pub mod Placed

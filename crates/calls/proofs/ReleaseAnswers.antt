@@ -64,7 +64,7 @@ module _ (s : List ℕ) (k : Accounts) (q : ℕ) (h : Handle) where
   unfolding release amount-values
   refuses r x e n = ap (amount-outcome s) e ∙ refused-is (first-refusal (release-lines s k q h)) s k _ x n
 
-  -- the others, of what was checked: no object, no record, or one claim less
+  -- the others, of what was checked: no object, no record, or one hold less
   module _ (c : Checked s k q) where
     pub by-object : find-object h s ≡ Missing → first-refusal (release-lines s k q h) ≡ 5
     unfolding release-lines

@@ -1,23 +1,22 @@
--- Release among records and blocks: what one claim less leaves of the records, and so of the blocks.
+-- Release among records and blocks: what one hold less leaves of the records, and so of the blocks.
 -- Only the record at the place that was found changes. While its count is above 1 it stays a record of the same object, so every object is still
--- held. The last claim makes it zero, so every other object is still held, and the object is held exactly if some other record is for it. If none
+-- held. The last hold makes it zero, so every other object is still held, and the object is held exactly if some other record is for it. If none
 -- is, its block alone is vacated, since no other live block has its serial.
 -- Assumes nothing.
-use Prim.Native.Nat.{ℕ, zero, suc, _+_, _-_, _≤_, _<_, _^_}
+use Prim.Native.Nat.{ℕ, zero, suc, _+_, _-_, _≤_, _<_}
 use native.Mathlib.Omega.{arith}
-use native.Mathlib.Nat.{add-zero}
 use mathlib.Core.Path.{_≡_, refl, ap, sym, _∙_}
 use mathlib.Core.Logic.{_≢_}
 use mathlib.Core.List.{List, [], _∷_, _++_}
 use mathlib.Core.Bool.{Bool, true, false, not, cond, _&&_, _||_, and-false}
 use mathlib.Core.Option.{Option}
 use lib.ListN.{length, getD, set}
-use lib.Dec.{eqb, ltb}
+use lib.Dec.{eqb}
 use borrow.Author.Tests.{eqb-true, eqb-false, eq-eqb, ne-eqb, not-true}
 use Rattle.accounts.specs.declared.Hold.{Hold}
 use Rattle.accounts.specs.declared.Accounts.{Accounts}
-use Rattle.accounts.specs.Accounts.{QUOTAS, zero-hold, with-holds, used, is-for, find-hold, hold-at, put-hold, drop-hold, remaining, set-remaining, refund}
-use Rattle.accounts.proofs.Laws.{found-first, set-same, refund-kept}
+use Rattle.accounts.specs.Accounts.{zero-hold, with-holds, used, is-for, find-hold, hold-at, put-hold, drop-hold, refund}
+use Rattle.accounts.proofs.Laws.{found-first, refund-kept, refund-nothing}
 use Rattle.layout.specs.Bytes.{Octets}
 use Rattle.layout.specs.Blocks.{Block, size, live, render, AllWritable}
 use Rattle.layout.proofs.Parse.{parse-is}
@@ -30,9 +29,9 @@ use Rattle.model.specs.Space.{settle}
 use Rattle.model.specs.Calls.{given-back, released}
 use Rattle.model.specs.declared.Handle.{Handle}
 use Rattle.model.proofs.Bools.{and-left, and-right, or-neither, implies, implied}
-use Rattle.model.proofs.Lists.{first-some, all-member, member-all, all-append}
+use Rattle.model.proofs.Lists.{first-some, all-member, member-all, all-append, getD-member}
 use Rattle.model.proofs.Blocks.{objects-live, objects-free, objects-append}
-use Rattle.model.proofs.Consistent.{Tests, tests-exactly, consistent-cut, consistent-apart, is-for-exactly}
+use Rattle.model.proofs.Consistent.{Tests, tests-exactly, consistent-cut, consistent-apart, consistent-facts, is-for-exactly}
 use Rattle.model.proofs.Settle.{stays, stays-objects, settle-same, settle-one}
 use Rattle.finder.specs.declared.Met.{Met}
 use Rattle.finder.specs.declared.Lookup.the-variants.{Found}
@@ -53,7 +52,7 @@ any-set p [] i h e = refl
 any-set p (g ∷ hs) zero h e = rw e
 any-set p (g ∷ hs) (suc i) h e = rw (any-set p hs i h e)
 
--- one claim less of several is a record of the same object; the last one leaves none
+-- one hold less of several is a record of the same object; the last one leaves none
 pub fewer-of : (h : Hold) (t : ℕ) → 1 < h .count → is-of t (with-count (h .count - 1) h) ≡ is-of t h
 unfolding is-of used
 fewer-of h t l =
@@ -123,15 +122,6 @@ others-differ xs b ys e l =
     let at = 0 + total size xs in
     let d = differ-split (objects-from 0 xs) (object at b) (objects-from (at + size b) ys) (rw (objects-append 0 xs (b ∷ ys), objects-live at b ys l) at e) in
     (others (b .serial) 0 xs (d .0), others (b .serial) (at + size b) ys (d .1))
-
--- a refund of nothing
-pub refund-nothing : (q : ℕ) (k : Accounts) → refund q 0 k ≡ k
-unfolding refund
-refund-nothing q k = go (ltb q QUOTAS && ltb (remaining q k + 0) (2 ^ 32))
-  where
-    go : (x : Bool) → cond x (set-remaining q (remaining q k + 0) k) k ≡ k
-    go true = rw (add-zero (remaining q k)) (set-same q k)
-    go false = refl
 
 -- blocks that can be written, with no two free ones side by side and serials that differ: m is a live block of them, the records hs hold every
 -- object, and the records hs′ hold what these hold, but perhaps not the object of m
@@ -219,6 +209,12 @@ module _ (s : List ℕ) (k : Accounts) (o : Octets s) (ok : consistent s k ≡ t
     unfolding find-hold hold-at
     record-serial = is-for-exactly (m .serial) q (getD (k .holds) i zero-hold) .0 (found-first (is-for (m .serial) q) (k .holds) i p .passes) .1
 
+    record-counts : 1 ≤ hold-at i k .count
+    unfolding find-hold hold-at
+    record-counts =
+        let f = found-first (is-for (m .serial) q) (k .holds) i p in
+        consistent-facts s k ok .valid (getD (k .holds) i zero-hold) (getD-member zero-hold (k .holds) i (f .within)) (is-for-exactly (m .serial) q (getD (k .holds) i zero-hold) .0 (f .passes) .0) .4
+
     lowered : lower-count (m .serial) q (k .holds) ≡ set (k .holds) i (less-one (hold-at i k))
     unfolding lower-count find-hold hold-at
     lowered = found-change (is-for (m .serial) q) (k .holds) i p less-one
@@ -242,12 +238,12 @@ module _ (s : List ℕ) (k : Accounts) (o : Octets s) (ok : consistent s k ≡ t
     unfolding put-hold less-one given-back
     fewer-claims l =
         let w = with-count (hold-at i k .count - 1) (hold-at i k) in
-        let a = ne-eqb (hold-at i k .count - 1) 0 (λ e. omega arith) in
+        let a = ne-eqb (hold-at i k .count) 1 (λ e. omega arith) in
         let g = same-bytes (set (k .holds) i w) (λ t x. held-fewer l t) (held-fewer l (m .serial) ∙ object-held) in
         ap (λ (x : Accounts). outcome s (with-holds (set (k .holds) i w) x) (amount-of 0)) (sym (refund-nothing q k))
         ∙ dropped-is w (rw a) 0 (rw (counted, a)) s g
 
-    -- the last claim leaves the record unused
+    -- the last hold leaves the record unused
     pub left-holds : (n : ℕ) → drop-hold i (refund q n k) .holds ≡ set (k .holds) i zero-hold
     unfolding drop-hold put-hold
     left-holds n = ap (λ (l : List Hold). set l i zero-hold) (refund-kept q n k .same-holds)
@@ -267,17 +263,17 @@ module _ (s : List ℕ) (k : Accounts) (o : Octets s) (ok : consistent s k ≡ t
       unfolding less-one given-back
       last-outcome s′ se =
           let n = m .size - 8 + 8 in
-          let a = eq-eqb (hold-at i k .count - 1) 0 (omega arith) in
+          let a = eq-eqb (hold-at i k .count) 1 (omega (arith, record-counts)) in
           ap (λ (x : Accounts). outcome s′ x (amount-of n)) (left-accounts n) ∙ dropped-is zero-hold (rw a) n (rw (counted, a)) s′ se
 
-      -- while another quota claims the object, no byte changes
+      -- while another quota holds the object, no byte changes
       pub still-held : held (drop-hold i (refund q (m .size - 8 + 8) k) .holds) (m .serial) ≡ true
           → outcome s (drop-hold i (refund q (m .size - 8 + 8) k)) (amount-of (m .size - 8 + 8)) ≡ claim-dropped s k q (object-met m)
       still-held y =
           let v : held (set (k .holds) i zero-hold) (m .serial) ≡ true = rw (left-holds (m .size - 8 + 8)) at y in
           last-outcome s (same-bytes (set (k .holds) i zero-hold) held-others v)
 
-      -- an object that no quota claims is freed
+      -- an object that no quota holds is freed
       pub no-longer-held : held (drop-hold i (refund q (m .size - 8 + 8) k) .holds) (m .serial) ≡ false
           → outcome (free-block m s) (drop-hold i (refund q (m .size - 8 + 8) k)) (amount-of (m .size - 8 + 8)) ≡ claim-dropped s k q (object-met m)
       no-longer-held y =

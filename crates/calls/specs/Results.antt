@@ -1,4 +1,4 @@
--- What a call's result and the heap at its exit make together: one outcome. No two results make the same one.
+-- What a call's result and the heap at its exit make together: one outcome. No two results make the same one (proofs/Results.antt).
 use Prim.Native.Nat.{ℕ}
 use mathlib.Core.List.{List}
 use Rattle.model.specs.Answers.{handle-values}

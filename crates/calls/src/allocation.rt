@@ -1,10 +1,12 @@
-// Allocation: the refusals in their order, then an object is cut out of a free block and its quota pays.
+// Allocation (rules 8.5 to 8.12): the refusals in their order, then an object is cut out of a free block and its quota pays.
 use crate::HandleResult;
 use accounts::Accounts;
 use accounts::Hold;
 use accounts::Place;
 use accounts::QUOTAS;
 use finder::Fit;
+use model::GREATEST_LENGTH;
+use model::GREATEST_SERIAL;
 use model::Handle;
 use model::HandleAnswer;
 use model::Refusal;
@@ -12,6 +14,7 @@ use model::Verdict;
 ghost use mathlib.Core.Path.{_≡_};
 ghost use Prim.Native.Nat.{_≤_};
 ghost use Rattle.accounts.specs.Accounts.{with-last-serial, put-hold, charge as charge-to};
+ghost use Rattle.layout.specs.Blocks.{greatest-heap};
 ghost use Rattle.model.specs.declared.HandleAnswer.the-variants.{Given};
 ghost use Rattle.model.specs.Calls.{allocate as allocate-of, allocate-array};
 ghost use Rattle.rounding.specs.Rounding.{unit};
@@ -20,7 +23,7 @@ ghost use Rattle.calls.specs.Ready.{Ready};
 
 // An accepted call's result.
 fn given(accounts: Accounts, base: usize, length: u32, serial: u32) -> HandleResult
-    requires { ⌜ base ≤ 32768 ⌝ }
+    requires { ⌜ base ≤ greatest-heap ⌝ }
     ensures { λ r. ⌜ r ≡ record { accounts = accounts; answer = Given (record { base = base; length = length; serial = serial }) } ⌝ }
 {
     let handle = Handle {
@@ -34,7 +37,7 @@ fn given(accounts: Accounts, base: usize, length: u32, serial: u32) -> HandleRes
     }
 }
 
-// The accounts after a quota has paid for a new object and holds it once.
+// Rules 8.9 and 8.10: the accounts after a quota has paid for a new object and holds it once.
 fn booked(accounts: Accounts, quota: u8, charge: u32, place: usize, serial: u32) -> Accounts
     ensures { λ r.
         ⌜ r ≡ charge-to quota charge (put-hold place (record { serial = serial; quota = quota; count = 1 }) (with-last-serial serial accounts)) ⌝ }
@@ -45,7 +48,7 @@ fn booked(accounts: Accounts, quota: u8, charge: u32, place: usize, serial: u32)
         count: 1,
     };
     let numbered = accounts.with_last_serial(serial);
-    let held = numbered.add_hold(place, hold);
+    let held = numbered.put_hold(place, hold);
     held.charge(quota as u32, charge)
 }
 
@@ -63,7 +66,7 @@ pub(crate) fn grant(heap: &mut [u8], accounts: Accounts, quota: u32, length: u32
         return HandleResult::refused(accounts, Refusal::HoldsExhausted);
     };
     let last = accounts.last_serial;
-    if 4294967295 <= last {
+    if GREATEST_SERIAL <= last {
         return HandleResult::refused(accounts, Refusal::SerialsExhausted);
     }
     let alignment = rounding::alignment(length);
@@ -75,6 +78,9 @@ pub(crate) fn grant(heap: &mut [u8], accounts: Accounts, quota: u32, length: u32
     let next = booked(accounts, quota as u8, charge, place, serial);
     given(next, base, size, serial)
 }
+
+// The greatest length of a request, as wide as a product.
+const LONGEST: u64 = GREATEST_LENGTH as u64;
 
 // Allocation for a length of any size.
 fn allocate_wide(heap: &mut [u8], accounts: Accounts, quota: u32, length: u64) -> HandleResult
@@ -89,7 +95,7 @@ fn allocate_wide(heap: &mut [u8], accounts: Accounts, quota: u32, length: u64) -
     if length == 0 {
         return HandleResult::refused(accounts, Refusal::ObjectLength);
     }
-    if 32760 < length {
+    if LONGEST < length {
         return HandleResult::refused(accounts, Refusal::ObjectLength);
     }
     grant(heap, accounts, quota, length as u32)
@@ -102,7 +108,7 @@ pub fn allocate(heap: &mut [u8], accounts: Accounts, quota: u32, length: u32) ->
     allocate_wide(heap, accounts, quota, length as u64)
 }
 
-// A new object for `count` elements of `size` bytes: as allocate, with the true product.
+// Rule 8.12: a new object for `count` elements of `size` bytes.
 pub fn allocate_array(
     heap: &mut [u8],
     accounts: Accounts,

@@ -1,5 +1,5 @@
-// The calls that make objects and give them up: allocate, allocate array, release and reallocate. Each checks heap and accounts for itself and answers, or gives one refusal and changes
-// nothing.
+// The calls that make objects and give them up: allocate, allocate array, release and reallocate. Each checks heap and accounts for itself and answers, or
+// gives one refusal and changes nothing.
 use accounts::Accounts;
 use model::HandleAnswer;
 use model::Refusal;

@@ -1,4 +1,4 @@
-// Reallocation: a new object while the old one still counts, the old one's bytes in it, and then the old one released once.
+// Reallocation (rules 8.23 to 8.27): a new object while the old one still counts, the old one's bytes in it, and then the old one released once.
 use crate::HandleResult;
 use crate::allocation::grant;
 use crate::releasing::drop_claim;
@@ -7,6 +7,7 @@ use accounts::Place;
 use accounts::QUOTAS;
 use finder::Lookup;
 use finder::Met;
+use model::GREATEST_LENGTH;
 use model::Handle;
 use model::HandleAnswer;
 use model::Refusal;
@@ -43,7 +44,7 @@ fn current(heap: &[u8], block: Met) -> Met
 }
 
 // Reallocation behind the first four lines: the old object and the quota's record for it, a new object, the bytes that both have room for, and one
-// claim less on the old object. It stands where it stood, and the quota's record for it too.
+// hold less on the old object. It stands where it stood, and the quota's record for it too.
 fn exchange(
     heap: &mut [u8],
     accounts: Accounts,
@@ -91,7 +92,7 @@ pub fn reallocate(
     if length == 0 {
         return HandleResult::refused(accounts, Refusal::ObjectLength);
     }
-    if 32760 < length {
+    if GREATEST_LENGTH < length {
         return HandleResult::refused(accounts, Refusal::ObjectLength);
     }
     exchange(heap, accounts, quota, handle, length)

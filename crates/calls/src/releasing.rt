@@ -1,4 +1,4 @@
-// Release: a quota gives up one claim, and the block that no quota holds any more becomes free.
+// Release (rules 8.16 to 8.19): a quota gives up one hold, and the block that no quota holds any more becomes free.
 use accounts::Accounts;
 use accounts::HOLDS;
 use accounts::Hold;
@@ -17,7 +17,7 @@ ghost use Rattle.quotas.specs.Results.{amount-outcome};
 ghost use Rattle.calls.specs.Ready.{Checked, Holding};
 ghost use Rattle.calls.specs.Releasing.{claim-dropped};
 
-// One claim of a quota on a block is given up; the last one gives the quota its charge back, and an object that no quota claims is freed.
+// One hold of a quota on a block is given up; the last one gives the quota its charge back, and an object that no quota holds is freed.
 pub(crate) fn drop_claim(
     heap: &mut [u8],
     accounts: Accounts,
@@ -35,7 +35,7 @@ pub(crate) fn drop_claim(
             quota: hold.quota,
             count: hold.count - 1,
         };
-        return AmountResult::given(accounts.add_hold(place, fewer), 0);
+        return AmountResult::given(accounts.put_hold(place, fewer), 0);
     }
     let length = (block.size - 8) as u32;
     let charge = length + 8;
@@ -52,7 +52,7 @@ pub(crate) fn drop_claim(
     AmountResult::given(left, charge)
 }
 
-// Release behind the first three lines: the lookup, the quota's record, and one claim less.
+// Release behind the first three lines: the lookup, the quota's record, and one hold less.
 fn give_up(heap: &mut [u8], accounts: Accounts, quota: u32, handle: Handle) -> AmountResult
     requires { ⌜ Checked (now heap) accounts quota ⌝ }
     ensures { λ r. ⌜ amount-outcome (now (heap .exit)) r ≡ release-of (now (heap .entry)) accounts quota handle ⌝ }
@@ -66,7 +66,7 @@ fn give_up(heap: &mut [u8], accounts: Accounts, quota: u32, handle: Handle) -> A
     drop_claim(heap, accounts, quota, block, place)
 }
 
-// One claim of a quota is given up.
+// One hold of a quota is given up.
 pub fn release(heap: &mut [u8], accounts: Accounts, quota: u32, handle: Handle) -> AmountResult
     ensures { λ r. ⌜ amount-outcome (now (heap .exit)) r ≡ release-of (now (heap .entry)) accounts quota handle ⌝ }
 {

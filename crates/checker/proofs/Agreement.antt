@@ -1,6 +1,6 @@
--- The sentences of `consistent-blocks` about objects, records and what the quotas owe, and how they go on from one object to the others: they hold of a
--- first object and the others exactly if its serial is given and held, the quotas can pay for it, and they hold of the others once its records are
--- struck and it is paid for. With no object left, they hold exactly if no record is used and nothing is owed.
+-- The tests of `consistent-blocks` (rules 5.3 to 5.8) about objects, records and what the quotas owe, and how they go on from one object to the
+-- others: they hold of a first object and the others exactly if its serial is given and held, the quotas can pay for it, and they hold of the others once
+-- its records are struck and it is paid for. With no object left, they hold exactly if no record is used and nothing is owed.
 -- Assumes nothing.
 use Prim.Native.Nat.{ℕ, _+_, _<_, _≤_}
 use mathlib.Core.Path.{_≡_, refl, sym, _∙_}
@@ -38,7 +38,7 @@ pub record Agrees (last : ℕ) (os : List Handle) (hs : List Hold) (owed : List 
 -- one object
 module _ (last : ℕ) (o : Handle) (os : List Handle) (hs : List Hold) (owed : List ℕ) (well : all well-formed hs ≡ true)
     (long : length owed ≡ QUOTAS) (live : o .serial ≡ 0 → ⊥) where
-  -- the object is paid for, and the sentences hold of the others then
+  -- the object is paid for, and the tests hold of the others then
   pub record First : Type 0 where
     pub given : o .serial ≤ last
     pub recorded : held hs (o .serial) ≡ true

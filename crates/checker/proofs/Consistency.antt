@@ -1,7 +1,7 @@
 -- The audit passes exactly if heap and accounts are consistent: `audit-is-consistent`.
--- By induction on the blocks, the audit from a state on passes exactly if the blocks are well cut behind the block before and the sentences about
+-- By induction on the blocks, the audit from a state on passes exactly if the blocks are well cut behind the block before and the tests of
 -- objects, records and debts hold of what is left (`audit-exactly`): a free block changes nothing but what the next one stands behind; a live block
--- is the first object of `Agreement`. At the start the keys are all records' and a quota owes grant less remainder, so these sentences are
+-- is the first object of `Agreement`. At the start the keys are all records' and a quota owes grant less remainder, so these tests are
 -- `consistent-blocks`, together with what the tables alone must be: well-formed records, and no remainder above its grant.
 -- Assumes nothing.
 use Prim.Native.Nat.{ℕ, _+_}

@@ -1,4 +1,4 @@
--- Records of one serial that are struck, that is, set to zero: what is said of other serials stays, and nothing of that serial is left. So the sentences
+-- Records of one serial that are struck, that is, set to zero: what is said of other serials stays, and nothing of that serial is left. So the tests
 -- of `consistent-blocks` about records and objects hold of a table exactly if they hold of its first object and, for the other objects, of the table
 -- with that object's records struck.
 -- Assumes nothing.
@@ -105,7 +105,7 @@ module _ (s : ℕ) where
   other-serial : (h : Hold) → is-of s h ≡ false → used h ≡ true → h .serial ≡ s → ⊥
   other-serial h e u q = true≢false (sym (is-of-exactly s h .1 (u, q)) ∙ e)
 
-  -- "Every used record has a live object's serial, .."
+  -- rule 5.5: a used record is of a live object
   valid-own : (o : Handle) (os : List Handle) (h : Hold) → o .serial ≡ s → well-formed h ≡ true → is-of s h ≡ true → record-valid (o ∷ os) h ≡ true
   unfolding record-valid any
   valid-own o os h q w e =
@@ -135,7 +135,7 @@ module _ (s : ℕ) where
       go true e v = rw (valid-own o os h q v e, zero-valid os)
       go false e v = rw (valid-other o os h q e)
 
-  -- "No two used records have the same serial and quota"
+  -- rule 5.6: used records differ in serial or quota
   unique-own : (h : Hold) (hs : List Hold) (a b : Bool) → is-of s h ≡ true
       → (not (used h && any (is-for (h .serial) (h .quota)) hs) && (a && b))
       ≡ ((not (has-record hs (h .quota) s) && a) && (not (used zero-hold && any (is-for (zero-hold .serial) (zero-hold .quota)) (strike-holds s hs)) && b))
@@ -169,7 +169,7 @@ module _ (s : ℕ) where
       go true e = unique-own h hs (once-for s hs) (records-differ (strike-holds s hs)) e
       go false e = unique-other h hs (once-for s hs) (records-differ (strike-holds s hs)) e
 
-  -- "Every live object has a record": an object with the struck serial has none left
+  -- rule 5.7, every object is held: an object with the struck serial has no record left
   pub alone : (os : List Handle) (hs : List Hold) → all (λ o. held (strike-holds s hs) (o .serial)) os ≡ true → any (has-serial s) os ≡ false
   alone os hs h =
       fails (any (has-serial s) os)

@@ -1,6 +1,6 @@
 -- The walk: on the way, the audit of the whole heap is the audit of the blocks in the rest of it, with the keys and debts that are left. A rest that
--- starts no block, among them one whose size is 0, or a back size that is wrong, is no cut; a block that fails fails the whole; at the heap's end the keys and the debts that
--- are left decide.
+-- starts no block, among them one whose size is 0, or a back size that is wrong, is no cut; a block that fails fails the whole; at the heap's end the keys
+-- and the debts that are left decide.
 -- Assumes nothing.
 use Prim.Native.Nat.{ℕ, _+_, _*_, _<_, _≤_}
 use mathlib.Core.Path.{_≡_, refl, ap, _∙_}

@@ -7,6 +7,7 @@ use accounts::HOLDS;
 use accounts::Hold;
 use accounts::QUOTAS;
 use accounts::Quota;
+use layout::GREATEST_HEAP;
 use model::Refusal;
 use model::Verdict;
 use std::num::wrapping_sub_usize;
@@ -31,8 +32,8 @@ ghost use Rattle.checker.specs.Holders.{held-each, has-key, Chained};
 // The number of slots: so many that a chain is seldom longer than one record.
 const SLOTS: usize = 4 * HOLDS;
 
-// Whether a heap may have this length.
-fn is_allowed(len: usize) -> bool
+// Rule 2.1: whether a heap may have this length.
+pub fn is_allowed(len: usize) -> bool
     ensures { λ r. ⌜ r ≡ allowed len ⌝ }
 {
     if len % 8 != 0 {
@@ -41,7 +42,7 @@ fn is_allowed(len: usize) -> bool
     if len < 64 {
         return false;
     }
-    len <= 32768
+    len <= GREATEST_HEAP
 }
 
 // Whether a record without a serial is unused.
@@ -341,7 +342,7 @@ fn walk(
     is_paid(owed)
 }
 
-// The verdict on a heap and its accounting state: refused for its length, refused as inconsistent, or accepted.
+// Rule 8.35, the verdict on a heap and its accounting state: refused for its length, refused as inconsistent, or accepted.
 pub fn check(heap: &[u8], accounts: Accounts) -> Verdict
     ensures { λ r. ⌜ verdict-values r ≡ check-of (now (heap .entry)) accounts .values ⌝ }
 {

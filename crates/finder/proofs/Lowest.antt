@@ -1,4 +1,4 @@
--- The base by the walk is document 01's: on a heap that is cut into blocks, no two free ones side by side, it is the lowest suitable multiple of
+-- The base by the walk is that of rule 8.6: on a heap that is cut into blocks, no two free ones side by side, it is the lowest suitable multiple of
 -- the alignment, and where no block has room, no multiple is suitable.
 -- The run of a base in a free block touches no other block. A suitable run lies in one free block, so that block has room, and the first block that
 -- has room has its base no higher: it is the same block, or ends before it.

@@ -1,4 +1,4 @@
--- The walk over a heap's blocks (document 01, "Headers are found only by walking from offset 0"), on any bytes: what it meets, the object that a
+-- The walk over a heap's blocks by their sizes (rule 2.8), on any bytes: what it meets, the object that a
 -- handle names among what it meets, and the first free block that has room for a new object.
 use Prim.Native.Nat.{ℕ, zero, suc, _+_, _*_, _-_, _/_, _^_, _≤_, _<_}
 use mathlib.Core.List.{List, [], _∷_}

@@ -1,4 +1,4 @@
-// The walk over the heap's blocks from offset 0: the block whose object a handle names, and the first free block with room for a new object.
+// The walk over the heap's blocks from offset 0 (rule 2.8): the block whose object a handle names, and the first free block with room for a new object.
 use layout::Start;
 use model::Handle;
 ghost use mathlib.Core.Path.{_≡_};

@@ -1,11 +1,10 @@
 // The shared heap: every call under one name, and `perform`, which makes any call of a history.
 mod performing;
 
+pub use access::Step;
 pub use access::Walker;
-pub use access::advance;
 pub use access::can_release;
 pub use access::lend;
-pub use access::list_block;
 pub use access::list_from;
 pub use access::next;
 pub use access::object_range;

@@ -6,9 +6,7 @@ use model::Call;
 use quotas::AmountResult;
 ghost use mathlib.Core.Path.{_≡_};
 ghost use Rattle.rounding.specs.Rounding.{unit};
-ghost use Rattle.model.specs.Answers.{answer-values};
-ghost use Rattle.model.specs.Step.{step};
-ghost use Rattle.access.specs.Results.{outcome};
+ghost use Rattle.model.specs.Step.{performed};
 
 // What a call of a history gives: the accounts after it, and its answer.
 pub struct Performed {
@@ -52,7 +50,7 @@ fn unchanged(accounts: Accounts, answer: Answer) -> Performed
 
 // The call is made, and its answer is given with the accounts after it.
 pub fn perform(heap: &mut [u8], accounts: Accounts, call: Call) -> Performed
-    ensures { λ r. ⌜ outcome (now (heap .exit)) (r .accounts) (answer-values (r .answer)) ≡ step unit call (now (heap .entry)) accounts ⌝ }
+    ensures { λ r. ⌜ record { heap = now (heap .exit); accounts = r .accounts; answer = r .answer } ≡ performed unit call (now (heap .entry)) accounts ⌝ }
 {
     match call {
         Call::Allocate { quota, length } => of_handle(calls::allocate(
@@ -93,7 +91,7 @@ pub fn perform(heap: &mut [u8], accounts: Accounts, call: Call) -> Performed
         Call::ListBlock { at } => {
             unchanged(
                 accounts,
-                Answer::Block(access::list_block(heap, accounts, at)),
+                Answer::Block(access::list_from(heap, accounts, at)),
             )
         }
     }

@@ -1,10 +1,9 @@
-// The forms of image by their numbers, where their parts lie, and how long a heap may be.
+// The forms of image by their numbers, and where their parts lie.
 use crate::FormAnswer;
 use image_model::Form;
 ghost use mathlib.Core.Path.{_≡_};
 ghost use Prim.Native.Nat.{_+_, _*_, _≤_};
 ghost use Rattle.accounts.specs.Accounts.{QUOTAS, HOLDS};
-ghost use Rattle.model.specs.Consistent.{allowed};
 ghost use Rattle.image_model.specs.Stream.{form-1, form-numbered};
 ghost use Rattle.image.specs.Parsing.{known-form};
 
@@ -45,17 +44,4 @@ pub(crate) fn heap_at(quotas: usize, records: usize) -> usize
     ensures { λ r. ⌜ r ≡ 12 + quotas * 8 + records * 8 ⌝ }
 {
     records_at(quotas) + records * 8
-}
-
-// Whether a heap may have this length.
-pub(crate) fn is_allowed(size: usize) -> bool
-    ensures { λ r. ⌜ r ≡ allowed size ⌝ }
-{
-    if size % 8 != 0 {
-        return false;
-    }
-    if size < 64 {
-        return false;
-    }
-    size <= 32768
 }

@@ -5,7 +5,6 @@ use crate::Shape;
 use crate::entries::read_entries;
 use crate::forms::form_numbered;
 use crate::forms::heap_at;
-use crate::forms::is_allowed;
 use crate::forms::records_at;
 use crate::numbers::read_pair;
 use crate::numbers::read_quad;
@@ -45,7 +44,7 @@ fn contents_right(image: &[u8], form: Form, size: usize) -> bool
 {
     let quotas = form.quotas;
     let records = form.records;
-    if !is_allowed(size) {
+    if !checker::is_allowed(size) {
         return false;
     }
     let end = heap_at(quotas, records) + size;

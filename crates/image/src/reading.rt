@@ -7,6 +7,7 @@ use image_model::Form;
 use image_model::ImageRefusal;
 use image_model::ReadAnswer;
 use image_model::ReadResult;
+use layout::GREATEST_HEAP;
 use model::Verdict;
 ghost use mathlib.Core.Path.{_≡_};
 ghost use mathlib.Core.Bool.{true};
@@ -20,8 +21,8 @@ ghost use Rattle.image_model.specs.Images.{read-image};
 ghost use Rattle.image.specs.Parsing.{FormFits, restore};
 
 // Bytes for the longest heap.
-fn heap_space() -> [u8; 32768] {
-    [0u8; 32768]
+fn heap_space() -> [u8; GREATEST_HEAP] {
+    [0u8; GREATEST_HEAP]
 }
 
 // Whether the stream's bytes from a place on are a heap that is consistent with the accounts. They are copied out, as many as there is room for.

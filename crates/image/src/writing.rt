@@ -2,7 +2,6 @@
 use crate::forms::HEAD;
 use crate::forms::form_1;
 use crate::forms::heap_at;
-use crate::forms::is_allowed;
 use crate::head::write_head;
 use accounts::Accounts;
 use framing::FrameAnswer;
@@ -55,7 +54,7 @@ fn put_image(image: &mut [u8], form: Form, heap: &[u8], accounts: Accounts) -> W
 pub fn image_length(size: usize) -> usize
     ensures { λ r. ⌜ r ≡ length-for size ⌝ }
 {
-    if !is_allowed(size) {
+    if !checker::is_allowed(size) {
         return 0;
     }
     let form = form_1();

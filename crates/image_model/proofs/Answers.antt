@@ -10,8 +10,8 @@ use lib.ListN.{getD}
 use lib.Dec.{eqb, ltb}
 use borrow.Author.Tests.{ne-eqb, lt-ltb}
 use Rattle.accounts.specs.declared.Accounts.{Accounts}
-use Rattle.model.specs.Answers.{refusal-number}
-use Rattle.model.proofs.Answers.{refusal-at, refusal-number-is}
+use Rattle.model.specs.Answers.{refusal-number, refusal-at}
+use Rattle.model.proofs.Answers.{refusal-number-is}
 use Rattle.image_model.specs.Answers.{Imaged, Restored-to, image-refusal-number, imaged, restored-to}
 use Rattle.image_model.specs.declared.ImageRefusal.{ImageRefusal}
 use Rattle.image_model.specs.declared.ImageRefusal.the-variants.{Call, ImageLength, FrameWrong, FormNumber, Contents, Room, Unsound, HeapLengths}

@@ -179,11 +179,11 @@ module _ (serial q : ℕ) (h : Hold) (x : is-for serial q h ≡ true) where
   -- the record with one hold less
   lowered : proper h ≡ true → Follows serial q (less-one h) × (less-one h .count + 1 ≡ h .count)
   unfolding less-one proper used
-  lowered r = go (eqb (h .count - 1) 0) refl (proper-exactly h .0 r (is-for-exactly serial q h .0 x .0) .1)
+  lowered r = go (eqb (h .count) 1) refl (proper-exactly h .0 r (is-for-exactly serial q h .0 x .0) .1)
     where
-      go : (t : Bool) → eqb (h .count - 1) 0 ≡ t → 0 < h .count → Follows serial q (less-one h) × (less-one h .count + 1 ≡ h .count)
-      go true e p = rw e ((inr refl, refl), omega (arith, eqb-true (h .count - 1) 0 e))
-      go false e p = rw e (recounted (h .count - 1) (omega (arith, eqb-false (h .count - 1) 0 e)) r, omega arith)
+      go : (t : Bool) → eqb (h .count) 1 ≡ t → 0 < h .count → Follows serial q (less-one h) × (less-one h .count + 1 ≡ h .count)
+      go true e p = rw e ((inr refl, refl), omega (arith, eqb-true (h .count) 1 e))
+      go false e p = rw e (recounted (h .count - 1) (omega (arith, eqb-false (h .count) 1 e)) r, omega arith)
 
 module _ (hs : List Hold) (r : Ordered hs) (serial q : ℕ) where
   -- a new record: the first unused one becomes the record of a first hold

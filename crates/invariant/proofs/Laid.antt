@@ -1,4 +1,4 @@
--- The blocks of a good state by themselves: whole sizes, bytes and serials that can be written, an allowed length, cut as the paper says, and
+-- The blocks of a good state by themselves: whole sizes, bytes and serials that can be written, an allowed length, well cut, and
 -- serials that differ. Carving, settling and copying keep all of that.
 -- Sizes are multiples of 8 and add up to at most 32,768, so each fits two bytes as a number of units. New bytes are zeros or parts of old bytes.
 -- Assumes nothing.
@@ -179,7 +179,7 @@ module _ (serial : ℕ) (new : List ℕ) where
   copy-all p f (b ∷ bs) = rw (f b (put serial new b) (put-serial b) (put-length b), copy-all p f bs)
 
   -- the sum of the sizes
-  copy-total : (bs : List Block) → total size (copy-into serial new bs) ≡ total size bs
+  pub copy-total : (bs : List Block) → total size (copy-into serial new bs) ≡ total size bs
   unfolding total copy-into put
   copy-total [] = refl
   copy-total (b ∷ bs) = rw (put-length b, copy-total bs)
@@ -206,7 +206,7 @@ module _ (serial : ℕ) (new : List ℕ) where
   copy-apart [] = refl
   copy-apart (b ∷ bs) = rw (put-serial b, copy-starts bs, copy-apart bs)
 
-  -- and whether the blocks are cut as the paper says
+  -- and whether the blocks are well cut
   copy-cut : (bs : List Block) → well-cut (copy-into serial new bs) ≡ well-cut bs
   unfolding well-cut long-enough
   copy-cut bs = rw (copy-all long-enough (λ b c e f. rw (e, f)) bs, copy-apart bs)

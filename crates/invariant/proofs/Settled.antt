@@ -51,12 +51,12 @@ module _ (q n : ℕ) (t : State) (g : Good t) (exists : q < QUOTAS) (hs : List H
       (same-limits q k (refund q n k) (refund-kept q n k) hs (good-limits t g))
 
 -- one count less costs the charge less if it was the last
-cost-less : (n : ℕ) (o : Handle) → 0 < n → cost n o ≡ cost (n - 1) o + cond (eqb (n - 1) 0) (charge-of (o .length)) 0
-cost-less n o p = go (eqb (n - 1) 0) refl
+cost-less : (n : ℕ) (o : Handle) → 0 < n → cost n o ≡ cost (n - 1) o + cond (eqb n 1) (charge-of (o .length)) 0
+cost-less n o p = go (eqb n 1) refl
   where
-    go : (x : Bool) → eqb (n - 1) 0 ≡ x → cost n o ≡ cost (n - 1) o + cond x (charge-of (o .length)) 0
-    go true e = rw (eqb-true (n - 1) 0 e) (omega (arith, cost-some n o p))
-    go false e = let f = eqb-false (n - 1) 0 e in omega (arith, cost-some n o p, cost-some (n - 1) o (omega (arith, f)))
+    go : (x : Bool) → eqb n 1 ≡ x → cost n o ≡ cost (n - 1) o + cond x (charge-of (o .length)) 0
+    go true e = rw (eqb-true n 1 e) (omega arith)
+    go false e = let f = eqb-false n 1 e in omega (arith, cost-some n o p, cost-some (n - 1) o (omega (arith, f)))
 
 -- an object that is there is released by a quota that has a record for it
 module _ (q : ℕ) (o : Handle) (t : State) (g : Good t) (there : List·Memᴰ o (objects (t .blocks))) (held : has-record (t .accounts .holds) q (o .serial) ≡ true) where

@@ -1,5 +1,5 @@
--- No call changes a byte of an object that stays. An object's bytes are the body of its block; a call leaves every live block as it is, but for the new object's and those
--- that become free; and no two live blocks have the same serial.
+-- Rule 10.12: no call changes a byte of an object that stays. An object's bytes are the body of its block; a call leaves every live block as it is,
+-- but for the new object's and those that become free; and no two live blocks have the same serial.
 -- Assumes nothing.
 use Prim.Native.Nat.{ℕ, _+_}
 use native.Mathlib.Nat.{add-zero, zero-add, add-assoc}

@@ -4,13 +4,17 @@ pub mod Agreement
 pub mod Matching
 pub mod Places
 pub mod Writing
+pub mod LentParts
 pub mod Opening
 pub mod Steps
 pub mod Fields
 pub mod Space
+pub mod Lasting
 pub mod Theorem
 pub mod Reading
 pub mod Contents
 pub mod Staying
 pub mod Bytes
 pub mod NewBytes
+pub mod Rejoining
+pub mod Lengths

@@ -22,8 +22,9 @@ use Rattle.model.specs.Refusals.{first-refusal, line-1, open-lines}
 use Rattle.model.specs.Calls.{Outcome, unless, fresh, open-heap}
 use Rattle.model.proofs.Bools.{and-left, and-right}
 use Rattle.model.proofs.Consistent.{Tests, balance-exactly}
-use Rattle.ledger.specs.Ledger.{empty}
-use Rattle.ledger.specs.History.{Opened, Begins, Opening}
+use Rattle.ledger.specs.Ledger.{Ledger, empty, read-ledger}
+use Rattle.ledger.specs.History.{Opened, Restorable, Begins, Opening, Restoring}
+use Rattle.ledger.proofs.Reading.{consistent-agrees}
 use Rattle.invariant.proofs.Good.{Good}
 use Rattle.ledger.proofs.Agreement.{Agrees}
 use Rattle.invariant.proofs.Heaps.{good-heap}
@@ -126,7 +127,16 @@ fresh-agrees H f grants n w =
     }
 
 -- and so with every accepted opening
-pub opening-agrees : (grants : List ℕ) (s : List ℕ) (k : Accounts) → Begins grants s k → Agrees (empty grants) s k
-opening-agrees grants s k (Opening o) =
+opening-agrees : (grants : List ℕ) (s : List ℕ) (k : Accounts) → Opened grants s k → Agrees (empty grants) s k
+opening-agrees grants s k o =
     let f = opened-fresh grants s k o in
     rw (f .heap, f .accounts) at (fresh-agrees (f .extent) (f .fits) grants (o .quotas) (o .narrow))
+
+-- a state that is restored agrees with the ledger that is read off it
+pub restored-agrees : (s : List ℕ) (k : Accounts) → Restorable s k → Agrees (read-ledger s k) s k
+restored-agrees s k r = consistent-agrees s k (r .extent) (r .octets) (r .sound) (r .quotas) (r .narrow) (r .serial)
+
+-- every beginning agrees with its ledger
+pub beginning-agrees : (begun : Ledger) (s : List ℕ) (k : Accounts) → Begins begun s k → Agrees begun s k
+beginning-agrees begun s k (Opening grants e o) = rw e (opening-agrees grants s k o)
+beginning-agrees begun s k (Restoring e r) = rw e (restored-agrees s k r)

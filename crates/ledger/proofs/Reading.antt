@@ -1,5 +1,5 @@
--- Every consistent state agrees with the ledger that is read off it: its objects are the live ones, and each quota's holds are its record's count. So a state that no
--- history led to can be a beginning.
+-- Every consistent state agrees with the ledger that is read off it: its objects are the live ones, and each quota's holds are its record's count. So a
+-- state that no history led to can be a beginning.
 -- Assumes nothing.
 use Prim.Native.Nat.{ℕ, zero, suc, _+_, _≤_, _<_, _^_}
 use native.Mathlib.Nat.{not-suc-le-zero}
@@ -21,8 +21,7 @@ use Rattle.model.specs.Consistent.{allowed, consistent}
 use Rattle.model.specs.Holds.{count-of}
 use Rattle.model.specs.Calls.{state-of}
 use Rattle.model.specs.declared.Handle.{Handle}
-use Rattle.ledger.specs.Ledger.{Entry, holds-of}
-use Rattle.ledger.specs.Reading.{values-from, read-entry, read-ledger}
+use Rattle.ledger.specs.Ledger.{Entry, holds-of, values-from, read-entry, read-ledger}
 use Rattle.invariant.proofs.Good.{Ordered}
 use Rattle.ledger.proofs.Agreement.{Agrees}
 use Rattle.invariant.proofs.Heaps.{heap-good, good-ordered}

@@ -1,14 +1,20 @@
--- The ledger of short lists of events, computed: what each sentence of document 01's ledger does to it.
+-- The ledger of short lists of events, computed: what rules 9.2 to 9.5 and 13.15 to 13.18 make of them.
 -- Assumes nothing.
 use Prim.Native.Nat.{ℕ}
 use mathlib.Core.Path.{_≡_, refl}
 use mathlib.Core.List.{List, [], _∷_}
+use mathlib.Core.Bool.{true, false}
 use lib.ListN.{replicate}
+use Rattle.rounding.specs.Rounding.{unit}
 use Rattle.model.specs.Lists.{any, keep}
 use Rattle.model.specs.Answers.{accepted, refused, given, amount-of}
+use Rattle.model.specs.Calls.{Outcome, open-heap}
+use Rattle.model.specs.Step.{step}
 use Rattle.model.specs.declared.Handle.{Handle}
+use Rattle.model.specs.declared.Call.{Call}
 use Rattle.model.specs.declared.Call.the-variants.{Allocate, AllocateArray, Claim, Release, FreeAll, Reallocate, Lend}
-use Rattle.ledger.specs.Ledger.{Entry, Event, Called, Wrote, empty, change-holds, at-serial, is-held, leave, add-object, add-hold, take-hold, take-all, record-accepted, record-call, record-event, ledger-of}
+use Rattle.model.proofs.Computing.{computing}
+use Rattle.ledger.specs.Ledger.{Entry, Event, Called, Wrote, Saved, Restored, empty, change-holds, at-serial, is-held, leave, add-object, add-hold, take-hold, take-all, record-accepted, record-call, values-from, read-entry, read-ledger, record-event, unrestored, ledger-of}
 
 pub grants : List ℕ
 grants = 100 ∷ 1000 ∷ replicate 6 0
@@ -24,7 +30,7 @@ pub entry : Handle → ℕ → ℕ → Entry
 entry o x y = record { object = o; holds = x ∷ y ∷ replicate 6 0 }
 
 pub entries : List Event → List Entry
-entries es = ledger-of grants es .entries
+entries es = ledger-of (empty grants) es .entries
 
 -- each list, the newest first, and the ledger's objects after it
 pub made : List Event
@@ -47,3 +53,27 @@ pub ledger-rows : (entries made ≡ entry a 1 0 ∷ [])
     × (entries (Called (Reallocate 0 a 90) (given b) ∷ made) ≡ entry b 1 0 ∷ [])
 unfolding any keep empty change-holds at-serial is-held leave add-object add-hold take-hold take-all record-accepted record-call record-event ledger-of entries grants a b entry made claimed shared
 ledger-rows = (refl, refl, refl, refl, refl, refl, refl, refl, refl)
+
+-- a state of two objects, the first held once by quota 0 and twice by quota 1, and the ledger after images of it
+pub after : List Call → Outcome
+after [] = open-heap (replicate 128 0) grants
+after (c ∷ cs) = step unit c (after cs .heap) (after cs .accounts)
+
+pub state : Outcome
+state = after (AllocateArray 1 12 8 ∷ Claim 1 a ∷ Claim 1 a ∷ Allocate 0 10 ∷ [])
+
+pub saved : Event
+saved = Saved (state .heap) (state .accounts)
+
+pub restored : Event
+restored = Restored (state .heap) (state .accounts)
+
+pub image-rows : (entries (saved ∷ made) ≡ entry a 1 0 ∷ [])
+    × (entries (restored ∷ made) ≡ entry a 1 2 ∷ entry b 0 1 ∷ [])
+    × (entries (Called (Release 1 a) (amount-of 0) ∷ restored ∷ []) ≡ entry a 1 1 ∷ entry b 0 1 ∷ [])
+    × (ledger-of (empty (replicate 8 5)) (restored ∷ []) .grants ≡ grants)
+    × (ledger-of (empty (replicate 8 5)) (saved ∷ []) .grants ≡ replicate 8 5)
+    × (unrestored (saved ∷ Wrote ∷ made) ≡ true)
+    × (unrestored (Wrote ∷ restored ∷ made) ≡ false)
+unfolding computing keep change-holds at-serial is-held leave add-object take-hold record-accepted record-call record-event ledger-of read-ledger read-entry values-from unrestored empty entries grants a b entry made after state saved restored
+image-rows = (refl, refl, refl, refl, refl, refl, refl)

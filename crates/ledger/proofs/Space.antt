@@ -1,4 +1,4 @@
--- The space sentence of demand 3: a request that passes every other line is refused by 11 exactly if no suitable run of bytes exists, and accepted otherwise.
+-- Rule 10.9: a request for which no other line holds is refused by 11 exactly if there is no base for it, and accepted otherwise.
 -- Its last line says that the search found no base; the search finds one exactly if some multiple of the alignment is suitable; and what is suitable is said
 -- over bytes by model's laws.
 -- Assumes nothing.

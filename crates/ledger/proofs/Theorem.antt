@@ -1,12 +1,12 @@
--- Demand 3, entire: it holds of `step`, for every table of units.
--- Along a history ledger, heap and accounts agree: an opening does, and each call and each write keeps it. What the claim says of a history is what
+-- Demand 3 (rules 10.3 to 10.11), entire: it holds of `step`, for every table of units.
+-- Along a history ledger, heap and accounts agree: an opening does, and each call and each write keeps it. What demand 3 says of a history is what
 -- agreement says of its end.
 -- Assumes nothing.
 use Prim.Native.Nat.{ℕ, _<_}
 use native.Mathlib.Omega.{arith}
 use mathlib.Core.Path.{_≡_, refl, subst, ap, _∙_}
-use mathlib.Core.List.{List, [], _∷_, _++_}
-use mathlib.Core.Bool.{Bool, true, false, cond}
+use mathlib.Core.List.{List, [], _∷_, _++_, List·Memᴰ}
+use mathlib.Core.Bool.{Bool, true, false, cond, false≢true}
 use lib.ListN.{length, getD}
 use lib.Dec.{eqb}
 use Rattle.accounts.specs.declared.Accounts.{Accounts}
@@ -21,15 +21,16 @@ use Rattle.model.proofs.Consistent.{serials-exactly}
 use Rattle.model.specs.Answers.{Values}
 use Rattle.model.specs.declared.Call.{Call}
 use Rattle.model.specs.declared.Call.the-variants.{Allocate, AllocateArray, Claim, Release, FreeAll, Reallocate, Lend, Remaining, CanRelease, ListBlock}
-use Rattle.ledger.specs.Ledger.{Ledger, Event, Called, Wrote, empty, leave, add-object, add-hold, take-hold, take-all, record-accepted, record-call, record-event, ledger-of}
+use Rattle.ledger.specs.Ledger.{Ledger, Event, Called, Wrote, Saved, Restored, leave, add-object, add-hold, take-hold, take-all, record-accepted, record-call, record-event, unrestored, ledger-of}
 use Rattle.ledger.specs.History.{History}
-use Rattle.ledger.specs.Demand3.{Within, objects-in, Holds, Demand3}
+use Rattle.ledger.specs.Demand3.{Within, objects-in, HeldIn, Holds, Demand3}
 use Rattle.ledger.proofs.Agreement.{Agrees}
-use Rattle.ledger.proofs.Opening.{opening-agrees}
+use Rattle.ledger.proofs.Opening.{restored-agrees, beginning-agrees}
 use Rattle.ledger.proofs.Writing.{written-agrees}
 use Rattle.ledger.proofs.Steps.{step-agrees}
 use Rattle.ledger.proofs.Fields.{live-once-of, apart-of, off-headers-of, inside-of, record-held-of, hold-recorded-of, records-once-of, balanced-of, answered-of}
 use Rattle.ledger.proofs.Space.{space-decided}
+use Rattle.ledger.proofs.Lasting.{step-lasts}
 use Rattle.ledger.proofs.Wrong
 
 -- no two objects of the ledger, at two places, share a byte: their serials differ, and each is the object of a live block
@@ -42,7 +43,7 @@ apart-places l s k a i j i<j j<n at u v =
     let y = m .objects (getD os j zero-handle) .1 (getD-member zero-handle os j j<n) in
     serials-exactly os .0 (m .once) i j i<j j<n (ap (λ (o : Handle). o .serial) (apart-of l s k a (getD os i zero-handle) (getD os j zero-handle) x y at u v))
 
--- the ledger keeps the grants as opened
+-- the ledger keeps the grants
 accepted-grants : (c : Call) (v : Values) (l : Ledger) → record-accepted c v l .grants ≡ l .grants
 unfolding record-accepted add-object add-hold take-hold take-all leave
 accepted-grants (Allocate q n) v l = refl
@@ -60,42 +61,75 @@ recorded-grants : (t : Bool) (c : Call) (v : Values) (l : Ledger) → cond t (re
 recorded-grants true c v l = accepted-grants c v l
 recorded-grants false c v l = refl
 
-ledger-grants : (grants : List ℕ) (es : List Event) → ledger-of grants es .grants ≡ grants
-unfolding ledger-of record-event record-call empty
-ledger-grants grants [] = refl
-ledger-grants grants (Called c v ∷ es) = recorded-grants (eqb (v .refusal) 0) c v (ledger-of grants es) ∙ ledger-grants grants es
-ledger-grants grants (Wrote ∷ es) = ledger-grants grants es
+-- so they are those of the beginning, where no image was read
+pub ledger-grants : (begun : Ledger) (es : List Event) → unrestored es ≡ true → ledger-of begun es .grants ≡ begun .grants
+unfolding ledger-of record-event record-call unrestored
+ledger-grants begun [] u = refl
+ledger-grants begun (Called c v ∷ es) u = recorded-grants (eqb (v .refusal) 0) c v (ledger-of begun es) ∙ ledger-grants begun es u
+ledger-grants begun (Wrote ∷ es) u = ledger-grants begun es u
+ledger-grants begun (Saved s k ∷ es) u = ledger-grants begun es u
+ledger-grants begun (Restored s k ∷ es) u = absurd (false≢true u)
+
+-- a serial is held at every point since the front
+abbrev Since : Ledger → List Event → List Event → ℕ → Type 0
+Since begun front back serial = (late early : List Event) → back ≡ late ++ early → HeldIn serial (ledger-of begun (early ++ front))
+
+sooner : (begun : Ledger) (front : List Event) (e : Event) (es : List Event) (serial : ℕ) → Since begun front (e ∷ es) serial → Since begun front es serial
+sooner begun front e es serial f late early q = f (e ∷ late) early (ap (λ (x : List Event). e ∷ x) q)
+
+-- an object of the ledger after the front, whose serial is held ever since, is one of its objects now, where no image was read since
+abbrev Lasts : Ledger → List Event → List Event → Type 0
+Lasts begun front back =
+    unrestored back ≡ true → (o : Handle) → List·Memᴰ o (objects-in (ledger-of begun front)) → Since begun front back (o .serial)
+    → List·Memᴰ o (objects-in (ledger-of begun (back ++ front)))
 
 module _ (unit : ℕ → ℕ) (units : Units unit) where
   -- along a history ledger, heap and accounts agree
-  pub history-agrees : (grants : List ℕ) (es : List Event) (s : List ℕ) (k : Accounts) → History (step unit) grants es s k → Agrees (ledger-of grants es) s k
+  pub history-agrees : (begun : Ledger) (es : List Event) (s : List ℕ) (k : Accounts) → History (step unit) begun es s k → Agrees (ledger-of begun es) s k
   unfolding ledger-of record-event
-  history-agrees grants [] s k h = opening-agrees grants s k h
-  history-agrees grants (Called c v ∷ es) s k h =
-      subst (λ (t : Outcome). Agrees (record-call c (t .values) (ledger-of grants es)) (t .heap) (t .accounts)) (h .3)
-      (step-agrees unit units c (ledger-of grants es) (h .0) (h .1) (history-agrees grants es (h .0) (h .1) (h .2)))
-  history-agrees grants (Wrote ∷ es) s k h = written-agrees (ledger-of grants es) (h .0) s k (history-agrees grants es (h .0) k (h .1)) (h .2)
+  history-agrees begun [] s k h = beginning-agrees begun s k h
+  history-agrees begun (Called c v ∷ es) s k h =
+      subst (λ (t : Outcome). Agrees (record-call c (t .values) (ledger-of begun es)) (t .heap) (t .accounts)) (h .3)
+      (step-agrees unit units c (ledger-of begun es) (h .0) (h .1) (history-agrees begun es (h .0) (h .1) (h .2)))
+  history-agrees begun (Wrote ∷ es) s k h = written-agrees (ledger-of begun es) (h .0) s k (history-agrees begun es (h .0) k (h .1)) (h .2)
+  history-agrees begun (Saved s₀ k₀ ∷ es) s k h = history-agrees begun es s k (h .0)
+  history-agrees begun (Restored s₁ k₁ ∷ es) s k h = rw (← h .5, ← h .6) (restored-agrees s k (h .4))
 
-  -- what the claim says of a history is what agreement says of its end
-  holds-after : (grants : List ℕ) (front back : List Event) (s : List ℕ) (k : Accounts) → ledger-of grants (back ++ front) .grants ≡ grants
-      → Agrees (ledger-of grants (back ++ front)) s k → Holds unit (step unit) grants front back s k
-  holds-after grants front back s k same a =
-      let l = ledger-of grants (back ++ front) in
+  -- an event takes away no object whose serial is held after it
+  history-lasts : (begun : Ledger) (front back : List Event) (s : List ℕ) (k : Accounts) → History (step unit) begun (back ++ front) s k
+      → Lasts begun front back
+  unfolding ledger-of record-event unrestored
+  history-lasts begun front [] s k h u o m f = m
+  history-lasts begun front (Called c v ∷ es) s k h u o m f =
+      let l = ledger-of begun (es ++ front) in
+      let before = history-lasts begun front es (h .0) (h .1) (h .2) u o m (sooner begun front (Called c v) es (o .serial) f) in
+      subst (λ (t : Outcome). HeldIn (o .serial) (record-call c (t .values) l) → List·Memᴰ o (objects-in (record-call c (t .values) l))) (h .3)
+      (step-lasts unit l (h .0) (h .1) c (history-agrees begun (es ++ front) (h .0) (h .1) (h .2)) o before) (f [] (Called c v ∷ es) refl)
+  history-lasts begun front (Wrote ∷ es) s k h u o m f = history-lasts begun front es (h .0) k (h .1) u o m (sooner begun front Wrote es (o .serial) f)
+  history-lasts begun front (Saved s₀ k₀ ∷ es) s k h u o m f = history-lasts begun front es s k (h .0) u o m (sooner begun front (Saved s₀ k₀) es (o .serial) f)
+  history-lasts begun front (Restored s₁ k₁ ∷ es) s k h u o m f = absurd (false≢true u)
+
+  -- what demand 3 says of a history is what agreement says of its end
+  holds-after : (begun : Ledger) (front back : List Event) (s : List ℕ) (k : Accounts) → Lasts begun front back
+      → Agrees (ledger-of begun (back ++ front)) s k → Holds unit (step unit) begun front back s k
+  holds-after begun front back s k lasts a =
+      let l = ledger-of begun (back ++ front) in
       record {
         as-defined = λ c. refl;
         live-recorded = λ o. a .matches .objects o .0;
         recorded-live = λ o. a .matches .objects o .1;
         live-once = live-once-of l s k a;
         recorded-once = a .matches .once;
-        stays = λ o f. a .matches .objects o .1 (f [] back refl);
+        stays = λ u o m f. a .matches .objects o .1 (lasts u o m f);
         apart = apart-places l s k a;
         off-headers = λ o b m. off-headers-of l s k a o b (a .matches .objects o .1 m);
         inside = λ o m. inside-of l s k a o (a .matches .objects o .1 m);
         record-held = record-held-of l s k a;
         hold-recorded = hold-recorded-of l s k a;
         records-once = records-once-of l s k a;
-        grants-kept = rw same at (a .grants);
-        balanced = λ q x. rw same at (balanced-of l s k a q x);
+        grants-kept = a .grants;
+        grants-begun = ledger-grants begun (back ++ front);
+        balanced = balanced-of l s k a;
         answered = answered-of l s k a unit;
         no-space = λ c r e p. space-decided unit units s k c r e p .no-space;
         space = λ c r e p. space-decided unit units s k c r e p .space;
@@ -108,10 +142,10 @@ module _ (unit : ℕ → ℕ) (units : Units unit) where
   demand-3-of =
       record {
         always =
-            λ grants front back s k h.
-            holds-after grants front back s k (ledger-grants grants (back ++ front)) (history-agrees grants (back ++ front) s k h);
+            λ begun front back s k h.
+            holds-after begun front back s k (history-lasts begun front back s k h) (history-agrees begun (back ++ front) s k h);
       }
 
--- and so of document 01's table
+-- and so of the table of rule 6.1
 pub demand-3 : Demand3 unit (step unit)
 demand-3 = demand-3-of unit unit-is

@@ -34,7 +34,7 @@ use Rattle.ledger.proofs.Agreement.{Agrees}
 use Rattle.ledger.proofs.Places.{objects-cases, objects-lie}
 
 -- a byte lies in none of some objects exactly if it lies in no member
-outside-exactly : (i : ℕ) (os : List Handle) → (in-object i os ≡ false) ↔ ((o : Handle) → List·Memᴰ o os → Within i o → ⊥)
+pub outside-exactly : (i : ℕ) (os : List Handle) → (in-object i os ≡ false) ↔ ((o : Handle) → List·Memᴰ o os → Within i o → ⊥)
 unfolding in-object
 outside-exactly i os =
     let none = none-exactly (λ o. leb (o .base) i && ltb i (o .base + o .length)) os in (

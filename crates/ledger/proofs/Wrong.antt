@@ -1,12 +1,12 @@
--- Demand 3 does not hold of the wrong heaps: each is refuted by a short list of calls that is computed, at the field that document 01 names for it.
+-- Demand 3 does not hold of the wrong heaps: each is refuted by a short list of calls that is computed, at a field that rule 10.13 names for it.
 -- Assumes nothing.
 use Prim.Native.Nat.{ℕ, zero, suc, _-_, _<_, _^_}
 use native.Mathlib.Omega.{arith}
-use mathlib.Core.Path.{_≡_, refl, ap}
-use mathlib.Core.List.{List, [], _∷_, List·Memᴰ, List·Memᴰ·head, List·Memᴰ·cases-cons, List·Memᴰ·not-nil}
+use mathlib.Core.Path.{_≡_, refl, ap, subst}
+use mathlib.Core.List.{List, [], _∷_, _++_, List·Memᴰ, List·Memᴰ·head, List·Memᴰ·cases-cons, List·Memᴰ·not-nil}
 use mathlib.Core.Bool.{true}
 use mathlib.Core.Logic.{_⊎_, inl, inr}
-use lib.ListN.{replicate, getD}
+use lib.ListN.{length, replicate, getD, length-append}
 use lib.Dec.{ltb}
 use borrow.Author.Tests.{ltb-true}
 use Rattle.accounts.specs.Accounts.{QUOTAS}
@@ -16,13 +16,13 @@ use Rattle.model.specs.Answers.{Values}
 use Rattle.model.specs.Calls.{Outcome, open-heap}
 use Rattle.model.specs.declared.Handle.{Handle}
 use Rattle.model.specs.declared.Call.{Call}
-use Rattle.model.specs.declared.Call.the-variants.{Allocate, Release}
+use Rattle.model.specs.declared.Call.the-variants.{Allocate, Claim, Release}
 use Rattle.model.proofs.Bools.{and-left, and-right}
 use Rattle.model.proofs.Computing.{computing}
-use Rattle.ledger.specs.Ledger.{Event, Called, empty, change-holds, at-serial, is-held, leave, add-object, take-hold, record-accepted, record-call, record-event, ledger-of, cost-to}
+use Rattle.ledger.specs.Ledger.{Event, Called, empty, change-holds, at-serial, is-held, leave, add-object, add-hold, take-hold, record-accepted, record-call, record-event, unrestored, ledger-of, cost-to}
 use Rattle.ledger.specs.History.{Run, Begins, Opening, History}
-use Rattle.ledger.specs.Demand3.{SuitableRun, in-live-block, request-of, passes-others, Holds, Demand3}
-use Rattle.ledger.specs.Wrong.{refuses-all, at-allocate, at-release, at-remaining, fixed-handle, idle-release, pretends, invented-remainder, invented-refund}
+use Rattle.ledger.specs.Demand3.{SuitableRun, in-live-block, HeldIn, request-of, passes-others, Holds, Demand3}
+use Rattle.ledger.specs.Wrong.{refuses-all, at-allocate, at-release, at-remaining, fixed-handle, idle-release, pretends, invented-remainder, invented-refund, frees-early}
 
 grants : List ℕ
 grants = 1000 ∷ replicate (QUOTAS - 1) 0
@@ -37,9 +37,9 @@ below [] e q = omega arith
 below (g ∷ gs) e zero = ltb-true g (2 ^ 32) (and-left (ltb g (2 ^ 32)) (all (λ g. ltb g (2 ^ 32)) gs) e)
 below (g ∷ gs) e (suc q) = below gs (and-right (ltb g (2 ^ 32)) (all (λ g. ltb g (2 ^ 32)) gs) e) q
 
-opening : Begins grants (fresh .heap) (fresh .accounts)
+opening : Begins (empty grants) (fresh .heap) (fresh .accounts)
 unfolding computing grants fresh
-opening = Opening (record { before = replicate 64 0; quotas = refl; narrow = below grants refl; opens = refl })
+opening = Opening grants refl (record { before = replicate 64 0; quotas = refl; narrow = below grants refl; opens = refl })
 
 -- an opening and these calls, the newest first
 after : Run → List Call → Outcome
@@ -50,14 +50,14 @@ events : Run → List Call → List Event
 events run [] = []
 events run (c ∷ cs) = Called c (run c (after run cs .heap) (after run cs .accounts) .values) ∷ events run cs
 
-history : (run : Run) (cs : List Call) → History run grants (events run cs) (after run cs .heap) (after run cs .accounts)
+history : (run : Run) (cs : List Call) → History run (empty grants) (events run cs) (after run cs .heap) (after run cs .accounts)
 unfolding after events
 history run [] = opening
 history run (c ∷ cs) = (after run cs .heap, after run cs .accounts, history run cs, refl)
 
 -- what demand 3 says of such a list
-said : (run : Run) → Demand3 unit run → (cs : List Call) → Holds unit run grants (events run cs) [] (after run cs .heap) (after run cs .accounts)
-said run d cs = d .always grants (events run cs) [] (after run cs .heap) (after run cs .accounts) (history run cs)
+said : (run : Run) → Demand3 unit run → (cs : List Call) → Holds unit run (empty grants) (events run cs) [] (after run cs .heap) (after run cs .accounts)
+said run d cs = d .always (empty grants) (events run cs) [] (after run cs .heap) (after run cs .accounts) (history run cs)
 
 -- the first two objects of 8 bytes
 abbrev first : Handle
@@ -111,3 +111,24 @@ unfolding computing grants fresh after events invented-refund at-release ledger-
 refuted-invented-refund d =
     let e : _≡_ {A = ℕ} 1001 1000 = said invented-refund d (Release 0 first ∷ Allocate 0 8 ∷ []) .balanced 0 (omega arith) in
     omega arith
+
+-- the only splits of one event are before it and behind it
+one-split : (P : List Event → Type 0) (x : Event) (late early : List Event) → x ∷ [] ≡ late ++ early → P [] → P (x ∷ []) → P early
+one-split P x [] early e p q = subst P e q
+one-split P x (y ∷ late) [] e p q = p
+one-split P x (y ∷ late) (z ∷ early) e p q = absurd (omega (arith, simp length-append at (ap length e)))
+
+-- an object goes with its first release, though a hold of the claim is left
+pub refuted-frees-early : Demand3 unit frees-early → ⊥
+unfolding computing grants fresh after events frees-early at-release ledger-of record-event record-call record-accepted add-object add-hold empty take-hold leave is-held at-serial change-holds keep unrestored
+refuted-frees-early d =
+    let cs : List Call = Claim 0 first ∷ Allocate 0 8 ∷ [] in
+    let t = after frees-early (Release 0 first ∷ cs) in
+    let last : Event = Called (Release 0 first) (t .values) in
+    let h = d .always (empty grants) (events frees-early cs) (last ∷ []) (t .heap) (t .accounts) (history frees-early (Release 0 first ∷ cs)) in
+    let held : (late early : List Event) → last ∷ [] ≡ late ++ early → HeldIn 1 (ledger-of (empty grants) (early ++ events frees-early cs)) =
+    λ late early e.
+    one-split (λ es. HeldIn 1 (ledger-of (empty grants) (es ++ events frees-early cs))) last late early e (_, 0, List·Memᴰ·head refl, refl, omega arith)
+    (_, 0, List·Memᴰ·head refl, refl, omega arith) in
+    let m : List·Memᴰ first [] = h .stays refl first (List·Memᴰ·head refl) held in
+    List·Memᴰ·not-nil m

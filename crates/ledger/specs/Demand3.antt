@@ -1,4 +1,4 @@
--- Demand 3, as one claim about every list of calls: of every history of a run, and of every split of its events.
+-- Demand 3 (rules 10.3 to 10.11), as one statement about every list of calls: of every history of a run, and of every split of its events.
 use Prim.Native.Nat.{ℕ, _+_, _*_, _%_, _≤_, _<_}
 use mathlib.Core.Path.{_≡_}
 use mathlib.Core.List.{List, _++_, map, List·Memᴰ}
@@ -23,14 +23,14 @@ use Rattle.model.specs.declared.Handle.{Handle}
 use Rattle.model.specs.declared.ListedBlock.{ListedBlock}
 use Rattle.model.specs.declared.Call.{Call}
 use Rattle.model.specs.declared.Call.the-variants.{Allocate, AllocateArray, Claim, Release, FreeAll, Reallocate, Lend, Remaining, CanRelease, ListBlock}
-use Rattle.ledger.specs.Ledger.{Entry, Ledger, Event, holds-of, cost-to, ledger-of}
+use Rattle.ledger.specs.Ledger.{Entry, Ledger, Event, holds-of, cost-to, unrestored, ledger-of}
 use Rattle.ledger.specs.History.{Run, History}
 
--- "An object's bytes run from base to base + length"
+-- a byte of an object (rule 4.1)
 abbrev pub Within : ℕ → Handle → Type 0
 Within i o = (o .base ≤ i) × (i < o .base + o .length)
 
--- "its live block's from base - 8"
+-- a byte of the block of one of these objects, header and body
 unfoldable pub in-live-block : ℕ → List Handle → Bool
 in-live-block i os = any (λ o. leb (o .base) (i + 8) && ltb i (o .base + o .length)) os
 
@@ -38,14 +38,18 @@ in-live-block i os = any (λ o. leb (o .base) (i + 8) && ltb i (o .base + o .len
 abbrev pub objects-in : Ledger → List Handle
 objects-in l = map (λ (e : Entry). e .object) (l .entries)
 
--- "A suitable run is the bytes from b - 8 to b + object length, the request's as rounded, inside the heap, with b a multiple of the unit"
+-- some quota has a hold on the object with this serial
+abbrev pub HeldIn : ℕ → Ledger → Type 0
+HeldIn serial l = (e : Entry) × (q : ℕ) × List·Memᴰ e (l .entries) × (e .object .serial ≡ serial) × (0 < holds-of q e)
+
+-- what rule 8.6 asks of a base b, for a request of n bytes
 pub record SuitableRun (unit : ℕ → ℕ) (s : List ℕ) (n b : ℕ) : Type 0 where
   pub low : 8 ≤ b
   pub multiple : b % alignment unit n ≡ 0
   pub high : b + object-length unit n ≤ length s
   pub outside : (i : ℕ) → b ≤ i + 8 → i < b + object-length unit n → in-live-block i (objects-of s) ≡ false
 
--- "A request is an allocate, array or reallocate made next": its length, and the lines of its call
+-- rule 10.9, a call for a new object: its length, and the lines of its call
 pub record Request : Type 0 where
   pub asked : ℕ
   pub lines : List Line
@@ -62,46 +66,50 @@ request-of unit (Remaining q) s k = none
 request-of unit (CanRelease q h) s k = none
 request-of unit (ListBlock at) s k = none
 
--- "It passes every other check if no line but 11, the one for space, holds for it"
+-- no line other than 11 holds
 unfoldable pub passes-others : List Line → Bool
 passes-others ls = not (any line-holds (keep (λ l. not (eqb (line-number l) 11)) ls))
 
 -- what holds after a history: the events of the back came after those of the front
-pub record Holds (unit : ℕ → ℕ) (run : Run) (grants : List ℕ) (front back : List Event) (s : List ℕ) (k : Accounts) : Type 0 where
-  -- "every call in it accepts, refuses and answers as demand 2 fixes": each call of a list is the next one after a shorter list
+pub record Holds (unit : ℕ → ℕ) (run : Run) (begun : Ledger) (front back : List Event) (s : List ℕ) (k : Accounts) : Type 0 where
+  -- rule 10.3: each call of a list is the next one after a shorter list
   pub as-defined : (c : Call) → run c s k ≡ step unit c s k
-  -- "the objects of live blocks are exactly the ledger's, in base, length and serial"
-  pub live-recorded : (o : Handle) → List·Memᴰ o (objects-of s) → List·Memᴰ o (objects-in (ledger-of grants (back ++ front)))
-  pub recorded-live : (o : Handle) → List·Memᴰ o (objects-in (ledger-of grants (back ++ front))) → List·Memᴰ o (objects-of s)
+  -- rule 10.4: live objects and the ledger's objects are the same, each once
+  pub live-recorded : (o : Handle) → List·Memᴰ o (objects-of s) → List·Memᴰ o (objects-in (ledger-of begun (back ++ front)))
+  pub recorded-live : (o : Handle) → List·Memᴰ o (objects-in (ledger-of begun (back ++ front))) → List·Memᴰ o (objects-of s)
   pub live-once : serials-differ (objects-of s) ≡ true
-  pub recorded-once : serials-differ (objects-in (ledger-of grants (back ++ front))) ≡ true
-  -- "Each stays, at its place and length, until each quota has dropped every hold that the ledger gives it"
-  pub stays : (o : Handle) → ((late early : List Event) → back ≡ late ++ early → List·Memᴰ o (objects-in (ledger-of grants (early ++ front)))) → List·Memᴰ o (objects-of s)
-  -- "They never overlap each other or a header": no two of them, at two places of the list, and none with a header, its own among them
-  pub apart : (i j : ℕ) → i < j → j < length (objects-in (ledger-of grants (back ++ front)))
-      → (at : ℕ) → Within at (getD (objects-in (ledger-of grants (back ++ front))) i zero-handle)
-      → Within at (getD (objects-in (ledger-of grants (back ++ front))) j zero-handle) → ⊥
-  pub off-headers : (o : Handle) (b : ListedBlock) → List·Memᴰ o (objects-in (ledger-of grants (back ++ front)))
+  pub recorded-once : serials-differ (objects-in (ledger-of begun (back ++ front))) ≡ true
+  -- rule 10.5: an object that the ledger had after the front, and whose serial some quota has held at every point since, is live, with the same base,
+  -- length and serial. No image was read since: it may give the serial to another object
+  pub stays : unrestored back ≡ true → (o : Handle) → List·Memᴰ o (objects-in (ledger-of begun front))
+      → ((late early : List Event) → back ≡ late ++ early → HeldIn (o .serial) (ledger-of begun (early ++ front))) → List·Memᴰ o (objects-of s)
+  -- rule 10.6: no two of them, at two places of the list, have a byte in common, nor has one with a header, its own among them
+  pub apart : (i j : ℕ) → i < j → j < length (objects-in (ledger-of begun (back ++ front)))
+      → (at : ℕ) → Within at (getD (objects-in (ledger-of begun (back ++ front))) i zero-handle)
+      → Within at (getD (objects-in (ledger-of begun (back ++ front))) j zero-handle) → ⊥
+  pub off-headers : (o : Handle) (b : ListedBlock) → List·Memᴰ o (objects-in (ledger-of begun (back ++ front)))
       → List·Memᴰ b (listing-from 0 (blocks-of s)) → (at : ℕ) → Within at o → b .offset ≤ at → at < b .offset + 8 → ⊥
-  pub inside : (o : Handle) → List·Memᴰ o (objects-in (ledger-of grants (back ++ front))) → o .base + o .length ≤ length s
-  -- "The used records are exactly its holds above 0, by serial, quota and count"
+  pub inside : (o : Handle) → List·Memᴰ o (objects-in (ledger-of begun (back ++ front))) → o .base + o .length ≤ length s
+  -- rule 10.7: used records and the ledger's holds are the same, each once
   pub record-held : (h : Hold) → List·Memᴰ h (k .holds) → used h ≡ true
-      → (e : Entry) × List·Memᴰ e (ledger-of grants (back ++ front) .entries) × (e .object .serial ≡ h .serial) × (holds-of (h .quota) e ≡ h .count) × (0 < h .count)
-  pub hold-recorded : (e : Entry) (q : ℕ) → List·Memᴰ e (ledger-of grants (back ++ front) .entries) → 0 < holds-of q e
+      → (e : Entry) × List·Memᴰ e (ledger-of begun (back ++ front) .entries) × (e .object .serial ≡ h .serial) × (holds-of (h .quota) e ≡ h .count) × (0 < h .count)
+  pub hold-recorded : (e : Entry) (q : ℕ) → List·Memᴰ e (ledger-of begun (back ++ front) .entries) → 0 < holds-of q e
       → List·Memᴰ (record { serial = e .object .serial; quota = q; count = holds-of q e }) (k .holds)
   pub records-once : records-differ (k .holds) ≡ true
-  -- "Each quota's remainder plus the charges of the objects it holds in the ledger is its grant at the opening"
-  pub grants-kept : map (λ (x : Quota). x .grant) (k .quotas) ≡ grants
-  pub balanced : (q : ℕ) → q < QUOTAS → remaining q k + total (cost-to q) (ledger-of grants (back ++ front) .entries) ≡ getD grants q 0
+  -- rule 10.8: the ledger's grants, which are those of the beginning unless an image was read, are remainders and costs, and remaining answers the remainder
+  pub grants-kept : map (λ (x : Quota). x .grant) (k .quotas) ≡ ledger-of begun (back ++ front) .grants
+  pub grants-begun : unrestored (back ++ front) ≡ true → ledger-of begun (back ++ front) .grants ≡ begun .grants
+  pub balanced : (q : ℕ) → q < QUOTAS
+      → remaining q k + total (cost-to q) (ledger-of begun (back ++ front) .entries) ≡ getD (ledger-of begun (back ++ front) .grants) q 0
   pub answered : (q : ℕ) → q < QUOTAS → run (Remaining q) s k .values ≡ amount-of (remaining q k)
-  -- "A request that passes every other check is refused for space exactly if no suitable run of bytes outside live blocks exists", and accepted otherwise
+  -- rule 10.9: for a call for a new object that only line 11 can refuse, 11 says that there is no base; with a base it is accepted
   pub no-space : (c : Call) (r : Request) → request-of unit c s k ≡ some r → passes-others (r .lines) ≡ true
       → (run c s k .values .refusal ≡ 11) ↔ ((b : ℕ) → SuitableRun unit s (r .asked) b → ⊥)
   pub space : (c : Call) (r : Request) → request-of unit c s k ≡ some r → passes-others (r .lines) ≡ true
       → (b : ℕ) → SuitableRun unit s (r .asked) b → run c s k .values .refusal ≡ 0
-  -- no call is refused by 1 or 2
+  -- rule 10.10: no call is refused by 1 or 2
   pub length-allowed : allowed (length s) ≡ true
   pub kept-consistent : consistent s k ≡ true
 
 pub record Demand3 (unit : ℕ → ℕ) (run : Run) : Type 0 where
-  pub always : (grants : List ℕ) (front back : List Event) (s : List ℕ) (k : Accounts) → History run grants (back ++ front) s k → Holds unit run grants front back s k
+  pub always : (begun : Ledger) (front back : List Event) (s : List ℕ) (k : Accounts) → History run begun (back ++ front) s k → Holds unit run begun front back s k

@@ -1,20 +1,21 @@
--- Histories: every list of calls, refused ones included, from an accepted opening of one heap, with writes inside live objects in between.
+-- Histories (rule 10.1): every list of calls, refused ones included, from an accepted opening of one heap, with writes inside live objects in between.
 use Prim.Native.Nat.{ℕ, _+_, _<_, _^_}
 use mathlib.Core.Path.{_≡_}
 use mathlib.Core.List.{List, [], _∷_}
-use mathlib.Core.Bool.{Bool, false, _&&_}
+use mathlib.Core.Bool.{Bool, true, false, _&&_}
 use lib.ListN.{length, getD}
 use lib.Dec.{leb, ltb}
 use Rattle.accounts.specs.declared.Accounts.{Accounts}
-use Rattle.accounts.specs.Accounts.{QUOTAS}
+use Rattle.accounts.specs.Accounts.{QUOTAS, zero-quota}
 use Rattle.layout.specs.Bytes.{Octets}
 use Rattle.model.specs.Lists.{any}
 use Rattle.model.specs.Answers.{accepted}
 use Rattle.model.specs.Objects.{objects-of}
+use Rattle.model.specs.Consistent.{allowed, consistent}
 use Rattle.model.specs.Calls.{Outcome, open-heap}
 use Rattle.model.specs.declared.Handle.{Handle}
 use Rattle.model.specs.declared.Call.{Call}
-use Rattle.ledger.specs.Ledger.{Event, Called, Wrote}
+use Rattle.ledger.specs.Ledger.{Ledger, Event, Called, Wrote, Saved, Restored, empty, read-ledger}
 
 -- whatever performs a call on a heap and its accounts
 abbrev pub Run : Type 0
@@ -27,9 +28,19 @@ pub record Opened (grants : List ℕ) (s : List ℕ) (k : Accounts) : Type 0 whe
   pub narrow : (q : ℕ) → getD grants q 0 < 2 ^ 32
   pub opens : open-heap before grants ≡ record { heap = s; accounts = k; values = accepted }
 
--- how a history begins
-pub data Begins (grants : List ℕ) (s : List ℕ) (k : Accounts) : Type 0 where
-  Opening : Opened grants s k → Begins grants s k
+-- a heap and accounts that an image which is accepted may give back, whatever led to them
+pub record Restorable (s : List ℕ) (k : Accounts) : Type 0 where
+  pub extent : allowed (length s) ≡ true
+  pub octets : Octets s
+  pub sound : consistent s k ≡ true
+  pub quotas : length (k .quotas) ≡ QUOTAS
+  pub narrow : (q : ℕ) → getD (k .quotas) q zero-quota .grant < 2 ^ 32
+  pub serial : k .«last_serial» < 2 ^ 32
+
+-- how a history begins, and the ledger at its beginning: with an accepted opening and no entries, or with a state that was read and the ledger read off it
+pub data Begins (begun : Ledger) (s : List ℕ) (k : Accounts) : Type 0 where
+  Opening : (grants : List ℕ) → begun ≡ empty grants → Opened grants s k → Begins begun s k
+  Restoring : begun ≡ read-ledger s k → Restorable s k → Begins begun s k
 
 -- a byte lies in one of these objects
 unfoldable pub in-object : ℕ → List Handle → Bool
@@ -42,8 +53,11 @@ pub record Written (s s′ : List ℕ) : Type 0 where
   pub inside : (i : ℕ) → in-object i (objects-of s) ≡ false → getD s′ i 0 ≡ getD s i 0
 
 -- the events, the newest first, that lead to a heap and its accounts
-abbrev pub History : Run → List ℕ → List Event → List ℕ → Accounts → Type 0
-History run grants [] s k = Begins grants s k
-History run grants (Called c v ∷ es) s k =
-    (s₀ : List ℕ) × (k₀ : Accounts) × History run grants es s₀ k₀ × (run c s₀ k₀ ≡ record { heap = s; accounts = k; values = v })
-History run grants (Wrote ∷ es) s k = (s₀ : List ℕ) × History run grants es s₀ k × Written s₀ s
+abbrev pub History : Run → Ledger → List Event → List ℕ → Accounts → Type 0
+History run begun [] s k = Begins begun s k
+History run begun (Called c v ∷ es) s k =
+    (s₀ : List ℕ) × (k₀ : Accounts) × History run begun es s₀ k₀ × (run c s₀ k₀ ≡ record { heap = s; accounts = k; values = v })
+History run begun (Wrote ∷ es) s k = (s₀ : List ℕ) × History run begun es s₀ k × Written s₀ s
+History run begun (Saved s₀ k₀ ∷ es) s k = History run begun es s k × (s ≡ s₀) × (k ≡ k₀)
+History run begun (Restored s₁ k₁ ∷ es) s k =
+    (s₀ : List ℕ) × (k₀ : Accounts) × History run begun es s₀ k₀ × (length s ≡ length s₀) × Restorable s k × (s ≡ s₁) × (k ≡ k₁)

@@ -1,9 +1,15 @@
--- The ledger (document 01, "The ledger of demand 3"). It is fed each call's arguments and answer, and nothing of heap or accounts.
-use Prim.Native.Nat.{ℕ, _+_, _-_}
+-- The ledger (rules, section 9), worked out from grants, arguments and answers alone (rule 9.1); an image that is read gives its own (rule 13.16).
+use Prim.Native.Nat.{ℕ, zero, suc, _+_, _-_}
 use mathlib.Core.List.{List, [], _∷_, map}
-use mathlib.Core.Bool.{Bool, cond}
+use mathlib.Core.Bool.{Bool, true, false, cond}
 use lib.ListN.{length, getD, set, replicate}
 use lib.Dec.{ltb, eqb}
+use Rattle.accounts.specs.declared.Quota.{Quota}
+use Rattle.accounts.specs.declared.Hold.{Hold}
+use Rattle.accounts.specs.declared.Accounts.{Accounts}
+use Rattle.accounts.specs.Accounts.{QUOTAS}
+use Rattle.model.specs.Objects.{objects-of}
+use Rattle.model.specs.Holds.{count-of}
 use Rattle.model.specs.Lists.{any, keep}
 use Rattle.model.specs.Answers.{Values}
 use Rattle.model.specs.declared.Handle.{Handle}
@@ -15,7 +21,7 @@ pub record Entry : Type 0 where
   pub object : Handle
   pub holds : List ℕ
 
--- "It keeps the grants as opened and objects, at first none"
+-- rule 9.2: the grants of the opening and the entries, none to begin with
 pub record Ledger : Type 0 where
   pub grants : List ℕ
   pub entries : List Entry
@@ -32,33 +38,33 @@ holds-of q e = getD (e .holds) q 0
 unfoldable pub change-holds : ℕ → (ℕ → ℕ) → Entry → Entry
 change-holds q f e = record { object = e .object; holds = set (e .holds) q (f (holds-of q e)) }
 
--- "the object with the handle's serial"
+-- the entries with a serial are changed
 unfoldable pub at-serial : ℕ → (Entry → Entry) → List Entry → List Entry
 at-serial serial f es = map (λ e. cond (eqb (e .object .serial) serial) (f e) e) es
 
--- "An object without holds leaves"
+-- rule 9.4: an entry without a hold is taken out
 unfoldable pub is-held : Entry → Bool
 is-held e = any (λ n. ltb 0 n) (e .holds)
 
 unfoldable pub leave : Ledger → Ledger
 leave l = with-entries (keep is-held (l .entries)) l
 
--- "Allocate and array add the answered handle with one hold of that quota"
+-- rule 9.3, an allocation: a new entry for the handle answered, which the quota holds once
 unfoldable pub add-object : ℕ → Handle → Ledger → Ledger
 add-object q o l = with-entries (record { object = o; holds = set (replicate (length (l .grants)) 0) q 1 } ∷ l .entries) l
 
--- "Claim adds one to that quota's holds on the object with the handle's serial, release takes one off"
+-- rule 9.3, claim and release: a hold of the quota more or less, in the entry with a serial
 unfoldable pub add-hold : ℕ → ℕ → Ledger → Ledger
 add-hold q serial l = with-entries (at-serial serial (change-holds q (λ n. n + 1)) (l .entries)) l
 
 unfoldable pub take-hold : ℕ → ℕ → Ledger → Ledger
 take-hold q serial l = leave (with-entries (at-serial serial (change-holds q (λ n. n - 1)) (l .entries)) l)
 
--- "Free-all takes all of that quota's holds off every object"
+-- rule 9.3, free-all: no entry has holds of the quota
 unfoldable pub take-all : ℕ → Ledger → Ledger
 take-all q l = leave (with-entries (map (change-holds q (λ n. 0)) (l .entries)) l)
 
--- an accepted call with its answer; lend, remaining, can release and the listing change nothing
+-- rules 9.3 and 9.5: an accepted call with its answer
 unfoldable pub record-accepted : Call → Values → Ledger → Ledger
 record-accepted (Allocate q n) v l = add-object q (v .handle) l
 record-accepted (AllocateArray q count size) v l = add-object q (v .handle) l
@@ -71,24 +77,49 @@ record-accepted (Remaining q) v l = l
 record-accepted (CanRelease q h) v l = l
 record-accepted (ListBlock at) v l = l
 
--- a call with its answer: "Refused calls change nothing", and a refusal's number is not 0
+-- rule 9.5: a call whose answer has a refusal's number, which is not 0, leaves the ledger as it is
 unfoldable pub record-call : Call → Values → Ledger → Ledger
 record-call c v l = cond (eqb (v .refusal) 0) (record-accepted c v l) l
 
--- an event: a call and its answer, or a write of bytes inside live objects
+-- the values of a function at from, from + 1, .., so many
+unfoldable pub values-from : (ℕ → ℕ) → ℕ → ℕ → List ℕ
+values-from f from zero = []
+values-from f from (suc count) = f from ∷ values-from f (suc from) count
+
+-- the ledger that is read off a state: an entry for each live object, with the counts of its records as holds, and the grants of the accounts
+unfoldable pub read-entry : List Hold → Handle → Entry
+read-entry hs o = record { object = o; holds = values-from (λ q. count-of (o .serial) q hs) 0 QUOTAS }
+
+unfoldable pub read-ledger : List ℕ → Accounts → Ledger
+read-ledger s k = record { grants = map (λ (x : Quota). x .grant) (k .quotas); entries = map (read-entry (k .holds)) (objects-of s) }
+
+-- an event: a call and its answer; a write of bytes inside live objects; an image written of a heap and its accounts; an image read, which gave back a
+-- heap and accounts
 pub data Event : Type 0 where
   Called : Call → Values → Event
   Wrote : Event
+  Saved : List ℕ → Accounts → Event
+  Restored : List ℕ → Accounts → Event
 
 unfoldable pub record-event : Event → Ledger → Ledger
 record-event (Called c v) l = record-call c v l
 record-event Wrote l = l
+record-event (Saved s k) l = l
+record-event (Restored s k) l = read-ledger s k
 
--- the ledger of the grants at the opening and of the events since, the newest first
-unfoldable pub ledger-of : List ℕ → List Event → Ledger
-ledger-of grants [] = empty grants
-ledger-of grants (e ∷ es) = record-event e (ledger-of grants es)
+-- none of these events is an image read
+unfoldable pub unrestored : List Event → Bool
+unrestored [] = true
+unrestored (Called c v ∷ es) = unrestored es
+unrestored (Wrote ∷ es) = unrestored es
+unrestored (Saved s k ∷ es) = unrestored es
+unrestored (Restored s k ∷ es) = false
 
--- what the objects that a quota has holds on cost: length + 8 each
+-- the ledger at the beginning, changed by the events since, the newest first
+unfoldable pub ledger-of : Ledger → List Event → Ledger
+ledger-of begun [] = begun
+ledger-of begun (e ∷ es) = record-event e (ledger-of begun es)
+
+-- rule 9.6: what an entry costs a quota
 unfoldable pub cost-to : ℕ → Entry → ℕ
 cost-to q e = cond (ltb 0 (holds-of q e)) (e .object .length + 8) 0

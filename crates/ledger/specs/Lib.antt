@@ -2,5 +2,4 @@ pub mod Ledger
 pub mod History
 pub mod Demand3
 pub mod Wrong
-pub mod Reading
 pub mod Contents

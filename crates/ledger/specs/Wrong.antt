@@ -1,4 +1,4 @@
--- Wrong heaps (document 01, "What the promises have to decide"): what each does instead of `step`. That demand 3 does not hold of them is `proofs/Wrong.antt`.
+-- The wrong heaps of rule 10.13: what each does instead of `step`. That demand 3 does not hold of them is `proofs/Wrong.antt`.
 use Prim.Native.Nat.{ℕ, _+_}
 use mathlib.Core.List.{List}
 use mathlib.Core.Bool.{cond}
@@ -13,7 +13,7 @@ use Rattle.model.specs.declared.Handle.{Handle}
 use Rattle.model.specs.declared.Call.{Call}
 use Rattle.model.specs.declared.Call.the-variants.{Allocate, AllocateArray, Claim, Release, FreeAll, Reallocate, Lend, Remaining, CanRelease, ListBlock}
 
--- "A heap that refuses every call", here for want of space
+-- every call is refused, for want of space
 unfoldable pub refuses-all : Call → List ℕ → Accounts → Outcome
 refuses-all c s k = unchanged s k (refused 11)
 
@@ -54,32 +54,38 @@ at-remaining f (Remaining q) t = f q
 at-remaining f (CanRelease q h) t = t
 at-remaining f (ListBlock at) t = t
 
--- "one fixed handle"
+-- every allocate answers the same handle
 unfoldable pub fixed-handle : Call → List ℕ → Accounts → Outcome
 fixed-handle c s k =
     let t = step unit c s k in
     at-allocate (λ q n. record { heap = t .heap; accounts = t .accounts; values = given (record { base = 8; length = 8; serial = 1 }) }) c t
 
--- "a do-nothing release": it answers as a release does
+-- a release answers as it should and does nothing
 unfoldable pub idle-release : Call → List ℕ → Accounts → Outcome
 idle-release c s k =
     let t = step unit c s k in
     at-release (λ q h. unchanged s k (t .values)) c t
 
--- "a heap that serves the first call and then only pretends": it answers as the calls do
+-- only the first call is made; the others answer as they should and do nothing
 unfoldable pub pretends : Call → List ℕ → Accounts → Outcome
 pretends c s k =
     let t = step unit c s k in
     cond (eqb (k .«last_serial») 0) t (unchanged s k (t .values))
 
--- "an invented remainder": what remaining answers
+-- remaining answers one too many
 unfoldable pub invented-remainder : Call → List ℕ → Accounts → Outcome
 invented-remainder c s k =
     let t = step unit c s k in
     at-remaining (λ q. unchanged s k (amount-of (remaining q k + 1))) c t
 
--- "or refund": what release gives back
+-- release gives back one too many
 unfoldable pub invented-refund : Call → List ℕ → Accounts → Outcome
 invented-refund c s k =
     let t = step unit c s k in
     at-release (λ q h. record { heap = t .heap; accounts = refund q 1 (t .accounts); values = amount-of (t .values .amount + 1) }) c t
+
+-- it frees an object that is still held: the first release drops all of the quota's holds, and answers as a release does
+unfoldable pub frees-early : Call → List ℕ → Accounts → Outcome
+frees-early c s k =
+    let t = step unit c s k in
+    at-release (λ q h. (let u = step unit (FreeAll q) s k in record { heap = u .heap; accounts = u .accounts; values = t .values })) c t

@@ -1,1 +1,1 @@
-// Document 01's ledger and demand 3, about every list of calls: statement and proof. It has no code of a call.
+// The ledger (rules, section 9) and demand 3, about every list of calls (section 10): statement and proof. It has no code of a call.

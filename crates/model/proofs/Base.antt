@@ -1,4 +1,4 @@
--- The base of a new object is document 01's: the lowest multiple of the alignment whose bytes lie in the heap outside every occupied block.
+-- The base of a new object is that of rule 8.6: the lowest multiple of the alignment whose bytes lie in the heap and in no occupied block.
 -- The search goes through the multiples in order, so what it finds passes and nothing before it does; it ends at H, and above H nothing fits.
 -- Two ranges of bytes that overlap share the later of their two starts, so comparing ends is the same as looking at every byte.
 -- Assumes nothing.
@@ -9,11 +9,12 @@ use native.Mathlib.Omega.{arith}
 use mathlib.Core.List.{List, [], _∷_}
 use mathlib.Core.Bool.{Bool, true, false, not, _&&_, _||_, true≢false}
 use mathlib.Core.Option.{Option, none, some, Option·none-ne-some}
+use mathlib.Core.Logic.{_↔_}
 use lib.Dec.{leb, ltb}
 use borrow.Author.Tests.{leb-true, leb-false, ltb-true, ltb-false, le-leb, lt-leb, lt-ltb, le-ltb}
 use Rattle.layout.specs.Blocks.{Block, size}
 use Rattle.model.specs.Space.{occupied, outside-occupied, suitable, first-candidate, lowest-base}
-use Rattle.model.proofs.Bools.{and-left, and-right, and-both, and-no, or-neither}
+use Rattle.model.proofs.Bools.{and-left, and-right, and-both, and-no, or-neither, fails}
 
 -- b is so many steps behind the start, passes the test, and no earlier candidate does
 pub record First (p : ℕ → Bool) (count step from b : ℕ) : Type 0 where
@@ -188,7 +189,7 @@ pub record Suits (H : ℕ) (bs : List Block) (n b : ℕ) : Type 0 where
   pub high : b + n ≤ H
   pub clear : (i : ℕ) → b ≤ i + 8 → i < b + n → in-occupied i 0 bs ≡ false
 
--- suitable is the paper's sentence, byte by byte
+-- suitable is the condition of rule 8.6, byte by byte
 pub suitable-bytes : (H : ℕ) (bs : List Block) (n b : ℕ) → suitable H bs n b ≡ true → Suits H bs n b
 unfolding suitable
 suitable-bytes H bs n b e =
@@ -200,10 +201,42 @@ suitable-bytes H bs n b e =
       clear = λ i l h. outside-bytes (b - 8) (b + n) 0 bs (and-right (leb (b + n) H) (outside-occupied (b - 8) (b + n) 0 bs) e₂) i (omega arith) h;
     }
 
--- and the sentence, byte by byte, is suitable
+-- and the condition, byte by byte, is suitable
 pub bytes-suitable : (H : ℕ) (bs : List Block) (n b : ℕ) → Suits H bs n b → suitable H bs n b ≡ true
 unfolding suitable
 bytes-suitable H bs n b s =
     let low = s .low in
     let out = bytes-outside (b - 8) (b + n) 0 bs (omega arith) (λ i l h. s .clear i (omega arith) h) in
     rw (le-leb 8 b low, le-leb (b + n) H (s .high)) out
+
+-- rule 8.6 as one law: b may be the base of n bytes
+pub record Possible (H : ℕ) (bs : List Block) (a n b : ℕ) : Type 0 where
+  pub multiple : b % a ≡ 0
+  pub suits : Suits H bs n b
+
+-- the lowest such base, or none where there is no such base
+abbrev pub LowestOf : ℕ → List Block → ℕ → ℕ → Option ℕ → Type 0
+LowestOf H bs a n none = (b : ℕ) → Possible H bs a n b → ⊥
+LowestOf H bs a n (some b) = Possible H bs a n b × ((c : ℕ) → c < b → Possible H bs a n c → ⊥)
+
+module _ (H : ℕ) (bs : List Block) (a n : ℕ) (some-step : 0 < a) where
+  -- what is not suitable is no such base, and what is no such base is not suitable
+  impossible : (b : ℕ) → (b % a ≡ 0 → suitable H bs n b ≡ false) → Possible H bs a n b → ⊥
+  impossible b f p = true≢false (sym (bytes-suitable H bs n b (p .suits)) ∙ f (p .multiple))
+
+  unsuitable : (b : ℕ) → (Possible H bs a n b → ⊥) → b % a ≡ 0 → suitable H bs n b ≡ false
+  unsuitable b f m = fails (suitable H bs n b) (λ e. f (record { multiple = m; suits = suitable-bytes H bs n b e }))
+
+  pub base-is : (o : Option ℕ) → (lowest-base H bs a n ≡ o) ↔ LowestOf H bs a n o
+  base-is none = (
+    λ e b. impossible b (lowest-none H bs a n some-step e b),
+    λ f. none-lowest H bs a n some-step (λ b. unsuitable b (f b)),
+  )
+  base-is (some b) = (
+    λ e.
+        (let l = lowest-some H bs a n some-step b e in
+        (record { multiple = l .multiple; suits = suitable-bytes H bs n b (l .fits) }, λ c h. impossible c (λ m. l .lower c m h))),
+    λ r.
+        some-lowest H bs a n some-step b
+        (record { multiple = r .0 .multiple; fits = bytes-suitable H bs n b (r .0 .suits); lower = λ c m h. unsuitable c (r .1 c h) m }),
+  )

@@ -281,7 +281,7 @@ module _ {base n serial at : ℕ} {bs cs : List Block} (c : Carved base n serial
       (apart-replaced (c .front) (c .block) (c .back) (cut-block base n serial place (c .block) ++ c .back) (c .free) old
       (cut-apart base n serial place (c .block) (c .back) (c .free) (new-live n serial new) here))
 
-  -- the blocks stay cut as the paper says
+  -- rule 5.2: the blocks stay well cut
   pub carved-cut : 0 < serial → 8 ≤ n → well-cut bs ≡ true → well-cut cs ≡ true
   unfolding well-cut
   carved-cut new h w =

@@ -1,10 +1,37 @@
--- The further runs, of the definitions: one table, one theorem, by computation.
+-- What calls answer and leave, of the definitions: each table is one theorem, by computation.
 -- Assumes nothing.
 use mathlib.Core.Path.{_≡_, refl}
 use mathlib.Core.List.{map}
-use Rattle.model.specs.Cases.{run, values-of, got, wanted, fresh-heap, used-heap, with-serial, held-times, written-heap, cases}
+use Rattle.rounding.specs.Rounding.{unit}
+use Rattle.model.specs.Tables.{run, values-of, got, wanted, parts, accounts-of, written}
+use Rattle.model.specs.Cases.{opened-heap, block, with-gaps, used-heap, next-serial-last, shared, held-times, several, sixteen, copying}
+use Rattle.model.specs.Cases.{lengths, allocations, wide, claims, releases, reallocations, walks}
 use Rattle.model.proofs.Computing.{computing}
 
-pub cases-run : map got cases ≡ map wanted cases
-unfolding computing run values-of got wanted fresh-heap used-heap with-serial held-times written-heap cases
-cases-run = refl
+pub lengths-run : map (got unit) lengths ≡ map wanted lengths
+unfolding computing run values-of got wanted parts accounts-of opened-heap block lengths
+lengths-run = refl
+
+pub allocations-run : map (got unit) allocations ≡ map wanted allocations
+unfolding computing run values-of got wanted parts accounts-of opened-heap with-gaps used-heap next-serial-last allocations
+allocations-run = refl
+
+pub wide-run : map (got (λ n. 32)) wide ≡ map wanted wide
+unfolding computing run values-of got wanted parts accounts-of used-heap wide
+wide-run = refl
+
+pub claims-run : map (got unit) claims ≡ map wanted claims
+unfolding computing run values-of got wanted parts accounts-of opened-heap with-gaps held-times claims
+claims-run = refl
+
+pub releases-run : map (got unit) releases ≡ map wanted releases
+unfolding computing run values-of got wanted parts accounts-of written opened-heap block shared held-times several releases
+releases-run = refl
+
+pub reallocations-run : map (got unit) reallocations ≡ map wanted reallocations
+unfolding computing run values-of got wanted parts accounts-of written opened-heap sixteen copying reallocations
+reallocations-run = refl
+
+pub walks-run : map (got unit) walks ≡ map wanted walks
+unfolding computing run values-of got wanted parts accounts-of opened-heap block with-gaps walks
+walks-run = refl

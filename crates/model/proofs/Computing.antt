@@ -1,5 +1,5 @@
 -- Every definition that a computed run unfolds, under one name.
-use Rattle.accounts.specs.Accounts.{opened, remaining, set-remaining, charge, refund, used, unused, is-for, drop-records}
+use Rattle.accounts.specs.Accounts.{opened, remaining, set-remaining, less-paid, paid-back, charge, refund, used, unused, is-for, drop-records}
 use Rattle.layout.specs.Bytes.{bytes, number}
 use Rattle.layout.specs.Blocks.{header-bytes, read-header, starts-block, render-from, render, read-block, in-front, parse-from, parse}
 use Rattle.rounding.specs.Rounding.{unit, object-length, alignment}
@@ -13,7 +13,7 @@ use Rattle.model.specs.Calls.{unless, fresh, open-heap, allocated, claim
 use Rattle.model.specs.Step.{step}
 
 unfoldable pub computing : Unit {0}
-unfolding opened remaining set-remaining charge refund used unused is-for
+unfolding opened remaining set-remaining less-paid paid-back charge refund used unused is-for
     bytes number header-bytes read-header starts-block render-from render read-block in-front parse-from parse
     unit object-length alignment
     all any total first change-first is-none or-else

@@ -1,5 +1,5 @@
--- What the test for consistency says (document 01, "Sound"): each sentence of that paragraph as a statement about blocks, objects, records and
--- quotas, and the test passes exactly if all of them hold.
+-- What the test for consistency says: rules 5.1 to 5.8 as statements about blocks, objects, records and quotas, and the test passes exactly if all
+-- of them hold.
 -- The test is an `and` of seven tests. Each of these goes through a list, or through its pairs, and by induction on the list it passes exactly
 -- if what it tests holds of each member or of each two places.
 -- Assumes nothing.
@@ -18,7 +18,9 @@ use Rattle.accounts.specs.declared.Quota.{Quota}
 use Rattle.accounts.specs.declared.Hold.{Hold}
 use Rattle.accounts.specs.declared.Accounts.{Accounts}
 use Rattle.accounts.specs.Accounts.{QUOTAS, zero-quota, zero-hold, used, is-for}
-use Rattle.layout.specs.Blocks.{Block, size, live, parse}
+use Rattle.layout.specs.Bytes.{Octets}
+use Rattle.layout.specs.Blocks.{Block, size, live, render, parse, AllWritable}
+use Rattle.layout.proofs.Parse.{parse-is}
 use Rattle.model.specs.Lists.{all, any, or-else}
 use Rattle.model.specs.Answers.{zero-handle}
 use Rattle.model.specs.Objects.{objects, blocks-of}
@@ -27,7 +29,7 @@ use Rattle.model.specs.declared.Handle.{Handle}
 use Rattle.model.proofs.Bools.{and-left, and-right, and-both, or-cases, or-left, or-right, implies, implied, fails}
 use Rattle.model.proofs.Lists.{all-member, member-all, none-member, all-exactly, any-exactly, any-and, unrelated, unrelated-places, places-unrelated}
 
--- the seven tests, in the paragraph's order
+-- the seven tests, for rules 5.2 to 5.8 in their order
 pub record Tests (bs : List Block) (k : Accounts) : Type 0 where
   pub cut : well-cut bs ≡ true
   pub differ : serials-differ (objects bs) ≡ true
@@ -37,7 +39,7 @@ pub record Tests (bs : List Block) (k : Accounts) : Type 0 where
   pub recorded : all (λ o. held (k .holds) (o .serial)) (objects bs) ≡ true
   pub balance : balanced-from (objects bs) (k .holds) 0 (k .quotas) ≡ true
 
--- what a used record has: a live object's serial, a quota below 8 and a count of at least 1
+-- rule 5.5, of one record: the serial is a live object's, the quota exists, and the count is not 0
 abbrev pub Valid : List Handle → Hold → Type 0
 Valid os h = (o : Handle) × (List·Memᴰ o os) × (o .serial ≡ h .serial) × (h .quota < QUOTAS) × (1 ≤ h .count)
 
@@ -80,14 +82,14 @@ tests-exactly bs k = (there, λ t. rw (t .cut, t .differ, t .given, t .valid, t 
           balance = and-right (all (λ o. held (k .holds) (o .serial)) (objects bs)) _ e₅;
         }
 
--- "A free block may be 8 bytes long, a live one is at least 16"
+-- rule 5.2, live blocks
 pub long-exactly : (bs : List Block) → (all long-enough bs ≡ true) ↔ ((b : Block) → List·Memᴰ b bs → live b ≡ true → 16 ≤ size b)
 unfolding long-enough
 long-exactly =
     all-exactly long-enough (λ b. live b ≡ true → 16 ≤ size b)
     (λ b. (λ e l. leb-true 16 (size b) (implies (live b) (leb 16 (size b)) e l), λ f. implied (live b) (leb 16 (size b)) (λ l. le-leb 16 (size b) (f l))))
 
--- "Two free blocks never stand side by side"
+-- rule 5.2, free blocks
 abbrev pub Apart : List Block → Type 0
 Apart bs = (xs ys : List Block) (b c : Block) → bs ≡ xs ++ (b ∷ c ∷ ys) → live b ≡ false → live c ≡ false → ⊥
 
@@ -116,7 +118,7 @@ apart-all (b ∷ bs) f =
 pub apart-exactly : (bs : List Block) → (free-apart bs ≡ true) ↔ Apart bs
 apart-exactly bs = (λ e xs ys b c q. apart-at xs ys b c (rw q at e), apart-all bs)
 
--- "Live serials differ from each other": no object has the serial of an earlier one
+-- rule 5.3: no object has the serial of an earlier one
 pub serials-unrelated : (os : List Handle) → serials-differ os ≡ unrelated (λ o. has-serial (o .serial)) os
 unfolding serials-differ
 serials-unrelated [] = refl
@@ -130,7 +132,7 @@ serials-exactly os =
       λ f. places-unrelated (λ o. has-serial (o .serial)) zero-handle os (λ i j l h t. f i j l h (sym (eqb-true _ _ t))),
     )
 
--- "and are at most the last serial"
+-- rule 5.4: none is above the last serial
 pub given-exactly : (last : ℕ) (os : List Handle) → (serials-given last os ≡ true) ↔ ((o : Handle) → List·Memᴰ o os → o .serial ≤ last)
 unfolding serials-given
 given-exactly last = all-exactly (λ o. leb (o .serial) last) (λ o. o .serial ≤ last) (λ o. (leb-true (o .serial) last, le-leb (o .serial) last))
@@ -149,7 +151,7 @@ is-for-exactly serial q h =
       λ f. and-both (is-of serial h) _ (o .1 (f .0, f .1)) (eq-eqb (h .quota) q (f .2)),
     )
 
--- "Every used record has a live object's serial, a quota below 8 and a count of at least 1"
+-- rule 5.5: a used record is of a live object, with a quota that exists and a count
 pub valid-exactly : (os : List Handle) (hs : List Hold) → (all (record-valid os) hs ≡ true)
     ↔ ((h : Hold) → List·Memᴰ h hs → used h ≡ true → Valid os h)
 unfolding record-valid
@@ -169,7 +171,7 @@ valid-exactly os =
     back : (h : Hold) → Valid os h → (any (has-serial (h .serial)) os && (ltb (h .quota) QUOTAS && leb 1 (h .count))) ≡ true
     back h r = and-both _ _ (some-object h .1 (r .0, r .1, r .2)) (and-both _ _ (lt-ltb (h .quota) QUOTAS (r .3)) (le-leb 1 (h .count) (r .4)))
 
--- "No two used records have the same serial and quota"
+-- rule 5.6: used records differ in serial or quota
 abbrev pub same-hold : Hold → Hold → Bool
 same-hold h g = used h && is-for (h .serial) (h .quota) g
 
@@ -188,7 +190,7 @@ unique-exactly hs =
           (let r = is-for-exactly _ _ (getD hs j zero-hold) .0 (and-right (used (getD hs i zero-hold)) _ t) in f i j l h (and-left _ _ t) (r .0) (sym (r .1)) (sym (r .2)))),
     )
 
--- "Every live object has a record"
+-- rule 5.7: every object is held
 pub held-exactly : (hs : List Hold) (serial : ℕ) → (held hs serial ≡ true) ↔ Held hs serial
 unfolding held
 held-exactly hs serial =
@@ -232,7 +234,7 @@ objects-few (o ∷ os) hs d a =
     (all-member (λ x. held hs (x .serial)) os (and-right (held hs (o .serial)) _ a) p m)))) in
     omega (arith, r .1)
 
--- "For each quota, grant = remainder + the sum"
+-- rule 5.8: grants are remainders and charges
 abbrev pub Balance : List Handle → List Hold → ℕ → List Quota → Type 0
 Balance os hs q qs = (i : ℕ) → i < length qs → getD qs i zero-quota .grant ≡ getD qs i zero-quota .remainder + charges hs (q + i) os
 
@@ -309,3 +311,20 @@ consistent-apart s k e = and-right (all long-enough (blocks-of s)) _ (tests-exac
 
 pub consistent-facts : (s : List ℕ) (k : Accounts) → consistent s k ≡ true → Facts (blocks-of s) k
 consistent-facts s k e = facts-exactly (blocks-of s) k .0 (consistent-cut s k e .1)
+
+-- rules 5.1 to 5.8 as one law: the heap's bytes are blocks, each behind a header with its size, the size before it and its serial, to the heap's
+-- end; sizes are whole units and fit their fields; and the facts hold of these blocks and the accounts
+pub record Consistent (s : List ℕ) (k : Accounts) : Type 0 where
+  pub blocks : List Block
+  pub cut : render blocks ≡ s
+  pub writable : AllWritable blocks
+  pub facts : Facts blocks k
+
+pub consistent-is : (s : List ℕ) (k : Accounts) → Octets s → (consistent s k ≡ true) ↔ Consistent s k
+consistent-is s k o = (
+  λ e.
+      (let r = consistent-exactly s k .0 e in
+      let p = parse-is s (r .0) o .0 (r .1) in
+      record { blocks = r .0; cut = p .0; writable = p .1; facts = facts-exactly (r .0) k .0 (r .2) }),
+  λ c. consistent-exactly s k .1 (c .blocks, parse-is s (c .blocks) o .1 (c .cut, c .writable), facts-exactly (c .blocks) k .1 (c .facts)),
+)

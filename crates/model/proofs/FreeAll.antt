@@ -1,20 +1,19 @@
 -- Free-all: what it gives back is what the quota has spent, since in a consistent state that is the sum of its charges.
--- With no record (document 01: "accepted, 0, nothing changes") the very heap bytes and accounts come back:
+-- With no record (rule 8.22) the very heap bytes and accounts come back:
 -- No record is dropped, so nothing is charged for, every object is held still, and settling and writing the blocks gives what was read.
 -- Assumes nothing.
-use Prim.Native.Nat.{ℕ, _+_, _^_, _<_}
+use Prim.Native.Nat.{ℕ, _<_}
 use native.Mathlib.Omega.{arith}
-use native.Mathlib.Nat.{add-zero, zero-add}
+use native.Mathlib.Nat.{zero-add}
 use mathlib.Core.Path.{_≡_, refl, ap, sym, _∙_}
 use mathlib.Core.List.{List, [], _∷_}
-use mathlib.Core.Bool.{Bool, true, false, cond, _&&_}
+use mathlib.Core.Bool.{Bool, true, false}
 use lib.ListN.{length}
-use lib.Dec.{ltb}
 use borrow.Author.Tests.{eq-eqb}
 use Rattle.accounts.specs.declared.Hold.{Hold}
 use Rattle.accounts.specs.declared.Accounts.{Accounts}
-use Rattle.accounts.specs.Accounts.{QUOTAS, used, is-for, remaining, spent, set-remaining, refund, with-holds, record-of}
-use Rattle.accounts.proofs.Laws.{set-same}
+use Rattle.accounts.specs.Accounts.{used, is-for, remaining, spent, with-holds, record-of}
+use Rattle.accounts.proofs.Laws.{refund-nothing}
 use Rattle.layout.specs.Bytes.{Octets}
 use Rattle.layout.specs.Blocks.{render}
 use Rattle.layout.proofs.Parse.{parse-is}
@@ -47,15 +46,6 @@ unfolding charges total charged-for
 charges-none q hs e [] = refl
 charges-none q hs e (o ∷ os) = rw (none-for q hs e (o .serial)) (zero-add _ ∙ charges-none q hs e os)
 
--- nothing is given back
-refund-none : (q : ℕ) (k : Accounts) → refund q 0 k ≡ k
-unfolding refund
-refund-none q k = go (ltb q QUOTAS && ltb (remaining q k + 0) (2 ^ 32))
-  where
-    go : (t : Bool) → cond t (set-remaining q (remaining q k + 0) k) k ≡ k
-    go true = rw (add-zero (remaining q k)) (set-same q k)
-    go false = refl
-
 module _ (s : List ℕ) (k : Accounts) (o : Octets s) (c : consistent s k ≡ true) (q : ℕ) (none : any (record-of q) (k .holds) ≡ false) where
   tests : Tests (blocks-of s) k
   tests = tests-exactly (blocks-of s) k .0 (consistent-cut s k c .1)
@@ -70,7 +60,7 @@ module _ (s : List ℕ) (k : Accounts) (o : Octets s) (c : consistent s k ≡ tr
       λ i.
       record {
         blocks = settle-none q (k .holds) (blocks-of s) none stay (consistent-apart s k c) i;
-        accounts = with-holds (drop-none q (k .holds) none i) (refund-none q k i);
+        accounts = with-holds (drop-none q (k .holds) none i) (refund-nothing q k i);
       }
 
   -- free-all leaves heap and accounts as they are and answers 0

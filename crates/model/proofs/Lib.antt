@@ -1,6 +1,8 @@
 pub mod Computing
 pub mod Marked
 pub mod Cases
+pub mod Lines
+pub mod Inconsistent
 pub mod Bools
 pub mod Lists
 pub mod Base
@@ -8,6 +10,7 @@ pub mod Blocks
 pub mod Carve
 pub mod Join
 pub mod Settle
+pub mod Touched
 pub mod Frame
 pub mod StepFrame
 pub mod Refusals

@@ -1,4 +1,4 @@
--- The listing's law (document 01, "a walker .. gives the blocks in order"): a step gives the block that starts at a place and none elsewhere;
+-- The listing's law (rules 8.32 to 8.34): a step gives the block that starts at a place and none elsewhere;
 -- the steps from 0 on, each to the end of the block before, are all the blocks in order, and then none.
 -- Every block has at least its header's eight bytes, so that each starts behind all before it and no two start at one place.
 -- Assumes nothing.

@@ -1,4 +1,4 @@
--- Handles and the objects that they name (document 01, "Handle"): a handle names an object exactly if it is that object, all three the same,
+-- Handles and the objects that they name (rule 4.3): a handle names an object exactly if it is that object, all three the same,
 -- so the lookup finds a handle exactly if it is among the objects. Where serials differ, an object is known by its serial alone.
 -- The lookup is a search for one element. Two objects with one serial cannot stand at two places, so they are the same.
 -- Assumes nothing.

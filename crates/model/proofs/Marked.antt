@@ -1,4 +1,4 @@
--- Document 01's marked run, M1 to M12, of the definitions: one table, one theorem, by computation.
+-- The run M (rule 12.1), M1 to M12, of the definitions: one table, one theorem, by computation.
 -- Assumes nothing.
 use mathlib.Core.Path.{_≡_, refl}
 use mathlib.Core.List.{[], _∷_, map}

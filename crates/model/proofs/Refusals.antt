@@ -1,5 +1,5 @@
--- Refusals (document 01, "Refusal numbers, checked in this order"): a number is given exactly when its line holds and no earlier line of the
--- call does; the lines of each call are the table's column for it; and a refused call hands back what came in.
+-- Refusals (rules 7.2 and 7.5): a call is refused by a number exactly if that line of it holds and none in front does; which lines each call has;
+-- and a refused call hands back what came in.
 -- The search is by induction on the lines. Every call is `unless` over its lines, with an outcome that answers no refusal where none is due,
 -- so that what is shown of `unless` once holds of every call.
 -- Assumes nothing.
@@ -69,13 +69,13 @@ pub accepted-exactly : (ls : List Line) → Numbered ls → (first-refusal ls �
 accepted-exactly ls p = (none-holds ls p, no-refusal ls)
 
 -- the table and each call's lines of it, under one name
-tables : Unit {0}
+unfoldable pub tables : Unit {0}
 unfolding line-1 line-2 line-3 line-4 line-5 line-6 line-7 line-8 line-9 line-10 line-11 only-if
     open-lines check-lines quota-lines lend-lines release-lines claim-lines allocate-lines reallocate-lines
 tables = tt
 
 module _ (unit : ℕ → ℕ) (s : List ℕ) (k : Accounts) (q : ℕ) (h : Handle) (n : ℕ) where
-  -- the table's column "which calls", read by calls
+  -- rule 7.2: the lines of each call
   pub columns : (map line-number (open-lines s) ≡ 1 ∷ [])
       × (map line-number (check-lines s k) ≡ 1 ∷ 2 ∷ [])
       × (map line-number (quota-lines s k q) ≡ 1 ∷ 2 ∷ 3 ∷ [])
@@ -131,7 +131,7 @@ unfolding all tables check
 check-by-lines s k = record { done = _; outcome = refl; accepts = refl; numbered = refl }
 
 -- what holds of the outcome that is due and of every refusal holds of `unless`
-unless-has : (P : Outcome → Type 0) (n : ℕ) (s : List ℕ) (k : Accounts) (done : Outcome) → P done
+pub unless-has : (P : Outcome → Type 0) (n : ℕ) (s : List ℕ) (k : Accounts) (done : Outcome) → P done
     → ((m : ℕ) → P (unchanged s k (refused (suc m)))) → P (unless n s k done)
 unfolding unless
 unless-has P zero s k done d r = d

@@ -18,7 +18,7 @@ use Rattle.layout.specs.declared.Header.{Header}
 use Rattle.layout.proofs.Numbers.{bytes-length}
 use Rattle.layout.proofs.Overwrite.{length-overwrite, getD-front, getD-behind}
 use Rattle.layout.proofs.Fields.{header-length}
-use Rattle.model.specs.Touched.{within}
+use Rattle.model.proofs.Touched.{within}
 use Rattle.model.proofs.Bools.{and-no}
 
 -- a place that is not from start up to end is before start or from end on, and the other way round

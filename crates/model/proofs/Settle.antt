@@ -130,7 +130,7 @@ pub settle-whole : (hs : List Hold) (bs : List Block) → Whole bs → Whole (se
 unfolding settle
 settle-whole hs bs w = join-whole (vacate-unheld hs bs) (vacated-whole hs bs w)
 
--- the blocks are cut as the paper says
+-- rule 5.2: the blocks are well cut
 pub settle-cut : (hs : List Hold) (bs : List Block) → all long-enough bs ≡ true → well-cut (settle hs bs) ≡ true
 unfolding settle well-cut
 settle-cut hs bs a =

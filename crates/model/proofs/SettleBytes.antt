@@ -18,7 +18,7 @@ use Rattle.layout.proofs.Render.{render-cons}
 use Rattle.model.specs.Lists.{total}
 use Rattle.model.specs.Consistent.{starts-free, free-apart, held}
 use Rattle.model.specs.Space.{vacate, vacate-unheld, join-front, join-free, settle}
-use Rattle.model.specs.Touched.{within, vacates, starts-vacated, settle-touches}
+use Rattle.model.proofs.Touched.{within, vacates, starts-vacated, settle-touches}
 use Rattle.model.proofs.Bools.{and-left}
 use Rattle.model.proofs.Blocks.{apart-head, apart-tail}
 use Rattle.model.proofs.Join.{joined, join-apart, join-assoc}

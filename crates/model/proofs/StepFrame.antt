@@ -1,15 +1,15 @@
--- What no rule names stays, of every call: one theorem about the accounts, and one about the last serial.
+-- What no rule names stays, of every call: `step-frame`, of the accounts in `step-keeps` and of the last serial in `step-serial`.
 -- A refused call changes nothing; an accepted one changes what `proofs/Frame.antt` shows of its definition.
 -- Assumes nothing.
 use mathlib.Core.Path.{_≡_, refl, sym}
-use Prim.Native.Nat.{ℕ, zero, suc, _+_, _*_, _-_, _^_}
+use Prim.Native.Nat.{ℕ, zero, suc, _+_, _*_}
 use native.Mathlib.Nat.{add-zero}
 use mathlib.Core.List.{List}
-use mathlib.Core.Bool.{Bool, true, false, cond, _&&_}
-use lib.Dec.{leb, ltb, eqb}
-use Rattle.accounts.specs.declared.Hold.{Hold}
+use mathlib.Core.Bool.{Bool, true, false, cond}
+use lib.ListN.{length}
+use lib.Dec.{ltb, eqb}
 use Rattle.accounts.specs.declared.Accounts.{Accounts}
-use Rattle.accounts.specs.Accounts.{QUOTAS, remaining, set-remaining, charge, refund, with-holds, used}
+use Rattle.accounts.specs.Accounts.{QUOTAS, remaining, set-remaining, less-paid, paid-back, charge, refund, with-holds}
 use Rattle.model.specs.Objects.{objects-of, lookup, lookup-whole, found}
 use Rattle.model.specs.Consistent.{charge-of, charges}
 use Rattle.model.specs.Holds.{take-record, raise-count}
@@ -19,7 +19,7 @@ use Rattle.model.specs.Step.{step}
 use Rattle.model.specs.declared.Handle.{Handle}
 use Rattle.model.specs.declared.Call.{Call}
 use Rattle.model.specs.declared.Call.the-variants.{Allocate, AllocateArray, Claim, Release, FreeAll, Reallocate, Lend, Remaining, CanRelease, ListBlock}
-use Rattle.model.proofs.Frame.{Kept, kept-same, other-record, other-quota, allocated-keeps, claimed-keeps, released-keeps, reallocated-keeps, freed-keeps}
+use Rattle.model.proofs.Frame.{Kept, kept-quotas, kept-same, beside-unused, beside-claim, beside-both, other-record, other-quota, allocated-keeps, claimed-keeps, released-keeps, reallocated-keeps, freed-keeps}
 
 -- the quotas whose remainder a call may change
 abbrev pub pays : Call → ℕ → Bool
@@ -34,40 +34,44 @@ pays (Remaining q) j = false
 pays (CanRelease q h) j = false
 pays (ListBlock at) j = false
 
--- the records that it leaves as they are, each at its place
-abbrev pub bystander : Call → List ℕ → Hold → Bool
-bystander (Allocate q n) s x = used x
-bystander (AllocateArray q count size) s x = used x
-bystander (Claim q h) s x = other-record (found (lookup h s) .serial) q x
-bystander (Release q h) s x = other-record (found (lookup h s) .serial) q x
-bystander (FreeAll q) s x = other-quota q x
-bystander (Reallocate q h n) s x = other-record (found (lookup-whole h s) .serial) q x
-bystander (Lend h) s x = true
-bystander (Remaining q) s x = true
-bystander (CanRelease q h) s x = true
-bystander (ListBlock at) s x = true
+-- the places of the records that it leaves as they are
+abbrev pub bystander : Call → List ℕ → Accounts → ℕ → Bool
+bystander (Allocate q n) s k i = beside-unused (k .holds) i
+bystander (AllocateArray q count size) s k i = beside-unused (k .holds) i
+bystander (Claim q h) s k i = beside-claim q (found (lookup h s)) k i
+bystander (Release q h) s k i = other-record (found (lookup h s) .serial) q (k .holds) i
+bystander (FreeAll q) s k i = other-quota q (k .holds) i
+bystander (Reallocate q h n) s k i = beside-both q (found (lookup-whole h s)) k i
+bystander (Lend h) s k i = true
+bystander (Remaining q) s k i = true
+bystander (CanRelease q h) s k i = true
+bystander (ListBlock at) s k i = true
 
-unless-keeps : (w : ℕ → Bool) (p : Hold → Bool) (n : ℕ) (s : List ℕ) (k : Accounts) (done : Outcome) → Kept w p k (done .accounts) → Kept w p k (unless n s k done .accounts)
+unless-keeps : (w p : ℕ → Bool) (n : ℕ) (s : List ℕ) (k : Accounts) (done : Outcome) → Kept w p k (done .accounts) → Kept w p k (unless n s k done .accounts)
 unfolding unless
 unless-keeps w p zero s k done a = a
 unless-keeps w p (suc n) s k done a = kept-same w p k
 
 module _ (unit : ℕ → ℕ) where
-  pub step-keeps : (c : Call) (s : List ℕ) (k : Accounts) → Kept (pays c) (bystander c s) k (step unit c s k .accounts)
+  -- each call keeps every grant, every other quota, every record at another place, and how many quotas and records there are
+  pub step-keeps : (c : Call) (s : List ℕ) (k : Accounts) → Kept (pays c) (bystander c s k) k (step unit c s k .accounts)
   unfolding step allocate allocate-array claim release free-all reallocate lend remaining-of can-release list-block
   step-keeps (Allocate q n) s k =
-      unless-keeps (eqb q) used (first-refusal (allocate-lines unit s k q n)) s k _ (allocated-keeps q (new-object unit s k n) (state-of s k))
+      unless-keeps (eqb q) (beside-unused (k .holds)) (first-refusal (allocate-lines unit s k q n)) s k _
+      (allocated-keeps q (new-object unit s k n) (state-of s k))
   step-keeps (AllocateArray q count size) s k =
-      unless-keeps (eqb q) used (first-refusal (allocate-lines unit s k q (count * size))) s k _ (allocated-keeps q (new-object unit s k (count * size)) (state-of s k))
+      unless-keeps (eqb q) (beside-unused (k .holds)) (first-refusal (allocate-lines unit s k q (count * size))) s k _
+      (allocated-keeps q (new-object unit s k (count * size)) (state-of s k))
   step-keeps (Claim q h) s k =
-      unless-keeps (eqb q) (other-record (found (lookup h s) .serial) q) (first-refusal (claim-lines s k q h)) s k _ (claimed-keeps q (found (lookup h s)) k)
+      unless-keeps (eqb q) (beside-claim q (found (lookup h s)) k) (first-refusal (claim-lines s k q h)) s k _ (claimed-keeps q (found (lookup h s)) k)
   step-keeps (Release q h) s k =
-      unless-keeps (eqb q) (other-record (found (lookup h s) .serial) q) (first-refusal (release-lines s k q h)) s k _
+      unless-keeps (eqb q) (other-record (found (lookup h s) .serial) q (k .holds)) (first-refusal (release-lines s k q h)) s k _
       (released-keeps q (found (lookup h s)) (state-of s k))
   step-keeps (FreeAll q) s k =
-      unless-keeps (eqb q) (other-quota q) (first-refusal (quota-lines s k q)) s k _ (freed-keeps q (charges (k .holds) q (objects-of s)) (state-of s k))
+      unless-keeps (eqb q) (other-quota q (k .holds)) (first-refusal (quota-lines s k q)) s k _
+      (freed-keeps q (charges (k .holds) q (objects-of s)) (state-of s k))
   step-keeps (Reallocate q h n) s k =
-      unless-keeps (eqb q) (other-record (found (lookup-whole h s) .serial) q) (first-refusal (reallocate-lines unit s k q h n)) s k _
+      unless-keeps (eqb q) (beside-both q (found (lookup-whole h s)) k) (first-refusal (reallocate-lines unit s k q h n)) s k _
       (reallocated-keeps q (found (lookup-whole h s)) (new-object unit s k n) (state-of s k))
   step-keeps (Lend h) s k = unless-keeps (λ j. false) (λ x. true) (first-refusal (lend-lines s k h)) s k _ (kept-same _ _ k)
   step-keeps (Remaining q) s k = unless-keeps (λ j. false) (λ x. true) (first-refusal (quota-lines s k q)) s k _ (kept-same _ _ k)
@@ -82,11 +86,11 @@ set-serial false q n k = refl
 
 refund-serial : (q n : ℕ) (k : Accounts) → refund q n k .«last_serial» ≡ k .«last_serial»
 unfolding refund
-refund-serial q n k = set-serial (ltb q QUOTAS && ltb (remaining q k + n) (2 ^ 32)) q (remaining q k + n) k
+refund-serial q n k = set-serial (ltb q QUOTAS) q (paid-back n (remaining q k)) k
 
 charge-serial : (q n : ℕ) (k : Accounts) → charge q n k .«last_serial» ≡ k .«last_serial»
 unfolding charge
-charge-serial q n k = set-serial (ltb q QUOTAS && leb n (remaining q k)) q (remaining q k - n) k
+charge-serial q n k = set-serial (ltb q QUOTAS) q (less-paid n (remaining q k)) k
 
 claimed-serial : (q : ℕ) (o : Handle) (k : Accounts) → claimed q o k .«last_serial» ≡ k .«last_serial»
 unfolding claimed
@@ -142,3 +146,13 @@ module _ (unit : ℕ → ℕ) where
   step-serial (Remaining q) s k = unless-same (first-refusal (quota-lines s k q)) s k _ refl
   step-serial (CanRelease q h) s k = unless-same (first-refusal (release-lines s k q h)) s k _ refl
   step-serial (ListBlock at) s k = unless-same (first-refusal (check-lines s k)) s k _ refl
+
+-- what a call leaves of the accounts beside what its rule names: every grant, every quota but its own, every record but those that it is about, how
+-- many quotas and records there are, and the last serial but for the one that it gives
+pub record Framed (c : Call) (s : List ℕ) (k : Accounts) (t : Outcome) : Type 0 where
+  pub kept : Kept (pays c) (bystander c s k) k (t .accounts)
+  pub quotas : length (t .accounts .quotas) ≡ length (k .quotas)
+  pub serial : t .accounts .«last_serial» ≡ k .«last_serial» + serials-given-by c (t .values .refusal)
+
+pub step-frame : (unit : ℕ → ℕ) (c : Call) (s : List ℕ) (k : Accounts) → Framed c s k (step unit c s k)
+step-frame unit c s k = let a = step-keeps unit c s k in record { kept = a; quotas = kept-quotas a; serial = step-serial unit c s k }

@@ -1,4 +1,4 @@
--- The calls (document 01, "The calls"), in its order: each gives the refusal of its lines, or else what it answers and leaves.
+-- The calls (rules, section 8), in their order: each gives the refusal of its lines, or else what it answers and leaves.
 use Prim.Native.Nat.{ℕ, zero, suc, _+_, _*_, _-_}
 use mathlib.Core.List.{List, [], _∷_}
 use mathlib.Core.Bool.{cond}
@@ -24,7 +24,7 @@ pub record Outcome : Type 0 where
   pub accounts : Accounts
   pub values : Values
 
--- the outcome that is due where there is no refusal; else the state that is handed back, with the refusal
+-- rule 7.2, the outcome that is due where there is no refusal; else (7.5) the state that is handed back, with the refusal
 unfoldable pub unless : ℕ → List ℕ → Accounts → Outcome → Outcome
 unless zero s k done = done
 unless (suc n) s k done = record { heap = s; accounts = k; values = refused (suc n) }
@@ -41,7 +41,7 @@ pub record State : Type 0 where
 abbrev pub leaves : State → Values → Outcome
 leaves t v = record { heap = render (t .blocks); accounts = t .accounts; values = v }
 
--- Open: all bytes become zero, then one free block covers the heap. A refused open returns accounts that are all zero
+-- Open, rules 8.2 and 8.3: a heap of zeros with the header of one free block. Refused, its accounts are zero (7.5)
 unfoldable pub fresh : ℕ → List ℕ → State
 fresh H grants = record { blocks = record { serial = 0; body = replicate (H - 8) 0 } ∷ []; accounts = opened grants }
 
@@ -50,7 +50,7 @@ open-heap s grants =
     let done = leaves (fresh (length s) grants) accepted in
     unless (first-refusal (open-lines s)) s zero-accounts done
 
--- Allocate: the object is carved out, the quota is charged, and the lowest unused record holds the new serial once
+-- Allocate, rules 8.7 to 8.10: the object is carved out, the quota is charged, and the lowest unused record holds the new serial once
 unfoldable pub allocated : ℕ → Handle → State → State
 allocated q o t =
     let k = t .accounts in
@@ -59,16 +59,16 @@ allocated q o t =
       accounts = with-last-serial (o .serial) (with-holds (take-record (o .serial) q (k .holds)) (charge q (charge-of (o .length)) k));
     }
 
--- Claim: a quota that has a record adds 1 to its count at no charge; another pays and takes the lowest unused record
+-- Claim, rules 8.13 and 8.14: a record that is there counts once more; without one the quota pays, and the lowest unused record becomes its own
 unfoldable pub claimed : ℕ → Handle → Accounts → Accounts
 claimed q o k =
     let again = with-holds (raise-count (o .serial) q (k .holds)) k in
     let anew = with-holds (take-record (o .serial) q (k .holds)) (charge q (charge-of (o .length)) k) in
     cond (claims-first k q o) anew again
 
--- Release: what is given back, and the state after it
+-- Release, rules 8.16 to 8.18: what is given back, and the state after it
 unfoldable pub given-back : ℕ → Handle → Accounts → ℕ
-given-back q o k = cond (eqb (count-of (o .serial) q (k .holds) - 1) 0) (charge-of (o .length)) 0
+given-back q o k = cond (eqb (count-of (o .serial) q (k .holds)) 1) (charge-of (o .length)) 0
 
 unfoldable pub released : ℕ → Handle → State → State
 released q o t =
@@ -76,14 +76,14 @@ released q o t =
     let hs = lower-count (o .serial) q (k .holds) in
     record { blocks = settle hs (t .blocks); accounts = with-holds hs (refund q (given-back q o k) k) }
 
--- Free-all: every record of the quota is dropped, and all that it paid is given back
+-- Free-all, rules 8.20 and 8.21: every record of the quota is dropped, and all that it paid is given back
 unfoldable pub freed : ℕ → ℕ → State → State
 freed q back t =
     let k = t .accounts in
     let hs = drop-records q (k .holds) in
     record { blocks = settle hs (t .blocks); accounts = with-holds hs (refund q back k) }
 
--- Reallocate: the shorter of the two lengths is copied from the old object to the new one
+-- Reallocate, rule 8.25: as many bytes of the old object as the new one has room for
 unfoldable pub copied : Handle → Handle → State → State
 copied old new t = record { blocks = copy-into (new .serial) (body-of (old .serial) (t .blocks)) (t .blocks); accounts = t .accounts }
 
@@ -92,7 +92,7 @@ abbrev pub state-of : List ℕ → Accounts → State
 state-of s k = record { blocks = blocks-of s; accounts = k }
 
 module _ (unit : ℕ → ℕ) where
-  -- the new object for a request of n bytes
+  -- rules 8.5, 8.6 and 8.9: the new object for a request of n bytes
   unfoldable pub new-object : List ℕ → Accounts → ℕ → Handle
   new-object s k n = record { base = or-else 0 (base-for unit s n); length = object-length unit n; serial = k .«last_serial» + 1 }
 
@@ -102,10 +102,11 @@ module _ (unit : ℕ → ℕ) where
       let done = leaves (allocated q o (state-of s k)) (given o) in
       unless (first-refusal (allocate-lines unit s k q n)) s k done
 
-  -- Allocate array: as allocate with the true product
+  -- Allocate array, rule 8.12
   unfoldable pub allocate-array : List ℕ → Accounts → ℕ → ℕ → ℕ → Outcome
   allocate-array s k q count size = allocate s k q (count * size)
 
+-- rule 8.15
 unfoldable pub claim : List ℕ → Accounts → ℕ → Handle → Outcome
 claim s k q h =
     let o = found (lookup h s) in
@@ -118,6 +119,7 @@ release s k q h =
     let done = leaves (released q o (state-of s k)) (amount-of (given-back q o k)) in
     unless (first-refusal (release-lines s k q h)) s k done
 
+-- rule 8.22
 unfoldable pub free-all : List ℕ → Accounts → ℕ → Outcome
 free-all s k q =
     let back = charges (k .holds) q (objects-of s) in
@@ -125,7 +127,7 @@ free-all s k q =
     unless (first-refusal (quota-lines s k q)) s k done
 
 module _ (unit : ℕ → ℕ) where
-  -- Reallocate: allocate while the old object still counts, copy, then release once
+  -- Reallocate, rules 8.23 and 8.24: allocate while the old object still counts, copy, then release once
   unfoldable pub reallocate : List ℕ → Accounts → ℕ → Handle → ℕ → Outcome
   reallocate s k q h n =
       let old = found (lookup-whole h s) in
@@ -133,25 +135,25 @@ module _ (unit : ℕ → ℕ) where
       let done = leaves (released q old (copied old new (allocated q new (state-of s k)))) (given new) in
       unless (first-refusal (reallocate-lines unit s k q h n)) s k done
 
--- Lend: the object's bytes, as a part of the heap
+-- Lend, rule 8.29
 unfoldable pub lend : List ℕ → Accounts → Handle → Outcome
 lend s k h =
     let o = found (lookup h s) in
     let done = unchanged s k (lent (record { start = o .base; end = o .base + o .length })) in
     unless (first-refusal (lend-lines s k h)) s k done
 
--- Remaining and can release change nothing
+-- Remaining and can release, rules 8.30 and 8.31
 unfoldable pub remaining-of : List ℕ → Accounts → ℕ → Outcome
 remaining-of s k q = unless (first-refusal (quota-lines s k q)) s k (unchanged s k (amount-of (remaining q k)))
 
 unfoldable pub can-release : List ℕ → Accounts → ℕ → Handle → Outcome
 can-release s k q h = unless (first-refusal (release-lines s k q h)) s k (unchanged s k accepted)
 
--- the check that every call but open begins with
+-- rule 8.35: the check that every call but open begins with
 unfoldable pub check : List ℕ → Accounts → Outcome
 check s k = unless (first-refusal (check-lines s k)) s k (unchanged s k accepted)
 
--- The listing: the blocks in order, each with its offset; and a step of it, the block that starts at a place
+-- The listing, rules 8.32 and 8.33: the blocks in order, each with its offset; and a step of it, the block that starts at a place
 unfoldable pub listing-from : ℕ → List Block → List ListedBlock
 listing-from at [] = []
 listing-from at (b ∷ bs) = record { offset = at; size = size b; serial = b .serial } ∷ listing-from (at + size b) bs

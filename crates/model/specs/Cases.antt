@@ -1,87 +1,189 @@
--- Further runs that the definitions are held to: what document 01's marked run does not reach. That they give this is `proofs/Cases.antt`.
+-- What calls answer and leave: cases that the run M does not reach (rules, section 8; rules 12.3 to 12.7 among them). How they are run is `Tables`.
 use Prim.Native.Nat.{ℕ, _-_}
-use mathlib.Core.List.{List, [], _∷_, _++_}
+use mathlib.Core.List.{List, [], _∷_}
 use mathlib.Core.Option.{none, some}
-use lib.ListN.{length, take, drop, replicate}
-use Rattle.accounts.specs.Accounts.{QUOTAS, HOLDS, opened, zero-accounts, zero-hold, with-holds, with-last-serial}
+use lib.ListN.{replicate}
+use Rattle.accounts.specs.Accounts.{QUOTAS, zero-hold}
 use Rattle.rounding.specs.Rounding.{unit}
 use Rattle.model.specs.Answers.{Values, refused, accepted, given, amount-of, lent, listed}
-use Rattle.model.specs.Calls.{Outcome, open-heap, unchanged}
-use Rattle.model.specs.Step.{step}
+use Rattle.model.specs.Calls.{Outcome, open-heap}
 use Rattle.model.specs.Marked.{handle}
+use Rattle.model.specs.Tables.{Case, case, run, head, zeros, parts, quota, hold, accounts-of, state, written}
 use Rattle.model.specs.declared.Call.{Call}
 use Rattle.model.specs.declared.Call.the-variants.{Allocate, AllocateArray, Claim, Release, FreeAll, Reallocate, Lend, Remaining, CanRelease, ListBlock}
 
--- a case: the state before, the calls, their answers, and the bytes that then stand from a place on
-pub data Case : Type 0 where
-  case : Outcome → List Call → List Values → ℕ → List ℕ → Case
+-- a fresh heap of H bytes with two grants
+unfoldable pub opened-heap : ℕ → ℕ → ℕ → Outcome
+opened-heap H g₀ g₁ = open-heap (replicate H 255) (g₀ ∷ g₁ ∷ replicate (QUOTAS - 2) 0)
 
-unfoldable pub run : Outcome → List Call → Outcome
-run t [] = t
-run t (c ∷ cs) = run (step unit c (t .heap) (t .accounts)) cs
+-- a block of the listing
+unfoldable pub block : ℕ → ℕ → ℕ → Values
+block at size serial = listed (some (record { offset = at; size = size; serial = serial }))
 
-unfoldable pub values-of : Outcome → List Call → List Values
-values-of t [] = []
-values-of t (c ∷ cs) =
-    let u = step unit c (t .heap) (t .accounts) in
-    u .values ∷ values-of u cs
+-- both sides of each row of the rounding table, of the product and of line 4
+unfoldable pub lengths : List Case
+lengths =
+    case (opened-heap 8208 100000 0) (Allocate 0 8191 ∷ []) (given (handle 8 8192 1) ∷ [])
+    0 (1 ∷ 4 ∷ 0 ∷ 0 ∷ 1 ∷ 0 ∷ 0 ∷ 0 ∷ []) (accounts-of (quota 100000 91800 ∷ []) 1 (hold 1 0 1 ∷ []))
+    -- 8 bytes are left in front and behind
+    ∷ case (opened-heap 8216 100000 0) (Allocate 0 8192 ∷ ListBlock 8208 ∷ []) (given (handle 16 8192 1) ∷ block 8208 8 0 ∷ [])
+    0 (parts (head 1 0 0 ∷ (1 ∷ 4 ∷ 1 ∷ 0 ∷ 1 ∷ 0 ∷ 0 ∷ 0 ∷ []) ∷ [])) (accounts-of (quota 100000 91800 ∷ []) 1 (hold 1 0 1 ∷ []))
+    ∷ case (opened-heap 16400 100000 0) (Allocate 0 16383 ∷ []) (given (handle 16 16384 1) ∷ []) 0 (head 1 0 0) (accounts-of (quota 100000 83608 ∷ []) 1 (hold 1 0 1 ∷ []))
+    ∷ case (opened-heap 16416 100000 0) (Allocate 0 16384 ∷ []) (given (handle 32 16384 1) ∷ []) 0 (head 3 0 0) (accounts-of (quota 100000 83608 ∷ []) 1 (hold 1 0 1 ∷ []))
+    ∷ case (opened-heap 32768 100000 0) (Allocate 0 32737 ∷ Allocate 0 32736 ∷ []) (refused 11 ∷ given (handle 32 32736 1) ∷ [])
+    0 (head 3 0 0) (accounts-of (quota 100000 67256 ∷ []) 1 (hold 1 0 1 ∷ []))
+    ∷ case (opened-heap 64 40000 0)
+    (AllocateArray 0 3 5 ∷ AllocateArray 0 65536 65536 ∷ AllocateArray 0 2 2147483649 ∷ AllocateArray 0 1 32761
+    ∷ Allocate 0 0 ∷ Allocate 0 32761 ∷ Allocate 0 32760 ∷ [])
+    (given (handle 8 16 1) ∷ refused 4 ∷ refused 4 ∷ refused 4 ∷ refused 4 ∷ refused 4 ∷ refused 11 ∷ [])
+    0 (parts (head 3 0 1 ∷ zeros 16 ∷ head 5 3 0 ∷ zeros 32 ∷ [])) (accounts-of (quota 40000 39976 ∷ []) 1 (hold 1 0 1 ∷ []))
+    ∷ []
 
-unfoldable pub got : Case → List Values × List ℕ
-got (case t cs vs at bytes) = (values-of t cs, take (length bytes) (drop at (run t cs .heap)))
+-- four objects, of which the first and the third were released: two gaps in the heap and two among the records
+unfoldable pub with-gaps : Outcome
+with-gaps =
+    run unit (opened-heap 128 1000 1000)
+    (Allocate 0 8 ∷ Allocate 0 8 ∷ Allocate 0 24 ∷ Allocate 0 8 ∷ Release 0 (handle 8 8 1) ∷ Release 0 (handle 40 24 3) ∷ [])
 
-unfoldable pub wanted : Case → List Values × List ℕ
-wanted (case t cs vs at bytes) = (vs, bytes)
+-- one free block, none of whose bytes is zero
+unfoldable pub used-heap : ℕ → ℕ → Outcome
+used-heap units n = state (parts (head units 0 0 ∷ replicate n 170 ∷ [])) (accounts-of (quota 100 100 ∷ []) 0 [])
 
-abbrev pub grants : List ℕ
-grants = 100000 ∷ 1000 ∷ replicate (QUOTAS - 2) 0
+-- no object may have a higher serial than the next
+unfoldable pub next-serial-last : Outcome
+next-serial-last = state (parts (head 8 0 0 ∷ zeros 56 ∷ [])) (accounts-of (quota 100 100 ∷ []) 4294967294 [])
 
--- a fresh heap; one free block whose bytes are not zero; a last serial; one object, held by quota 0 so often
-unfoldable pub fresh-heap : ℕ → Outcome
-fresh-heap H = open-heap (replicate H 0) grants
+unfoldable pub allocations : List Case
+allocations =
+    -- the lowest gap that is long enough and the lowest unused record are taken; what is left stays free, if only 8 bytes, and too short for more
+    case with-gaps (Allocate 1 16 ∷ Allocate 1 8 ∷ Allocate 1 8 ∷ []) (given (handle 40 16 5) ∷ given (handle 8 8 6) ∷ given (handle 88 8 7) ∷ [])
+    0 (parts (head 2 0 6 ∷ zeros 8 ∷ head 2 2 2 ∷ zeros 8 ∷ head 3 2 5 ∷ zeros 16 ∷ head 1 3 0
+    ∷ head 2 1 4 ∷ zeros 8 ∷ head 2 2 7 ∷ zeros 8 ∷ head 4 2 0 ∷ zeros 24 ∷ []))
+    (accounts-of (quota 1000 968 ∷ quota 1000 944 ∷ []) 7 (hold 5 1 1 ∷ hold 2 0 1 ∷ hold 6 1 1 ∷ hold 4 0 1 ∷ hold 7 1 1 ∷ []))
+    -- the object is zero where other bytes lay, and the other bytes of the free block stay, when it is released too
+    ∷ case (used-heap 8 56) (Allocate 0 8 ∷ []) (given (handle 8 8 1) ∷ [])
+    0 (parts (head 2 0 1 ∷ zeros 8 ∷ head 6 2 0 ∷ replicate 40 170 ∷ [])) (accounts-of (quota 100 84 ∷ []) 1 (hold 1 0 1 ∷ []))
+    ∷ case (used-heap 8 56) (Allocate 0 8 ∷ Release 0 (handle 8 8 1) ∷ []) (given (handle 8 8 1) ∷ amount-of 16 ∷ [])
+    0 (parts (head 8 0 0 ∷ zeros 16 ∷ replicate 40 170 ∷ [])) (accounts-of (quota 100 100 ∷ []) 1 [])
+    -- a charge up to the whole remainder
+    ∷ case (opened-heap 64 24 0) (Allocate 0 17 ∷ Allocate 0 16 ∷ Allocate 0 1 ∷ []) (refused 8 ∷ given (handle 8 16 1) ∷ refused 8 ∷ [])
+    0 (head 3 0 1) (accounts-of (quota 24 0 ∷ []) 1 (hold 1 0 1 ∷ []))
+    -- the last serial that there is
+    ∷ case next-serial-last (Allocate 0 64 ∷ Allocate 0 8 ∷ Allocate 0 8 ∷ []) (refused 11 ∷ given (handle 8 8 4294967295) ∷ refused 10 ∷ [])
+    0 (2 ∷ 0 ∷ 0 ∷ 0 ∷ 255 ∷ 255 ∷ 255 ∷ 255 ∷ []) (accounts-of (quota 100 84 ∷ []) 4294967295 (hold 4294967295 0 1 ∷ []))
+    ∷ []
 
-unfoldable pub used-heap : Outcome
-used-heap = unchanged ((8 ∷ replicate 7 0) ++ replicate 56 170) (opened grants) accepted
+-- with a table of units in which each is 32: the base and the length are multiples of 32, and the bytes in front stay
+unfoldable pub wide : List Case
+wide =
+    case (used-heap 16 120) (Allocate 0 8 ∷ Allocate 0 33 ∷ Allocate 0 1 ∷ Allocate 0 1 ∷ [])
+    (given (handle 32 32 1) ∷ refused 8 ∷ given (handle 96 32 2) ∷ refused 8 ∷ [])
+    0 (parts (head 3 0 0 ∷ replicate 16 170 ∷ head 5 3 1 ∷ zeros 32 ∷ head 3 5 0 ∷ replicate 16 170 ∷ head 5 3 2 ∷ zeros 32 ∷ []))
+    (accounts-of (quota 100 20 ∷ []) 2 (hold 1 0 1 ∷ hold 2 0 1 ∷ []))
+    ∷ []
 
-unfoldable pub with-serial : ℕ → Outcome
-with-serial n = unchanged (8 ∷ replicate 63 0) (with-last-serial n (opened grants)) accepted
+-- one object, which quota 0 holds twice and quota 1 once
+unfoldable pub shared : Outcome
+shared = run unit (opened-heap 64 100 100) (Allocate 0 16 ∷ Claim 0 (handle 8 16 1) ∷ Claim 1 (handle 8 16 1) ∷ [])
 
+-- one object, which quota 0 holds so often
 unfoldable pub held-times : ℕ → Outcome
-held-times n =
-    let t = run (fresh-heap 64) (Allocate 0 8 ∷ []) in
-    unchanged (t .heap) (with-holds (record { serial = 1; quota = 0; count = n } ∷ replicate (HOLDS - 1) zero-hold) (t .accounts)) accepted
+held-times n = state (parts (head 2 0 1 ∷ zeros 8 ∷ head 6 2 0 ∷ zeros 40 ∷ [])) (accounts-of (quota 16 0 ∷ []) 1 (hold 1 0 n ∷ []))
 
--- one object of 8 bytes, in which 1 to 8 were written
-unfoldable pub written-heap : Outcome
-written-heap =
-    let t = run (fresh-heap 64) (Allocate 0 8 ∷ []) in
-    unchanged (take 8 (t .heap) ++ (1 ∷ 2 ∷ 3 ∷ 4 ∷ 5 ∷ 6 ∷ 7 ∷ 8 ∷ drop 16 (t .heap))) (t .accounts) accepted
+unfoldable pub claims : List Case
+claims =
+    let h = handle 8 8 1 in
+    -- the first claim of a quota is paid, a further one is not, even where nothing remains
+    case (opened-heap 64 100 16) (Allocate 0 8 ∷ Claim 1 h ∷ Claim 1 h ∷ Allocate 0 8 ∷ Claim 1 (handle 24 8 2) ∷ Remaining 0 ∷ Remaining 1 ∷ [])
+    (given h ∷ amount-of 8 ∷ amount-of 8 ∷ given (handle 24 8 2) ∷ refused 8 ∷ amount-of 68 ∷ amount-of 0 ∷ [])
+    0 (parts (head 2 0 1 ∷ zeros 8 ∷ head 2 2 2 ∷ zeros 8 ∷ head 4 2 0 ∷ zeros 24 ∷ []))
+    (accounts-of (quota 100 68 ∷ quota 16 0 ∷ []) 2 (hold 1 0 1 ∷ hold 1 1 2 ∷ hold 2 0 1 ∷ []))
+    -- a count goes to 255 and no further
+    ∷ case (held-times 254) (Claim 0 h ∷ Claim 0 h ∷ []) (amount-of 8 ∷ refused 7 ∷ []) 0 (head 2 0 1) (accounts-of (quota 16 0 ∷ []) 1 (hold 1 0 255 ∷ []))
+    -- a first claim takes the lowest unused record
+    ∷ case with-gaps (Claim 1 (handle 24 8 2) ∷ Claim 1 (handle 72 8 4) ∷ Claim 1 (handle 24 8 2) ∷ []) (amount-of 8 ∷ amount-of 8 ∷ amount-of 8 ∷ [])
+    0 (head 2 0 0) (accounts-of (quota 1000 968 ∷ quota 1000 968 ∷ []) 4 (hold 2 1 2 ∷ hold 2 0 1 ∷ hold 4 1 1 ∷ hold 4 0 1 ∷ []))
+    ∷ []
 
-unfoldable pub cases : List Case
-cases =
-    -- both sides of each row of the rounding table, and of the remainder
-    case (fresh-heap 16384) (Allocate 0 8191 ∷ Allocate 1 993 ∷ Allocate 1 992 ∷ []) (given (handle 8 8192 1) ∷ refused 8 ∷ given (handle 8208 992 2) ∷ []) 0 []
-    ∷ case (fresh-heap 16384) (Allocate 0 8192 ∷ ListBlock 0 ∷ ListBlock 4 ∷ [])
-    (given (handle 16 8192 1) ∷ listed (some (record { offset = 0; size = 8; serial = 0 })) ∷ listed none ∷ []) 0 []
-    ∷ case (fresh-heap 32768) (Allocate 0 16383 ∷ []) (given (handle 16 16384 1) ∷ []) 0 []
-    ∷ case (fresh-heap 32768) (Allocate 0 32737 ∷ Allocate 0 32736 ∷ []) (refused 11 ∷ given (handle 32 32736 1) ∷ []) 0 []
-    -- the true product, and line 4 on both sides
-    ∷ case (fresh-heap 64) (AllocateArray 0 3 5 ∷ AllocateArray 0 65536 65536 ∷ AllocateArray 0 2 2147483649 ∷ Allocate 0 0 ∷ Allocate 0 32761 ∷ Allocate 0 32760 ∷ [])
-    (given (handle 8 16 1) ∷ refused 4 ∷ refused 4 ∷ refused 4 ∷ refused 4 ∷ refused 11 ∷ []) 0 []
-    -- reallocate needs room beside the old object, copies, clears what is behind and releases once
-    ∷ case written-heap (Reallocate 0 (handle 8 8 1) 48 ∷ Reallocate 0 (handle 8 8 1) 9 ∷ [])
-    (refused 11 ∷ given (handle 24 16 2) ∷ []) 0 (2 ∷ replicate 15 0 ++ (3 ∷ 0 ∷ 2 ∷ 0 ∷ 2 ∷ 0 ∷ 0 ∷ 0 ∷ 1 ∷ 2 ∷ 3 ∷ 4 ∷ 5 ∷ 6 ∷ 7 ∷ 8 ∷ replicate 8 0))
-    -- a release between two free blocks leaves one block, and no header inside it
-    ∷ case (run (fresh-heap 64) (Allocate 0 8 ∷ Allocate 0 8 ∷ Allocate 0 8 ∷ Release 0 (handle 8 8 1) ∷ Release 0 (handle 40 8 3) ∷ []))
-    (Release 0 (handle 24 8 2) ∷ ListBlock 0 ∷ []) (amount-of 16 ∷ listed (some (record { offset = 0; size = 64; serial = 0 })) ∷ []) 0 (8 ∷ replicate 63 0)
-    -- release clears the object; allocate clears the object alone, and other bytes of free blocks stay
-    ∷ case written-heap (Release 0 (handle 8 8 1) ∷ []) (amount-of 16 ∷ []) 0 (8 ∷ replicate 63 0)
-    ∷ case used-heap (Allocate 0 8 ∷ Release 0 (handle 8 8 1) ∷ []) (given (handle 8 8 1) ∷ amount-of 16 ∷ []) 0 (8 ∷ replicate 23 0 ++ replicate 40 170)
-    -- lines 1, 2, 3 and 4 in this order; lines 10 and 11
-    ∷ case (unchanged (replicate 56 0) zero-accounts accepted) (Allocate QUOTAS 0 ∷ []) (refused 1 ∷ []) 0 []
-    ∷ case (unchanged (replicate 64 0) zero-accounts accepted) (Allocate QUOTAS 0 ∷ []) (refused 2 ∷ []) 0 []
-    ∷ case (with-serial 4294967295) (Allocate QUOTAS 0 ∷ Reallocate 0 (handle 8 8 1) 0 ∷ Allocate 0 64 ∷ []) (refused 3 ∷ refused 4 ∷ refused 10 ∷ []) 0 []
-    ∷ case (with-serial 4294967294) (Allocate 0 64 ∷ Allocate 0 8 ∷ []) (refused 11 ∷ given (handle 8 8 4294967295) ∷ []) 0 []
-    -- a count of 255; what lend, remaining and can release answer
-    ∷ case (held-times 255) (Claim 0 (handle 8 8 1) ∷ Release 0 (handle 8 8 1) ∷ Claim 0 (handle 8 8 1) ∷ Lend (handle 8 8 1) ∷ Remaining 0 ∷ CanRelease 1 (handle 8 8 1) ∷ FreeAll 1 ∷ FreeAll 0 ∷ [])
-    (refused 7 ∷ amount-of 0 ∷ amount-of 8 ∷ lent (record { start = 8; end = 16 }) ∷ amount-of 99984 ∷ refused 6 ∷ amount-of 0 ∷ amount-of 16 ∷ []) 0 []
+-- three objects with bytes in them; quota 0 holds all, the first twice, and quota 1 the second
+unfoldable pub several : Outcome
+several =
+    written 40 (replicate 8 9)
+    (written 24 (replicate 8 9)
+    (written 8 (replicate 8 9)
+    (run unit (opened-heap 64 100 100) (Allocate 0 8 ∷ Allocate 0 8 ∷ Allocate 0 8 ∷ Claim 0 (handle 8 8 1) ∷ Claim 1 (handle 24 8 2) ∷ []))))
+
+unfoldable pub releases : List Case
+releases =
+    let h = handle 8 16 1 in
+    -- a count above 1 goes down, nothing is given back and the object stays
+    case shared (Release 0 h ∷ Remaining 0 ∷ []) (amount-of 0 ∷ amount-of 76 ∷ [])
+    0 (parts (head 3 0 1 ∷ zeros 16 ∷ head 5 3 0 ∷ zeros 32 ∷ [])) (accounts-of (quota 100 76 ∷ quota 100 76 ∷ []) 1 (hold 1 0 1 ∷ hold 1 1 1 ∷ []))
+    -- one of two holders lets go
+    ∷ case shared (Release 0 h ∷ Release 0 h ∷ Release 0 h ∷ CanRelease 0 h ∷ CanRelease 1 h ∷ Lend h ∷ [])
+    (amount-of 0 ∷ amount-of 24 ∷ refused 6 ∷ refused 6 ∷ accepted ∷ lent (record { start = 8; end = 24 }) ∷ [])
+    0 (parts (head 3 0 1 ∷ zeros 16 ∷ head 5 3 0 ∷ zeros 32 ∷ [])) (accounts-of (quota 100 100 ∷ quota 100 76 ∷ []) 1 (zero-hold ∷ hold 1 1 1 ∷ []))
+    -- each quota in its own time, and then the object is gone
+    ∷ case shared (Release 1 h ∷ Release 0 h ∷ Release 0 h ∷ Release 0 h ∷ Lend h ∷ [])
+    (amount-of 24 ∷ amount-of 0 ∷ amount-of 24 ∷ refused 5 ∷ refused 5 ∷ [])
+    0 (parts (head 8 0 0 ∷ zeros 56 ∷ [])) (accounts-of (quota 100 100 ∷ quota 100 100 ∷ []) 1 [])
+    -- a freed block joins what is free in front, nothing, what is free on both sides; no header stays inside
+    ∷ case (run unit (opened-heap 64 100 0) (Allocate 0 8 ∷ Allocate 0 8 ∷ Allocate 0 8 ∷ Allocate 0 8 ∷ []))
+    (Release 0 (handle 8 8 1) ∷ Release 0 (handle 24 8 2) ∷ ListBlock 0
+    ∷ Release 0 (handle 56 8 4) ∷ ListBlock 48 ∷ Release 0 (handle 40 8 3) ∷ ListBlock 0 ∷ [])
+    (amount-of 16 ∷ amount-of 16 ∷ block 0 32 0 ∷ amount-of 16 ∷ block 48 16 0 ∷ amount-of 16 ∷ block 0 64 0 ∷ [])
+    0 (parts (head 8 0 0 ∷ zeros 56 ∷ [])) (accounts-of (quota 100 100 ∷ []) 4 [])
+    -- the object's bytes become zero, and no others do
+    ∷ case several (Release 0 (handle 40 8 3) ∷ []) (amount-of 16 ∷ [])
+    0 (parts (head 2 0 1 ∷ replicate 8 9 ∷ head 2 2 2 ∷ replicate 8 9 ∷ head 4 2 0 ∷ zeros 24 ∷ []))
+    (accounts-of (quota 100 68 ∷ quota 100 84 ∷ []) 3 (hold 1 0 2 ∷ hold 2 0 1 ∷ zero-hold ∷ hold 2 1 1 ∷ []))
+    -- free-all: nothing for a quota without a record; else all its records go, also one with a count of 2, and only what nobody else holds is freed
+    ∷ case several (FreeAll 2 ∷ FreeAll 0 ∷ FreeAll 0 ∷ []) (amount-of 0 ∷ amount-of 48 ∷ amount-of 0 ∷ [])
+    0 (parts (head 2 0 0 ∷ zeros 8 ∷ head 2 2 2 ∷ replicate 8 9 ∷ head 4 2 0 ∷ zeros 24 ∷ []))
+    (accounts-of (quota 100 100 ∷ quota 100 84 ∷ []) 3 (zero-hold ∷ zero-hold ∷ zero-hold ∷ hold 2 1 1 ∷ []))
+    ∷ case (held-times 255) (FreeAll 0 ∷ Lend (handle 8 8 1) ∷ []) (amount-of 16 ∷ refused 5 ∷ [])
+    0 (parts (head 8 0 0 ∷ zeros 56 ∷ [])) (accounts-of (quota 16 16 ∷ []) 1 [])
+    ∷ []
+
+-- 1 to 8 and 1 to 16, and one object that holds the latter
+abbrev pub eight : List ℕ
+eight = 1 ∷ 2 ∷ 3 ∷ 4 ∷ 5 ∷ 6 ∷ 7 ∷ 8 ∷ []
+
+unfoldable pub sixteen : List ℕ
+sixteen = parts (eight ∷ (9 ∷ 10 ∷ 11 ∷ 12 ∷ 13 ∷ 14 ∷ 15 ∷ 16 ∷ []) ∷ [])
+
+unfoldable pub copying : ℕ → Outcome
+copying g₀ = written 8 sixteen (run unit (opened-heap 128 g₀ 100) (Allocate 0 16 ∷ []))
+
+unfoldable pub reallocations : List Case
+reallocations =
+    let h = handle 8 16 1 in
+    -- a shorter object gets the first bytes; the old one is freed and its record unused
+    case (copying 100) (Reallocate 0 h 8 ∷ []) (given (handle 32 8 2) ∷ [])
+    0 (parts (head 3 0 0 ∷ zeros 16 ∷ head 2 3 2 ∷ eight ∷ head 11 2 0 ∷ zeros 80 ∷ []))
+    (accounts-of (quota 100 84 ∷ quota 100 100 ∷ []) 2 (zero-hold ∷ hold 2 0 1 ∷ []))
+    -- a longer one has zeros behind the copy; a count above 1 goes down and the old object lives on
+    ∷ case (copying 100) (Claim 0 h ∷ Reallocate 0 h 24 ∷ []) (amount-of 16 ∷ given (handle 32 24 2) ∷ [])
+    0 (parts (head 3 0 1 ∷ sixteen ∷ head 4 3 2 ∷ sixteen ∷ zeros 8 ∷ head 9 4 0 ∷ zeros 64 ∷ []))
+    (accounts-of (quota 100 44 ∷ quota 100 100 ∷ []) 2 (hold 1 0 1 ∷ hold 2 0 1 ∷ []))
+    -- it lives on for another holder too, and then this quota has no record for it
+    ∷ case (copying 100) (Claim 1 h ∷ Reallocate 0 h 16 ∷ Reallocate 0 h 8 ∷ []) (amount-of 16 ∷ given (handle 32 16 2) ∷ refused 6 ∷ [])
+    0 (parts (head 3 0 1 ∷ sixteen ∷ head 3 3 2 ∷ sixteen ∷ head 10 3 0 ∷ zeros 72 ∷ []))
+    (accounts-of (quota 100 76 ∷ quota 100 76 ∷ []) 2 (zero-hold ∷ hold 1 1 1 ∷ hold 2 0 1 ∷ []))
+    -- the old object still counts when the new one is paid for, and when its place is looked for
+    ∷ case (copying 40) (Reallocate 0 h 16 ∷ Reallocate 0 h 8 ∷ []) (refused 8 ∷ given (handle 32 8 2) ∷ [])
+    0 (parts (head 3 0 0 ∷ zeros 16 ∷ head 2 3 2 ∷ eight ∷ head 11 2 0 ∷ zeros 80 ∷ []))
+    (accounts-of (quota 40 24 ∷ quota 100 100 ∷ []) 2 (zero-hold ∷ hold 2 0 1 ∷ []))
+    ∷ case (copying 1000) (Reallocate 0 h 104 ∷ Reallocate 0 h 96 ∷ []) (refused 11 ∷ given (handle 32 96 2) ∷ [])
+    0 (parts (head 3 0 0 ∷ zeros 16 ∷ head 13 3 2 ∷ sixteen ∷ zeros 80 ∷ []))
+    (accounts-of (quota 1000 896 ∷ quota 100 100 ∷ []) 2 (zero-hold ∷ hold 2 0 1 ∷ []))
+    ∷ []
+
+-- a walk over the blocks, a place inside a block, the end and a place past it
+unfoldable pub walks : List Case
+walks =
+    case with-gaps (ListBlock 0 ∷ ListBlock 16 ∷ ListBlock 32 ∷ ListBlock 64 ∷ ListBlock 80 ∷ ListBlock 8 ∷ ListBlock 40 ∷ ListBlock 128 ∷ ListBlock 136 ∷ [])
+    (block 0 16 0 ∷ block 16 16 2 ∷ block 32 32 0 ∷ block 64 16 4 ∷ block 80 48 0 ∷ listed none ∷ listed none ∷ listed none ∷ listed none ∷ [])
+    0 (parts (head 2 0 0 ∷ zeros 8 ∷ head 2 2 2 ∷ zeros 8 ∷ head 4 2 0 ∷ zeros 24 ∷ head 2 4 4 ∷ zeros 8 ∷ head 6 2 0 ∷ zeros 40 ∷ []))
+    (accounts-of (quota 1000 968 ∷ quota 1000 1000 ∷ []) 4 (zero-hold ∷ hold 2 0 1 ∷ zero-hold ∷ hold 4 0 1 ∷ []))
     ∷ []

@@ -1,4 +1,4 @@
--- When heap and accounts are consistent ("sound" in document 01): one test for each sentence of that paragraph, in its order.
+-- When heap and accounts are consistent (rules, section 5): one test for each rule, in their order.
 use Prim.Native.Nat.{ℕ, suc, _+_, _%_}
 use mathlib.Core.List.{List, [], _∷_}
 use mathlib.Core.Bool.{Bool, true, false, not, cond, _&&_, _||_}
@@ -8,20 +8,20 @@ use Rattle.accounts.specs.declared.Quota.{Quota}
 use Rattle.accounts.specs.declared.Hold.{Hold}
 use Rattle.accounts.specs.declared.Accounts.{Accounts}
 use Rattle.accounts.specs.Accounts.{QUOTAS, used, is-for}
-use Rattle.layout.specs.Blocks.{Block, size, live, parse}
+use Rattle.layout.specs.Blocks.{Block, size, live, parse, greatest-heap}
 use Rattle.model.specs.Lists.{all, any, total}
 use Rattle.model.specs.Objects.{objects}
 use Rattle.model.specs.declared.Handle.{Handle}
 
--- a heap length that is allowed: a multiple of 8, 64 to 32,768
+-- rule 2.1: a heap length that is allowed
 unfoldable pub allowed : ℕ → Bool
-allowed H = eqb (H % 8) 0 && (leb 64 H && leb H 32768)
+allowed H = eqb (H % 8) 0 && (leb 64 H && leb H greatest-heap)
 
--- "A free block may be 8 bytes long, a live one is at least 16"
+-- rule 5.2, live blocks: 16 bytes or more
 unfoldable pub long-enough : Block → Bool
 long-enough b = not (live b) || leb 16 (size b)
 
--- "Two free blocks never stand side by side"
+-- rule 5.2, free blocks: no two neighbours
 unfoldable pub starts-free : List Block → Bool
 starts-free [] = false
 starts-free (b ∷ bs) = not (live b)
@@ -30,42 +30,43 @@ unfoldable pub free-apart : List Block → Bool
 free-apart [] = true
 free-apart (b ∷ bs) = (live b || not (starts-free bs)) && free-apart bs
 
--- "The heap is cut as above": that every size and back size is true and the last block ends at H is layout's `parse`
+-- rule 5.2; what 5.1 asks of sizes and back numbers is layout's `parse`
 unfoldable pub well-cut : List Block → Bool
 well-cut bs = all long-enough bs && free-apart bs
 
--- "Live serials differ from each other and are at most the last serial"
 abbrev pub has-serial : ℕ → Handle → Bool
 has-serial serial o = eqb (o .serial) serial
 
+-- rule 5.3: live serials differ
 unfoldable pub serials-differ : List Handle → Bool
 serials-differ [] = true
 serials-differ (o ∷ os) = not (any (has-serial (o .serial)) os) && serials-differ os
 
+-- rule 5.4: none is above the last serial
 unfoldable pub serials-given : ℕ → List Handle → Bool
 serials-given last os = all (λ o. leb (o .serial) last) os
 
--- "Every used record has a live object's serial, a quota below 8 and a count of at least 1"
+-- rule 5.5: a used record is of a live object, with a quota that exists and a count
 unfoldable pub record-valid : List Handle → Hold → Bool
 record-valid os h = not (used h) || (any (has-serial (h .serial)) os && (ltb (h .quota) QUOTAS && leb 1 (h .count)))
 
--- "No two used records have the same serial and quota"
+-- rule 5.6: used records differ in serial or quota
 unfoldable pub records-differ : List Hold → Bool
 records-differ [] = true
 records-differ (h ∷ hs) = not (used h && any (is-for (h .serial) (h .quota)) hs) && records-differ hs
 
--- "Every live object has a record"
+-- rule 5.7: an object is held
 unfoldable pub is-of : ℕ → Hold → Bool
 is-of serial h = used h && eqb (h .serial) serial
 
 unfoldable pub held : List Hold → ℕ → Bool
 held hs serial = any (is-of serial) hs
 
--- a charge is the object's length + 8, the header's size
+-- rule 3.6: a charge is the object's length + 8, the header's size
 abbrev pub charge-of : ℕ → ℕ
 charge-of length = length + 8
 
--- "the sum of (length + 8) over the objects it has a record for"
+-- the charges that rule 5.8 adds up: those of the objects for which the quota has a record
 unfoldable pub has-record : List Hold → ℕ → ℕ → Bool
 has-record hs q serial = any (is-for serial q) hs
 
@@ -75,7 +76,7 @@ charged-for hs q o = cond (has-record hs q (o .serial)) (charge-of (o .length)) 
 unfoldable pub charges : List Hold → ℕ → List Handle → ℕ
 charges hs q os = total (charged-for hs q) os
 
--- "For each quota, grant = remainder + the sum", from the quota with number q on
+-- rule 5.8, from the quota with number q on: grants are remainders and charges
 unfoldable pub balanced-from : List Handle → List Hold → ℕ → List Quota → Bool
 balanced-from os hs q [] = true
 balanced-from os hs q (x ∷ xs) = eqb (x .grant) (x .remainder + charges hs q os) && balanced-from os hs (suc q) xs

@@ -8,6 +8,8 @@ pub mod Refusals
 pub mod Calls
 pub mod Step
 pub mod Marked
+pub mod Tables
 pub mod Cases
+pub mod Lines
+pub mod Inconsistent
 pub mod Joining
-pub mod Touched

@@ -1,4 +1,4 @@
--- Document 01's marked run: the table M1 to M12, and how such a table is run. That the definitions give it is `proofs/Marked.antt`.
+-- The run M (rule 12.1): its table, and how such a table is run. That the definitions give it is `proofs/Marked.antt`.
 use Prim.Native.Nat.{ℕ}
 use mathlib.Core.List.{List, [], _∷_}
 use lib.ListN.{replicate}

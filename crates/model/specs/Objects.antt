@@ -1,4 +1,4 @@
--- The objects of a heap, and the handles that name them (document 01, "Handle").
+-- The objects of a heap, and the handles that name them (rules, section 4).
 use Prim.Native.Nat.{ℕ, _+_}
 use mathlib.Core.List.{List, [], _∷_}
 use mathlib.Core.Bool.{Bool, cond, _&&_}
@@ -10,7 +10,7 @@ use Rattle.model.specs.Lists.{first, or-else}
 use Rattle.model.specs.Answers.{zero-handle}
 use Rattle.model.specs.declared.Handle.{Handle}
 
--- the object of a block that starts at a place: its base is the first byte after the header
+-- rule 4.1: the object of a block that starts at a place
 abbrev pub object : ℕ → Block → Handle
 object at b = record { base = at + 8; length = length (b .body); serial = b .serial }
 
@@ -35,11 +35,11 @@ objects-of s = objects (blocks-of s)
 unfoldable pub whole : Handle → Handle → Bool
 whole h o = eqb (h .base) (o .base) && (eqb (h .length) (o .length) && eqb (h .serial) (o .serial))
 
--- a handle names an object
+-- rule 4.3: a handle names an object
 unfoldable pub names : Handle → Handle → Bool
 names h o = whole h o
 
--- the lookup: the object that a handle names; and for reallocate, the object that it is the whole of
+-- rule 4.4, the lookup: the object that a handle names; and for reallocate, the object that it is the whole of
 unfoldable pub lookup : Handle → List ℕ → Option Handle
 lookup h s = first (names h) (objects-of s)
 

@@ -1,4 +1,4 @@
--- Refusals (document 01, "Refusal numbers, checked in this order"): each line of the table, and each call's column of it.
+-- Refusals (rules, section 7): each line of rule 7.1, and for each call its lines, those of the table of section 8.
 use Prim.Native.Nat.{ℕ}
 use mathlib.Core.List.{List, [], _∷_}
 use mathlib.Core.Bool.{Bool, true, false, not, _&&_, _||_}
@@ -26,7 +26,7 @@ line-number (n when t) = n
 abbrev pub line-holds : Line → Bool
 line-holds (n when t) = t
 
--- the number of the first line that holds, 0 where none does
+-- rule 7.2: the number of the first line that holds, 0 where none does
 unfoldable pub first-refusal : List Line → ℕ
 first-refusal [] = 0
 first-refusal ((n when true) ∷ ls) = n
@@ -42,51 +42,51 @@ greatest-count = 255
 abbrev pub greatest-serial : ℕ
 greatest-serial = 4294967295
 
--- 1: heap length is not allowed
+-- line 1: a heap of this length is not allowed (rule 2.1)
 unfoldable pub line-1 : List ℕ → Line
 line-1 s = 1 when not (allowed (length s))
 
--- 2: heap and accounts are not consistent
+-- line 2: the state is not consistent (rules, section 5)
 unfoldable pub line-2 : List ℕ → Accounts → Line
 line-2 s k = 2 when not (consistent s k)
 
--- 3: quota is 8 or more
+-- line 3: there is no such quota
 unfoldable pub line-3 : ℕ → Line
 line-3 q = 3 when leb QUOTAS q
 
--- 4: length or product is 0 or above 32,760
+-- line 4: nothing is asked for, or more than any request may
 unfoldable pub line-4 : ℕ → Line
 line-4 n = 4 when eqb n 0 || ltb greatest-length n
 
--- 5: handle names no live object
+-- line 5: the lookup finds no object
 unfoldable pub line-5 : Option Handle → Line
 line-5 o = 5 when is-none o
 
--- 6: this quota has no record for the object
+-- line 6: the quota does not hold the object
 unfoldable pub line-6 : Accounts → ℕ → Handle → Line
 line-6 k q o = 6 when not (has-record (k .holds) q (o .serial))
 
--- 7: this quota's count is 255
+-- line 7: the record's count is the greatest
 unfoldable pub line-7 : Accounts → ℕ → Handle → Line
 line-7 k q o = 7 when eqb (count-of (o .serial) q (k .holds)) greatest-count
 
--- 8: charge is above the remainder
+-- line 8: the quota has less left than the charge
 unfoldable pub line-8 : Accounts → ℕ → ℕ → Line
 line-8 k q n = 8 when ltb (remaining q k) (charge-of n)
 
--- 9: no unused record
+-- line 9: all records are used
 unfoldable pub line-9 : Accounts → Line
 line-9 k = 9 when all used (k .holds)
 
--- 10: last serial is 4,294,967,295
+-- line 10: there is no next serial
 unfoldable pub line-10 : Accounts → Line
 line-10 k = 10 when eqb (k .«last_serial») greatest-serial
 
--- a line that is given only where a test holds
+-- rule 7.3: a line that is given only where a test holds
 unfoldable pub only-if : Bool → Line → Line
 only-if c (n when t) = n when c && t
 
--- a quota without a record for the object pays for its claim
+-- a quota without a record for the object pays for its first hold
 unfoldable pub claims-first : Accounts → ℕ → Handle → Bool
 claims-first k q o = not (has-record (k .holds) q (o .serial))
 
@@ -114,11 +114,11 @@ claim-lines s k q h =
     line-1 s ∷ line-2 s k ∷ line-3 q ∷ line-5 (lookup h s) ∷ line-7 k q o ∷ only-if pays (line-8 k q (o .length)) ∷ only-if pays (line-9 k) ∷ []
 
 module _ (unit : ℕ → ℕ) where
-  -- the base of a new object for a request of n bytes
+  -- rule 8.6: the base of a new object for a request of n bytes
   unfoldable pub base-for : List ℕ → ℕ → Option ℕ
   base-for s n = lowest-base (length s) (blocks-of s) (alignment unit n) (object-length unit n)
 
-  -- 11: no offset b as above exists
+  -- line 11: the request has no base
   unfoldable pub line-11 : List ℕ → ℕ → Line
   line-11 s n = 11 when is-none (base-for s n)
 

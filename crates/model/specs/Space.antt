@@ -1,4 +1,4 @@
--- Where a new object goes, and what becomes of blocks (document 01, "Allocate" and "Release").
+-- Where a new object goes, and what becomes of blocks (rules 8.5 to 8.8 and 8.18 to 8.21).
 use Prim.Native.Nat.{ℕ, zero, suc, _+_, _-_, _/_}
 use mathlib.Core.List.{List, [], _∷_, _++_}
 use mathlib.Core.Bool.{Bool, true, not, cond, _&&_, _||_}
@@ -19,7 +19,7 @@ outside-occupied start end at [] = true
 outside-occupied start end at (b ∷ bs) =
     (not (occupied b) || (leb end at || leb (at + size b) start)) && outside-occupied start end (at + size b) bs
 
--- "the bytes from b - 8 to b + object length lie in the heap outside every live block"
+-- rule 8.6: header and object, with the base at b, lie in the heap and meet no occupied block
 unfoldable pub suitable : ℕ → List Block → ℕ → ℕ → Bool
 suitable H bs n b = leb 8 b && (leb (b + n) H && outside-occupied (b - 8) (b + n) 0 bs)
 
@@ -30,16 +30,16 @@ first-candidate p (suc count) step from =
     let later = first-candidate p count step (from + step) in
     cond (p from) (some from) later
 
--- "the lowest offset b, a multiple of the unit, such that ..": of all multiples up to H
+-- rule 8.6: the least suitable base, of all multiples of the alignment up to H
 unfoldable pub lowest-base : ℕ → List Block → ℕ → ℕ → Option ℕ
 lowest-base H bs alignment n = first-candidate (suitable H bs n) (suc (H / alignment)) alignment 0
 
--- "What is left in front and behind becomes free blocks": of so many bytes with the header; none where nothing is left
+-- rule 8.7: what is left at one end is a free block of so many bytes with the header; none where nothing is left
 unfoldable pub left-over : ℕ → List ℕ → List Block
 left-over zero body = []
 left-over (suc n) body = record { serial = 0; body = body } ∷ []
 
--- a free block at a place, cut so that an object of n zero bytes has its base there
+-- rules 8.7 and 8.8: a free block at a place, cut so that an object of n zero bytes has its base there
 unfoldable pub cut-block : ℕ → ℕ → ℕ → ℕ → Block → List Block
 cut-block base n serial at b =
     left-over (base - 8 - at) (take (base - 16 - at) (b .body))
@@ -56,13 +56,13 @@ carve-from base n serial at (b ∷ bs) =
 unfoldable pub carve : ℕ → ℕ → ℕ → List Block → List Block
 carve base n serial bs = carve-from base n serial 0 bs
 
--- a free block joins a free block behind it; the header that no longer starts a block becomes zero
+-- rules 8.18 and 8.19: a free block joins a free block behind it, whose header becomes zero
 unfoldable pub join-front : Block → List Block → List Block
 join-front b [] = b ∷ []
 join-front b (c ∷ cs) =
     cond (live b || live c) (b ∷ c ∷ cs) (record { serial = 0; body = b .body ++ (replicate 8 0 ++ c .body) } ∷ cs)
 
--- what becomes of a block that nobody holds: it is free, and its object's bytes are zero
+-- rule 8.18: what becomes of a block that nobody holds
 unfoldable pub vacate : Block → Block
 vacate b = record { serial = 0; body = replicate (length (b .body)) 0 }
 

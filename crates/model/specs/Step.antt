@@ -1,10 +1,18 @@
--- One step of a history: a call on a heap and its accounts.
+-- One step of a history: a call on a heap and its accounts; and with its answer in place of the values.
 use Prim.Native.Nat.{ℕ}
 use mathlib.Core.List.{List}
 use Rattle.accounts.specs.declared.Accounts.{Accounts}
+use Rattle.model.specs.Answers.{answer-of}
 use Rattle.model.specs.Calls.{Outcome, allocate, allocate-array, claim, release, free-all, reallocate, lend, remaining-of, can-release, list-block}
+use Rattle.model.specs.declared.Answer.{Answer}
 use Rattle.model.specs.declared.Call.{Call}
 use Rattle.model.specs.declared.Call.the-variants.{Allocate, AllocateArray, Claim, Release, FreeAll, Reallocate, Lend, Remaining, CanRelease, ListBlock}
+
+-- what a call leaves, and its answer
+pub record Answered : Type 0 where
+  pub heap : List ℕ
+  pub accounts : Accounts
+  pub answer : Answer
 
 module _ (unit : ℕ → ℕ) where
   unfoldable pub step : Call → List ℕ → Accounts → Outcome
@@ -18,3 +26,8 @@ module _ (unit : ℕ → ℕ) where
   step (Remaining q) s k = remaining-of s k q
   step (CanRelease q h) s k = can-release s k q h
   step (ListBlock at) s k = list-block s k at
+
+  unfoldable pub performed : Call → List ℕ → Accounts → Answered
+  performed c s k =
+      let t = step c s k in
+      record { heap = t .heap; accounts = t .accounts; answer = answer-of c (t .values) }

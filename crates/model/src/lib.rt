@@ -3,7 +3,16 @@ use accounts::Accounts;
 ghost use mathlib.Core.Path.{_≡_};
 ghost use Rattle.model.specs.Answers.{refusal-number};
 
-// An object's place, length and serial. It names an object where a live block's object has all three the same.
+// The greatest length of a request (rule 7.1, line 4).
+pub const GREATEST_LENGTH: u32 = 32760;
+
+// The greatest count of a record (rule 3.5).
+pub const GREATEST_COUNT: u8 = 255;
+
+// The greatest serial (rule 7.1, line 10).
+pub const GREATEST_SERIAL: u32 = 4294967295;
+
+// Base, length and serial. They name the object that has all three (rule 4.3).
 #[repr(C)]
 pub struct Handle {
     pub base: u32,
@@ -26,7 +35,7 @@ pub struct ListedBlock {
     pub serial: u32,
 }
 
-// The eleven refusals, in the order in which they are checked.
+// The eleven refusals, in the order in which they are checked (rule 7.1).
 pub enum Refusal {
     HeapLength,
     Inconsistent,

@@ -1,3 +1,4 @@
+pub mod Results
 pub mod Amounts
 pub mod Claims
 pub mod Cleared

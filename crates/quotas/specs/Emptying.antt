@@ -7,7 +7,7 @@ use lib.ListN.{getD, set, replicate}
 use lib.Dec.{eqb}
 use Rattle.accounts.specs.declared.Hold.{Hold}
 use Rattle.accounts.specs.Accounts.{HOLDS}
-use Rattle.layout.specs.Blocks.{Block, live, total-size, render, AllWritable}
+use Rattle.layout.specs.Blocks.{Block, live, total-size, render, AllWritable, greatest-heap}
 use Rattle.model.specs.Lists.{all}
 use Rattle.model.specs.Consistent.{free-apart, held}
 use Rattle.model.specs.Space.{settle}
@@ -55,7 +55,7 @@ pub record Emptying (hs : List Hold) (bs : List Block) (kept : List Bool) (i at 
   pub place : at ≡ total-size front
   pub writable : AllWritable (front ++ todo)
   pub apart : free-apart (front ++ todo) ≡ true
-  pub short : total-size (front ++ todo) ≤ 32768
+  pub short : total-size (front ++ todo) ≤ greatest-heap
   pub settled : all (stays hs) front ≡ true
   pub same : settle hs (front ++ todo) ≡ settle hs bs
   pub flags : Flagged hs kept i todo

@@ -6,22 +6,24 @@ use accounts::Place;
 use accounts::QUOTAS;
 use finder::Lookup;
 use model::AmountAnswer;
+use model::GREATEST_COUNT;
 use model::Handle;
 use model::Refusal;
 use model::Verdict;
 ghost use mathlib.Core.Path.{_≡_};
 ghost use Prim.Native.Nat.{_≤_, _<_};
 ghost use Rattle.accounts.specs.Accounts.{QUOTAS};
+ghost use Rattle.model.specs.Refusals.{greatest-length};
 ghost use Rattle.model.specs.Calls.{claim as claim-of};
 ghost use Rattle.quotas.specs.Results.{amount-outcome};
 ghost use Rattle.quotas.specs.Claims.{claim-again, claim-first};
 
-// The record at a place counts once more, at no charge.
+// Rule 8.13: the record at a place counts once more.
 fn claim_again(accounts: Accounts, at: usize, length: u32) -> AmountResult
     ensures { λ r. ⌜ r ≡ claim-again at length accounts ⌝ }
 {
     let hold = accounts.hold_at(at);
-    if hold.count == 255 {
+    if hold.count == GREATEST_COUNT {
         return AmountResult::refused(accounts, Refusal::CountLimit);
     }
     let raised = Hold {
@@ -30,14 +32,14 @@ fn claim_again(accounts: Accounts, at: usize, length: u32) -> AmountResult
         count: hold.count + 1,
     };
     AmountResult {
-        accounts: accounts.add_hold(at, raised),
+        accounts: accounts.put_hold(at, raised),
         answer: AmountAnswer::Amount(length),
     }
 }
 
-// The quota pays for an object of this length, and the lowest unused record becomes its hold.
+// Rule 8.14: the quota pays for an object of this length, and the lowest unused record becomes its hold.
 fn claim_first(accounts: Accounts, quota: u32, hold: Hold, length: u32) -> AmountResult
-    requires { ⌜ (quota < QUOTAS) × (length ≤ 32760) ⌝ }
+    requires { ⌜ (quota < QUOTAS) × (length ≤ greatest-length) ⌝ }
     ensures { λ r. ⌜ r ≡ claim-first quota hold length accounts ⌝ }
 {
     let charge = length + 8;
@@ -49,12 +51,12 @@ fn claim_first(accounts: Accounts, quota: u32, hold: Hold, length: u32) -> Amoun
     };
     let paid = accounts.charge(quota, charge);
     AmountResult {
-        accounts: paid.add_hold(at, hold),
+        accounts: paid.put_hold(at, hold),
         answer: AmountAnswer::Amount(length),
     }
 }
 
-// A quota that has a record for the object raises its count; another pays and takes the lowest unused record. The answer is the object's length.
+// Rules 8.13 to 8.15: a quota holds an object once more, or pays and holds it for the first time. The answer is the object's length.
 pub fn claim(heap: &[u8], accounts: Accounts, quota: u32, handle: Handle) -> AmountResult
     ensures { λ r. ⌜ amount-outcome (now (heap .entry)) r ≡ claim-of (now (heap .entry)) accounts quota handle ⌝ }
 {

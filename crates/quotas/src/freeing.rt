@@ -1,4 +1,4 @@
-// Free-all: a quota gives up every claim at once, and the blocks that no quota holds any more become free.
+// Free-all (rules 8.20 to 8.22): a quota gives up every hold at once, and the blocks that no quota holds any more become free.
 // One walk collects the serials of the live blocks, one pass over the records says which of them are still held, and one walk frees the others.
 use crate::AmountResult;
 use accounts::Accounts;
@@ -80,7 +80,7 @@ fn free_unkept(heap: &mut [u8], kept: [bool; HOLDS])
     }
 }
 
-// Every claim of a quota is given up, and all that it has spent is given back; objects that no quota claims are freed.
+// Every hold of a quota is given up, and all that it has spent is given back; objects that no quota holds are freed.
 pub fn free_all(heap: &mut [u8], accounts: Accounts, quota: u32) -> AmountResult
     ensures { λ r. ⌜ amount-outcome (now (heap .exit)) r ≡ free-all-of (now (heap .entry)) accounts quota ⌝ }
 {

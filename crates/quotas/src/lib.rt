@@ -1,4 +1,5 @@
-// The calls that change what quotas hold and make no object: open, claim and free-all. Each checks heap and accounts for itself and answers, or gives one refusal and changes nothing.
+// The calls that change what quotas hold and make no object: open, claim and free-all. Each checks heap and accounts for itself and answers, or gives one
+// refusal and changes nothing.
 use accounts::Accounts;
 use model::AmountAnswer;
 use model::Refusal;

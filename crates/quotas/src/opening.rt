@@ -1,4 +1,4 @@
-// Opening a heap: its bytes are cleared, and its accounts begin.
+// Opening a heap (rules 8.2 to 8.4): its bytes are cleared, and its accounts begin.
 use crate::Opened;
 use accounts::Accounts;
 use accounts::QUOTAS;
@@ -9,24 +9,10 @@ ghost use mathlib.Core.Path.{_≡_};
 ghost use Prim.Native.Nat.{_/_};
 ghost use Rattle.layout.specs.Bytes.{zero-part};
 ghost use Rattle.layout.specs.Blocks.{write-header};
-ghost use Rattle.model.specs.Consistent.{allowed};
 ghost use Rattle.model.specs.Calls.{open-heap};
 ghost use Rattle.quotas.specs.Results.{opened-outcome};
 
-// Whether a heap may have this length.
-fn is_allowed(len: usize) -> bool
-    ensures { λ r. ⌜ r ≡ allowed len ⌝ }
-{
-    if len % 8 != 0 {
-        return false;
-    }
-    if len < 64 {
-        return false;
-    }
-    len <= 32768
-}
-
-// All bytes become zero, then the header of one block that covers the heap is written.
+// Rule 8.2: zeros everywhere, and at offset 0 the header of one free block.
 fn clear(heap: &mut [u8], len: usize)
     ensures { λ _.
         ⌜ now (heap .exit) ≡ write-header 0 (record { size = len / 8; back = 0; serial = 0 }) (zero-part 0 len (now (heap .entry))) ⌝ }
@@ -45,7 +31,7 @@ pub fn open(heap: &mut [u8], grants: [u32; QUOTAS]) -> Opened
     ensures { λ r. ⌜ opened-outcome (now (heap .exit)) r ≡ open-heap (now (heap .entry)) grants ⌝ }
 {
     let len = heap.len();
-    if !is_allowed(len) {
+    if !checker::is_allowed(len) {
         return Opened {
             accounts: Accounts::zero(),
             verdict: Verdict::Refused(Refusal::HeapLength),

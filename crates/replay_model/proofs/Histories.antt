@@ -13,7 +13,7 @@ use Rattle.rounding.specs.Rounding.{unit}
 use Rattle.model.specs.Calls.{Outcome, open-heap}
 use Rattle.model.specs.Step.{step}
 use Rattle.model.specs.declared.Call.{Call}
-use Rattle.ledger.specs.Ledger.{Event, Called}
+use Rattle.ledger.specs.Ledger.{Event, Called, empty}
 use Rattle.ledger.specs.History.{History}
 use Rattle.ledger.proofs.Theorem.{demand-3}
 use Rattle.replay_model.specs.Lines.{lines}
@@ -24,8 +24,8 @@ use Rattle.replay_model.proofs.Openings.{opening-granted, begins}
 
 -- the lines of a history lead to a history
 module _ (grants : List ℕ) where
-  ran-history : (ls : List (List ℕ)) (s : List ℕ) (k : Accounts) (es : List Event) → History (step unit) grants es s k
-      → History (step unit) grants (ran-lines ls s k es .events) (ran-lines ls s k es .heap) (ran-lines ls s k es .accounts)
+  ran-history : (ls : List (List ℕ)) (s : List ℕ) (k : Accounts) (es : List Event) → History (step unit) (empty grants) es s k
+      → History (step unit) (empty grants) (ran-lines ls s k es .events) (ran-lines ls s k es .heap) (ran-lines ls s k es .accounts)
   unfolding ran-lines ran-call
   ran-history [] s k es h = h
   ran-history (l ∷ []) s k es h = h
@@ -38,9 +38,10 @@ module _ (grants : List ℕ) where
       stopped = record { heap = s; accounts = k; events = es; last = bad-line }
 
       go : (o : Option Call)
-          → ((s′ : List ℕ) (k′ : Accounts) (es′ : List Event) → History (step unit) grants es′ s′ k′
-          → History (step unit) grants (ran-lines (m ∷ ls) s′ k′ es′ .events) (ran-lines (m ∷ ls) s′ k′ es′ .heap) (ran-lines (m ∷ ls) s′ k′ es′ .accounts))
-          → History (step unit) grants (ran-call o stopped after .events) (ran-call o stopped after .heap) (ran-call o stopped after .accounts)
+          → ((s′ : List ℕ) (k′ : Accounts) (es′ : List Event) → History (step unit) (empty grants) es′ s′ k′
+          → History (step unit) (empty grants) (ran-lines (m ∷ ls) s′ k′ es′ .events) (ran-lines (m ∷ ls) s′ k′ es′ .heap)
+          (ran-lines (m ∷ ls) s′ k′ es′ .accounts))
+          → History (step unit) (empty grants) (ran-call o stopped after .events) (ran-call o stopped after .heap) (ran-call o stopped after .accounts)
       go none ih = h
       go (some c) ih =
           let t = step unit c s k in
@@ -98,5 +99,6 @@ replay-history s l m ls o h e q z =
       history = leads;
       holds =
           λ front back d.
-          demand-3 .always (o .grants) front back (r .heap) (r .accounts) (subst (λ (es : List Event). History (step unit) (o .grants) es (r .heap) (r .accounts)) d leads);
+          demand-3 .always (empty (o .grants)) front back (r .heap) (r .accounts)
+          (subst (λ (es : List Event). History (step unit) (empty (o .grants)) es (r .heap) (r .accounts)) d leads);
     }

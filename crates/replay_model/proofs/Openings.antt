@@ -16,6 +16,7 @@ use Rattle.model.specs.Answers.{Values, accepted}
 use Rattle.model.specs.Refusals.{first-refusal, open-lines}
 use Rattle.model.specs.Calls.{Outcome, unless, leaves, fresh, open-heap}
 use Rattle.model.proofs.Bools.{and-right}
+use Rattle.ledger.specs.Ledger.{empty}
 use Rattle.ledger.specs.History.{Begins, Opening as Begun}
 use Rattle.replay_model.specs.Text.{is-digit, read-on, read-number, greatest-number}
 use Rattle.replay_model.specs.Lines.{join-number, numbers, words}
@@ -115,11 +116,12 @@ unfolding unless
 unless-accepted zero s k done e z = e
 unless-accepted (suc n) s k done e z = absurd (omega arith)
 
-pub begins : (s grants : List ℕ) → Granted grants → open-heap s grants .values .refusal ≡ 0 → Begins grants (open-heap s grants .heap) (open-heap s grants .accounts)
+pub begins : (s grants : List ℕ) → Granted grants → open-heap s grants .values .refusal ≡ 0
+    → Begins (empty grants) (open-heap s grants .heap) (open-heap s grants .accounts)
 unfolding open-heap
 begins s grants g z =
     let o = open-heap s grants in
-    Begun (record {
+    Begun grants refl (record {
       before = s;
       quotas = g .quotas;
       narrow = g .narrow;

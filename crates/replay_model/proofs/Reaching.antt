@@ -15,15 +15,15 @@ use Rattle.model.specs.Refusals.{first-refusal, line-1, line-2, check-lines}
 use Rattle.model.specs.Step.{step}
 use Rattle.model.specs.declared.Call.{Call}
 use Rattle.model.proofs.Bools.{and-right}
-use Rattle.ledger.specs.Ledger.{Called}
+use Rattle.ledger.specs.Ledger.{Called, empty}
 use Rattle.ledger.specs.Demand3.{Holds}
 use Rattle.ledger.proofs.Theorem.{demand-3}
 use Rattle.replay_model.specs.Events.{Reached}
 
 -- what demand 3 says of a state that a history leads to: the check accepts it, and its length is allowed
 module _ (s : List ℕ) (k : Accounts) (r : Reached s k) where
-  reached-holds : Holds unit (step unit) (r .grants) (r .events) [] s k
-  reached-holds = demand-3 .always (r .grants) (r .events) [] s k (r .history)
+  reached-holds : Holds unit (step unit) (empty (r .grants)) (r .events) [] s k
+  reached-holds = demand-3 .always (empty (r .grants)) (r .events) [] s k (r .history)
 
   pub reached-checked : first-refusal (check-lines s k) ≡ 0
   unfolding first-refusal check-lines line-1 line-2

@@ -1,4 +1,4 @@
--- Replays that are computed: document 01's example, and the corners of its rules. One table, one theorem, and others for long inputs and for numbers.
+-- Replays that are computed: the example of rule 11.16, and the corners of section 11. One table, one theorem, and others for long inputs and for numbers.
 -- Assumes nothing.
 use Prim.Native.Nat.{ℕ, _-_}
 use Prim.Native.String.{String}
@@ -22,7 +22,7 @@ wanted (s prints t) = text t
 
 pub rows : List Row
 rows =
-    -- document 01's example
+    -- rule 11.16
     ("open 128 100 1000 0 0 0 0 0 0\nalloc 0 10\nalloc 0 68\nfree 1 8 16 1\nall 0\n" prints "ok\nok 8 16 1\nno 8\nno 6\nok 24\n0 128 0\n")
     -- each call's answer, and the list of a heap with live blocks
     ∷ ("open 128 500 500 0 0 0 0 0 0\narray 0 2 8\nclaim 1 8 16 1\nfree 0 8 16 1\nrealloc 1 8 16 1 20\nall 0\nclaim 1 32 24 2\nfree 1 32 24 2\n" prints "ok\nok 8 16 1\nok 16\nok 24\nok 32 24 2\nok 0\nok 24\nok 0\n0 24 0\n24 32 2\n56 72 0\n")

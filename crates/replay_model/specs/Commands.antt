@@ -1,4 +1,4 @@
--- What a line asks for: an opening, or one of six calls. A name is followed by exactly as many numbers as its call takes.
+-- What a line asks for (rules 11.4 and 11.5): an opening, or one of six calls. A name is followed by exactly as many numbers as its call takes.
 use Prim.Native.Nat.{ℕ, _+_}
 use mathlib.Core.List.{List, [], _∷_}
 use mathlib.Core.Bool.{cond}
@@ -14,7 +14,7 @@ use Rattle.replay_model.specs.Lines.{words, numbers}
 use Rattle.replay_model.specs.declared.Word.{Word}
 use Rattle.replay_model.specs.declared.Word.the-variants.{Open, Alloc, Array, Claim as ClaimWord, Free, All, Realloc, Unknown}
 
--- the names: "`open H` and eight grants first and only there, then `alloc q n`, `array q n s`, `claim q b l s`, `free q b l s`, `all q`, `realloc q b l s n`"
+-- the names of rule 11.4
 unfoldable pub word-of : List ℕ → Word
 word-of w =
     cond (same w (text "open")) Open
@@ -34,7 +34,7 @@ handle-in ns = record { base = getD ns 1 0; length = getD ns 2 0; serial = getD 
 unfoldable pub taking : ℕ → List ℕ → Call → Option Call
 taking k ns c = cond (eqb (length ns) k) (some c) none
 
--- a name with its numbers as a call; the quota comes first
+-- rule 11.4: a name with its numbers as a call; the quota comes first
 unfoldable pub call-of : Word → List ℕ → Option Call
 call-of Open ns = none
 call-of Alloc ns = taking 2 ns (Allocate (getD ns 0 0) (getD ns 1 0))
@@ -45,7 +45,7 @@ call-of All ns = taking 1 ns (FreeAll (getD ns 0 0))
 call-of Realloc ns = taking 5 ns (Reallocate (getD ns 0 0) (handle-in ns) (getD ns 4 0))
 call-of Unknown ns = none
 
--- an opening: the heap's length, and a grant for each quota
+-- rule 11.4, an opening: the heap's length, and a grant for each quota
 pub record Opening : Type 0 where
   pub heap : ℕ
   pub grants : List ℕ
@@ -81,7 +81,7 @@ unfoldable pub phrase-opening : Option Phrase → Option Opening
 phrase-opening none = none
 phrase-opening (some p) = opening-of (p .name) (p .values)
 
--- what a line asks for; none for "another kind of line"
+-- what a line asks for; none for a line of a wrong form
 unfoldable pub line-call : List ℕ → Option Call
 line-call l = phrase-call (phrase-of (words l))
 

@@ -1,4 +1,4 @@
--- What a reader has to believe, in document 01's order ("The replay program").
+-- What a reader has to believe: the rules of section 11, from words to events.
 pub mod Text
 pub mod Lines
 pub mod Commands

@@ -1,4 +1,4 @@
--- Lines of an input and words of a line ("single spaces between its words and ends with a line feed").
+-- Lines of an input and words of a line (rule 11.2).
 use Prim.Native.Nat.{ℕ}
 use mathlib.Core.List.{List, [], _∷_}
 use mathlib.Core.Bool.{cond}

@@ -1,4 +1,4 @@
--- The replay program, as a function from input bytes to output bytes (document 01, "The replay program").
+-- The replay program (rules, section 11), as a function from input bytes to output bytes.
 use Prim.Native.Nat.{ℕ}
 use mathlib.Core.List.{List, [], _∷_, _++_}
 use mathlib.Core.Bool.{Bool, true, false, cond}
@@ -19,16 +19,16 @@ use Rattle.replay_model.specs.Text.{text, decimal, SPACE, LINE-FEED}
 use Rattle.replay_model.specs.Lines.{lines}
 use Rattle.replay_model.specs.Commands.{Opening, line-opening, line-call}
 
--- "It reads at most 65,536 bytes"
+-- rule 11.1: the most bytes of an input
 abbrev pub LONGEST : ℕ
 LONGEST = 65536
 
--- the rest of a line: a space in front of each number, and the line feed
+-- rule 11.14, the rest of a line: a space in front of each number, and the line feed
 unfoldable pub tail-of : List ℕ → List ℕ
 tail-of [] = LINE-FEED ∷ []
 tail-of (n ∷ ns) = SPACE ∷ (decimal n ++ tail-of ns)
 
--- "`ok` and the numbers, or `no` and the refusal"
+-- rules 11.4, 11.6 and 11.9: the three kinds of answer
 unfoldable pub ok-line : List ℕ → List ℕ
 ok-line ns = text "ok" ++ tail-of ns
 
@@ -51,18 +51,18 @@ gives-handle (Remaining q) = false
 gives-handle (CanRelease q h) = false
 gives-handle (ListBlock at) = false
 
--- the numbers of an accepted call's answer: base, length and serial, or the amount
+-- rule 11.4, the numbers of an accepted call's answer: base, length and serial, or the amount
 unfoldable pub handle-numbers : Handle → List ℕ
 handle-numbers h = h .base ∷ (h .length ∷ (h .serial ∷ []))
 
 unfoldable pub answer-numbers : Call → Values → List ℕ
 answer-numbers c v = cond (gives-handle c) (handle-numbers (v .handle)) (v .amount ∷ [])
 
--- "A line per call"
+-- rules 11.4 and 11.6: the line of a call
 unfoldable pub answer-line : Call → Values → List ℕ
 answer-line c v = cond (eqb (v .refusal) 0) (ok-line (answer-numbers c v)) (no-line (v .refusal))
 
--- "Then each block: offset, size, serial"
+-- rule 11.8: the line of a block
 unfoldable pub block-line : ListedBlock → List ℕ
 block-line b = decimal (b .offset) ++ tail-of (b .size ∷ (b .serial ∷ []))
 
@@ -73,24 +73,24 @@ block-lines (b ∷ bs) = block-line b ++ block-lines bs
 unfoldable pub heap-lines : List ℕ → List ℕ
 heap-lines s = block-lines (listing-from 0 (blocks-of s))
 
--- the end of an input: the list, where nothing stands behind the last line feed
+-- rules 11.8 and 11.11, the end of an input: the list, where nothing stands behind the last line feed
 unfoldable pub ending : List ℕ → List ℕ → List ℕ
 ending [] s = heap-lines s
 ending (b ∷ rest) s = bad-line
 
--- what a call of a line leads to; "Another kind of line .. prints `bad` behind the answers so far and ends it without the list"
+-- rule 11.9: what a call of a line leads to, `bad` where there is none
 unfoldable pub on-call : Option Call → (Call → List ℕ) → List ℕ
 on-call none run = bad-line
 on-call (some c) run = run c
 
--- the lines behind the opening, on a heap and its accounts: a call is answered, and the next line is run on what the call leaves
+-- rule 11.7, the lines behind the opening, on a heap and its accounts: a call is answered, and the next line is run on what the call leaves
 unfoldable pub run-lines : List (List ℕ) → List ℕ → Accounts → List ℕ
 run-lines [] s k = bad-line
 run-lines (l ∷ []) s k = ending l s
 run-lines (l ∷ (m ∷ ls)) s k =
     on-call (line-call l) (λ c. answer-line c (step unit c s k .values) ++ run-lines (m ∷ ls) (step unit c s k .heap) (step unit c s k .accounts))
 
--- "A refused open ends it after its line"
+-- rule 11.12: behind a refused opening nothing is read
 unfoldable pub run-opened : Outcome → List (List ℕ) → List ℕ
 run-opened o ls =
     let run = ok-line [] ++ run-lines ls (o .heap) (o .accounts) in
@@ -101,13 +101,13 @@ unfoldable pub run-opening : Option Opening → List (List ℕ) → List ℕ
 run-opening none ls = bad-line
 run-opening (some o) ls = run-opened (open-heap (replicate (o .heap) 0) (o .grants)) ls
 
--- the lines of an input: the first opens the heap; where no line ends there is none
+-- rules 11.5 and 11.11, the lines of an input: the first opens the heap; where no line ends there is none
 unfoldable pub run-input : List (List ℕ) → List ℕ
 run-input [] = bad-line
 run-input (l ∷ []) = bad-line
 run-input (l ∷ (m ∷ ls)) = run-opening (line-opening l) (m ∷ ls)
 
--- "too long an input prints `bad` alone"
+-- rule 11.1: the length is judged first
 unfoldable pub replay : List ℕ → List ℕ
 replay s =
     let run = run-input (lines s) in

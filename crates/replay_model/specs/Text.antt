@@ -35,7 +35,7 @@ places (suc fuel) n =
 unfoldable pub decimal : ℕ → List ℕ
 decimal n = digits (places 9 n) n
 
--- "a number above 4,294,967,295"
+-- rule 11.3: the greatest number
 abbrev pub greatest-number : ℕ
 greatest-number = 4294967295
 
@@ -50,7 +50,7 @@ read-on n (b ∷ bs) =
     let rest = read-on next bs in
     cond (is-digit b && leb next greatest-number) rest none
 
--- "decimal without leading zeros": 0 stands alone, and no word is empty
+-- rule 11.3: no 0 in front of another digit, and no empty word
 unfoldable pub read-number : List ℕ → Option ℕ
 read-number [] = none
 read-number (b ∷ []) = read-on 0 (b ∷ [])

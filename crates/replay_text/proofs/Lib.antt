@@ -1,3 +1,4 @@
+pub mod Told
 pub mod Puts
 pub mod Spelling
 pub mod Reading

@@ -62,7 +62,7 @@ module _ (s grants s′ : List ℕ) (k : Accounts) (v : Verdict) (told : outcome
         grants = grants;
         events = [];
         history =
-            Begun (record {
+            Begun grants refl (record {
               before = s;
               quotas = g .quotas;
               narrow = g .narrow;

@@ -2,8 +2,8 @@
 -- Assumes nothing.
 use mathlib.Core.Path.{_≡_, refl, ap, sym, _∙_}
 use mathlib.Core.List.{List, []}
-use mathlib.Core.Bool.{Bool, true, false, cond}
-use mathlib.Core.Option.{none, some}
+use mathlib.Core.Bool.{Bool, true, false, cond, true≢false}
+use mathlib.Core.Option.{Option, none, some}
 use Prim.Native.Nat.{ℕ, _+_, _≤_, _<_}
 use native.Mathlib.Omega.{arith}
 use borrow.Author.Tests.{eq-eqb}
@@ -12,8 +12,8 @@ use lib.Seq.{slice, take-all}
 use Rattle.accounts.specs.Accounts.{QUOTAS}
 use Rattle.replay_model.specs.Text.{SPACE}
 use Rattle.replay_model.specs.Lines.{words, numbers}
-use Rattle.replay_model.specs.Commands.{word-of, call-of, opening-of, named, phrase-call, phrase-opening, line-call, line-opening}
-use Rattle.replay_text.specs.Contracts.{FirstMark, MOST, few, few-phrase, Counted, LineRead, line-phrase, opening-value, is-open}
+use Rattle.replay_model.specs.Commands.{Opening, word-of, call-of, opening-of, named, phrase-call, phrase-opening, line-call, line-opening}
+use Rattle.replay_text.specs.Contracts.{FirstMark, MOST, few, few-phrase, Counted, LineRead, line-phrase, opening-line, is-open}
 use Rattle.replay_text.specs.declared.Count.the-variants.{Read, Nothing}
 use Rattle.replay_model.specs.declared.Word.{Word}
 use Rattle.replay_model.specs.declared.Word.the-variants.{Open, Alloc, Array, Claim, Free, All, Realloc, Unknown}
@@ -109,9 +109,11 @@ opens-is All n vs gs e q k g = let z : _≡_ {A = ℕ} 0 1 = cc in absurd (omega
 opens-is Realloc n vs gs e q k g = let z : _≡_ {A = ℕ} 0 1 = cc in absurd (omega arith)
 opens-is Unknown n vs gs e q k g = let z : _≡_ {A = ℕ} 0 1 = cc in absurd (omega arith)
 
--- an opening, if one was read
-pub no-opening : (l : OpenLine) → l .ok ≡ false → opening-value l ≡ none
-no-opening l e = ap (λ (t : Bool). cond t (some (record { heap = l .heap; grants = l .grants })) none) e
+-- the opening of a line that was read: none where it is not ok, else its numbers
+pub no-opening : (l : OpenLine) (o : Option Opening) → l ≡ opening-line o → l .ok ≡ false → o ≡ none
+no-opening l none q e = refl
+no-opening l (some o) q e = absurd (true≢false (sym (ap (λ (x : OpenLine). x .ok) q) ∙ e))
 
-pub some-opening : (l : OpenLine) → l .ok ≡ true → opening-value l ≡ some (record { heap = l .heap; grants = l .grants })
-some-opening l e = ap (λ (t : Bool). cond t (some (record { heap = l .heap; grants = l .grants })) none) e
+pub some-opening : (l : OpenLine) (o : Option Opening) → l ≡ opening-line o → l .ok ≡ true → o ≡ some (record { heap = l .heap; grants = l .grants })
+some-opening l none q e = absurd (true≢false (sym e ∙ ap (λ (x : OpenLine). x .ok) q))
+some-opening l (some o) q e = ap (λ (x : OpenLine). some (record { heap = x .heap; grants = x .grants })) (sym q)

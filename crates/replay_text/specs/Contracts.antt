@@ -92,13 +92,15 @@ pub record LineRead (l : List ℕ) (r : Line) : Type 0 where
   pub small : r .count ≤ MOST
   pub kept : length (r .values) ≡ MOST
 
--- a call, if one is asked for; an opening, if one is asked for
+-- a call, if one is asked for
 abbrev pub asked-call : Asked → Option Call
 asked-call (AskedCall c) = some c
 asked-call NotAsked = none
 
-abbrev pub opening-value : OpenLine → Option Opening
-opening-value l = cond (l .ok) (some (record { heap = l .heap; grants = l .grants })) none
+-- an opening as it was read: zeros where none is asked for
+abbrev pub opening-line : Option Opening → OpenLine
+opening-line none = record { ok = false; heap = 0; grants = replicate QUOTAS 0 }
+opening-line (some o) = record { ok = true; heap = o .heap; grants = o .grants }
 
 abbrev pub is-open : Word → Bool
 is-open Open = true

@@ -13,6 +13,7 @@ use model::Verdict;
 ghost use mathlib.Core.Path.{_≡_};
 ghost use mathlib.Core.List.{[], _∷_};
 ghost use Prim.Native.Nat.{_+_, _≤_};
+ghost use Rattle.layout.specs.Blocks.{greatest-heap};
 ghost use Rattle.model.specs.Answers.{answer-values, zero-handle};
 ghost use Rattle.replay_text.specs.Answered.{verdict-refusal, handle-refusal, amount-refusal, range-refusal, block-refusal, answer-refusal, given-handle, answer-handle, given-amount, answer-amount};
 ghost use Rattle.replay_model.specs.Replay.{tail-of, ok-line, no-line, bad-line, handle-numbers, gives-handle, answer-line, block-line};
@@ -256,7 +257,7 @@ pub(crate) fn put_answer(output: &mut [u8], at: usize, call: Call, answer: Answe
 
 // The line of a block.
 pub(crate) fn put_block(output: &mut [u8], at: usize, block: ListedBlock) -> usize
-    requires { ⌜ (block .offset + block .size ≤ 32768) × Room at (block-line block) (now output) ⌝ }
+    requires { ⌜ (block .offset + block .size ≤ greatest-heap) × Room at (block-line block) (now output) ⌝ }
     ensures { λ r. ⌜ Put at (block-line block) (now (output .entry)) (now (output .exit)) r ⌝ }
 {
     let next = digits::put_number(output, at, block.offset as u32);

@@ -20,7 +20,7 @@ ghost use lib.ListN.{length, take, drop};
 ghost use lib.Seq.{slice};
 ghost use Rattle.replay_model.specs.Lines.{words};
 ghost use Rattle.replay_model.specs.Commands.{call-of, line-call, line-opening};
-ghost use Rattle.replay_text.specs.Contracts.{Within, Counted, LineRead, asked-call, opening-value, is-open};
+ghost use Rattle.replay_text.specs.Contracts.{Within, Counted, LineRead, asked-call, opening-line, is-open};
 ghost use Rattle.replay_text.specs.Contracts.{MOST as MostNumbers};
 
 // The numbers between single spaces from a place up to another, into `values`; nothing where a word is no number, or there are more than a line has.
@@ -196,7 +196,7 @@ fn opens(name: Word) -> bool
 
 // No opening.
 fn no_opening() -> OpenLine
-    ensures { λ r. ⌜ opening-value r ≡ none ⌝ }
+    ensures { λ r. ⌜ r ≡ opening-line none ⌝ }
 {
     OpenLine {
         ok: false,
@@ -208,7 +208,7 @@ fn no_opening() -> OpenLine
 // The opening that the line from a place up to another asks for.
 pub(crate) fn read_opening(input: &[u8], from: usize, to: usize) -> OpenLine
     requires { ⌜ Within from to (now input) ⌝ }
-    ensures { λ r. ⌜ opening-value r ≡ line-opening (slice from to (now (input .entry))) ⌝ }
+    ensures { λ r. ⌜ r ≡ opening-line (line-opening (slice from to (now (input .entry)))) ⌝ }
 {
     let line = read_line(input, from, to);
     let values = line.values;

@@ -1,5 +1,6 @@
 // Numbers in decimal: a number is written as digits, and the digits of a word are read.
 use crate::Number;
+use accounts::GREATEST_NUMBER;
 ghost use mathlib.Core.Path.{_≡_};
 ghost use Prim.Native.Nat.{_+_, _≤_};
 ghost use lib.ListN.{length};
@@ -7,6 +8,9 @@ ghost use lib.Seq.{slice};
 ghost use Rattle.layout.specs.Bytes.{overwrite};
 ghost use Rattle.replay_model.specs.Text.{digits, places, decimal, read-on, read-number};
 ghost use Rattle.replay_text.specs.Contracts.{Put, Room, Within, number-value};
+
+// The greatest number that is read, as wide as the next one may be.
+const GREATEST: u64 = GREATEST_NUMBER as u64;
 
 // How many digits a number has.
 fn count_digits(n: u32) -> usize
@@ -69,7 +73,7 @@ fn read_digits(input: &[u8], from: usize, to: usize) -> Number
             return Number::Nothing;
         }
         let next = value * 10 + (byte - 48);
-        if 4294967295 < next {
+        if GREATEST < next {
             return Number::Nothing;
         }
         value = next;

@@ -5,18 +5,17 @@ use crate::commands;
 use crate::words;
 use accounts::Accounts;
 use accounts::QUOTAS;
+use layout::GREATEST_HEAP;
 use model::BlockAnswer;
 ghost use Prim.Native.Nat.{_≤_};
 ghost use lib.ListN.{length, replicate};
 ghost use lib.Seq.{slice};
+ghost use Rattle.layout.specs.Blocks.{greatest-heap};
 ghost use Rattle.model.specs.Calls.{open-heap};
 ghost use Rattle.replay_model.specs.Lines.{lines};
 ghost use Rattle.replay_model.specs.Replay.{heap-lines, ending, run-lines, run-opened, run-input};
 ghost use Rattle.replay_text.specs.Contracts.{Room, Put, Zeros};
 ghost use Rattle.replay_model.specs.Events.{Reached, Granted};
-
-// The most bytes that a heap has.
-const LONGEST_HEAP: usize = 32768;
 
 // The lines of the heap's blocks, in order.
 fn put_blocks(heap: &[u8], accounts: Accounts, output: &mut [u8], at: usize) -> usize
@@ -26,7 +25,7 @@ fn put_blocks(heap: &[u8], accounts: Accounts, output: &mut [u8], at: usize) -> 
     let mut place: usize = 0;
     let mut next = at;
     loop {
-        let BlockAnswer::Listed(block) = heap::list_block(heap, accounts, place) else {
+        let BlockAnswer::Listed(block) = heap::list_from(heap, accounts, place) else {
             return next;
         };
         next = answers::put_block(output, next, block);
@@ -107,10 +106,10 @@ fn run_opened(
 }
 
 // A heap's bytes before it is opened.
-fn zero_bytes() -> [u8; LONGEST_HEAP]
-    ensures { λ r. ⌜ Zeros 32768 r ⌝ }
+fn zero_bytes() -> [u8; GREATEST_HEAP]
+    ensures { λ r. ⌜ Zeros greatest-heap r ⌝ }
 {
-    [0u8; LONGEST_HEAP]
+    [0u8; GREATEST_HEAP]
 }
 
 // The lines behind an opening, on a heap of so many bytes.
@@ -125,7 +124,7 @@ fn run_opening(
     ensures { λ r. ⌜ Put 0 (run-opened (open-heap (replicate size 0) grants) (lines (slice from (length (now (input .entry))) (now (input .entry))))) (now (output .entry)) (now (output .exit)) r ⌝ }
 {
     let len = size as usize;
-    if LONGEST_HEAP < len {
+    if GREATEST_HEAP < len {
         return answers::put_refusal(output, 0, 1);
     }
     let mut store = zero_bytes();

@@ -72,12 +72,12 @@ pub within-heap : (n : ℕ) → n ≤ 32760 → object-length unit n ≤ 32768
 unfolding object-length
 within-heap n h = by-row (λ (k : ℕ). (n + (k - 1)) / k * k ≤ 32768) n (λ _. omega arith) (λ _ _. omega arith) (λ _. omega arith)
 
--- source document 002's alignment depends on the bits above the lowest 13 only
+-- the alignment of rule 6.4 depends on the bits above the lowest 13 only
 document-row : (n k : ℕ) → n / 8192 ≡ k → representable-alignment n ≡ 2 ^ (52 - leading-zeros 52 k + 3)
 unfolding representable-alignment exponent
 document-row n k e = rw e refl
 
--- up to 32,767 the unit is source document 002's alignment
+-- rule 6.4: up to 32,767 the unit is the hardware's alignment
 pub unit-document : (n : ℕ) → n ≤ 32767 → unit n ≡ representable-alignment n
 unfolding leading-zeros
 unit-document n h =

@@ -1,8 +1,8 @@
--- The table of units, computed at both ends of each row, with the object's lengths and source document 002's alignment there.
+-- The table of units, computed at both ends of each row, with the object's lengths and the hardware's alignment there (rules 6.1 to 6.4).
 -- Assumes nothing.
 use mathlib.Core.Path.{_≡_, refl}
 use mathlib.Core.List.{[], _∷_, map}
-use Rattle.rounding.specs.Rounding.{unit, object-length, leading-zeros, exponent, representable-alignment}
+use Rattle.rounding.specs.Rounding.{unit, object-length, alignment, leading-zeros, exponent, representable-alignment}
 
 -- the unit at both ends of each row
 pub unit-rows : map unit (1 ∷ 8191 ∷ 8192 ∷ 16383 ∷ 16384 ∷ 32767 ∷ []) ≡ 8 ∷ 8 ∷ 16 ∷ 16 ∷ 32 ∷ 32 ∷ []
@@ -19,7 +19,12 @@ pub longer-rows : map (object-length unit) (8192 ∷ 8193 ∷ 16383 ∷ 16384 �
 unfolding unit object-length
 longer-rows = refl
 
--- source document 002's alignment at the ends of the rows from 4 KiB on
+-- the base's alignment goes by the request
+pub alignment-rows : map (alignment unit) (1 ∷ 8185 ∷ 8191 ∷ 8192 ∷ 16383 ∷ 16384 ∷ 32760 ∷ []) ≡ 8 ∷ 8 ∷ 8 ∷ 16 ∷ 16 ∷ 32 ∷ 32 ∷ []
+unfolding unit alignment
+alignment-rows = refl
+
+-- the hardware's alignment at the ends of the rows from 4 KiB on
 pub formula-rows : map representable-alignment (4096 ∷ 8191 ∷ 8192 ∷ 16383 ∷ 16384 ∷ 32767 ∷ []) ≡ 8 ∷ 8 ∷ 16 ∷ 16 ∷ 32 ∷ 32 ∷ []
 unfolding leading-zeros exponent representable-alignment
 formula-rows = refl

@@ -1,10 +1,10 @@
--- Rounding of lengths (document 01, "Rounding of lengths"). Everything is derived from one function, the unit of a requested length.
+-- Rounding of lengths (rules, section 6). Everything is derived from one function, the unit of a requested length.
 use Prim.Native.Nat.{ℕ, zero, suc, _+_, _*_, _-_, _/_, _%_, _^_, _<_}
 use mathlib.Core.Path.{_≡_}
 use mathlib.Core.Bool.{cond}
 use lib.Dec.{leb, ltb}
 
--- document 01's table; a length below its first row or above its last one has that row's unit
+-- rule 6.1; and 6.5: a length below the first row or above the last one has that row's unit
 unfoldable pub unit : ℕ → ℕ
 unit n = cond (leb n 8191) 8 (cond (leb n 16383) 16 32)
 
@@ -13,11 +13,11 @@ pub record Units (u : ℕ → ℕ) : Type 0 where
   pub positive : (n : ℕ) → 0 < u n
   pub eights : (n : ℕ) → u n % 8 ≡ 0
 
--- the object's length: the request rounded up to a multiple of its unit
+-- rule 6.2: the object's length, the least multiple of the unit that is not below the request
 unfoldable pub object-length : (ℕ → ℕ) → ℕ → ℕ
 object-length u n = (n + (u n - 1)) / u n * u n
 
--- the base's alignment: the base is a multiple of the same unit
+-- rule 6.3: what the base is a multiple of
 unfoldable pub alignment : (ℕ → ℕ) → ℕ → ℕ
 alignment u n = u n
 
@@ -28,7 +28,7 @@ leading-zeros (suc w) x =
     let more = suc (leading-zeros w x) in
     cond (ltb x (2 ^ w)) more 0
 
--- source document 002: E = 52 - CountLeadingZeros(l[64:13]), and the alignment 2^(E+3)
+-- rule 6.4: the exponent E of the hardware's bounds, counted in the 52 bits above the lowest 13, and the alignment 2^(E+3)
 unfoldable pub exponent : ℕ → ℕ
 exponent n = 52 - leading-zeros 52 (n / 2 ^ 13)
 

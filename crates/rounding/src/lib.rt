@@ -1,4 +1,4 @@
-// Rounding of requested lengths: the unit of a length, the object's length and the alignment of its base.
+// Rounding of requested lengths (rules, section 6): the unit of a length, the object's length and the alignment of its base.
 ghost use mathlib.Core.Path.{_≡_};
 ghost use Rattle.rounding.specs.Rounding.{unit as unit-of, object-length, alignment as alignment-of};
 
@@ -13,7 +13,7 @@ pub fn unit(length: u32) -> u32
     }
 }
 
-// The object's length: the request rounded up to a multiple of its unit. It can need more than 32 bits.
+// The object's length: the least multiple of the unit that is not below the request. It can need more than 32 bits.
 pub fn object_length(length: u32) -> u64
     ensures { λ r. ⌜ r ≡ object-length unit-of length ⌝ }
 {

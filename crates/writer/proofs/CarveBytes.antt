@@ -21,7 +21,7 @@ use Rattle.layout.proofs.Fields.{header-length, header-behind}
 use Rattle.layout.proofs.Render.{length-render, render-append, render-cons}
 use Rattle.model.specs.Lists.{total}
 use Rattle.model.specs.Space.{left-over, cut-block}
-use Rattle.model.specs.Touched.{within, carve-touches}
+use Rattle.model.proofs.Touched.{within, carve-touches}
 use Rattle.writer.specs.Writes.{write-rest, units-after, write-object, write-next, carve-bytes}
 use Rattle.model.proofs.Bools.{or-neither}
 use Rattle.model.proofs.Blocks.{Whole, total-is}

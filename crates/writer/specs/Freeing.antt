@@ -4,7 +4,7 @@ use mathlib.Core.List.{List}
 use mathlib.Core.Bool.{Bool, cond, _&&_}
 use lib.Dec.{leb, eqb}
 use lib.ListN.{length}
-use Rattle.layout.specs.Blocks.{start-at}
+use Rattle.layout.specs.Blocks.{start-at, greatest-heap}
 use Rattle.layout.specs.declared.Header.{Header}
 use Rattle.layout.specs.declared.Start.{Start}
 use Rattle.layout.specs.declared.Start.the-variants.{Block as Starts, Nothing}
@@ -37,7 +37,7 @@ pub record Inside (m : Met) (s : List ℕ) : Type 0 where
   pub before : 8 * m .back ≤ m .at
   pub front : room-at (m .at - 8 * m .back) s .free ≤ m .at
   pub end : m .at + m .size ≤ length s
-  pub allowed : length s ≤ 32768
+  pub allowed : length s ≤ greatest-heap
 
 -- the end of the free block that this makes
 unfoldable pub free-end : Met → List ℕ → ℕ
@@ -47,7 +47,8 @@ free-end m s = m .at + m .size + room-at (m .at + m .size) s .free
 unfoldable pub is-inside : Met → List ℕ → Bool
 is-inside m s =
     leb 8 (m .size)
-    && (leb (8 * m .back) (m .at) && (leb (room-at (m .at - 8 * m .back) s .free) (m .at) && (leb (m .at + m .size) (length s) && leb (length s) 32768)))
+    && (leb (8 * m .back) (m .at) && (leb (room-at (m .at - 8 * m .back) s .free) (m .at)
+    && (leb (m .at + m .size) (length s) && leb (length s) greatest-heap)))
 
 unfoldable pub free-in : Met → List ℕ → List ℕ
 free-in m s = cond (is-inside m s) (free-block m s) s

@@ -1,4 +1,5 @@
--- The writes that carving and freeing make on a heap's bytes, one by one. That they are what the definitions of `model` leave is `proofs/CarveBytes.antt` and `proofs/FreeBytes.antt`.
+-- The writes that carving and freeing make on a heap's bytes, one by one. That they are what the definitions of `model` leave is `proofs/CarveBytes.antt`
+-- and `proofs/FreeBytes.antt`.
 use Prim.Native.Nat.{ℕ, _+_, _-_, _/_}
 use mathlib.Core.List.{List}
 use mathlib.Core.Bool.{cond, _&&_}

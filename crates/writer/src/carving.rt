@@ -1,7 +1,8 @@
-// Carving: an object is cut out of a free block, and what is left in front and behind becomes free blocks.
+// Carving (rules 8.7 and 8.8): an object is cut out of a free block, whose two ends stay free.
 use crate::writing::put_next;
 use crate::writing::put_object;
 use finder::Met;
+use layout::GREATEST_HEAP;
 use layout::Header;
 ghost use mathlib.Core.Path.{_≡_};
 ghost use Prim.Native.Nat.{_+_};
@@ -54,10 +55,10 @@ fn cut(heap: &mut [u8], block: Met, base: usize, length: usize, serial: u32)
 fn has_room(block: Met, base: usize, length: usize) -> bool
     ensures { λ r. ⌜ r ≡ has-room block base length ⌝ }
 {
-    if 32768 < block.at {
+    if GREATEST_HEAP < block.at {
         return false;
     }
-    if 32768 - block.at < block.size {
+    if GREATEST_HEAP - block.at < block.size {
         return false;
     }
     if base < block.at + 8 {

@@ -1,7 +1,8 @@
-// Freeing: a live block becomes free and joins its free neighbours.
+// Freeing (rules 8.18 and 8.19): a live block becomes free and joins its free neighbours.
 use crate::writing::put_next;
 use crate::writing::put_object;
 use finder::Met;
+use layout::GREATEST_HEAP;
 use layout::Header;
 use layout::Start;
 ghost use mathlib.Core.Path.{_≡_};
@@ -85,7 +86,7 @@ fn is_inside(heap: &[u8], block: Met) -> bool
     ensures { λ r. ⌜ r ≡ is-inside block (now (heap .entry)) ⌝ }
 {
     let len = heap.len();
-    if 32768 < len {
+    if GREATEST_HEAP < len {
         return false;
     }
     if len < block.at {
@@ -104,8 +105,8 @@ fn is_inside(heap: &[u8], block: Met) -> bool
     front.free <= block.at
 }
 
-// A live block becomes free and joins its free neighbours, and the end of the free block that this makes is given; nothing is written, and 0 is given, where the block does not
-// lie in the heap.
+// A live block becomes free and joins its free neighbours, and the end of the free block that this makes is given; nothing is written, and 0 is given,
+// where the block does not lie in the heap.
 pub fn free_block(heap: &mut [u8], block: Met) -> usize
     ensures frees { λ _. ⌜ now (heap .exit) ≡ free-in block (now (heap .entry)) ⌝ }
     ensures ends { λ r. ⌜ r ≡ free-end-in block (now (heap .entry)) ⌝ }

@@ -1,14 +1,14 @@
-//! Heaps and accounts that are not sound: each sentence broken alone.
+//! Heaps and accounts that are not consistent: each rule of section 5 broken alone.
 
 use crate::naive;
 use crate::prng::Prng;
 use crate::state::*;
 use lokhazim_reference::*;
 
-/// The blocks of the sound heap that is damaged.
+/// The blocks of the consistent heap that is damaged.
 const PIECES: [Piece; 5] = [(24, 1), (32, 0), (24, 5), (16, 3), (32, 0)];
 
-/// The records of the sound accounts that are damaged.
+/// The records of the consistent accounts that are damaged.
 fn records() -> Vec<Hold> {
     vec![
         hold(1, 0, 1),
@@ -27,19 +27,19 @@ fn state_of(pieces: &[Piece], holds: &[Hold]) -> State {
     }
 }
 
-/// Makes the sound state.
+/// Makes the consistent state.
 fn sound() -> State {
     state_of(&PIECES, &records())
 }
 
-/// Makes the sound state and changes it.
+/// Makes the consistent state and changes it.
 fn changed(change: impl FnOnce(&mut State)) -> State {
     let mut state = sound();
     change(&mut state);
     state
 }
 
-/// Makes a state whose records are the sound ones and one more.
+/// Makes a state whose records are the consistent ones and one more.
 fn with_record(extra: Hold) -> State {
     state_of(&PIECES, &[records(), vec![extra]].concat())
 }

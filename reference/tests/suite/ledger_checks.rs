@@ -1,4 +1,4 @@
-//! The sentences about the ledger, each checked against heap and accounts.
+//! What section 10 of the rules says of the ledger, each rule checked against heap and accounts.
 
 use std::collections::BTreeMap;
 
@@ -11,7 +11,7 @@ use crate::state::{header, put, Answer, Call, State};
 /// The bytes of each live object, by serial, as the caller last saw them.
 pub type Contents = BTreeMap<u32, Vec<u8>>;
 
-/// Checks every sentence that concerns the state after a call.
+/// Checks every rule that concerns the state after a call.
 pub fn check_all(state: &State, ledger: &Ledger, contents: &Contents) {
     heap_and_accounts_are_sound(state);
     live_objects_are_the_ledgers(state, ledger);
@@ -27,13 +27,13 @@ fn blocks(state: &State) -> Vec<Block> {
     naive::blocks(&state.heap).expect("the heap is cut into blocks")
 }
 
-/// Soundness holds after each call, by both judgements of it.
+/// Rule 10.10: the state is consistent after each call, by both judgements of it.
 fn heap_and_accounts_are_sound(state: &State) {
     assert!(naive::is_sound(&state.heap, &state.accounts));
     assert_eq!(check(&state.heap, &state.accounts), Ok(()));
 }
 
-/// The objects of live blocks are exactly the ledger's.
+/// Rule 10.4: live objects are the ledger's.
 fn live_objects_are_the_ledgers(state: &State, ledger: &Ledger) {
     let live = blocks(state).into_iter().filter(|block| block.serial != 0);
     let mut in_heap: Vec<(u32, u32, u32)> = live
@@ -47,7 +47,7 @@ fn live_objects_are_the_ledgers(state: &State, ledger: &Ledger) {
     assert_eq!(in_heap, in_ledger);
 }
 
-/// The used records are exactly the ledger's holds above 0.
+/// Rule 10.7: used records are the ledger's holds.
 fn used_records_are_the_holds(state: &State, ledger: &Ledger) {
     let used = state.accounts.holds.iter().filter(|hold| hold.is_used());
     let mut records: Vec<(u32, u8, u32)> = used
@@ -57,7 +57,7 @@ fn used_records_are_the_holds(state: &State, ledger: &Ledger) {
     assert_eq!(records, ledger.records());
 }
 
-/// The grants of the accounts are the ledger's.
+/// Rule 10.8: the grants of the accounts are the ledger's.
 fn grants_are_the_grants(state: &State, ledger: &Ledger) {
     assert_eq!(
         state.accounts.quotas.map(|quota| quota.grant),
@@ -66,7 +66,7 @@ fn grants_are_the_grants(state: &State, ledger: &Ledger) {
     assert_eq!(state.accounts.last_serial, ledger.last_serial);
 }
 
-/// A remainder, and what remaining answers, is the grant less the charges.
+/// Rule 10.8: a remainder, and what remaining answers, is the grant less the charges.
 fn remainders_are_grants_less_charges(state: &State, ledger: &Ledger) {
     for (number, quota) in state.accounts.quotas.iter().enumerate() {
         assert_eq!(i128::from(quota.remainder), ledger.remainder(number));
@@ -74,8 +74,8 @@ fn remainders_are_grants_less_charges(state: &State, ledger: &Ledger) {
     }
 }
 
-/// No byte belongs to two objects or to an object and a header, and all lie in
-/// the heap.
+/// Rule 10.6: no byte belongs to two objects or to an object and a header, and all
+/// lie in the heap.
 fn bytes_belong_to_one_object_or_header(state: &State, ledger: &Ledger) {
     let mut owners = vec![0; state.heap.len()];
     let headers = blocks(state).into_iter().map(|block| (block.offset, 8));
@@ -91,7 +91,7 @@ fn bytes_belong_to_one_object_or_header(state: &State, ledger: &Ledger) {
     assert!(owners.iter().all(|owner| *owner <= 1), "an overlap");
 }
 
-/// Each object's bytes are those that the caller last saw.
+/// Rule 10.12: each object's bytes are those that the caller last saw.
 fn contents_are_unchanged(state: &State, ledger: &Ledger, contents: &Contents) {
     assert_eq!(contents.len(), ledger.objects.len());
     for object in &ledger.objects {
@@ -100,7 +100,7 @@ fn contents_are_unchanged(state: &State, ledger: &Ledger, contents: &Contents) {
     }
 }
 
-/// An object that the ledger keeps keeps its base and length.
+/// Rule 10.5: an object that the ledger keeps keeps its base and length.
 pub fn kept_objects_keep_their_place(before: &Ledger, after: &Ledger) {
     for object in &after.objects {
         let serial = object.handle.serial;

@@ -1,4 +1,4 @@
-//! Runs on both sides of each line: heap lengths, request lengths and rounding.
+//! Heap lengths, request lengths and rounding, below and above each limit (rule 12.3).
 
 use crate::state::*;
 use lokhazim_reference::*;

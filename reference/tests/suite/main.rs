@@ -2,6 +2,7 @@
 
 mod bytes;
 mod damage;
+mod images;
 mod ledger;
 mod ledger_checks;
 mod lines;

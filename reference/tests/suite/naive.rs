@@ -1,4 +1,4 @@
-//! The heap walked and the soundness judged a second time, by plain loops.
+//! The heap walked and rules 5.1 to 5.8 judged a second time, by plain loops.
 
 use lokhazim_reference::{Accounts, Block, QUOTAS};
 
@@ -37,7 +37,7 @@ pub fn blocks(heap: &[u8]) -> Option<Vec<Block>> {
     Some(blocks)
 }
 
-/// Judges soundness for a heap of allowed length.
+/// Judges consistency for a heap of allowed length.
 pub fn is_sound(heap: &[u8], accounts: &Accounts) -> bool {
     let Some(blocks) = blocks(heap) else {
         return false;
@@ -48,7 +48,7 @@ pub fn is_sound(heap: &[u8], accounts: &Accounts) -> bool {
         && sums_are_sound(&live, accounts)
 }
 
-/// Judges the sentence about live serials.
+/// Judges the rules about live serials (5.3 and 5.4).
 fn serials_are_sound(live: &[Block], accounts: &Accounts) -> bool {
     live.iter().enumerate().all(|(i, block)| {
         let repeated = live[..i].iter().any(|other| other.serial == block.serial);
@@ -56,7 +56,7 @@ fn serials_are_sound(live: &[Block], accounts: &Accounts) -> bool {
     })
 }
 
-/// Judges the sentences about records.
+/// Judges the rules about records (5.5 to 5.7).
 fn records_are_sound(live: &[Block], accounts: &Accounts) -> bool {
     let used = |i: usize| {
         let hold = accounts.holds[i];
@@ -83,7 +83,7 @@ fn records_are_sound(live: &[Block], accounts: &Accounts) -> bool {
     })
 }
 
-/// Judges the sentence about grants.
+/// Judges the rule about grants (5.8).
 fn sums_are_sound(live: &[Block], accounts: &Accounts) -> bool {
     let mut sums = accounts.quotas.map(|quota| i128::from(quota.remainder));
     for block in live {

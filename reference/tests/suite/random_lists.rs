@@ -56,7 +56,7 @@ impl Run {
             .map(|_| if prng.percent(15) { 0 } else { style.grant })
             .collect();
         let mut state = opened(style.heap_length as usize, &grants);
-        // A last serial above all live serials is sound.
+        // A last serial above all live serials is allowed (rule 5.9).
         state.accounts.last_serial = style.last_serial;
         let ledger = Ledger {
             heap_length: style.heap_length,

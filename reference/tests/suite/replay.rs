@@ -26,7 +26,7 @@ fn after_open(lines: &str) -> String {
         .to_string()
 }
 
-/// The example of the rules, for eight quotas.
+/// The example of rule 11.16, for eight quotas.
 const EXAMPLE: &str = "open 128 100 1000 0 0 0 0 0 0\n\
                        alloc 0 10\nalloc 0 68\nfree 1 8 16 1\nall 0\n";
 

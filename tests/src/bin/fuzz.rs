@@ -106,6 +106,7 @@ fn fuzz(mut clock: Clock, seed: u64) -> Result<(), Failure> {
         }
         for turn in 0..4 {
             rounds::calls(&mut pair, seed, 4 * round + turn)?;
+            rounds::images(&mut pair, seed, 4 * round + turn)?;
         }
         round += 1;
     }
@@ -119,13 +120,27 @@ fn sanitize(mut clock: Clock, seed: u64) -> Result<(), Failure> {
     let mut round = 0;
     while clock.goes_on(&pair) {
         rounds::calls(&mut pair, seed, round)?;
+        rounds::images(&mut pair, seed, round)?;
         round += 1;
     }
     println!("No difference. {}", pair.tally);
     Ok(())
 }
 
-/// Makes a saved case again: a script if the file's name ends in `.in`, else a call.
+/// Reads a saved image again, into the heap that was saved beside it.
+fn read_again(file: &str, image: &[u8]) -> Result<(), Failure> {
+    let beside = file.replace(".image", ".heap");
+    let heap = fs::read(&beside)
+        .map_err(|error| Failure(format!("{beside} could not be read: {error}")))?;
+    let mut pair = Pair::new();
+    pair.begin("again", 0, 0);
+    let (refusal, _) = pair.read_image(image, &heap)?;
+    println!("No difference. The image is read with refusal {refusal}");
+    Ok(())
+}
+
+/// Makes a saved case again: a script if the file's name ends in `.in`, an image that is read if it
+/// ends in `.image`, else a call.
 fn again(file: &str) -> Result<(), Failure> {
     let bytes =
         fs::read(file).map_err(|error| Failure(format!("{file} could not be read: {error}")))?;
@@ -133,6 +148,9 @@ fn again(file: &str) -> Result<(), Failure> {
         let output = Programs::find()?.compare("again", &bytes, Feed::Whole)?;
         println!("No difference. {}", String::from_utf8_lossy(&output));
         return Ok(());
+    }
+    if file.ends_with(".image") {
+        return read_again(file, &bytes);
     }
     let text = String::from_utf8_lossy(&bytes);
     let (state, call) =

@@ -1,4 +1,4 @@
-//! Damage to sound states: ways to break each sentence of "Sound", alone and together.
+//! Damage to consistent states: ways to break each of rules 5.1 to 5.8, alone and together.
 
 mod plan;
 mod written;
@@ -30,7 +30,7 @@ pub enum Way {
 pub struct Damage {
     /// What is wrong, in words.
     pub name: &'static str,
-    /// The sentence that it breaks.
+    /// The rule that it breaks.
     pub sentence: Sentence,
     /// How it is done.
     pub way: Way,
@@ -229,13 +229,13 @@ pub fn damaged(seed: &mut Seed, kinds: &[&Damage]) -> Option<State> {
     Some(state)
 }
 
-/// Makes a state in which the damage breaks its own sentence and no other.
+/// Makes a state in which the damage breaks its own rule and no other.
 pub fn damaged_alone(seed: &mut Seed, damage: &Damage) -> Option<State> {
     let state = damaged(seed, &[damage])?;
     (broken(&state) == [damage.sentence]).then_some(state)
 }
 
-/// Makes a state to which several kinds of damage were done and which is not sound.
+/// Makes a state to which several kinds of damage were done and which is not consistent.
 pub fn damaged_together(seed: &mut Seed) -> Option<State> {
     let count = seed.between(2, 5);
     let kinds: Vec<&Damage> = (0..count)

@@ -1,10 +1,10 @@
 /*
- * Sets every field of every struct of lokhazim.h to a distinct number, or reads them.
+ * Sets every field of every struct of lokhazim.h and lokhazim_image.h to a distinct number, or reads them.
  *
  *     fields set      writes the structs to standard output, as they lie in memory
  *     fields print    reads such structs from standard input and prints each field's number
  */
-#include "lokhazim.h"
+#include "lokhazim_image.h"
 
 #include <inttypes.h>
 #include <stdio.h>
@@ -131,6 +131,25 @@ static void visit_block_reply(struct lokhazim_block_reply *it)
     visit32(&it->serial);
 }
 
+static void visit_image_reply(struct lokhazim_image_reply *it)
+{
+    visit32(&it->refusal);
+    visit_size(&it->length);
+}
+
+static void visit_restore_reply(struct lokhazim_restore_reply *it)
+{
+    visit_accounts(&it->accounts);
+    visit32(&it->refusal);
+}
+
+static void visit_examine_reply(struct lokhazim_examine_reply *it)
+{
+    visit32(&it->refusal);
+    visit32(&it->form);
+    visit_size(&it->heap_length);
+}
+
 /* Stops where fewer bytes could be read or written than a struct has. */
 static void need(size_t done)
 {
@@ -168,5 +187,8 @@ int main(int count, char **words)
     EXCHANGE(amount);
     EXCHANGE(range_reply);
     EXCHANGE(block_reply);
+    EXCHANGE(image_reply);
+    EXCHANGE(restore_reply);
+    EXCHANGE(examine_reply);
     return EXIT_SUCCESS;
 }

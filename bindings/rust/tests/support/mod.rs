@@ -21,6 +21,11 @@ pub fn repository(path: &str) -> PathBuf {
         .join(path)
 }
 
+/// A file of the libraries' folder.
+fn library(name: &str) -> PathBuf {
+    Path::new(env!("LOKHAZIM_LIBRARIES")).join(name)
+}
+
 /// Compiles a C program of the repository at a level of optimisation, such as `-O2`.
 pub fn compile(source: &str, level: &str) -> PathBuf {
     let source = repository(source);
@@ -34,7 +39,7 @@ pub fn compile(source: &str, level: &str) -> PathBuf {
         .arg("-I")
         .arg(repository("include"))
         .arg(&source)
-        .arg(env!("LOKHAZIM_LIBRARY"))
+        .args(["liblokhazim.a", "liblokhazim_image.a"].map(library))
         .arg("-o")
         .arg(&program)
         .output()

@@ -1,6 +1,6 @@
 -- `access::span_of` meets its contract: the check refuses first, then the lookup; the block that it found lies in the heap, and its object behind its header.
 -- Assumes nothing.
-use mathlib.Core.Path.{_≡_, refl, sym, _∙_}
+use mathlib.Core.Path.{_≡_, sym, _∙_}
 use Prim.Native.Nat.{_+_, _≤_}
 use native.Mathlib.Omega.{arith}
 use borrow.Author.Needs.{needs}
@@ -41,14 +41,18 @@ enum-known-block c = search needs
 enum-told-2 : tie.Need-enum-told-2
 enum-told-2 c = search needs
 
+number-requires-2 : tie.Need-number-requires-2
+number-requires-2 c κs = search needs
+
 returns-2 : tie.Need-returns-2
 returns-2 c =
-    let f = c .before .before in
+    let n = c .before in
+    let f = n .before .before in
     let k = f .before .before .before in
     let a = k .before .before .args in
-    spans-refused (a .heap .now) (a .accounts) (a .handle) 5 NoSuchObject refl
+    spans-refused (a .heap .now) (a .accounts) (a .handle) (c .number2 .result) NoSuchObject (c .number2 .ensures)
     (lend-missing (a .heap .now) (a .accounts) (a .handle) (k .check .result) (k .check .ensures) (f .before .enum-told .given .1)
-    (sym (f .find-object .ensures) ∙ c .enum-told2 .given .1))
+    (sym (f .find-object .ensures) ∙ n .enum-told2 .given .1))
 
 -- the block that was found
 found : (c : tie.After-block)
@@ -65,11 +69,11 @@ inside c =
     let a = k .before .before .args in
     lend-inside (a .heap .now) (a .accounts) (a .handle) (k .check .result) (k .check .ensures) (t .enum-told .given .1) (c .block .given .0 .0) (found c)
 
-add-t9 : tie.Need-add-t9
-add-t9 c = let i = inside (c .before .before) in omega arith
+add-t11 : tie.Need-add-t11
+add-t11 c = let i = inside (c .before .before) in omega arith
 
-add-t10 : tie.Need-add-t10
-add-t10 c = let i = inside (c .before .before .before) in omega arith
+add-t12 : tie.Need-add-t12
+add-t12 c = let i = inside (c .before .before .before) in omega arith
 
 returns-3 : tie.Need-returns-3
 returns-3 c =
@@ -95,7 +99,8 @@ span-of-spec =
     find-object-requires
     enum-known-block
     enum-told-2
+    number-requires-2
     returns-2
-    add-t9
-    add-t10
+    add-t11
+    add-t12
     returns-3)

@@ -10,20 +10,20 @@ use lib.ListN.{length}
 use Rattle.layout.specs.Blocks.{start-at}
 use Rattle.layout.specs.declared.Start.the-variants.{Block as Starts}
 use Rattle.layout.proofs.Starts.{Found, start-found}
-use Rattle.finder.specs.Walk.{headed}
+use Rattle.finder.specs.Walk.{headed, stands-at}
 use Rattle.finder.proofs.Walk.{met-nothing, met-block, Searching, search-start, search-ended, search-found, search-passed}
-use Rattle.access.specs.Listing.{starts-at, answered, find-block}
+use Rattle.access.specs.Listing.{answered, find-block}
 use Rattle.access.proofs.listing.find_block.Statement.{statement}
 use Rattle.access.proofs.listing.find_block.Tie as tie
 
 abbrev Inv-loop : tie.InvT-loop
-Inv-loop heap at place₀ place = Searching (starts-at at) heap place
+Inv-loop heap at place₀ place = Searching (stands-at at) heap place
 
 abbrev μ-loop : tie.MeasureT-loop
 μ-loop heap at place₀ place = length heap - place
 
 loop-holds : tie.Need-loop-holds Inv-loop μ-loop
-loop-holds c = search-start (starts-at (c .before .args .at)) (c .before .args .heap .now)
+loop-holds c = search-start (stands-at (c .before .args .at)) (c .before .args .heap .now)
 
 start-at-requires : tie.Need-start-at-requires Inv-loop μ-loop
 start-at-requires c κs = search needs
@@ -39,7 +39,7 @@ unfolding find-block
 returns c =
     let l = c .before .before .before in
     let a = l .before .before .args in
-    sym (ap answered (search-ended (starts-at (a .at)) (a .heap .now) (l .loop .place) (l .loop .inv)
+    sym (ap answered (search-ended (stands-at (a .at)) (a .heap .now) (l .loop .place) (l .loop .inv)
     (met-nothing (l .loop .place) (a .heap .now) (sym (c .before .before .start-at .ensures) ∙ c .enum-told .given .1))))
 
 -- the block that starts at this place
@@ -66,7 +66,7 @@ returns-2 c =
     let h = c .before .before .before in
     let l = h .before .before .before in
     let a = l .before .before .args in
-    sym (ap answered (search-found (starts-at (a .at)) (a .heap .now) (l .loop .place) (l .loop .inv) (headed (l .loop .place) (h .header .given .0 .0))
+    sym (ap answered (search-found (stands-at (a .at)) (a .heap .now) (l .loop .place) (l .loop .inv) (headed (l .loop .place) (h .header .given .0 .0))
     (met-block (l .loop .place) (a .heap .now) (h .header .given .0 .0) (found (c .before))) (eq-eqb (l .loop .place) (a .at) (c .if1 .taken))))
 
 add-place : tie.Need-add-place Inv-loop μ-loop
@@ -86,7 +86,7 @@ loop-again c =
     let h = c .before .before .before in
     let l = h .before .before .before in
     let a = l .before .before .args in
-    search-passed (starts-at (a .at)) (a .heap .now) (l .loop .place) (l .loop .inv) (headed (l .loop .place) (h .header .given .0 .0))
+    search-passed (stands-at (a .at)) (a .heap .now) (l .loop .place) (l .loop .inv) (headed (l .loop .place) (h .header .given .0 .0))
     (met-block (l .loop .place) (a .heap .now) (h .header .given .0 .0) (found (c .before))) (ne-eqb (l .loop .place) (a .at) (c .if1 .left))
 
 pub find-block-spec : {M : Type 1} → statement M

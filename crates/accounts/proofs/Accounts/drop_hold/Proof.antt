@@ -10,14 +10,14 @@ use Rattle.accounts.proofs.Accounts.drop_hold.Tie as tie
 zero-requires : tie.Need-zero-requires
 zero-requires c κs = search needs
 
-add-hold-requires : tie.Need-add-hold-requires
-add-hold-requires c κs = search needs
+put-hold-requires : tie.Need-put-hold-requires
+put-hold-requires c κs = search needs
 
 returns : tie.Need-returns
 unfolding drop-hold
 returns c =
     let start = c .before .before in
-    c .add-hold .ensures ∙ ap (λ (h : Hold). put-hold (start .args .at) h (start .args .self)) (c .before .zero .ensures)
+    c .put-hold .ensures ∙ ap (λ (h : Hold). put-hold (start .args .at) h (start .args .self)) (c .before .zero .ensures)
 
 pub drop-hold-spec : {M : Type 1} → statement M
-drop-hold-spec = tie.close (tie.spec zero-requires add-hold-requires returns)
+drop-hold-spec = tie.close (tie.spec zero-requires put-hold-requires returns)

@@ -4,6 +4,7 @@ use borrow.Author.Needs.{needs}
 use Prim.Native.Nat.{_+_, _^_}
 use mathlib.Core.Path.{refl}
 use borrow.Author.Tests.{lt-ltb, le-ltb}
+use Rattle.accounts.specs.Accounts.{paid-back}
 use Rattle.accounts.proofs.Quota.refunded.Statement.{statement}
 use Rattle.accounts.proofs.Quota.refunded.Tie as tie
 
@@ -11,6 +12,7 @@ sub-if1 : tie.Need-sub-if1
 sub-if1 c = search needs
 
 returns : tie.Need-returns
+unfolding paid-back
 returns c =
     let a = c .before .before .args in
     rw (le-ltb (a .self .remainder + a .amount) (2 ^ 32) (search needs)) refl
@@ -19,6 +21,7 @@ add-t3 : tie.Need-add-t3
 add-t3 c = search needs
 
 returns-2 : tie.Need-returns-2
+unfolding paid-back
 returns-2 c =
     let a = c .before .before .before .args in
     rw (lt-ltb (a .self .remainder + a .amount) (2 ^ 32) (search needs)) refl

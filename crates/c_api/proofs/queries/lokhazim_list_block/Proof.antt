@@ -6,8 +6,8 @@ use borrow.Author.Needs.{needs}
 use Rattle.c_api.proofs.queries.lokhazim_list_block.Statement.{statement}
 use Rattle.c_api.proofs.queries.lokhazim_list_block.Tie as tie
 
-list-block-requires : tie.Need-list-block-requires
-list-block-requires c κs = search needs
+list-from-requires : tie.Need-list-from-requires
+list-from-requires c κs = search needs
 
 reply-of-block-requires : tie.Need-reply-of-block-requires
 reply-of-block-requires c κs = search needs
@@ -15,7 +15,7 @@ reply-of-block-requires c κs = search needs
 returns : tie.Need-returns
 returns c =
     let a = c .before .before .before .args in
-    (ap (outcome (a .heap .now) (a .accounts)) (c .reply-of-block .ensures .0) ∙ c .before .list-block .ensures, c .reply-of-block .ensures .1)
+    (ap (outcome (a .heap .now) (a .accounts)) (c .reply-of-block .ensures .0) ∙ c .before .list-from .ensures, c .reply-of-block .ensures .1)
 
 pub lokhazim-list-block-spec : {M : Type 1} → statement M
-lokhazim-list-block-spec = tie.close (tie.spec list-block-requires reply-of-block-requires returns)
+lokhazim-list-block-spec = tie.close (tie.spec list-from-requires reply-of-block-requires returns)

@@ -9,8 +9,8 @@ use Rattle.calls.proofs.allocation.booked.Tie as tie
 with-last-serial-requires : tie.Need-with-last-serial-requires
 with-last-serial-requires c κs = search needs
 
-add-hold-requires : tie.Need-add-hold-requires
-add-hold-requires c κs = search needs
+put-hold-requires : tie.Need-put-hold-requires
+put-hold-requires c κs = search needs
 
 charge-requires : tie.Need-charge-requires
 charge-requires c κs = search needs
@@ -20,8 +20,8 @@ returns c =
     let a = c .before .before .before .args in
     c .charge .ensures
     ∙ ap (charge (a .quota) (a .charge))
-    (c .before .add-hold .ensures ∙ ap (put-hold (a .place) (record { serial = a .serial; quota = a .quota; count = 1 })) (c .before .before .with-last-serial .ensures))
+    (c .before .put-hold .ensures ∙ ap (put-hold (a .place) (record { serial = a .serial; quota = a .quota; count = 1 })) (c .before .before .with-last-serial .ensures))
 
 pub booked-spec : {M : Type 1} → statement M
 booked-spec =
-    tie.close (tie.spec with-last-serial-requires add-hold-requires charge-requires returns)
+    tie.close (tie.spec with-last-serial-requires put-hold-requires charge-requires returns)

@@ -1,4 +1,4 @@
--- `calls::drop_claim` meets its contract. The record is known by its place: a count above 1 goes down, and the last claim is refunded and makes the
+-- `calls::drop_claim` meets its contract. The record is known by its place: a count above 1 goes down, and the last hold is refunded and makes the
 -- record zero. The object is then freed exactly where no record is for it: its serial is not 0, so any record with that serial is used. The loop's
 -- invariant: no record before place `at` has the serial; the measure is what is left of the table. The block lies in the heap, so the charge is a small number.
 -- Assumes nothing.
@@ -49,8 +49,8 @@ element-copy-out-hold c = placed c
 sub-t19 : tie.Need-sub-t19 Inv-loop μ-loop
 sub-t19 c = search needs
 
-add-hold-requires : tie.Need-add-hold-requires Inv-loop μ-loop
-add-hold-requires c κs = search needs
+put-hold-requires : tie.Need-put-hold-requires Inv-loop μ-loop
+put-hold-requires c κs = search needs
 
 given-requires : tie.Need-given-requires Inv-loop μ-loop
 given-requires c κs = search needs
@@ -61,7 +61,7 @@ returns c =
     let at = c .before .before .before .before .before in
     let k = at .before in
     let a = k .before .args in
-    fewer-result (a .heap .now) (a .t2) (octets k) (a .quota) (a .block) (a .place) (k .before .pre) (omega (arith, c .before .before .before .if1 .taken)) (c .before .add-hold .result) (c .before .add-hold .ensures)
+    fewer-result (a .heap .now) (a .t2) (octets k) (a .quota) (a .block) (a .place) (k .before .pre) (omega (arith, c .before .before .before .if1 .taken)) (c .before .put-hold .result) (c .before .put-hold .ensures)
     (c .given .result) (c .given .ensures)
 
 sub-length : tie.Need-sub-length Inv-loop μ-loop
@@ -144,7 +144,7 @@ drop-claim-spec =
     mul-hold
     element-copy-out-hold
     sub-t19
-    add-hold-requires
+    put-hold-requires
     given-requires
     returns
     sub-length

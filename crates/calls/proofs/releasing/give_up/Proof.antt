@@ -1,5 +1,5 @@
 -- `calls::give_up` meets its contract: a handle that names no object and a quota without a record are refused by lines 5 and 6, and past them the
--- claim that is dropped is the definition's.
+-- hold that is dropped is the definition's.
 -- Assumes nothing.
 use mathlib.Core.Path.{_≡_, sym, _∙_}
 use Rattle.accounts.specs.Accounts.{find-hold}

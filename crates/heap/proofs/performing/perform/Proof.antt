@@ -1,11 +1,11 @@
 -- `heap::performing::perform` meets its contract: each arm makes the call of its name, whose promise is the definition that `step` gives for it.
 -- Assumes nothing.
-use mathlib.Core.Path.{refl, ap, sym, _∙_}
-use Rattle.rounding.specs.Rounding.{unit}
-use Rattle.model.specs.Answers.{answer-values}
-use Rattle.model.specs.Step.{step}
-use Rattle.model.specs.declared.Call.{Call}
-use Rattle.heap.proofs.Answered.{by-handle, by-amount, by-answer}
+use mathlib.Core.Path.{ap}
+use Rattle.model.specs.Answers.{verdict-from, amount-from, range-from, block-from, answer-of}
+use Rattle.model.specs.Step.{step, performed}
+use Rattle.model.specs.declared.Answer.the-variants.{Verdict as OfVerdict, Amount as OfAmount, Range as OfRange, Block as OfBlock}
+use Rattle.model.proofs.Answers.{verdict-back, amount-back, range-back, block-back}
+use Rattle.heap.proofs.Answered.{by-answer, by-handle, by-amount, by-call}
 use borrow.Author.Needs.{needs}
 use Rattle.heap.proofs.performing.perform.Statement.{statement}
 use Rattle.heap.proofs.performing.perform.Tie as tie
@@ -94,8 +94,8 @@ unchanged-requires-3 c κs = search needs
 enum-known-call-10 : tie.Need-enum-known-call-10
 enum-known-call-10 c = search needs
 
-list-block-requires : tie.Need-list-block-requires
-list-block-requires c κs = search needs
+list-from-requires : tie.Need-list-from-requires
+list-from-requires c κs = search needs
 
 unchanged-requires-4 : tie.Need-unchanged-requires-4
 unchanged-requires-4 c κs = search needs
@@ -104,91 +104,115 @@ same-length : tie.Need-same-length
 same-length c = search needs
 
 returns : tie.Need-returns
-unfolding step answer-values
+unfolding step performed answer-of
 returns c =
-    let a = c .before .before .before .before .before .before .before .before .before .args in
-    by-handle _ _ _ _ (c .of-handle .ensures) (c .before .before .before .allocate .ensures) ∙ sym (ap (λ (x : Call). step unit x (a .heap .now) (a .accounts)) (c .before .before .before .before .before .before .call .given .1))
+    let made = c .before .before .before in
+    let a = made .before .before .before .before .before .before .args in
+    by-call (a .heap .now) (a .accounts) _ _ _ (made .before .before .before .call .given .1)
+    (by-handle _ _ _ _ (c .of-handle .ensures) (made .allocate .ensures))
 
 same-length-2 : tie.Need-same-length-2
 same-length-2 c = search needs
 
 returns-2 : tie.Need-returns-2
-unfolding step answer-values
+unfolding step performed answer-of
 returns-2 c =
-    let a = c .before .before .before .before .before .before .before .before .before .args in
-    by-handle _ _ _ _ (c .of-handle2 .ensures) (c .before .before .before .allocate-array .ensures) ∙ sym (ap (λ (x : Call). step unit x (a .heap .now) (a .accounts)) (c .before .before .before .before .before .before .call2 .given .1))
+    let made = c .before .before .before in
+    let a = made .before .before .before .before .before .before .args in
+    by-call (a .heap .now) (a .accounts) _ _ _ (made .before .before .before .call2 .given .1)
+    (by-handle _ _ _ _ (c .of-handle2 .ensures) (made .allocate-array .ensures))
 
 same-length-3 : tie.Need-same-length-3
 same-length-3 c = search needs
 
 returns-3 : tie.Need-returns-3
-unfolding step answer-values
+unfolding step performed answer-of
 returns-3 c =
-    let a = c .before .before .before .before .before .before .before .args in
-    by-amount _ _ _ _ (c .of-amount .ensures) (c .before .claim .ensures) ∙ sym (ap (λ (x : Call). step unit x (a .heap .now) (a .accounts)) (c .before .before .before .before .call3 .given .1))
+    let made = c .before in
+    let a = made .before .before .before .before .before .before .args in
+    by-call (a .heap .now) (a .accounts) _ _ _ (made .before .before .before .call3 .given .1)
+    (by-amount _ _ _ _ (c .of-amount .ensures) (made .claim .ensures))
 
 same-length-4 : tie.Need-same-length-4
 same-length-4 c = search needs
 
 returns-4 : tie.Need-returns-4
-unfolding step answer-values
+unfolding step performed answer-of
 returns-4 c =
-    let a = c .before .before .before .before .before .before .before .before .before .args in
-    by-amount _ _ _ _ (c .of-amount2 .ensures) (c .before .before .before .release .ensures) ∙ sym (ap (λ (x : Call). step unit x (a .heap .now) (a .accounts)) (c .before .before .before .before .before .before .call4 .given .1))
+    let made = c .before .before .before in
+    let a = made .before .before .before .before .before .before .args in
+    by-call (a .heap .now) (a .accounts) _ _ _ (made .before .before .before .call4 .given .1)
+    (by-amount _ _ _ _ (c .of-amount2 .ensures) (made .release .ensures))
 
 same-length-5 : tie.Need-same-length-5
 same-length-5 c = search needs
 
 returns-5 : tie.Need-returns-5
-unfolding step answer-values
+unfolding step performed answer-of
 returns-5 c =
-    let a = c .before .before .before .before .before .before .before .before .before .args in
-    by-amount _ _ _ _ (c .of-amount3 .ensures) (c .before .before .before .free-all .ensures) ∙ sym (ap (λ (x : Call). step unit x (a .heap .now) (a .accounts)) (c .before .before .before .before .before .before .call5 .given .1))
+    let made = c .before .before .before in
+    let a = made .before .before .before .before .before .before .args in
+    by-call (a .heap .now) (a .accounts) _ _ _ (made .before .before .before .call5 .given .1)
+    (by-amount _ _ _ _ (c .of-amount3 .ensures) (made .free-all .ensures))
 
 same-length-6 : tie.Need-same-length-6
 same-length-6 c = search needs
 
 returns-6 : tie.Need-returns-6
-unfolding step answer-values
+unfolding step performed answer-of
 returns-6 c =
-    let a = c .before .before .before .before .before .before .before .before .before .args in
-    by-handle _ _ _ _ (c .of-handle3 .ensures) (c .before .before .before .reallocate .ensures) ∙ sym (ap (λ (x : Call). step unit x (a .heap .now) (a .accounts)) (c .before .before .before .before .before .before .call6 .given .1))
+    let made = c .before .before .before in
+    let a = made .before .before .before .before .before .before .args in
+    by-call (a .heap .now) (a .accounts) _ _ _ (made .before .before .before .call6 .given .1)
+    (by-handle _ _ _ _ (c .of-handle3 .ensures) (made .reallocate .ensures))
 
 same-length-7 : tie.Need-same-length-7
 same-length-7 c = search needs
 
 returns-7 : tie.Need-returns-7
-unfolding step answer-values
+unfolding step performed answer-of
 returns-7 c =
-    let a = c .before .before .before .before .before .before .before .args in
-    by-answer _ _ _ _ _ _ (c .unchanged .ensures) refl (c .before .object-range .ensures) ∙ sym (ap (λ (x : Call). step unit x (a .heap .now) (a .accounts)) (c .before .before .before .before .call7 .given .1))
+    let made = c .before in
+    let a = made .before .before .before .before .before .before .args in
+    by-call (a .heap .now) (a .accounts) _ _ _ (made .before .before .before .call7 .given .1)
+    (by-answer _ _ _ (λ v. OfRange (range-from v)) _ _ _
+    (c .unchanged .ensures) (ap OfRange (range-back (made .object-range .result))) (made .object-range .ensures))
 
 same-length-8 : tie.Need-same-length-8
 same-length-8 c = search needs
 
 returns-8 : tie.Need-returns-8
-unfolding step answer-values
+unfolding step performed answer-of
 returns-8 c =
-    let a = c .before .before .before .before .before .before .before .args in
-    by-answer _ _ _ _ _ _ (c .unchanged2 .ensures) refl (c .before .remaining .ensures) ∙ sym (ap (λ (x : Call). step unit x (a .heap .now) (a .accounts)) (c .before .before .before .before .call8 .given .1))
+    let made = c .before in
+    let a = made .before .before .before .before .before .before .args in
+    by-call (a .heap .now) (a .accounts) _ _ _ (made .before .before .before .call8 .given .1)
+    (by-answer _ _ _ (λ v. OfAmount (amount-from v)) _ _ _
+    (c .unchanged2 .ensures) (ap OfAmount (amount-back (made .remaining .result))) (made .remaining .ensures))
 
 same-length-9 : tie.Need-same-length-9
 same-length-9 c = search needs
 
 returns-9 : tie.Need-returns-9
-unfolding step answer-values
+unfolding step performed answer-of
 returns-9 c =
-    let a = c .before .before .before .before .before .before .before .args in
-    by-answer _ _ _ _ _ _ (c .unchanged3 .ensures) refl (c .before .can-release .ensures) ∙ sym (ap (λ (x : Call). step unit x (a .heap .now) (a .accounts)) (c .before .before .before .before .call9 .given .1))
+    let made = c .before in
+    let a = made .before .before .before .before .before .before .args in
+    by-call (a .heap .now) (a .accounts) _ _ _ (made .before .before .before .call9 .given .1)
+    (by-answer _ _ _ (λ v. OfVerdict (verdict-from v)) _ _ _
+    (c .unchanged3 .ensures) (ap OfVerdict (verdict-back (made .can-release .result))) (made .can-release .ensures))
 
 same-length-10 : tie.Need-same-length-10
 same-length-10 c = search needs
 
 returns-10 : tie.Need-returns-10
-unfolding step answer-values
+unfolding step performed answer-of
 returns-10 c =
-    let a = c .before .before .before .before .before .before .before .args in
-    by-answer _ _ _ _ _ _ (c .unchanged4 .ensures) refl (c .before .list-block .ensures) ∙ sym (ap (λ (x : Call). step unit x (a .heap .now) (a .accounts)) (c .before .before .before .before .call10 .given .1))
+    let made = c .before in
+    let a = made .before .before .before .before .before .before .args in
+    by-call (a .heap .now) (a .accounts) _ _ _ (made .before .before .before .call10 .given .1)
+    (by-answer _ _ _ (λ v. OfBlock (block-from v)) _ _ _
+    (c .unchanged4 .ensures) (ap OfBlock (block-back (made .list-from .result))) (made .list-from .ensures))
 
 pub perform-spec : {M : Type 1} → statement M
 perform-spec =
@@ -222,7 +246,7 @@ perform-spec =
     can-release-requires
     unchanged-requires-3
     enum-known-call-10
-    list-block-requires
+    list-from-requires
     unchanged-requires-4
     same-length
     returns

@@ -22,17 +22,17 @@ returns c =
 add-t8 : tie.Need-add-t8
 add-t8 c = search needs
 
-add-hold-requires : tie.Need-add-hold-requires
-add-hold-requires c κs = search needs
+put-hold-requires : tie.Need-put-hold-requires
+put-hold-requires c κs = search needs
 
 returns-2 : tie.Need-returns-2
 returns-2 c =
     let k = c .before .before .before .before in
     let a = k .before .args in
-    ap (claimed-length (a .length)) (c .add-hold .ensures)
+    ap (claimed-length (a .length)) (c .put-hold .ensures)
     ∙ again-raises (a .at) (a .length) (a .accounts) (k .hold-at .result) (k .hold-at .ensures) (c .before .before .if1 .left)
 
 pub claim-again-spec : {M : Type 1} → statement M
 claim-again-spec =
     tie.close
-    (tie.spec hold-at-requires refused-requires returns add-t8 add-hold-requires returns-2)
+    (tie.spec hold-at-requires refused-requires returns add-t8 put-hold-requires returns-2)

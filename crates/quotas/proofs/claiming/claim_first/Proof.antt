@@ -52,8 +52,8 @@ returns-2 c =
 charge-requires : tie.Need-charge-requires
 charge-requires c κs = search needs
 
-add-hold-requires : tie.Need-add-hold-requires
-add-hold-requires c κs = search needs
+put-hold-requires : tie.Need-put-hold-requires
+put-hold-requires c κs = search needs
 
 returns-3 : tie.Need-returns-3
 unfolding remaining
@@ -61,7 +61,7 @@ returns-3 c =
     let p = c .before .before .before in
     let u = p .before .before in
     let a = u .before .before .args in
-    ap (claimed-length (a .length)) (c .add-hold .ensures ∙ ap (λ (k : Accounts). put-hold (p .at .given .0 .0) (a .hold) k) (c .before .charge .ensures))
+    ap (claimed-length (a .length)) (c .put-hold .ensures ∙ ap (λ (k : Accounts). put-hold (p .at .given .0 .0) (a .hold) k) (c .before .charge .ensures))
     ∙ first-takes (a .quota) (a .hold) (a .length) (a .t1) (u .before .if1 .left) (u .lowest-unused .result) (u .lowest-unused .ensures) (p .at .given .0 .0) (p .at .given .1)
 
 pub claim-first-spec : {M : Type 1} → statement M
@@ -79,5 +79,5 @@ claim-first-spec =
     refused-requires-2
     returns-2
     charge-requires
-    add-hold-requires
+    put-hold-requires
     returns-3)

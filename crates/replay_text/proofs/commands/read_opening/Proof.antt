@@ -3,9 +3,10 @@
 use borrow.Author.Needs.{needs}
 use native.Mathlib.Omega.{arith}
 use borrow.Author.Tests.{not-true, not-false}
-use mathlib.Core.Path.{sym, _∙_}
+use mathlib.Core.Path.{ap, sym, _∙_}
 use lib.ListN.{take}
 use lib.Seq.{slice}
+use Rattle.replay_text.specs.Contracts.{opening-line}
 use Rattle.replay_text.proofs.Asking.{opens-fewer}
 use Rattle.replay_text.proofs.Phrases.{opening-not, opening-is, opens-not, opens-is}
 use Rattle.replay_text.proofs.commands.read_opening.Statement.{statement}
@@ -22,7 +23,9 @@ returns c =
     let t = c .before in
     let r = t .before .before .before in
     let a = r .before .before .args in
-    c .no-opening .ensures ∙ opening-not (slice (a .from) (a .to) (a .input .now)) (r .read-line .result) (r .read-line .ensures) (not-true (r .read-line .result .ok) (t .if1 .taken))
+    c .no-opening .ensures
+    ∙ ap opening-line
+    (opening-not (slice (a .from) (a .to) (a .input .now)) (r .read-line .result) (r .read-line .ensures) (not-true (r .read-line .result .ok) (t .if1 .taken)))
 
 no-opening-requires-2 : tie.Need-no-opening-requires-2
 no-opening-requires-2 c κs = search needs
@@ -35,8 +38,8 @@ returns-2 c =
     let a = r .before .before .args in
     let l = r .read-line .result in
     c .no-opening2 .ensures
-    ∙ opens-fewer (l .count) (l .values) (l .name) (omega (arith, r .read-line .ensures .small, r .read-line .ensures .kept)) (t .if2 .taken)
-    ∙ opening-is (slice (a .from) (a .to) (a .input .now)) l (r .read-line .ensures) (not-false (l .ok) (o .if1 .left))
+    ∙ ap opening-line (opens-fewer (l .count) (l .values) (l .name) (omega (arith, r .read-line .ensures .small, r .read-line .ensures .kept)) (t .if2 .taken)
+    ∙ opening-is (slice (a .from) (a .to) (a .input .now)) l (r .read-line .ensures) (not-false (l .ok) (o .if1 .left)))
 
 opens-requires : tie.Need-opens-requires
 opens-requires c κs = search needs
@@ -53,8 +56,8 @@ returns-3 c =
     let a = r .before .before .args in
     let l = r .read-line .result in
     c .no-opening3 .ensures
-    ∙ opens-not (l .name) (take (l .count) (l .values)) (sym (n .opens .ensures) ∙ not-true (n .opens .result) (t .if3 .taken))
-    ∙ opening-is (slice (a .from) (a .to) (a .input .now)) l (r .read-line .ensures) (not-false (l .ok) (o .if1 .left))
+    ∙ ap opening-line (opens-not (l .name) (take (l .count) (l .values)) (sym (n .opens .ensures) ∙ not-true (n .opens .result) (t .if3 .taken))
+    ∙ opening-is (slice (a .from) (a .to) (a .input .now)) l (r .read-line .ensures) (not-false (l .ok) (o .if1 .left)))
 
 array-read-t11 : tie.Need-array-read-t11
 array-read-t11 c = search needs
@@ -71,8 +74,9 @@ returns-4 c =
     let r = o .before .before .before in
     let a = r .before .before .args in
     let l = r .read-line .result in
-    opens-is (l .name) (l .count) (l .values) (c .behind-first .result) (sym (n .opens .ensures) ∙ not-false (n .opens .result) (t .if3 .left)) (m .if2 .left) (r .read-line .ensures .kept) (c .behind-first .ensures)
-    ∙ opening-is (slice (a .from) (a .to) (a .input .now)) l (r .read-line .ensures) (not-false (l .ok) (o .if1 .left))
+    let named = sym (n .opens .ensures) ∙ not-false (n .opens .result) (t .if3 .left) in
+    ap opening-line (opens-is (l .name) (l .count) (l .values) (c .behind-first .result) named (m .if2 .left) (r .read-line .ensures .kept) (c .behind-first .ensures)
+    ∙ opening-is (slice (a .from) (a .to) (a .input .now)) l (r .read-line .ensures) (not-false (l .ok) (o .if1 .left)))
 
 pub read-opening-spec : {M : Type 1} → statement M
 read-opening-spec =

@@ -50,7 +50,7 @@ next-block k =
     let e = l .before .before .before in
     let a = e .args in
     passing-some (blocks-of (a .heap .now)) (l .loop .place) (l .loop .inv .0) (k .block .given .0 .0) (l .loop .inv .1)
-    (sym (given-at (a .heap .now) (a .accounts) (e .pre .0) (l .loop .place) (g .list-block .result) (g .list-block .ensures)) ∙ ap (λ (x : BlockAnswer). block-values x .block) (k .block .given .1))
+    (sym (given-at (a .heap .now) (a .accounts) (e .pre .0) (l .loop .place) (g .list-from .result) (g .list-from .ensures)) ∙ ap (λ (x : BlockAnswer). block-values x .block) (k .block .given .1))
 
 -- it ends in the heap
 ends : (k : tie.After-block Inv-loop μ-loop)
@@ -60,7 +60,7 @@ ends k =
     let l = g .before in
     let e = l .before .before .before in
     let a = e .args in
-    given-ends (a .heap .now) (a .accounts) (e .pre .0) (l .loop .place) (g .list-block .result) (g .list-block .ensures) (k .block .given .0 .0) (k .block .given .1)
+    given-ends (a .heap .now) (a .accounts) (e .pre .0) (l .loop .place) (g .list-from .result) (g .list-from .ensures) (k .block .given .0 .0) (k .block .given .1)
 
 -- the lines of the blocks behind it, and that with its own line they are what is left
 rest-lines : tie.After-block Inv-loop μ-loop → List ℕ
@@ -83,8 +83,8 @@ loop-holds c =
     let a = c .before .before .args in
     (blocks-of (a .heap .now), passing-start (blocks-of (a .heap .now)), run-start (heap-lines (a .heap .now)) (a .at) (a .output .now))
 
-list-block-requires : tie.Need-list-block-requires Inv-loop μ-loop
-list-block-requires c κs = search needs
+list-from-requires : tie.Need-list-from-requires Inv-loop μ-loop
+list-from-requires c κs = search needs
 
 enum-known-block : tie.Need-enum-known-block Inv-loop μ-loop
 enum-known-block c = search needs
@@ -105,7 +105,7 @@ returns c =
     let e = l .before .before .before in
     let a = e .args in
     let none-left = passing-none (blocks-of (a .heap .now)) (l .loop .place) (l .loop .inv .0) (l .loop .inv .1)
-    (sym (given-at (a .heap .now) (a .accounts) (e .pre .0) (l .loop .place) (g .list-block .result) (g .list-block .ensures)) ∙ unlisted (g .list-block .result) (c .match .keys2)) in
+    (sym (given-at (a .heap .now) (a .accounts) (e .pre .0) (l .loop .place) (g .list-from .result) (g .list-from .ensures)) ∙ unlisted (g .list-from .result) (c .match .keys2)) in
     run-done (heap-lines (a .heap .now)) (a .at) (a .output .now) (l .loop .output) (l .loop .next)
     (subst (λ (bs : List Block). Running (heap-lines (a .heap .now)) (a .at) (a .output .now) (l .loop .output) (l .loop .next) (block-lines (listing-from (l .loop .place) bs))) none-left (l .loop .inv .2))
 
@@ -171,7 +171,7 @@ put-blocks-spec =
     Inv-loop
     μ-loop
     loop-holds
-    list-block-requires
+    list-from-requires
     enum-known-block
     same-length
     returns

@@ -51,7 +51,7 @@ put-bad-requires-2 c κs =
     let h = f .find-mark .ensures .high in
     let n = x .if1 .left in
     let is-bad = input-bad (a .input .now) (f .find-mark .result) (f .find-mark .ensures) (omega arith)
-    (sym (r .read-opening .ensures) ∙ no-opening (r .read-opening .result) (not-true (r .read-opening .result .ok) (t .if2 .taken))) in
+    (no-opening (r .read-opening .result) _ (r .read-opening .ensures) (not-true (r .read-opening .result .ok) (t .if2 .taken))) in
     subst (λ (x : List ℕ). Room 0 x (a .output .now)) (sym is-bad) (e .pre)
 
 same-length-2 : tie.Need-same-length-2
@@ -69,7 +69,7 @@ returns-2 c =
     let h = f .find-mark .ensures .high in
     let n = x .if1 .left in
     let is-bad = input-bad (a .input .now) (f .find-mark .result) (f .find-mark .ensures) (omega arith)
-    (sym (r .read-opening .ensures) ∙ no-opening (r .read-opening .result) (not-true (r .read-opening .result .ok) (t .if2 .taken))) in
+    (no-opening (r .read-opening .result) _ (r .read-opening .ensures) (not-true (r .read-opening .result .ok) (t .if2 .taken))) in
     subst (λ (x : List ℕ). Put 0 x (a .output .now) (p .put-bad2 .last .0) (p .put-bad2 .result)) is-bad (p .put-bad2 .ensures)
 
 add-run-opening : tie.Need-add-run-opening
@@ -86,7 +86,7 @@ run-opening-requires c κs =
     let h = f .find-mark .ensures .high in
     let n = x .if1 .left in
     let l = r .read-opening .result in
-    let asked = sym (r .read-opening .ensures) ∙ some-opening l (not-false (l .ok) (y .if2 .left)) in
+    let asked = some-opening l _ (r .read-opening .ensures) (not-false (l .ok) (y .if2 .left)) in
     let opens = input-opens (a .input .now) (f .find-mark .result) (f .find-mark .ensures) (omega arith) (record { heap = l .heap; grants = l .grants }) asked in (
       omega arith,
       opening-granted (slice 0 (f .find-mark .result) (a .input .now)) (record { heap = l .heap; grants = l .grants }) asked,
@@ -108,7 +108,7 @@ returns-3 c =
     let h = f .find-mark .ensures .high in
     let n = x .if1 .left in
     let l = r .read-opening .result in
-    let asked = sym (r .read-opening .ensures) ∙ some-opening l (not-false (l .ok) (y .if2 .left)) in
+    let asked = some-opening l _ (r .read-opening .ensures) (not-false (l .ok) (y .if2 .left)) in
     let opens = input-opens (a .input .now) (f .find-mark .result) (f .find-mark .ensures) (omega arith) (record { heap = l .heap; grants = l .grants }) asked in
     subst (λ (x : List ℕ). Put 0 x (a .output .now) (q .run-opening .last .1 .1 .1 .1 .0) (q .run-opening .result)) opens (q .run-opening .ensures)
 

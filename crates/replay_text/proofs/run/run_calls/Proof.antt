@@ -7,7 +7,11 @@ use Prim.Native.Nat.{ℕ, _+_, _-_, _≤_, _<_}
 use mathlib.Core.Path.{_≡_, refl, ap, sym, subst, _∙_}
 use mathlib.Core.List.{List, _++_}
 use lib.ListN.{length}
+use Rattle.rounding.specs.Rounding.{unit}
 use Rattle.model.specs.Answers.{answer-values}
+use Rattle.model.specs.Step.{step}
+use Rattle.model.proofs.Answers.{performed-step}
+use Rattle.access.specs.Results.{outcome}
 use lib.Seq.{slice}
 use Rattle.replay_model.specs.Lines.{lines}
 use Rattle.replay_model.specs.Replay.{bad-line, answer-line, ending, run-lines}
@@ -95,7 +99,16 @@ not-a-call t =
     run-bad (l .loop .start) (a .input .now) (l .loop .heap) (l .loop .current) (f .find-mark .result) (f .find-mark .ensures) (before-end (r .before))
     (sym (r .read-call .ensures) ∙ ap asked-call (t .enum-told .given .1))
 
--- a call that was made: its answer and the run of the lines behind it are what is left
+-- a call that was made, as a step
+stepped : (q : tie.After-perform Inv-loop μ-loop)
+    → let l = q .before .before .before .before .before .before .before .before in
+    outcome (q .perform .last .0) (q .perform .result .accounts) (answer-values (q .perform .result .answer))
+    ≡ step unit (q .before .before .before .call .given .0 .0) (l .loop .heap) (l .loop .current)
+stepped q =
+    let l = q .before .before .before .before .before .before .before .before in
+    performed-step unit (q .before .before .before .call .given .0 .0) (l .loop .heap) (l .loop .current) _ (q .perform .ensures)
+
+-- its answer and the run of the lines behind it are what is left
 answer-of : tie.After-perform Inv-loop μ-loop → List ℕ
 answer-of q = answer-line (q .before .before .before .call .given .0 .0) (answer-values (q .perform .result .answer))
 
@@ -116,7 +129,8 @@ made q =
     let l = f .before in
     let a = l .before .before .before .before .args in
     run-next (l .loop .start) (a .input .now) (l .loop .heap) (l .loop .current) (f .find-mark .result) (f .find-mark .ensures) (before-end (r .before)) (v .call .given .0 .0)
-    (q .perform .last .0) (q .perform .result .accounts) (answer-values (q .perform .result .answer)) (sym (r .read-call .ensures) ∙ ap asked-call (v .call .given .1)) (q .perform .ensures)
+    (q .perform .last .0) (q .perform .result .accounts) (answer-values (q .perform .result .answer))
+    (sym (r .read-call .ensures) ∙ ap asked-call (v .call .given .1)) (stepped q)
 
 loop-holds : tie.Need-loop-holds Inv-loop μ-loop
 loop-holds c =
@@ -218,7 +232,7 @@ loop-again c =
     let a = e .args in (
       omega (arith, before-end x),
       q .perform .kept .0 ∙ l .loop .inv .1,
-      reached-next (l .loop .heap) (l .loop .current) (q .before .before .before .call .given .0 .0) (q .perform .last .0) (q .perform .result .accounts) (answer-values (q .perform .result .answer)) (l .loop .inv .2) (q .perform .ensures),
+      reached-next (l .loop .heap) (l .loop .current) (q .before .before .before .call .given .0 .0) (q .perform .last .0) (q .perform .result .accounts) (answer-values (q .perform .result .answer)) (l .loop .inv .2) (stepped q),
       run-more (whole l) (a .at) (a .output .now) (l .loop .output) (p .put-answer .last .0) (l .loop .place) (p .put-answer .result) (answer-of q) (behind q) (e .pre .2)
           (subst (so-far l) (made q) (l .loop .inv .3)) (p .put-answer .ensures),
     )

@@ -1,0 +1,254 @@
+//! Images: a heap with its accounts as bytes that can be kept and read back.
+
+use core::error::Error;
+use core::fmt;
+
+use crate::heap::Heap;
+use crate::layout::Accounts;
+use crate::raw;
+use crate::refusal::Refusal;
+
+/// The length of the longest image, that of a heap of 32,768 bytes.
+pub const IMAGE_MAX: usize = 34_816;
+
+/// The length of the image of a heap of so many bytes; none where no heap can have that length.
+///
+/// ```
+/// assert_eq!(lokhazim::image_length(64), Some(1_536));
+/// assert_eq!(lokhazim::image_length(lokhazim::HEAP_MAX), Some(lokhazim::IMAGE_MAX));
+/// assert_eq!(lokhazim::image_length(65), None);
+/// ```
+pub fn image_length(heap_length: usize) -> Option<usize> {
+    match raw::image_length(heap_length) {
+        0 => None,
+        length => Some(length),
+    }
+}
+
+/// What an image says of itself before it is read.
+#[derive(Clone, Copy, Debug, PartialEq, Eq, Hash)]
+pub struct ImageFacts {
+    /// The number of its form.
+    pub form: u32,
+    /// The length of the heap that it holds, which is the length of the bytes to read it into.
+    pub heap_length: usize,
+}
+
+/// Tells the form of an image and the length of the heap in it, where its frames and its shape are
+/// right. Whether heap and accounts agree is told by reading it.
+///
+/// # Errors
+///
+/// Refusals 21 to 24.
+///
+/// ```
+/// use lokhazim::{examine_image, Heap, ImageRefusal};
+///
+/// let mut memory = [0; 128];
+/// let heap = Heap::open(&mut memory, [100; 8])?;
+/// let mut image = [0; 1_536];
+/// heap.save(&mut image)?;
+/// assert_eq!(examine_image(&image)?.heap_length, 128);
+/// assert_eq!(examine_image(&image[..100]), Err(ImageRefusal::ImageLength));
+/// # Ok::<(), Box<dyn std::error::Error>>(())
+/// ```
+pub fn examine_image(image: &[u8]) -> Result<ImageFacts, ImageRefusal> {
+    let reply = raw::image_examine(image);
+    verdict(reply.refusal).map(|()| ImageFacts {
+        form: reply.form,
+        heap_length: reply.heap_length,
+    })
+}
+
+/// Why an image is not written or not read; then nothing is changed.
+///
+/// ```
+/// use lokhazim::ImageRefusal;
+///
+/// assert_eq!(
+///     ImageRefusal::Room.to_string(),
+///     "refusal 25: the lent image is too short, or the lent heap has not the length of the image's; see image_length"
+/// );
+/// ```
+#[derive(Clone, Copy, Debug, PartialEq, Eq, Hash)]
+pub enum ImageRefusal {
+    /// 1 or 2: the heap's length is not allowed, or its bytes and accounts don't agree.
+    Call(Refusal),
+    /// 21: the image's length is 0 or no multiple of 512.
+    ImageLength,
+    /// 22: a frame's check, number or count is wrong.
+    FrameWrong,
+    /// 23: another form of image, or a mark that this form doesn't have.
+    FormNumber,
+    /// 24: a heap length that is not allowed or needs another number of frames, or a spare byte that is not zero.
+    Contents,
+    /// 25: the lent image is too short, or the lent heap has another length than the image's.
+    Room,
+    /// 26: the heap and the accounts in the image don't agree.
+    Inconsistent,
+}
+
+impl ImageRefusal {
+    /// The refusal's number, the same as in C.
+    ///
+    /// ```
+    /// use lokhazim::{ImageRefusal, Refusal};
+    ///
+    /// assert_eq!(ImageRefusal::FrameWrong.number(), 22);
+    /// assert_eq!(ImageRefusal::Call(Refusal::Inconsistent).number(), 2);
+    /// ```
+    pub const fn number(self) -> u32 {
+        match self {
+            ImageRefusal::Call(refusal) => refusal.number(),
+            ImageRefusal::ImageLength => 21,
+            ImageRefusal::FrameWrong => 22,
+            ImageRefusal::FormNumber => 23,
+            ImageRefusal::Contents => 24,
+            ImageRefusal::Room => 25,
+            ImageRefusal::Inconsistent => 26,
+        }
+    }
+
+    /// The refusal that has this number, if one has.
+    ///
+    /// ```
+    /// use lokhazim::{ImageRefusal, Refusal};
+    ///
+    /// assert_eq!(ImageRefusal::from_number(26), Some(ImageRefusal::Inconsistent));
+    /// assert_eq!(ImageRefusal::from_number(3), None);
+    /// ```
+    pub fn from_number(number: u32) -> Option<ImageRefusal> {
+        let own = [
+            ImageRefusal::Call(Refusal::HeapLength),
+            ImageRefusal::Call(Refusal::Inconsistent),
+            ImageRefusal::ImageLength,
+            ImageRefusal::FrameWrong,
+            ImageRefusal::FormNumber,
+            ImageRefusal::Contents,
+            ImageRefusal::Room,
+            ImageRefusal::Inconsistent,
+        ];
+        own.into_iter().find(|refusal| refusal.number() == number)
+    }
+
+    /// What is wrong, and what to do.
+    const fn advice(self) -> &'static str {
+        match self {
+            ImageRefusal::Call(_) => "",
+            ImageRefusal::ImageLength => "the image's length is 0 or no multiple of 512; hand over the whole image and nothing else",
+            ImageRefusal::FrameWrong => "a frame's check, number or count is wrong; the image is damaged, cut short or longer than it was written",
+            ImageRefusal::FormNumber => "this is no image of a form that this version reads",
+            ImageRefusal::Contents => "the image states a heap length that it can't have, or has bytes where zeros belong; it was not written by this library",
+            ImageRefusal::Room => "the lent image is too short, or the lent heap has not the length of the image's; see image_length",
+            ImageRefusal::Inconsistent => "the heap and the accounts in the image don't agree; it was not written by this library",
+        }
+    }
+}
+
+impl fmt::Display for ImageRefusal {
+    fn fmt(&self, f: &mut fmt::Formatter<'_>) -> fmt::Result {
+        match self {
+            ImageRefusal::Call(refusal) => refusal.fmt(f),
+            own => write!(f, "refusal {}: {}", own.number(), own.advice()),
+        }
+    }
+}
+
+impl Error for ImageRefusal {}
+
+/// The verdict that a reply's refusal number stands for.
+///
+/// # Panics
+///
+/// Where the number is one that the library is proved not to give: then another library has been
+/// linked in its place.
+fn verdict(number: u32) -> Result<(), ImageRefusal> {
+    if number == 0 {
+        return Ok(());
+    }
+    Err(ImageRefusal::from_number(number).unwrap_or_else(|| {
+        panic!("refusal {number} is unknown; link the liblokhazim_image.a of this crate's version")
+    }))
+}
+
+/// Reads an image into bytes and gives its accounts.
+fn restored(image: &[u8], bytes: &mut [u8]) -> Result<Accounts, ImageRefusal> {
+    let reply = raw::image_read(image, bytes);
+    verdict(reply.refusal).map(|()| reply.accounts)
+}
+
+impl<'a> Heap<'a> {
+    /// Writes an image of the heap and its accounts to the front of `image`; gives its length.
+    /// Bytes behind it stay.
+    ///
+    /// # Errors
+    ///
+    /// [`ImageRefusal::Room`] where `image` is shorter than [`image_length`] says; it is as it was.
+    ///
+    /// ```
+    /// use lokhazim::{Heap, ImageRefusal};
+    ///
+    /// let mut memory = [0; 128];
+    /// let mut heap = Heap::open(&mut memory, [100; 8])?;
+    /// let handle = heap.allocate(0, 10)?;
+    /// let mut image = [0; lokhazim::IMAGE_MAX];
+    /// let length = heap.save(&mut image)?;
+    ///
+    /// let mut elsewhere = [7; 128];
+    /// let again = Heap::restore(&mut elsewhere, &image[..length])?;
+    /// assert_eq!(again.accounts(), heap.accounts());
+    /// assert_eq!(again.lend(handle)?, [0; 16]);
+    /// assert_eq!(heap.save(&mut image[..length - 1]), Err(ImageRefusal::Room));
+    /// # Ok::<(), Box<dyn std::error::Error>>(())
+    /// ```
+    pub fn save(&self, image: &mut [u8]) -> Result<usize, ImageRefusal> {
+        let reply = raw::image_write(image, self.bytes, &self.accounts);
+        verdict(reply.refusal).map(|()| reply.length)
+    }
+
+    /// Takes up a heap from an image; the bytes have the length of the image's heap.
+    ///
+    /// A board that was stopped goes on where it was: handles from before the image are good,
+    /// handles that were given out after it mean nothing.
+    ///
+    /// # Errors
+    ///
+    /// Refusals 21 to 26; the bytes are as they were.
+    ///
+    /// ```
+    /// use lokhazim::{Heap, ImageRefusal};
+    ///
+    /// let mut memory = [7; 128];
+    /// assert_eq!(Heap::restore(&mut memory, &[1; 1_536]).unwrap_err(), ImageRefusal::FrameWrong);
+    /// assert_eq!(memory, [7; 128]);
+    /// ```
+    pub fn restore(bytes: &'a mut [u8], image: &[u8]) -> Result<Heap<'a>, ImageRefusal> {
+        let accounts = restored(image, bytes)?;
+        Ok(Heap { bytes, accounts })
+    }
+
+    /// Takes this heap back to an image of a heap of the same length.
+    ///
+    /// # Errors
+    ///
+    /// Refusals 21 to 26; heap and accounts are as they were, and calls go on with them.
+    ///
+    /// ```
+    /// use lokhazim::{Heap, ImageRefusal};
+    ///
+    /// let mut memory = [0; 128];
+    /// let mut heap = Heap::open(&mut memory, [100; 8])?;
+    /// let mut image = [0; 1_536];
+    /// heap.save(&mut image)?;
+    /// let handle = heap.allocate(0, 10)?;
+    /// assert_eq!(heap.go_back(&image[..512]), Err(ImageRefusal::FrameWrong));
+    /// assert!(heap.lend(handle).is_ok());
+    /// heap.go_back(&image)?;
+    /// assert!(heap.lend(handle).is_err());
+    /// # Ok::<(), Box<dyn std::error::Error>>(())
+    /// ```
+    pub fn go_back(&mut self, image: &[u8]) -> Result<(), ImageRefusal> {
+        self.accounts = restored(image, self.bytes)?;
+        Ok(())
+    }
+}

@@ -1,0 +1,77 @@
+/*
+ * Images from C: a heap with every record used is written and read back, a refused image leaves heap
+ * and accounts alone, and the caller's null pointer for the length is taken.
+ */
+#include "lokhazim_image.h"
+
+#include <stdio.h>
+#include <stdlib.h>
+#include <string.h>
+
+#define CHECK(fact)                                                           \
+    do {                                                                      \
+        if (!(fact)) {                                                        \
+            fprintf(stderr, "FAILED: line %d: %s\n", __LINE__, #fact);        \
+            exit(EXIT_FAILURE);                                               \
+        }                                                                     \
+    } while (0)
+
+static _Alignas(LOKHAZIM_ALIGNMENT) uint8_t heap[LOKHAZIM_HEAP_MAX];
+static _Alignas(LOKHAZIM_ALIGNMENT) uint8_t other[LOKHAZIM_HEAP_MAX];
+static uint8_t image[LOKHAZIM_IMAGE_MAX + 1];
+static struct lokhazim_accounts accounts;
+
+/* Every quota holds objects, and every record is used. */
+static void fill(void)
+{
+    struct lokhazim_grants grants;
+    for (uint32_t i = 0; i < LOKHAZIM_QUOTAS; i++) {
+        grants.values[i] = 100000 + i;
+    }
+    CHECK(lokhazim_heap_open(heap, sizeof heap, &accounts, grants) == LOKHAZIM_ACCEPTED);
+    for (uint32_t i = 0; i < LOKHAZIM_HOLDS; i++) {
+        struct lokhazim_handle handle;
+        CHECK(lokhazim_heap_allocate(heap, sizeof heap, &accounts, i % LOKHAZIM_QUOTAS, 100 + i, &handle) == LOKHAZIM_ACCEPTED);
+        memset(heap + handle.base, (int)i, handle.length);
+    }
+}
+
+static int same(const struct lokhazim_accounts *a, const struct lokhazim_accounts *b)
+{
+    int equal = a->last_serial == b->last_serial && memcmp(a->quotas, b->quotas, sizeof a->quotas) == 0;
+    for (int i = 0; i < LOKHAZIM_HOLDS; i++) {
+        equal &= a->holds[i].serial == b->holds[i].serial;
+        equal &= a->holds[i].quota == b->holds[i].quota;
+        equal &= a->holds[i].count == b->holds[i].count;
+    }
+    return equal;
+}
+
+int main(void)
+{
+    size_t length = 1;
+    struct lokhazim_accounts back;
+    memset(&back, 0, sizeof back);
+    fill();
+    memset(image, 7, sizeof image);
+
+    CHECK(lokhazim_image_length(sizeof heap) == LOKHAZIM_IMAGE_MAX && lokhazim_image_length(65) == 0);
+    CHECK(lokhazim_heap_save(heap, sizeof heap, &accounts, image, LOKHAZIM_IMAGE_MAX - 1, &length) == LOKHAZIM_IMAGE_ROOM);
+    CHECK(length == 0 && image[0] == 7);
+    CHECK(lokhazim_heap_save(heap, sizeof heap, &back, image, sizeof image, NULL) == LOKHAZIM_IMAGE_HEAP_INCONSISTENT);
+    CHECK(lokhazim_heap_save(heap, sizeof heap, &accounts, image, sizeof image, &length) == LOKHAZIM_IMAGE_ACCEPTED);
+    CHECK(length == LOKHAZIM_IMAGE_MAX && image[length] == 7);
+
+    CHECK(lokhazim_heap_restore(other, sizeof other, &back, image, length) == LOKHAZIM_IMAGE_ACCEPTED);
+    CHECK(memcmp(heap, other, sizeof heap) == 0 && same(&accounts, &back));
+    CHECK(lokhazim_heap_check(other, sizeof other, &back) == LOKHAZIM_ACCEPTED);
+
+    image[600] ^= 1;
+    memset(other, 9, sizeof other);
+    CHECK(lokhazim_heap_restore(other, sizeof other, &back, image, length) == LOKHAZIM_IMAGE_FRAME);
+    CHECK(lokhazim_heap_restore(other, sizeof other, &back, image, length + 1) == LOKHAZIM_IMAGE_LENGTH);
+    image[600] ^= 1;
+    CHECK(lokhazim_heap_restore(other, sizeof other - 8, &back, image, length) == LOKHAZIM_IMAGE_ROOM);
+    CHECK(other[0] == 9 && other[sizeof other - 1] == 9 && same(&accounts, &back));
+    return EXIT_SUCCESS;
+}

@@ -1,0 +1,65 @@
+//! Images: saved from a script, and shown.
+
+use std::fmt::Write;
+
+use lokhazim::{examine_image, image_length, Heap, Hold, ImageRefusal};
+
+use crate::failure::Failure;
+use crate::files;
+use crate::script::left_by;
+
+/// A refused image, by the file that it is about.
+fn refused(name: &str) -> impl Fn(ImageRefusal) -> Failure + '_ {
+    move |refusal| Failure::Refused(format!("{name}: {refusal}"))
+}
+
+/// Runs a script and writes an image of the heap that it leaves.
+pub fn save(script: &str, out: &str) -> Result<(), Failure> {
+    let lines = files::read(script)?;
+    let image = left_by(script, &lines, |heap| {
+        let (bytes, _) = heap.parts();
+        let mut image = vec![0; image_length(bytes.len()).unwrap_or(0)];
+        heap.save(&mut image).map_err(refused(script))?;
+        Ok(image)
+    })?;
+    files::write(out, &image)?;
+    files::print(format!("ok {}\n", image.len()).as_bytes())
+}
+
+/// Prints what an image holds.
+pub fn show(name: &str) -> Result<(), Failure> {
+    let image = files::read(name)?;
+    let facts = examine_image(&image).map_err(refused(name))?;
+    let mut memory = vec![0; facts.heap_length];
+    let heap = Heap::restore(&mut memory, &image).map_err(refused(name))?;
+    let mut text = String::new();
+    let accounts = heap.accounts();
+    let _ = writeln!(
+        text,
+        "ok {} {} {}",
+        facts.form, facts.heap_length, accounts.last_serial
+    );
+    for (number, quota) in accounts.quotas.iter().enumerate() {
+        if quota.grant != 0 {
+            let _ = writeln!(text, "quota {number} {} {}", quota.grant, quota.remainder);
+        }
+    }
+    for (place, hold) in accounts.holds.iter().enumerate() {
+        if *hold != Hold::default() {
+            let _ = writeln!(
+                text,
+                "hold {place} {} {} {}",
+                hold.serial, hold.quota, hold.count
+            );
+        }
+    }
+    for block in heap.blocks() {
+        let block = block.map_err(|refusal| Failure::Refused(format!("{name}: {refusal}")))?;
+        let _ = writeln!(
+            text,
+            "block {} {} {}",
+            block.offset, block.size, block.serial
+        );
+    }
+    files::print(text.as_bytes())
+}

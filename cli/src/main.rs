@@ -1,0 +1,84 @@
+//! The command `lokhazim`: replays scripts and works on images. Every rule is in the proved library;
+//! this program reads files, calls it and prints.
+//!
+//! Exit status: 0 where all went well, 1 where the library refuses, 2 for wrong words or a file that
+//! can't be read or written.
+
+#![deny(unsafe_code)]
+
+#[cfg(all(library_missing, not(clippy)))]
+compile_error!("liblokhazim_replay.a is missing: run 'make cli' in the repository");
+
+mod failure;
+mod files;
+mod image;
+#[allow(unsafe_code)]
+mod proved;
+mod script;
+
+use std::env;
+use std::process::ExitCode;
+
+use failure::Failure;
+
+/// What the command can do.
+const HELP: &str = "\
+lokhazim: a heap that parts of a firmware share, by its proved library
+
+    lokhazim replay SCRIPT            run a script of calls and print each answer, then the blocks
+    lokhazim image save SCRIPT OUT    run a script and write an image of the heap that it leaves
+    lokhazim image show FILE          print what an image holds: form, length and last serial;
+                                      quota NUMBER GRANT REMAINDER; hold PLACE SERIAL QUOTA COUNT;
+                                      block OFFSET SIZE SERIAL
+    lokhazim help | version
+
+A script begins with 'open H' and eight grants, then has a call to a line: alloc q n, array q n s,
+claim q b l s, free q b l s, all q, realloc q b l s n. SCRIPT and FILE can be - for standard input.
+Status 0: done. 1: refused, with the number and the reason. 2: wrong words, or a file that can't be
+read or written. docs/RULES.md has every rule.
+";
+
+fn main() -> ExitCode {
+    let words: Vec<String> = env::args_os()
+        .skip(1)
+        .map(|word| word.to_string_lossy().into_owned())
+        .collect();
+    let words: Vec<&str> = words.iter().map(String::as_str).collect();
+    match run(&words) {
+        Ok(()) => ExitCode::SUCCESS,
+        Err(failure) => {
+            eprintln!("{failure}");
+            ExitCode::from(failure.status())
+        }
+    }
+}
+
+/// Does what the words say.
+fn run(words: &[&str]) -> Result<(), Failure> {
+    match words {
+        ["replay", script] => replay(script),
+        ["image", "save", script, out] => image::save(script, out),
+        ["image", "show", file] => image::show(file),
+        ["help" | "--help" | "-h"] => files::print(HELP.as_bytes()),
+        ["version" | "--version"] => {
+            files::print(concat!("lokhazim ", env!("CARGO_PKG_VERSION"), "\n").as_bytes())
+        }
+        [] => Err(usage("say what to do")),
+        other => Err(usage(&format!("'{}' is not understood", other.join(" ")))),
+    }
+}
+
+/// The failure of wrong words.
+fn usage(what: &str) -> Failure {
+    Failure::Usage(format!("{what}; 'lokhazim help' lists what can be said"))
+}
+
+/// Prints what a script prints.
+fn replay(name: &str) -> Result<(), Failure> {
+    let printed = script::printed(name, &files::read(name)?);
+    files::print(printed.text.as_bytes())?;
+    match printed.bad {
+        Some(bad) => Err(Failure::Refused(bad)),
+        None => Ok(()),
+    }
+}

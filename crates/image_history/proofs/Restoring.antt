@@ -1,0 +1,122 @@
+-- Images in a history (rules, section 13). An image that is read gives back a state that may be restored, so the history goes on with it, and a state that
+-- no history led to is a beginning. An image that was written in the history and is read gives back the heap and the accounts written, so the history is
+-- that of the image and of the events since. A refused read changes nothing, and the history goes on with the accounts from before.
+-- The reader gives back what the writer wrote, which is image_model's; a history with an image read is one without what came in between, which is ledger's.
+-- Assumes nothing.
+use mathlib.Core.Path.{_≡_, refl, ap, sym, _∙_, subst}
+use mathlib.Core.List.{List, [], _∷_, _++_}
+use Prim.Native.Nat.{ℕ, zero, suc}
+use lib.ListN.{length, take}
+use Rattle.accounts.specs.declared.Accounts.{Accounts}
+use Rattle.rounding.specs.Rounding.{Units}
+use Rattle.layout.specs.Bytes.{Octets}
+use Rattle.model.specs.Step.{step}
+use Rattle.ledger.specs.Ledger.{Ledger, Event, Saved, Restored, read-ledger, ledger-of}
+use Rattle.ledger.specs.History.{Run, Restorable, Restoring, History}
+use Rattle.ledger.specs.Demand3.{Holds}
+use Rattle.ledger.proofs.Lengths.{saved-as-long}
+use Rattle.ledger.proofs.Rejoining.{saved-history, Same, history-restorable, rejoined-ledger, rejoined-holds}
+use Rattle.image_model.specs.declared.Form.{Form}
+use Rattle.image_model.specs.Stream.{Typed}
+use Rattle.image_model.specs.Answers.{Restored-to}
+use Rattle.image_model.specs.Reading.{heap-in, accounts-in}
+use Rattle.image_model.specs.Images.{write-image, read-image}
+use Rattle.image_model.proofs.Places.{Known}
+use Rattle.image_model.proofs.Refusals.{refused-read, accepted-read}
+use Rattle.image_model.proofs.Read.{read-written}
+use Rattle.image_model.proofs.Trips.{write-then-read}
+
+-- the bytes that the writer wrote
+abbrev pub written-image : Form → List ℕ → List ℕ → Accounts → List ℕ
+written-image f o s k = take (write-image f o s k .length) (write-image f o s k .image)
+
+module _ (i h : List ℕ) (octets : Octets i) (accepted : read-image i h .refusal ≡ 0) where
+  -- what an image gives back may be restored
+  pub accepted-restorable : Restorable (read-image i h .heap) (read-image i h .accounts)
+  accepted-restorable =
+      let a = read-written i h octets accepted .0 in
+      rw (accepted-read i h accepted) (record {
+        extent = a .extent;
+        octets = a .octets;
+        sound = a .sound;
+        quotas = a .typed .quotas;
+        narrow = a .typed .grant;
+        serial = a .typed .last;
+      })
+
+  -- and is as long as the lent heap
+  accepted-length : length (read-image i h .heap) ≡ length h
+  accepted-length = rw (accepted-read i h accepted) (sym (read-written i h octets accepted .2))
+
+  -- so it is a beginning, with the ledger that is read off it
+  pub restored-begins : (run : Run)
+      → History run (read-ledger (read-image i h .heap) (read-image i h .accounts)) [] (read-image i h .heap) (read-image i h .accounts)
+  restored-begins run = Restoring refl accepted-restorable
+
+  -- and a history goes on with it
+  pub restored-goes-on : (run : Run) (begun : Ledger) (es : List Event) (k : Accounts) → History run begun es h k
+      → History run begun (Restored (read-image i h .heap) (read-image i h .accounts) ∷ es) (read-image i h .heap) (read-image i h .accounts)
+  restored-goes-on run begun es k past = (h, k, past, accepted-length, accepted-restorable, refl, refl)
+
+-- a refused read leaves the heap, so the history goes on with the accounts from before
+pub refused-keeps : (i s : List ℕ) → (read-image i s .refusal ≡ 0 → ⊥) → read-image i s .heap ≡ s
+refused-keeps i s f = go (read-image i s .refusal) refl
+  where
+    go : (n : ℕ) → read-image i s .refusal ≡ n → read-image i s .heap ≡ s
+    go zero e = absurd (f e)
+    go (suc n) e = ap (λ (r : Restored-to). r .heap) (refused-read i s n e)
+
+pub refused-goes-on : (i s : List ℕ) (run : Run) (begun : Ledger) (es : List Event) (k : Accounts) → (read-image i s .refusal ≡ 0 → ⊥)
+    → History run begun es s k → History run begun es (read-image i s .heap) k
+refused-goes-on i s run begun es k f past = rw (refused-keeps i s f) past
+
+-- an image was written of s and k, in a form that is known
+module _ (f : Form) (o s : List ℕ) (k : Accounts) (known : Known f) (typed : Typed k) (saved : write-image f o s k .refusal ≡ 0) (octets : Octets s) where
+  -- it says s and k
+  says : (heap-in (written-image f o s k) ≡ s) × (accounts-in (written-image f o s k) ≡ k)
+  says =
+      let r = write-then-read f o s k s saved known octets typed refl in
+      let a = accepted-read (written-image f o s k) s (ap (λ (x : Restored-to). x .refusal) r) in
+      let q = sym a ∙ r in
+      (ap (λ (x : Restored-to). x .heap) q, ap (λ (x : Restored-to). x .accounts) q)
+
+  -- so where it is read, it gives them back
+  pub saved-restored : (h : List ℕ) → read-image (written-image f o s k) h .refusal ≡ 0
+      → read-image (written-image f o s k) h ≡ record { heap = s; accounts = k; refusal = 0 }
+  saved-restored h e = accepted-read (written-image f o s k) h e ∙ (λ j. record { heap = says .0 j; accounts = says .1 j; refusal = 0 })
+
+-- a written image is an event of the history, and changes nothing
+pub saved-goes-on : (run : Run) (begun : Ledger) (es : List Event) (s : List ℕ) (k : Accounts) → History run begun es s k
+    → History run begun (Saved s k ∷ es) s k
+saved-goes-on run begun es s k past = (past, refl, refl)
+
+-- what a read of an image leaves that was written in the history: the heap and the accounts written; a history with the restore in it; the image's own
+-- history again; and a ledger that says what it said when the image was written
+pub record Continues (unit : ℕ → ℕ) (begun : Ledger) (early mid : List Event) (s₁ : List ℕ) (k₁ : Accounts) (r : Restored-to) : Type 0 where
+  pub state : r ≡ record { heap = s₁; accounts = k₁; refusal = 0 }
+  pub goes-on : History (step unit) begun (Restored (r .heap) (r .accounts) ∷ (mid ++ (Saved s₁ k₁ ∷ early))) (r .heap) (r .accounts)
+  pub again : History (step unit) begun early (r .heap) (r .accounts)
+  pub ledger : Same (ledger-of begun (Restored (r .heap) (r .accounts) ∷ (mid ++ (Saved s₁ k₁ ∷ early)))) (ledger-of begun early)
+
+module _ (unit : ℕ → ℕ) (units : Units unit) (begun : Ledger) (early mid : List Event) (s₁ : List ℕ) (k₁ : Accounts) where
+  -- at any later point of the history the image is accepted
+  pub restore-continues : (s : List ℕ) (k : Accounts) → History (step unit) begun (mid ++ (Saved s₁ k₁ ∷ early)) s k
+      → (f : Form) (o : List ℕ) → Known f → Typed k₁ → write-image f o s₁ k₁ .refusal ≡ 0
+      → Continues unit begun early mid s₁ k₁ (read-image (written-image f o s₁ k₁) s)
+  restore-continues s k past f o known typed saved =
+      let own = saved-history (step unit) begun early s₁ k₁ mid s k past in
+      let fit = history-restorable unit units begun early s₁ k₁ own in
+      let long = saved-as-long unit units begun early s₁ k₁ mid s k past in
+      subst (Continues unit begun early mid s₁ k₁) (sym (write-then-read f o s₁ k₁ s saved known (fit .octets) typed long))
+      (record {
+        state = refl;
+        goes-on = (s, k, past, sym long, fit, refl, refl);
+        again = own;
+        ledger = rejoined-ledger unit units begun early mid s₁ k₁ s k past;
+      })
+
+  -- and whatever happens since, demand 3 speaks of the image's history and of that
+  pub restore-holds : (since : List Event) (s : List ℕ) (k : Accounts)
+      → History (step unit) begun (since ++ (Restored s₁ k₁ ∷ (mid ++ (Saved s₁ k₁ ∷ early)))) s k
+      → (front back : List Event) → since ++ early ≡ back ++ front → Holds unit (step unit) begun front back s k
+  restore-holds since s k past = rejoined-holds unit units begun early mid since s₁ k₁ s k past

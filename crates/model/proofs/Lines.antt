@@ -1,0 +1,26 @@
+-- In which order the lines are looked at, of the definitions: each table is one theorem, by computation.
+-- Assumes nothing.
+use mathlib.Core.Path.{_≡_, refl}
+use mathlib.Core.List.{map}
+use Rattle.rounding.specs.Rounding.{unit}
+use Rattle.model.specs.Tables.{run, values-of, got, wanted, parts, accounts-of}
+use Rattle.model.specs.Cases.{block}
+use Rattle.model.specs.Lines.{opening, every-call, one-block, each-refused, filled-from, holders, records-from, full-heap, full-accounts, four-accounts, four-objects}
+use Rattle.model.specs.Lines.{heap-lengths, openings, first-lines, full-lines, last-lines}
+use Rattle.model.proofs.Computing.{computing}
+
+pub openings-run : map opening heap-lengths ≡ openings
+unfolding computing parts accounts-of opening openings
+openings-run = refl
+
+pub first-lines-run : map (got unit) first-lines ≡ map wanted first-lines
+unfolding computing run values-of got wanted parts accounts-of block every-call one-block each-refused first-lines
+first-lines-run = refl
+
+pub full-lines-run : map (got unit) full-lines ≡ map wanted full-lines
+unfolding computing run values-of got wanted accounts-of filled-from holders records-from full-heap full-accounts full-lines
+full-lines-run = refl
+
+pub last-lines-run : map (got unit) last-lines ≡ map wanted last-lines
+unfolding computing run values-of got wanted accounts-of filled-from holders records-from four-accounts four-objects last-lines
+last-lines-run = refl

@@ -1,0 +1,50 @@
+-- `replay_api::lokhazim_replay` meets its contract: the reply is that of the answer that the replay gives, and the output is the replay's (`replied`).
+-- Assumes nothing.
+use borrow.Author.Needs.{needs}
+use Rattle.replay_text.specs.declared.Replayed.the-variants.{Written, TooShort}
+use Rattle.replay_api.specs.Replies.{reply-of}
+use Rattle.replay_api.proofs.Replies.{replied}
+use Rattle.replay_api.proofs.lokhazim_replay.Statement.{statement}
+use Rattle.replay_api.proofs.lokhazim_replay.Tie as tie
+
+replay-requires : tie.Need-replay-requires
+replay-requires c κs = search needs
+
+enum-known-count : tie.Need-enum-known-count
+enum-known-count c = search needs
+
+enum-told : tie.Need-enum-told
+enum-told c = search needs
+
+same-length : tie.Need-same-length
+same-length c = search needs
+
+returns : tie.Need-returns
+unfolding reply-of
+returns c =
+    let r = c .before .before .before .before in
+    let a = r .before .before .before .before .args in
+    replied (a .input .now) (a .output .now) (r .replay .last .1 .0) _ TooShort (c .enum-told .given .1) (r .replay .ensures)
+
+same-length-2 : tie.Need-same-length-2
+same-length-2 c = search needs
+
+returns-2 : tie.Need-returns-2
+unfolding reply-of
+returns-2 c =
+    let k = c .before in
+    let r = k .before .before .before .before in
+    let a = r .before .before .before .before .args in
+    replied (a .input .now) (a .output .now) (r .replay .last .1 .0) _ (Written (k .count .given .0 .0)) (k .count .given .1) (r .replay .ensures)
+
+pub lokhazim-replay-spec : {M : Type 1} → statement M
+lokhazim-replay-spec =
+    tie.close
+    (tie.spec
+    replay-requires
+    enum-known-count
+    enum-told
+    same-length
+    returns
+    same-length-2
+    returns-2)

@@ -1,0 +1,128 @@
+/*
+ * Lokhazim: images. An image is a heap with its accounts as bytes that can be
+ * kept, sent and read back on another board: frames of 512 bytes, each with its
+ * number and a check. Link liblokhazim_image.a; a program that needs no images
+ * leaves both away.
+ *
+ * The functions keep no pointer and take any bytes. Reading needs room for a
+ * whole heap on the stack (see README), because a refused image must not have
+ * touched the heap it was to be read into.
+ *
+ * Neither pointer is null, and image, heap and accounts don't overlap.
+ */
+#ifndef LOKHAZIM_IMAGE_H
+#define LOKHAZIM_IMAGE_H
+
+#include "lokhazim.h"
+
+#ifdef __cplusplus
+extern "C" {
+#endif
+
+/* The length of the longest image, that of a heap of LOKHAZIM_HEAP_MAX bytes. */
+#define LOKHAZIM_IMAGE_MAX 34816
+
+/* Why an image is not written or not read. The numbers are also the order of checking, but that 25 is a writer's last. */
+enum lokhazim_image_refusal {
+    /* Not refused. */
+    LOKHAZIM_IMAGE_ACCEPTED = 0,
+    /* Writing: the heap's length is not allowed. */
+    LOKHAZIM_IMAGE_HEAP_LENGTH = 1,
+    /* Writing: heap and accounts don't agree. */
+    LOKHAZIM_IMAGE_HEAP_INCONSISTENT = 2,
+    /* The image's length is 0 or no multiple of 512. */
+    LOKHAZIM_IMAGE_LENGTH = 21,
+    /* A frame's check, number or count is wrong: damaged, cut short, or longer than it was written. */
+    LOKHAZIM_IMAGE_FRAME = 22,
+    /* Another form of image than this library reads. */
+    LOKHAZIM_IMAGE_FORM = 23,
+    /* A heap length that is not allowed or needs another number of frames, or a spare byte that is not zero. */
+    LOKHAZIM_IMAGE_CONTENTS = 24,
+    /* Writing: the lent image is too short. Reading: the lent heap hasn't the length of the image's heap. */
+    LOKHAZIM_IMAGE_ROOM = 25,
+    /* The heap and the accounts in the image don't agree. */
+    LOKHAZIM_IMAGE_INCONSISTENT = 26
+};
+
+/* The reply of writing an image; length is 0 where it is refused. */
+struct lokhazim_image_reply {
+    uint32_t refusal;
+    size_t length;
+};
+
+/* The reply of reading an image; the accounts are all zero where it is refused. */
+struct lokhazim_restore_reply {
+    struct lokhazim_accounts accounts;
+    uint32_t refusal;
+};
+
+/* The reply of examining an image; all zero but the refusal where it is refused. */
+struct lokhazim_examine_reply {
+    uint32_t refusal;
+    uint32_t form;
+    size_t heap_length;
+};
+
+static_assert(sizeof(struct lokhazim_image_reply) == 16, "the size of struct lokhazim_image_reply is not 16");
+static_assert(offsetof(struct lokhazim_image_reply, refusal) == 0, "struct lokhazim_image_reply: the offset of refusal is not 0");
+static_assert(offsetof(struct lokhazim_image_reply, length) == 8, "struct lokhazim_image_reply: the offset of length is not 8");
+static_assert(sizeof(struct lokhazim_restore_reply) == 1096, "the size of struct lokhazim_restore_reply is not 1096");
+static_assert(offsetof(struct lokhazim_restore_reply, accounts) == 0, "struct lokhazim_restore_reply: the offset of accounts is not 0");
+static_assert(offsetof(struct lokhazim_restore_reply, refusal) == 1092, "struct lokhazim_restore_reply: the offset of refusal is not 1092");
+
+static_assert(sizeof(struct lokhazim_examine_reply) == 16, "the size of struct lokhazim_examine_reply is not 16");
+static_assert(offsetof(struct lokhazim_examine_reply, refusal) == 0, "struct lokhazim_examine_reply: the offset of refusal is not 0");
+static_assert(offsetof(struct lokhazim_examine_reply, form) == 4, "struct lokhazim_examine_reply: the offset of form is not 4");
+static_assert(offsetof(struct lokhazim_examine_reply, heap_length) == 8, "struct lokhazim_examine_reply: the offset of heap_length is not 8");
+
+/* ---- The library's functions: accounts by value ---- */
+
+/* The length of the image of a heap of so many bytes; 0 for a length that no heap can have. */
+size_t lokhazim_image_length(size_t heap_length);
+
+/* Writes an image of heap and accounts to the front of `image`; bytes behind it stay. */
+struct lokhazim_image_reply lokhazim_image_write(
+    uint8_t *image, size_t image_length, const uint8_t *heap, size_t length, struct lokhazim_accounts accounts);
+
+/* Reads an image into a heap of the same length, and gives its accounts. */
+struct lokhazim_restore_reply lokhazim_image_read(
+    const uint8_t *image, size_t image_length, uint8_t *heap, size_t length);
+
+/* Tells the image's form and the length of the heap in it, by refusals 21 to 24; whether heap and accounts agree is told by reading. */
+struct lokhazim_examine_reply lokhazim_image_examine(const uint8_t *image, size_t image_length);
+
+/* ---- The same with the accounts by pointer; each gives its refusal ---- */
+
+/* Writes an image of heap and accounts to the front of `image`; *written, if it is not null, becomes its length. Refusals 1, 2, 25. */
+static inline enum lokhazim_image_refusal lokhazim_heap_save(
+    const uint8_t *heap, size_t length, const struct lokhazim_accounts *accounts,
+    uint8_t *image, size_t image_length, size_t *written)
+{
+    const struct lokhazim_image_reply reply = lokhazim_image_write(image, image_length, heap, length, *accounts);
+    if (written) {
+        *written = reply.length;
+    }
+    return (enum lokhazim_image_refusal)reply.refusal;
+}
+
+/*
+ * Reads an image into heap and accounts. Handles from before the image are good again, handles that were given out
+ * after it mean nothing. Where it is refused, heap and accounts stay as they were, and calls go on with them.
+ * Refusals 21 to 26.
+ */
+static inline enum lokhazim_image_refusal lokhazim_heap_restore(
+    uint8_t *heap, size_t length, struct lokhazim_accounts *accounts,
+    const uint8_t *image, size_t image_length)
+{
+    const struct lokhazim_restore_reply reply = lokhazim_image_read(image, image_length, heap, length);
+    if (reply.refusal == LOKHAZIM_IMAGE_ACCEPTED) {
+        *accounts = reply.accounts;
+    }
+    return (enum lokhazim_image_refusal)reply.refusal;
+}
+
+#ifdef __cplusplus
+}
+#endif
+
+#endif
