@@ -42,7 +42,8 @@ module _ (i j : List ℕ) (n : ℕ) where
   unfolding compare-of compare-second nth-of unless-refused
   first-refused r e = rw e
 
-  pub second-refused : Accepted i → (r : ℕ) → first-refusal (examine-lines j) ≡ suc r → compare-of i j n ≡ record { refusal = suc r; which = Second; found = none }
+  pub second-refused : Accepted i → (r : ℕ) → first-refusal (examine-lines j) ≡ suc r
+      → compare-of i j n ≡ record { refusal = suc r; which = Second; found = none }
   unfolding compare-of compare-second nth-of unless-refused
   second-refused a r e = rw (a, e)
 

@@ -36,7 +36,8 @@ module _ (i : List ℕ) (p : Parsed) (told : parts-of p ≡ examined-in i) where
   unfolding examined-in
   by-shape s e = ap (λ (x : Shape). shape-parts x (p .accounts)) (sym e) ∙ told
 
-  image-from : (m : ℕ) (f : Form) (n : ℕ) (k : Accounts) → record { refusal = 0; form = f; size = n; accounts = k } ≡ unless-parts m said → (m ≡ 0) × (n ≡ size-in i)
+  image-from : (m : ℕ) (f : Form) (n : ℕ) (k : Accounts) → record { refusal = 0; form = f; size = n; accounts = k } ≡ unless-parts m said
+      → (m ≡ 0) × (n ≡ size-in i)
   unfolding unless-parts
   image-from zero f n k e = (refl, ap (λ (x : Parts). x .size) e)
   image-from (suc m) f n k e = let z : 0 ≡ suc m = ap (λ (x : Parts). x .refusal) e in absurd (omega arith)

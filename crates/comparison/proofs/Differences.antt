@@ -1,4 +1,5 @@
--- The list of differences: what is in it differs and what differs is in it, it is in order and has nothing twice, and it is empty exactly for equal states.
+-- The list of differences: what is in it differs and what differs is in it, it is in order and has nothing twice, and there is nothing in it if and only if
+-- the states are equal.
 -- Each part is judged by its own laws; a difference tells by its part where in the list it can be.
 -- Assumes nothing.
 use mathlib.Core.Path.{_≡_, refl, ap}
@@ -18,7 +19,8 @@ use Rattle.accounts.specs.declared.Hold.{Hold}
 use Rattle.accounts.specs.Accounts.{zero-quota, zero-hold}
 use Rattle.image_model.proofs.Items.{All, all-both}
 use Rattle.model.proofs.Bools.{and-left, and-right, and-both}
-use Rattle.comparison.specs.Differences.{State, Run, same-quota, same-record, serial-part, quota-part, record-part, runs, bytes-of, byte-part, differences}
+use Rattle.comparison.specs.Differences.{State, Run, same-quota, same-record, serial-part, quota-part, record-part, runs, bytes-of, byte-part}
+use Rattle.comparison.specs.Differences.{differences}
 use Rattle.comparison.specs.Listing.{part-of, start-of, Before, Longest, OneSize}
 use Rattle.comparison.specs.declared.Difference.{Difference}
 use Rattle.comparison.specs.declared.Difference.the-variants.{LastSerial, Quota as QuotaAt, Record as RecordAt, Bytes}
@@ -167,7 +169,9 @@ module _ (a b : State) where
   -- what is listed is exactly what differs
   pub serial-exact : List·Memᴰ LastSerial (differences a b) ↔ (a .accounts .«last_serial» ≢ b .accounts .«last_serial»)
   unfolding differences serials quotas records bytes
-  serial-exact = then (only-part LastSerial 0 serials (quotas ++ (records ++ bytes)) quotas-above refl) (serial-is (a .accounts .«last_serial») (b .accounts .«last_serial»))
+  serial-exact =
+      then (only-part LastSerial 0 serials (quotas ++ (records ++ bytes)) quotas-above refl)
+      (serial-is (a .accounts .«last_serial») (b .accounts .«last_serial»))
 
   behind-serial : (d : Difference) → 0 < part-of d → List·Memᴰ d (differences a b) ↔ List·Memᴰ d (quotas ++ (records ++ bytes))
   unfolding differences serials quotas records bytes
@@ -189,7 +193,8 @@ module _ (a b : State) where
     quota-exact q =
         then (behind-serial (QuotaAt q) (omega arith))
         (then (only-part (QuotaAt q) 1 quotas (records ++ bytes) (records-above 1 (omega arith)) refl)
-        (items-exact same-quota QuotaAt (λ j k e. ap start-of e) same-quota-self same-quota-is zero-quota (a .accounts .quotas) (b .accounts .quotas) (w .quotas) q))
+        (items-exact same-quota QuotaAt (λ j k e. ap start-of e) same-quota-self same-quota-is zero-quota (a .accounts .quotas)
+        (b .accounts .quotas) (w .quotas) q))
 
     pub record-exact : (p : ℕ) → List·Memᴰ (RecordAt p) (differences a b)
         ↔ (getD (a .accounts .holds) p zero-hold ≢ getD (b .accounts .holds) p zero-hold)
@@ -197,7 +202,8 @@ module _ (a b : State) where
     record-exact p =
         then (behind-quotas (RecordAt p) (omega arith))
         (then (only-part (RecordAt p) 2 records bytes (bytes-above 2 (omega arith)) refl)
-        (items-exact same-record RecordAt (λ j k e. ap start-of e) same-record-self same-record-is zero-hold (a .accounts .holds) (b .accounts .holds) (w .holds) p))
+        (items-exact same-record RecordAt (λ j k e. ap start-of e) same-record-self same-record-is zero-hold (a .accounts .holds)
+        (b .accounts .holds) (w .holds) p))
 
     -- runs: exactly the longest ones; and a byte differs exactly if it is in one of them
     pub run-exact : (at n : ℕ) → List·Memᴰ (Bytes at n) (differences a b) ↔ Longest (a .heap) (b .heap) at n
@@ -214,7 +220,7 @@ module _ (a b : State) where
           λ x. e .1 (x .0, x .1, m (x .0) (x .1) .0 (x .2), x .3, x .4),
         )
 
--- the list is empty exactly for equal states
+-- nothing is listed if and only if the two states are equal
 no-front : (xs ys : List Difference) → xs ++ ys ≡ [] → (xs ≡ []) × (ys ≡ [])
 no-front [] ys e = (refl, e)
 no-front (x ∷ xs) ys e = let no : _≡_ {A = ℕ} 0 1 = cc in absurd (omega arith)

@@ -20,7 +20,7 @@ use Rattle.image_model.proofs.Places.{marks-keep, blank-lengths}
 use Rattle.image.proofs.Parses.{form-of-fits}
 use Rattle.comparison.specs.Differences.{state-in, same-quota, same-record, serial-part, differing, quota-part, record-part, byte-part, differences}
 use Rattle.comparison.specs.Positions.{from-byte, from-record, from-quota, behind, first-of}
-use Rattle.comparison.specs.Finding.{Reaches}
+use Rattle.comparison.specs.Finding.{same-byte, Reaches}
 use Rattle.comparison.specs.declared.Difference.{Difference}
 use Rattle.comparison.specs.declared.Difference.the-variants.{LastSerial, Quota as QuotaAt, Record as RecordAt, Bytes}
 use Rattle.comparison.specs.declared.Position.the-variants.{Quota as FromQuota, Record as FromRecord, Byte}
@@ -118,7 +118,7 @@ module _ (s t : List ℕ) (test : ℕ → Bool) (tests : (k : ℕ) → k < end s
 -- the same of two images, whose heaps begin at a place of their own in their streams
 module _ (i j : List ℕ) (x y e : ℕ) (one : x ≡ head-length (form-of i)) (two : y ≡ head-length (form-of j)) (size : e ≡ min (size-in i) (size-in j)) where
   abbrev test : ℕ → Bool
-  test k = eqb (getD (stream-of i) (x + k) 0) (getD (stream-of j) (y + k) 0)
+  test = same-byte i j x y
 
   end-is : e ≡ end (heap-in i) (heap-in j)
   end-is = size ∙ (rw (heap-length i, heap-length j))
@@ -140,7 +140,8 @@ module _ (i j : List ℕ) (x y e : ℕ) (one : x ≡ head-length (form-of i)) (t
   bytes-found at r z w h v = sym (run-found (heap-in i) (heap-in j) test tests at r (rw end-is at w) (rw end-is at h) z (rw end-is at v))
 
 -- the first item that is not the same, in front of what is behind the items
-module _ {A : Type 0} (same : A → A → Bool) (name : ℕ → Difference) (d : A) (n : ℕ) (xs ys : List A) (long : length xs ≡ n) (long-2 : length ys ≡ n) (from at : ℕ)
+module _ {A : Type 0} (same : A → A → Bool) (name : ℕ → Difference) (d : A) (n : ℕ) (xs ys : List A)
+    (long : length xs ≡ n) (long-2 : length ys ≡ n) (from at : ℕ)
     (reached : differing same name from (drop from xs) (drop from ys) ≡ differing same name at (drop at xs) (drop at ys)) (rest : List Difference) where
   pub item-found : at < n → same (getD xs at d) (getD ys at d) ≡ false
       → Differs (name at) (behind (name at)) ≡ first-of (differing same name from (drop from xs) (drop from ys) ++ rest)
@@ -162,7 +163,8 @@ module _ (x y : ℕ) (rest : List Difference) where
 
 -- the same of the accounts that two images say
 module _ (i j : List ℕ) (k l : Accounts) (one : k ≡ accounts-in i) (two : l ≡ accounts-in j) where
-  module _ (from at : ℕ) (reached : quota-part from (drop from (k .quotas)) (drop from (l .quotas)) ≡ quota-part at (drop at (k .quotas)) (drop at (l .quotas))) where
+  module _ (from at : ℕ)
+      (reached : quota-part from (drop from (k .quotas)) (drop from (l .quotas)) ≡ quota-part at (drop at (k .quotas)) (drop at (l .quotas))) where
     long : length (k .quotas) ≡ QUOTAS
     long = ap (λ (x : Accounts). length (x .quotas)) one ∙ quotas-long i
 
@@ -178,7 +180,8 @@ module _ (i j : List ℕ) (k l : Accounts) (one : k ≡ accounts-in i) (two : l 
     unfolding from-quota state-in quota-part
     quotas-none h = rw (← one, ← two) (ap first-of (items-none same-quota QuotaAt zero-quota QUOTAS (k .quotas) (l .quotas) long long-2 from at reached _ h))
 
-  module _ (from at : ℕ) (reached : record-part from (drop from (k .holds)) (drop from (l .holds)) ≡ record-part at (drop at (k .holds)) (drop at (l .holds))) where
+  module _ (from at : ℕ)
+      (reached : record-part from (drop from (k .holds)) (drop from (l .holds)) ≡ record-part at (drop at (k .holds)) (drop at (l .holds))) where
     holds-1 : length (k .holds) ≡ HOLDS
     holds-1 = ap (λ (x : Accounts). length (x .holds)) one ∙ holds-long i
 

@@ -76,7 +76,8 @@ module _ {A : Type 0} (same : A → A → Bool) (name : ℕ → Difference) wher
 
       go : (b : Bool) → same x y ≡ b
           → List·Memᴰ (name q) (cond b (differing same name (suc n) xs ys) (name n ∷ differing same name (suc n) xs ys))
-          → (List·Memᴰ (name q) (differing same name (suc n) xs ys) → (k : ℕ) × (q ≡ n + k) × (k < suc (length xs)) × (same (getD (x ∷ xs) k d) (getD (y ∷ ys) k d) ≡ false))
+          → (List·Memᴰ (name q) (differing same name (suc n) xs ys)
+          → (k : ℕ) × (q ≡ n + k) × (k < suc (length xs)) × (same (getD (x ∷ xs) k d) (getD (y ∷ ys) k d) ≡ false))
           → (k : ℕ) × (q ≡ n + k) × (k < suc (length xs)) × (same (getD (x ∷ xs) k d) (getD (y ∷ ys) k d) ≡ false)
       go true e m ih = ih m
       go false e m ih = ⊎-elim (λ p. (0, omega (arith, inj q n p), omega arith, e)) ih (List·Memᴰ·cases-cons m)

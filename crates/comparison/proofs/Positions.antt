@@ -13,7 +13,8 @@ use lib.ListN.{length, take, drop, getElem?}
 use lib.Seq.{take-all}
 use lib.Dec.{eqb}
 use Rattle.accounts.specs.Accounts.{zero-quota, zero-hold}
-use Rattle.comparison.specs.Differences.{State, Run, same-quota, same-record, serial-part, quota-part, record-part, runs, bytes-of, byte-part, differences}
+use Rattle.comparison.specs.Differences.{State, Run, same-quota, same-record, serial-part, quota-part, record-part, runs, bytes-of, byte-part}
+use Rattle.comparison.specs.Differences.{differences}
 use Rattle.comparison.specs.Positions.{from-byte, from-record, from-quota, differences-from, behind, first-of, next-of, with-answer, asked}
 use Rattle.comparison.specs.declared.Difference.{Difference}
 use Rattle.comparison.specs.declared.Difference.the-variants.{LastSerial, Quota as QuotaAt, Record as RecordAt}

@@ -1,5 +1,5 @@
--- What differs between two states, as a list (rules 14.2 to 14.6): the last serial, quotas in rising number, hold records in rising place, then the
--- longest runs of heap bytes in rising offset.
+-- What differs between two states, as a list (rules 14.2 to 14.6): the last serial, then quotas by number, hold records by place and, at the end,
+-- runs of heap bytes by offset, each as long as can be.
 use Prim.Native.Nat.{ℕ, suc}
 use mathlib.Core.List.{List, [], _∷_, _++_, map}
 use mathlib.Core.Bool.{Bool, cond, _&&_}

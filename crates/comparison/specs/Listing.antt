@@ -32,7 +32,8 @@ stop-of (Bytes at n) = at + n
 abbrev pub Before : Difference → Difference → Type 0
 Before d e = (part-of d < part-of e) ⊎ ((part-of d ≡ part-of e) × (stop-of d < start-of e))
 
--- the n bytes from at on are a longest run in which two heaps of one length differ: all of them differ, and the bytes on both sides, where there are any, do not
+-- the n bytes from at on are a longest run in which two heaps of one length differ: all of them differ, and the bytes on both sides of them, where
+-- there are any, do not
 pub record Longest (s t : List ℕ) (at n : ℕ) : Type 0 where
   pub some : 0 < n
   pub fits : at + n ≤ length s

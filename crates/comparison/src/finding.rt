@@ -11,7 +11,7 @@ ghost use lib.Dec.{eqb};
 ghost use Rattle.accounts.specs.Accounts.{QUOTAS, HOLDS, zero-quota, zero-hold};
 ghost use Rattle.framing.specs.Frames.{stream-of};
 ghost use Rattle.comparison.specs.Differences.{same-quota, same-record, quota-part, record-part};
-ghost use Rattle.comparison.specs.Finding.{Reaches};
+ghost use Rattle.comparison.specs.Finding.{same-byte, Reaches};
 
 // Whether two quotas have the same numbers.
 fn is_same_quota(first: Quota, second: Quota) -> bool
@@ -85,7 +85,7 @@ pub(crate) fn find_byte(
     equal: bool,
 ) -> usize
     requires { ⌜ (start < 2 ^ 32) × (other < 2 ^ 32) × (end < 2 ^ 32) ⌝ }
-    ensures { λ r. ⌜ Reaches (λ k. eqb (getD (stream-of (now (first .entry))) (start + k) 0) (getD (stream-of (now (second .entry))) (other + k) 0)) equal from end r ⌝ }
+    ensures { λ r. ⌜ Reaches (same-byte (now (first .entry)) (now (second .entry)) start other) equal from end r ⌝ }
 {
     let mut at = from;
     while at < end {

@@ -36,7 +36,8 @@ position-rows = (refl, refl, refl, refl, refl)
 next : ℕ → ℕ → ℕ → ℕ → ℕ → NextReply
 next k p n part at = record { kind = k; place = p; length = n; part = part; at = at }
 
-next-rows : map next-reply (Nothing ∷ Differs LastSerial (Quota 0) ∷ Differs (QuotaAt 7) (Quota 8) ∷ Differs (RecordAt 3) (Record 4) ∷ Differs (Bytes 8 24) (Byte 32) ∷ [])
+next-rows : map next-reply
+    (Nothing ∷ Differs LastSerial (Quota 0) ∷ Differs (QuotaAt 7) (Quota 8) ∷ Differs (RecordAt 3) (Record 4) ∷ Differs (Bytes 8 24) (Byte 32) ∷ [])
     ≡ next 0 0 0 0 0 ∷ next 1 0 0 1 0 ∷ next 2 7 0 1 8 ∷ next 3 3 0 2 4 ∷ next 4 8 24 3 32 ∷ []
 unfolding next
 next-rows = refl

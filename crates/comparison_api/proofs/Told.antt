@@ -15,7 +15,8 @@ use Rattle.comparison.specs.declared.Position.the-variants.{Start, Quota, Recor
 use Rattle.comparison.specs.declared.NextAnswer.{NextAnswer}
 use Rattle.comparison.specs.declared.NextAnswer.the-variants.{Differs, Nothing}
 use Rattle.comparison.specs.Compare.{Compared}
-use Rattle.comparison_api.specs.Replies.{which-number, kind-number, place-number, length-number, reply-with, compare-reply, position-of, part-number, place-in, next-reply}
+use Rattle.comparison_api.specs.Replies.{which-number, kind-number, place-number, length-number, reply-with, compare-reply, position-of}
+use Rattle.comparison_api.specs.Replies.{part-number, place-in, next-reply}
 use Rattle.comparison_api.specs.declared.CompareReply.{CompareReply}
 use Rattle.comparison_api.specs.declared.NextReply.{NextReply}
 use Rattle.comparison_api.proofs.Rows

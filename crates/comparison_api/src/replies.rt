@@ -8,7 +8,8 @@ use comparison::Position;
 use comparison::Which;
 ghost use mathlib.Core.Path.{_≡_};
 ghost use Rattle.comparison.specs.Compare.{compared};
-ghost use Rattle.comparison_api.specs.Replies.{which-number, kind-number, place-number, length-number, compare-reply, position-of, part-number, place-in, next-reply};
+ghost use Rattle.comparison_api.specs.Replies.{which-number, kind-number, place-number, length-number, compare-reply, position-of, part-number};
+ghost use Rattle.comparison_api.specs.Replies.{place-in, next-reply};
 
 // The number of the image that a refusal is about.
 fn number_of(which: Which) -> u32

@@ -17,7 +17,7 @@ with-second-requires c κs =
     let s = c .before in
     let p = s .before .before in
     let a = p .before .before .before .args in
-    examined-image (a .first .now) (p .examine .result) (p .examine .ensures) (s .shape .given .0 .0) (s .shape .given .0 .1 .0) (s .shape .given .1) .1
+    examined-image (a .first .now) (p .examine .result) (p .examine .ensures) _ (s .shape .given .0 .1 .0) (s .shape .given .1) .1
 
 enum-known-shape-2 : tie.Need-enum-known-shape-2
 enum-known-shape-2 c = search needs
@@ -27,7 +27,7 @@ returns c =
     let s = c .before .before in
     let p = s .before .before in
     let a = p .before .before .before .args in
-    let e = examined-image (a .first .now) (p .examine .result) (p .examine .ensures) (s .shape .given .0 .0) (s .shape .given .0 .1 .0) (s .shape .given .1) in
+    let e = examined-image (a .first .now) (p .examine .result) (p .examine .ensures) _ (s .shape .given .0 .1 .0) (s .shape .given .1) in
     c .with-second .ensures ∙ first-good (a .first .now) (a .second .now) (a .n) (e .0)
 
 returns-2 : tie.Need-returns-2

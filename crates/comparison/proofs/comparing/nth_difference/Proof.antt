@@ -38,7 +38,8 @@ returns c =
     let a = l .before .before .before .args in
     none-given (a .first .now) (a .second .now) (a .n)
     (sym (l .loop .inv)
-    ∙ next-nothing (state-in (a .first .now)) (state-in (a .second .now)) (l .loop .from) (sym (d .next-difference .ensures) ∙ c .enum-told .given .1) (l .loop .left))
+    ∙ next-nothing (state-in (a .first .now)) (state-in (a .second .now)) (l .loop .from)
+    (sym (d .next-difference .ensures) ∙ c .enum-told .given .1) (l .loop .left))
 
 returns-2 : tie.Need-returns-2 Inv-loop μ-loop
 returns-2 c =
@@ -68,7 +69,8 @@ loop-again c =
     let s = state-in (a .first .now) in
     let t = state-in (a .second .now) in
     sym
-    (next-later s t (l .loop .from) (g .difference .given .0 .1 .0) (g .difference .given .0 .0) (sym (d .next-difference .ensures) ∙ g .difference .given .1) (l .loop .left)
+    (next-later s t (l .loop .from) (g .difference .given .0 .1 .0) (g .difference .given .0 .0)
+    (sym (d .next-difference .ensures) ∙ g .difference .given .1) (l .loop .left)
     (c .if1 .left))
     ∙ l .loop .inv
 

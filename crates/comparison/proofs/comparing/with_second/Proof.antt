@@ -17,7 +17,7 @@ returns c =
     let s = c .before .before in
     let p = s .before .before in
     let a = p .before .before .before .args in
-    let e = examined-image (a .second .now) (p .examine .result) (p .examine .ensures) (s .shape .given .0 .0) (s .shape .given .0 .1 .0) (s .shape .given .1) in
+    let e = examined-image (a .second .now) (p .examine .result) (p .examine .ensures) _ (s .shape .given .0 .1 .0) (s .shape .given .1) in
     other-length (a .first .now) (a .second .now) (a .n) (e .0) (λ q. c .if1 .taken (p .before .before .before .pre ∙ q ∙ sym (e .1)))
 
 nth-difference-requires : tie.Need-nth-difference-requires
@@ -31,7 +31,7 @@ returns-2 c =
     let s = c .before .before .before in
     let p = s .before .before in
     let a = p .before .before .before .args in
-    let e = examined-image (a .second .now) (p .examine .result) (p .examine .ensures) (s .shape .given .0 .0) (s .shape .given .0 .1 .0) (s .shape .given .1) in
+    let e = examined-image (a .second .now) (p .examine .result) (p .examine .ensures) _ (s .shape .given .0 .1 .0) (s .shape .given .1) in
     c .nth-difference .ensures ∙ second-good (a .first .now) (a .second .now) (a .n) (e .0) (sym (p .before .before .before .pre) ∙ c .before .if1 .left ∙ e .1)
 
 returns-3 : tie.Need-returns-3

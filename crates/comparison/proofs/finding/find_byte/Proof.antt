@@ -3,11 +3,9 @@
 use native.Mathlib.Omega.{arith}
 use mathlib.Core.Path.{_≡_, sym, _∙_}
 use borrow.Author.Needs.{needs}
-use Prim.Native.Nat.{ℕ, _+_, _-_, _≤_, _<_}
+use Prim.Native.Nat.{ℕ, _-_, _≤_, _<_}
 use mathlib.Core.Bool.{not}
-use lib.ListN.{getD}
-use lib.Dec.{eqb}
-use Rattle.framing.specs.Frames.{stream-of}
+use Rattle.comparison.specs.Finding.{same-byte}
 use Rattle.comparison.proofs.Found.{beq-true, beq-false, passed-more}
 use Rattle.comparison.proofs.finding.find_byte.Statement.{statement}
 use Rattle.comparison.proofs.finding.find_byte.Tie as tie
@@ -15,7 +13,7 @@ use Rattle.comparison.proofs.finding.find_byte.Tie as tie
 abbrev Inv-loop : tie.InvT-loop
 Inv-loop first second start other from end equal at₀ at =
     (from ≤ at)
-    × ((k : ℕ) → from ≤ k → k < at → eqb (getD (stream-of first) (start + k) 0) (getD (stream-of second) (other + k) 0) ≡ not equal)
+    × ((k : ℕ) → from ≤ k → k < at → same-byte first second start other k ≡ not equal)
     × (from ≤ end → at ≤ end)
 
 abbrev μ-loop : tie.MeasureT-loop
@@ -36,7 +34,12 @@ is-equal-requires c κs = search needs
 returns : tie.Need-returns Inv-loop μ-loop
 returns c =
     let l = c .before .before .before in
-    record { low = l .loop .inv .0; before = l .loop .inv .1; high = l .loop .inv .2; there = λ h. sym (c .before .is-equal .ensures) ∙ beq-true _ _ (c .if1 .taken) }
+    record {
+      low = l .loop .inv .0;
+      before = l .loop .inv .1;
+      high = l .loop .inv .2;
+      there = λ h. sym (c .before .is-equal .ensures) ∙ beq-true _ _ (c .if1 .taken);
+    }
 
 add-at : tie.Need-add-at Inv-loop μ-loop
 add-at c = search needs
@@ -47,7 +50,12 @@ loop-less c = search needs
 loop-again : tie.Need-loop-again Inv-loop μ-loop
 loop-again c =
     let l = c .before .before .before in
-    (omega (arith, l .loop .inv .0), passed-more _ _ (l .loop .at) (c .before .before .before .before .before .before .args .from) (l .loop .inv .1) (sym (c .before .is-equal .ensures) ∙ beq-false _ _ (c .if1 .left)), λ h. omega arith)
+    let a = l .before .before .before .args in
+    let next = sym (c .before .is-equal .ensures) ∙ beq-false (c .before .is-equal .result) (a .equal) (c .if1 .left) in (
+      omega (arith, l .loop .inv .0),
+      passed-more (same-byte (a .first .now) (a .second .now) (a .start) (a .other)) (not (a .equal)) (l .loop .at) (a .from) (l .loop .inv .1) next,
+      λ h. omega arith,
+    )
 
 returns-2 : tie.Need-returns-2 Inv-loop μ-loop
 returns-2 c =

@@ -60,7 +60,8 @@ loop-again c =
     let l = c .before .before .before .before .before in
     let s = l .before in
     l .loop .inv
-    ∙ from-pass same-record RecordAt zero-hold (s .args .t1) (s .args .t2) (l .loop .p) (omega (arith, long s, long-2 s)) (sym (c .before .is-same-record .ensures) ∙ not-false _ (c .if1 .left))
+    ∙ from-pass same-record RecordAt zero-hold (s .args .t1) (s .args .t2) (l .loop .p) (omega (arith, long s, long-2 s))
+    (sym (c .before .is-same-record .ensures) ∙ not-false _ (c .if1 .left))
 
 returns-2 : tie.Need-returns-2 Inv-loop μ-loop
 returns-2 c = (c .before .loop .inv, λ h. absurd (omega arith))

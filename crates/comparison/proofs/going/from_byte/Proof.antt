@@ -39,8 +39,10 @@ returns c =
     let t = l .before .before .before in
     let o = t .before in
     let a = o .before .before .before .args in
-    bytes-none (a .first .now) (a .second .now) (o .heap-place .result .start) (t .heap-place2 .result .start) (l .least .result) (ap start-of (o .heap-place .ensures)) (ap start-of (t .heap-place2 .ensures))
-    (l .least .ensures ∙ (λ i. min (o .heap-place .ensures i .size) (t .heap-place2 .ensures i .size))) (a .at) (f .find-byte .result) (f .find-byte .ensures) (c .if1 .taken)
+    bytes-none (a .first .now) (a .second .now) (o .heap-place .result .start) (t .heap-place2 .result .start) (l .least .result)
+    (ap start-of (o .heap-place .ensures)) (ap start-of (t .heap-place2 .ensures))
+    (l .least .ensures ∙
+    (λ i. min (o .heap-place .ensures i .size) (t .heap-place2 .ensures i .size))) (a .at) (f .find-byte .result) (f .find-byte .ensures) (c .if1 .taken)
 
 find-byte-requires-2 : tie.Need-find-byte-requires-2
 find-byte-requires-2 c κs = search needs
@@ -55,8 +57,11 @@ returns-2 c =
     let t = l .before .before .before in
     let o = t .before in
     let a = o .before .before .before .args in
-    bytes-found (a .first .now) (a .second .now) (o .heap-place .result .start) (t .heap-place2 .result .start) (l .least .result) (ap start-of (o .heap-place .ensures)) (ap start-of (t .heap-place2 .ensures))
-    (l .least .ensures ∙ (λ i. min (o .heap-place .ensures i .size) (t .heap-place2 .ensures i .size))) (a .at) (f .find-byte .result) (c .find-byte2 .result) (f .find-byte .ensures) (c .before .if1 .left)
+    bytes-found (a .first .now) (a .second .now) (o .heap-place .result .start) (t .heap-place2 .result .start) (l .least .result)
+    (ap start-of (o .heap-place .ensures)) (ap start-of (t .heap-place2 .ensures))
+    (l .least .ensures ∙
+    (λ i. min (o .heap-place .ensures i .size)
+    (t .heap-place2 .ensures i .size))) (a .at) (f .find-byte .result) (c .find-byte2 .result) (f .find-byte .ensures) (c .before .if1 .left)
     (c .find-byte2 .ensures)
 
 pub from-byte-spec : {M : Type 1} → statement M

@@ -24,7 +24,8 @@ returns c =
     let t = f .before .before .before in
     let o = t .before in
     let a = o .before .before .before .args in
-    quota-found (a .first .now) (a .second .now) (o .accounts-in .result) (t .accounts-in2 .result) (o .accounts-in .ensures) (t .accounts-in2 .ensures) (a .number) (f .find-quota .result) (f .find-quota .ensures .0)
+    quota-found (a .first .now) (a .second .now) (o .accounts-in .result) (t .accounts-in2 .result) (o .accounts-in .ensures)
+    (t .accounts-in2 .ensures) (a .number) (f .find-quota .result) (f .find-quota .ensures .0)
     (c .if1 .taken) (f .find-quota .ensures .1 (c .if1 .taken))
 
 from-record-requires : tie.Need-from-record-requires
@@ -37,7 +38,8 @@ returns-2 c =
     let o = t .before in
     let a = o .before .before .before .args in
     c .from-record .ensures
-    ∙ quotas-none (a .first .now) (a .second .now) (o .accounts-in .result) (t .accounts-in2 .result) (o .accounts-in .ensures) (t .accounts-in2 .ensures) (a .number) (f .find-quota .result) (f .find-quota .ensures .0)
+    ∙ quotas-none (a .first .now) (a .second .now) (o .accounts-in .result) (t .accounts-in2 .result) (o .accounts-in .ensures)
+    (t .accounts-in2 .ensures) (a .number) (f .find-quota .result) (f .find-quota .ensures .0)
     (c .before .if1 .left)
 
 pub from-quota-spec : {M : Type 1} → statement M

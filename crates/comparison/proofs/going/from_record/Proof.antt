@@ -24,8 +24,8 @@ returns c =
     let t = f .before .before .before in
     let o = t .before in
     let a = o .before .before .before .args in
-    record-found (a .first .now) (a .second .now) (o .accounts-in .result) (t .accounts-in2 .result) (o .accounts-in .ensures) (t .accounts-in2 .ensures) (a .place) (f .find-record .result) (f .find-record .ensures .0)
-    (c .if1 .taken) (f .find-record .ensures .1 (c .if1 .taken))
+    record-found (a .first .now) (a .second .now) (o .accounts-in .result) (t .accounts-in2 .result) (o .accounts-in .ensures)
+    (t .accounts-in2 .ensures) (a .place) (f .find-record .result) (f .find-record .ensures .0) (c .if1 .taken) (f .find-record .ensures .1 (c .if1 .taken))
 
 from-byte-requires : tie.Need-from-byte-requires
 from-byte-requires c κs = search needs
@@ -37,7 +37,8 @@ returns-2 c =
     let o = t .before in
     let a = o .before .before .before .args in
     c .from-byte .ensures
-    ∙ records-none (a .first .now) (a .second .now) (o .accounts-in .result) (t .accounts-in2 .result) (o .accounts-in .ensures) (t .accounts-in2 .ensures) (a .place) (f .find-record .result) (f .find-record .ensures .0)
+    ∙ records-none (a .first .now) (a .second .now) (o .accounts-in .result) (t .accounts-in2 .result) (o .accounts-in .ensures)
+    (t .accounts-in2 .ensures) (a .place) (f .find-record .result) (f .find-record .ensures .0)
     (c .before .if1 .left)
 
 pub from-record-spec : {M : Type 1} → statement M

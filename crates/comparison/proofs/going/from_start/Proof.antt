@@ -17,7 +17,8 @@ returns c =
     let t = c .before .before .before in
     let o = t .before in
     let a = o .before .before .before .args in
-    start-differs (a .first .now) (a .second .now) (o .accounts-in .result) (t .accounts-in2 .result) (o .accounts-in .ensures) (t .accounts-in2 .ensures) (c .if1 .taken)
+    start-differs (a .first .now) (a .second .now) (o .accounts-in .result) (t .accounts-in2 .result) (o .accounts-in .ensures)
+    (t .accounts-in2 .ensures) (c .if1 .taken)
 
 from-quota-requires : tie.Need-from-quota-requires
 from-quota-requires c κs = search needs
@@ -28,7 +29,8 @@ returns-2 c =
     let o = t .before in
     let a = o .before .before .before .args in
     c .from-quota .ensures
-    ∙ start-same (a .first .now) (a .second .now) (o .accounts-in .result) (t .accounts-in2 .result) (o .accounts-in .ensures) (t .accounts-in2 .ensures) (c .before .if1 .left)
+    ∙ start-same (a .first .now) (a .second .now) (o .accounts-in .result) (t .accounts-in2 .result) (o .accounts-in .ensures)
+    (t .accounts-in2 .ensures) (c .before .if1 .left)
 
 pub from-start-spec : {M : Type 1} → statement M
 from-start-spec =

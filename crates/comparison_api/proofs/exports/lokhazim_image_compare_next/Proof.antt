@@ -23,8 +23,9 @@ returns c =
     let d = c .before in
     let p = d .before in
     let a = p .before .before .before .args in
-    c .reply-of-next .ensures
-    ∙ ap next-reply (d .next-difference .ensures ∙ ap (λ (x : Position). next-of x (state-in (a .first .now)) (state-in (a .second .now))) (p .position-of .ensures))
+    let s = state-in (a .first .now) in
+    let t = state-in (a .second .now) in
+    c .reply-of-next .ensures ∙ ap next-reply (d .next-difference .ensures ∙ ap (λ (x : Position). next-of x s t) (p .position-of .ensures))
 
 pub lokhazim-image-compare-next-spec : {M : Type 1} → statement M
 lokhazim-image-compare-next-spec =

@@ -33,7 +33,14 @@ returns c =
     let n = q .before in
     let p = n .before in
     let k = p .before in
-    (λ i. record { kind = k .kind-of .ensures i; place = p .place-of .ensures i; length = n .length-of .ensures i; part = q .part-of .ensures i; at = c .place-in .ensures i })
+    (λ i.
+    record {
+      kind = k .kind-of .ensures i;
+      place = p .place-of .ensures i;
+      length = n .length-of .ensures i;
+      part = q .part-of .ensures i;
+      at = c .place-in .ensures i;
+    })
     ∙ ap next-reply (sym (k .before .before .answer .given .1))
 
 returns-2 : tie.Need-returns-2

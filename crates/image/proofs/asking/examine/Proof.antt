@@ -19,13 +19,17 @@ enum-told c = search needs
 returns : tie.Need-returns
 returns c =
     let p = c .before .before .before in
-    examined-refused (p .before .before .args .image .now) (p .parse-image .result) (c .enum-told .given .0 .0) (p .parse-image .ensures) (c .enum-told .given .1)
+    examined-refused (p .before .before .args .image .now) (p .parse-image .result) (c .enum-told .given .0 .0) (p .parse-image .ensures)
+    (c .enum-told .given .1)
 
 -- what the image was found to be
-found : (c : tie.After-shape) → Found (c .before .before .before .before .before .args .image .now) (c .shape .given .0 .0) (c .shape .given .0 .1 .0) (c .before .before .before .parse-image .result .accounts)
+found : (c : tie.After-shape)
+    → Found (c .before .before .before .before .before .args .image .now) (c .shape .given .0 .0) (c .shape .given .0 .1 .0)
+    (c .before .before .before .parse-image .result .accounts)
 found c =
     let p = c .before .before .before in
-    image-found (p .before .before .args .image .now) (p .parse-image .result) (c .shape .given .0 .0) (c .shape .given .0 .1 .0) (p .parse-image .ensures) (c .shape .given .1)
+    image-found (p .before .before .args .image .now) (p .parse-image .result) (c .shape .given .0 .0) (c .shape .given .0 .1 .0)
+    (p .parse-image .ensures) (c .shape .given .1)
 
 heap-at-requires : tie.Need-heap-at-requires
 heap-at-requires c κs = let f = found-fits _ _ _ _ (found (c .before)) in (f .quotas, f .records)
@@ -44,7 +48,8 @@ returns-2 c =
     let t = c .before .before in
     let h = t .before in
     let s = h .before .before in
-    examined-unsound (s .before .before .before .before .before .args .image .now) _ _ _ (found s) (h .heap-at .result) (h .heap-at .ensures) (t .is-sound .result) (t .is-sound .ensures)
+    examined-unsound (s .before .before .before .before .before .args .image .now) _ _ _ (found s) (h .heap-at .result) (h .heap-at .ensures)
+    (t .is-sound .result) (t .is-sound .ensures)
     (not-true _ (c .before .if1 .taken)) (c .refused .result) (c .refused .ensures)
 
 returns-3 : tie.Need-returns-3

@@ -20,7 +20,10 @@ read-quad-requires : tie.Need-read-quad-requires
 read-quad-requires c κs = search needs
 
 cast-t4 : tie.Need-cast-t4
-cast-t4 c = let f = form-of-fits (c .before .before .before .args .image .now) in let e : FormFits (c .before .form-of .result) = rw (c .before .form-of .ensures) f in search needs
+cast-t4 c =
+    let f = form-of-fits (c .before .before .before .args .image .now) in
+    let e : FormFits (c .before .form-of .result) = rw (c .before .form-of .ensures) f in
+    search needs
 
 returns : tie.Need-returns
 unfolding size-in
