@@ -41,7 +41,23 @@ enum lokhazim_image_refusal {
     /* Writing: the lent image is too short. Reading: the lent heap hasn't the length of the image's heap. */
     LOKHAZIM_IMAGE_ROOM = 25,
     /* The heap and the accounts in the image don't agree. */
-    LOKHAZIM_IMAGE_INCONSISTENT = 26
+    LOKHAZIM_IMAGE_INCONSISTENT = 26,
+    /* Comparing: the heaps of the two images have different lengths. */
+    LOKHAZIM_IMAGE_HEAP_LENGTHS = 27
+};
+
+/* What differs between two images. */
+enum lokhazim_difference {
+    /* Nothing more. */
+    LOKHAZIM_NO_DIFFERENCE = 0,
+    /* The last serial. */
+    LOKHAZIM_SERIAL_DIFFERS = 1,
+    /* The quota of number `place`. */
+    LOKHAZIM_QUOTA_DIFFERS = 2,
+    /* The hold record at `place`. */
+    LOKHAZIM_RECORD_DIFFERS = 3,
+    /* `length` heap bytes from offset `place` on. */
+    LOKHAZIM_BYTES_DIFFER = 4
 };
 
 /* The reply of writing an image; length is 0 where it is refused. */
@@ -63,6 +79,24 @@ struct lokhazim_examine_reply {
     size_t heap_length;
 };
 
+/* The reply of comparing: the image that a refusal is about, 1 or 2, 0 for both together; or a difference by its kind. */
+struct lokhazim_compare_reply {
+    uint32_t refusal;
+    uint32_t which;
+    uint32_t kind;
+    size_t place;
+    size_t length;
+};
+
+/* The reply of the next difference, with the position behind it. */
+struct lokhazim_next_reply {
+    uint32_t kind;
+    size_t place;
+    size_t length;
+    uint32_t part;
+    size_t at;
+};
+
 static_assert(sizeof(struct lokhazim_image_reply) == 16, "the size of struct lokhazim_image_reply is not 16");
 static_assert(offsetof(struct lokhazim_image_reply, refusal) == 0, "struct lokhazim_image_reply: the offset of refusal is not 0");
 static_assert(offsetof(struct lokhazim_image_reply, length) == 8, "struct lokhazim_image_reply: the offset of length is not 8");
@@ -74,6 +108,14 @@ static_assert(sizeof(struct lokhazim_examine_reply) == 16, "the size of struct l
 static_assert(offsetof(struct lokhazim_examine_reply, refusal) == 0, "struct lokhazim_examine_reply: the offset of refusal is not 0");
 static_assert(offsetof(struct lokhazim_examine_reply, form) == 4, "struct lokhazim_examine_reply: the offset of form is not 4");
 static_assert(offsetof(struct lokhazim_examine_reply, heap_length) == 8, "struct lokhazim_examine_reply: the offset of heap_length is not 8");
+
+static_assert(sizeof(struct lokhazim_compare_reply) == 32, "the size of struct lokhazim_compare_reply is not 32");
+static_assert(offsetof(struct lokhazim_compare_reply, kind) == 8, "struct lokhazim_compare_reply: the offset of kind is not 8");
+static_assert(offsetof(struct lokhazim_compare_reply, place) == 16, "struct lokhazim_compare_reply: the offset of place is not 16");
+static_assert(sizeof(struct lokhazim_next_reply) == 40, "the size of struct lokhazim_next_reply is not 40");
+static_assert(offsetof(struct lokhazim_next_reply, place) == 8, "struct lokhazim_next_reply: the offset of place is not 8");
+static_assert(offsetof(struct lokhazim_next_reply, part) == 24, "struct lokhazim_next_reply: the offset of part is not 24");
+static_assert(offsetof(struct lokhazim_next_reply, at) == 32, "struct lokhazim_next_reply: the offset of at is not 32");
 
 /* ---- The library's functions: accounts by value ---- */
 
@@ -90,6 +132,20 @@ struct lokhazim_restore_reply lokhazim_image_read(
 
 /* Tells the image's form and the length of the heap in it, by refusals 21 to 24; whether heap and accounts agree is told by reading. */
 struct lokhazim_examine_reply lokhazim_image_examine(const uint8_t *image, size_t image_length);
+
+/*
+ * Tells the n-th difference of two images, from 0, in this order: last serial, quotas, records, runs of heap bytes. Link
+ * liblokhazim_compare.a. Refusals 21 to 24 and 26 of either image, the first one's before the second's, then 27.
+ */
+struct lokhazim_compare_reply lokhazim_image_compare(
+    const uint8_t *first, size_t first_length, const uint8_t *second, size_t second_length, size_t n);
+
+/*
+ * Tells the first difference from a position on, which begins as part 0, at 0, and goes on with the reply's. To list all of
+ * two long images, ask lokhazim_image_compare once, whether they can be compared, and then this. It refuses nothing.
+ */
+struct lokhazim_next_reply lokhazim_image_compare_next(
+    const uint8_t *first, size_t first_length, const uint8_t *second, size_t second_length, uint32_t part, size_t at);
 
 /* ---- The same with the accounts by pointer; each gives its refusal ---- */
 

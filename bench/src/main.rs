@@ -9,6 +9,7 @@
 
 mod aims;
 mod callgrind;
+mod comparing;
 mod counting;
 mod engine;
 mod figures;
@@ -25,6 +26,7 @@ use std::process::ExitCode;
 
 use aims::judged;
 use callgrind::Callgrind;
+use comparing::comparisons;
 use counting::{counts, run_counted};
 use engine::{clearing, Reference};
 use peer::Peer;
@@ -62,6 +64,7 @@ fn report(folder: &Path, peer: Option<&Peer>) -> Result<(), String> {
     let times = times(peer)?;
     println!("{}\n{}", times.table(), times.growth());
     println!("Aims, by time\n{}", judged(&times));
+    println!("{}", comparisons());
     let Some(callgrind) = Callgrind::find(folder.to_path_buf()) else {
         println!("Instructions are not counted: valgrind is not installed.");
         return Ok(());

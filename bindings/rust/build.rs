@@ -1,11 +1,11 @@
-//! Finds `liblokhazim.a` and `liblokhazim_image.a`: in the folder that `LOKHAZIM_LIB_DIR` names, else
+//! Finds the libraries of lokhazim: in the folder that `LOKHAZIM_LIB_DIR` names, else
 //! where `make lib` writes them.
 
 use std::env;
 use std::path::{Path, PathBuf};
 
 /// The libraries, as the linker names them.
-const LIBRARIES: [&str; 2] = ["lokhazim", "lokhazim_image"];
+const LIBRARIES: [&str; 3] = ["lokhazim", "lokhazim_image", "lokhazim_compare"];
 
 /// Tells cargo where the libraries are. Where one is missing, the crate says so itself when it is
 /// built, and where it was looked for; lints and documentation need no library.

@@ -2,7 +2,9 @@
 
 use std::fmt::Write;
 
-use lokhazim::{examine_image, image_length, Heap, Hold, ImageRefusal};
+use lokhazim::{
+    compare_images, examine_image, image_length, Difference, Heap, Hold, ImageRefusal, Which,
+};
 
 use crate::failure::Failure;
 use crate::files;
@@ -62,4 +64,31 @@ pub fn show(name: &str) -> Result<(), Failure> {
         );
     }
     files::print(text.as_bytes())
+}
+
+/// Prints what differs between two images.
+pub fn compare(first: &str, second: &str) -> Result<(), Failure> {
+    let (a, b) = (files::read(first)?, files::read(second)?);
+    let differences = compare_images(&a, &b).map_err(|refused| {
+        let about = match refused.which {
+            Which::First => first.to_owned(),
+            Which::Second => second.to_owned(),
+            Which::Neither => format!("{first} and {second}"),
+        };
+        Failure::NotCompared(format!("{about}: {}", refused.refusal))
+    })?;
+    let mut text = String::new();
+    for difference in differences {
+        let _ = match difference {
+            Difference::LastSerial => writeln!(text, "serial"),
+            Difference::Quota(number) => writeln!(text, "quota {number}"),
+            Difference::Record(place) => writeln!(text, "record {place}"),
+            Difference::Bytes { offset, length } => writeln!(text, "bytes {offset} {length}"),
+        };
+    }
+    files::print(text.as_bytes())?;
+    match text.is_empty() {
+        true => Ok(()),
+        false => Err(Failure::Differ),
+    }
 }

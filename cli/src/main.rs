@@ -30,6 +30,9 @@ lokhazim: a heap that parts of a firmware share, by its proved library
     lokhazim image show FILE          print what an image holds: form, length and last serial;
                                       quota NUMBER GRANT REMAINDER; hold PLACE SERIAL QUOTA COUNT;
                                       block OFFSET SIZE SERIAL
+    lokhazim image compare A B        print what differs between two images, a line each: serial,
+                                      quota NUMBER, record PLACE, bytes OFFSET LENGTH; status 0 where
+                                      nothing does, 1 where something does, 2 where one is refused
     lokhazim help | version
 
 A script begins with 'open H' and eight grants, then has a call to a line: alloc q n, array q n s,
@@ -47,7 +50,9 @@ fn main() -> ExitCode {
     match run(&words) {
         Ok(()) => ExitCode::SUCCESS,
         Err(failure) => {
-            eprintln!("{failure}");
+            if let Some(words) = failure.words() {
+                eprintln!("lokhazim: {words}");
+            }
             ExitCode::from(failure.status())
         }
     }
@@ -59,6 +64,7 @@ fn run(words: &[&str]) -> Result<(), Failure> {
         ["replay", script] => replay(script),
         ["image", "save", script, out] => image::save(script, out),
         ["image", "show", file] => image::show(file),
+        ["image", "compare", first, second] => image::compare(first, second),
         ["help" | "--help" | "-h"] => files::print(HELP.as_bytes()),
         ["version" | "--version"] => {
             files::print(concat!("lokhazim ", env!("CARGO_PKG_VERSION"), "\n").as_bytes())

@@ -111,6 +111,37 @@ fn a_damaged_image_is_refused_with_its_number() {
 }
 
 #[test]
+fn two_images_are_compared() {
+    let folder = folder("compare");
+    fs::write(folder.join("a"), SCRIPT).unwrap();
+    fs::write(folder.join("b"), format!("{SCRIPT}alloc 1 8\n")).unwrap();
+    fs::write(folder.join("c"), "open 64 0 0 0 0 0 0 0 0\n").unwrap();
+    for name in ["a", "b", "c"] {
+        lokhazim(&folder, &["image", "save", name, &format!("{name}.image")]);
+    }
+    let compare = |a: &str, b: &str| lokhazim(&folder, &["image", "compare", a, b]);
+    expect(&compare("a.image", "a.image"), 0, "", "");
+    let listed = "serial\nquota 1\nrecord 1\nbytes 24 1\nbytes 28 1\nbytes 40 1\nbytes 42 1\n";
+    let run = compare("a.image", "b.image");
+    assert_eq!(String::from_utf8_lossy(&run.stdout), listed);
+    assert_eq!((run.status.code(), run.stderr.len()), (Some(1), 0));
+    expect(
+        &compare("a.image", "c.image"),
+        2,
+        "",
+        "a.image and c.image: refusal 27:",
+    );
+    expect(&compare("a.image", "a"), 2, "", "a: refusal 21:");
+    expect(&compare("a", "b"), 2, "", "a: refusal 21:");
+    expect(
+        &compare("a.image", "nothere"),
+        2,
+        "",
+        "nothere can't be read",
+    );
+}
+
+#[test]
 fn what_is_refused_writes_no_image() {
     let folder = folder("refused");
     let old = b"what was there".to_vec();

@@ -32,6 +32,8 @@ pub enum ImageRefusal {
     Room,
     /// 26: the heap and the accounts in the image are not sound.
     NotSound,
+    /// 27: the heaps of two images have different lengths.
+    HeapLengths,
 }
 
 impl ImageRefusal {
@@ -45,6 +47,7 @@ impl ImageRefusal {
             ImageRefusal::Contents => 24,
             ImageRefusal::Room => 25,
             ImageRefusal::NotSound => 26,
+            ImageRefusal::HeapLengths => 27,
         }
     }
 }
@@ -77,6 +80,13 @@ pub fn read_image(image: &[u8], heap: &mut [u8]) -> Result<Accounts, ImageRefusa
     check(&found, &accounts).map_err(|_| ImageRefusal::NotSound)?;
     heap.copy_from_slice(&found);
     Ok(accounts)
+}
+
+/// Gives heap and accounts of an image that a reader accepts into a heap of its length.
+pub(crate) fn decode_sound(image: &[u8]) -> Result<(Vec<u8>, Accounts), ImageRefusal> {
+    let (heap, accounts) = decode(image)?;
+    check(&heap, &accounts).map_err(|_| ImageRefusal::NotSound)?;
+    Ok((heap, accounts))
 }
 
 /// Gives the stream of a state.

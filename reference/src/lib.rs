@@ -13,6 +13,7 @@
 mod accounts;
 mod allocation;
 mod claims;
+mod comparison;
 mod frames;
 mod image;
 mod layout;
@@ -25,6 +26,7 @@ mod sound;
 pub use accounts::{Accounts, Hold, Quota, HOLDS, QUOTAS};
 pub use allocation::{allocate, allocate_array, open, reallocate};
 pub use claims::{can_release, claim, free_all, release};
+pub use comparison::{differences, Difference, Which};
 pub use image::{image_length, read_image, write_image, ImageRefusal};
 pub use layout::{Block, Handle, HEADER_BYTES, SIZE_UNIT};
 pub use queries::{block_at, lend, lend_mut, remaining, Walker};

@@ -18,6 +18,7 @@ pub mod calls;
 pub mod case;
 pub mod choice;
 pub mod compare;
+pub mod comparisons;
 pub mod cut;
 pub mod damage;
 pub mod forged;

@@ -2,6 +2,7 @@
 
 use crate::calls::Pair;
 use crate::compare::Failure;
+use crate::comparisons;
 use crate::damage::DAMAGES;
 use crate::histories::{self, Beginning};
 use crate::image_cases;
@@ -62,6 +63,7 @@ pub fn images(pair: &mut Pair, seed: u64, n: u64) -> Result<(), Failure> {
     }
     for turn in 0..4 {
         image_cases::forged(pair, seed, 4 * n + turn)?;
+        comparisons::pairs(pair, seed, 4 * n + turn)?;
     }
     Ok(())
 }

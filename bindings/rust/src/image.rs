@@ -86,6 +86,8 @@ pub enum ImageRefusal {
     Room,
     /// 26: the heap and the accounts in the image don't agree.
     Inconsistent,
+    /// 27: the heaps of two images have different lengths.
+    HeapLengths,
 }
 
 impl ImageRefusal {
@@ -106,6 +108,7 @@ impl ImageRefusal {
             ImageRefusal::Contents => 24,
             ImageRefusal::Room => 25,
             ImageRefusal::Inconsistent => 26,
+            ImageRefusal::HeapLengths => 27,
         }
     }
 
@@ -127,6 +130,7 @@ impl ImageRefusal {
             ImageRefusal::Contents,
             ImageRefusal::Room,
             ImageRefusal::Inconsistent,
+            ImageRefusal::HeapLengths,
         ];
         own.into_iter().find(|refusal| refusal.number() == number)
     }
@@ -140,6 +144,7 @@ impl ImageRefusal {
             ImageRefusal::FormNumber => "this is no image of a form that this version reads",
             ImageRefusal::Contents => "the image states a heap length that it can't have, or has bytes where zeros belong; it was not written by this library",
             ImageRefusal::Room => "the lent image is too short, or the lent heap has not the length of the image's; see image_length",
+            ImageRefusal::HeapLengths => "the heaps of the two images have different lengths; only images of one length are compared",
             ImageRefusal::Inconsistent => "the heap and the accounts in the image don't agree; it was not written by this library",
         }
     }
@@ -162,7 +167,7 @@ impl Error for ImageRefusal {}
 ///
 /// Where the number is one that the library is proved not to give: then another library has been
 /// linked in its place.
-fn verdict(number: u32) -> Result<(), ImageRefusal> {
+pub(crate) fn verdict(number: u32) -> Result<(), ImageRefusal> {
     if number == 0 {
         return Ok(());
     }

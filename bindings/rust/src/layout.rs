@@ -162,6 +162,36 @@ pub struct ExamineReply {
     pub heap_length: usize,
 }
 
+/// The reply of comparing two images.
+#[repr(C)]
+pub struct CompareReply {
+    /// The refusal's number.
+    pub refusal: u32,
+    /// The image that a refusal is about: 1 the first, 2 the second, 0 neither.
+    pub which: u32,
+    /// 0 nothing, 1 the last serial, 2 a quota, 3 a record, 4 heap bytes.
+    pub kind: u32,
+    /// The quota's number, the record's place, the bytes' offset.
+    pub place: usize,
+    /// How many bytes.
+    pub length: usize,
+}
+
+/// The reply of asking for the next difference: the difference, and the position behind it.
+#[repr(C)]
+pub struct NextReply {
+    /// As in [`CompareReply`].
+    pub kind: u32,
+    /// As in [`CompareReply`].
+    pub place: usize,
+    /// As in [`CompareReply`].
+    pub length: usize,
+    /// The part of the position behind it: 0 start, 1 quotas, 2 records, 3 bytes.
+    pub part: u32,
+    /// The place in that part.
+    pub at: usize,
+}
+
 /// Holds a struct to its size and to the offset of each field, when the crate is compiled.
 macro_rules! lies {
     ($type:ty, $size:literal: $($field:ident at $offset:literal),+) => {
@@ -186,3 +216,5 @@ lies!(BlockReply, 32: refusal at 0, found at 4, offset at 8, size at 16, serial 
 lies!(ImageReply, 16: refusal at 0, length at 8);
 lies!(RestoreReply, 1096: accounts at 0, refusal at 1092);
 lies!(ExamineReply, 16: refusal at 0, form at 4, heap_length at 8);
+lies!(CompareReply, 32: refusal at 0, which at 4, kind at 8, place at 16, length at 24);
+lies!(NextReply, 40: kind at 0, place at 8, length at 16, part at 24, at at 32);

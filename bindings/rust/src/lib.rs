@@ -52,12 +52,13 @@
 
 #[cfg(all(library_missing, not(clippy), not(doc)))]
 compile_error!(concat!(
-    "liblokhazim.a or liblokhazim_image.a is missing in ",
+    "a library of lokhazim (liblokhazim.a, liblokhazim_image.a, liblokhazim_compare.a) is missing in ",
     env!("LOKHAZIM_LOOKED"),
     ": run 'make lib' in the repository, or name its folder in LOKHAZIM_LIB_DIR, then build again"
 ));
 
 mod blocks;
+mod comparison;
 mod heap;
 mod image;
 mod layout;
@@ -67,6 +68,7 @@ mod raw;
 mod refusal;
 
 pub use blocks::{Block, Blocks};
+pub use comparison::{compare_images, CompareRefusal, Difference, Differences, Which};
 pub use heap::Heap;
 pub use image::{examine_image, image_length, ImageFacts, ImageRefusal, IMAGE_MAX};
 pub use layout::{Accounts, Handle, Hold, Quota, HOLDS, QUOTAS};

@@ -6,8 +6,8 @@
 //! a slice is. The memory of a `&[u8]` is not written.
 
 use crate::layout::{
-    Accounts, Amount, AmountReply, BlockReply, ExamineReply, Grants, Handle, HandleReply,
-    ImageReply, OpenReply, RangeReply, RestoreReply,
+    Accounts, Amount, AmountReply, BlockReply, CompareReply, ExamineReply, Grants, Handle,
+    HandleReply, ImageReply, NextReply, OpenReply, RangeReply, RestoreReply,
 };
 
 extern "C" {
@@ -93,6 +93,21 @@ extern "C" {
         length: usize,
         accounts: Accounts,
     ) -> ImageReply;
+    fn lokhazim_image_compare(
+        first: *const u8,
+        first_length: usize,
+        second: *const u8,
+        second_length: usize,
+        n: usize,
+    ) -> CompareReply;
+    fn lokhazim_image_compare_next(
+        first: *const u8,
+        first_length: usize,
+        second: *const u8,
+        second_length: usize,
+        part: u32,
+        at: usize,
+    ) -> NextReply;
     fn lokhazim_image_examine(image: *const u8, image_length: usize) -> ExamineReply;
     fn lokhazim_image_read(
         image: *const u8,
@@ -151,6 +166,18 @@ pub fn image_write(image: &mut [u8], heap: &[u8], accounts: &Accounts) -> ImageR
 pub fn image_examine(image: &[u8]) -> ExamineReply {
     // SAFETY: pointer and length are those of a slice that is borrowed for the call.
     unsafe { lokhazim_image_examine(image.as_ptr(), image.len()) }
+}
+
+pub fn image_compare(first: &[u8], second: &[u8], n: usize) -> CompareReply {
+    let (a, b) = (first.as_ptr(), second.as_ptr());
+    // SAFETY: pointers and lengths are those of two slices that are borrowed for the call.
+    unsafe { lokhazim_image_compare(a, first.len(), b, second.len(), n) }
+}
+
+pub fn image_next(first: &[u8], second: &[u8], part: u32, at: usize) -> NextReply {
+    let (a, b) = (first.as_ptr(), second.as_ptr());
+    // SAFETY: pointers and lengths are those of two slices that are borrowed for the call.
+    unsafe { lokhazim_image_compare_next(a, first.len(), b, second.len(), part, at) }
 }
 
 pub fn image_read(image: &[u8], heap: &mut [u8]) -> RestoreReply {

@@ -12,8 +12,8 @@ use std::mem::MaybeUninit;
 use std::slice;
 
 use layout::{
-    Accounts, Amount, AmountReply, BlockReply, ExamineReply, Grants, Handle, HandleReply, Hold,
-    ImageReply, OpenReply, Quota, RangeReply, RestoreReply,
+    Accounts, Amount, AmountReply, BlockReply, CompareReply, ExamineReply, Grants, Handle,
+    HandleReply, Hold, ImageReply, NextReply, OpenReply, Quota, RangeReply, RestoreReply,
 };
 use support::{compile, run};
 
@@ -168,6 +168,26 @@ impl Fields for ExamineReply {
     }
 }
 
+impl Fields for CompareReply {
+    fn visit(&mut self, visitor: &mut Visitor) {
+        visitor.visit32(&mut self.refusal);
+        visitor.visit32(&mut self.which);
+        visitor.visit32(&mut self.kind);
+        visitor.visit_size(&mut self.place);
+        visitor.visit_size(&mut self.length);
+    }
+}
+
+impl Fields for NextReply {
+    fn visit(&mut self, visitor: &mut Visitor) {
+        visitor.visit32(&mut self.kind);
+        visitor.visit_size(&mut self.place);
+        visitor.visit_size(&mut self.length);
+        visitor.visit32(&mut self.part);
+        visitor.visit_size(&mut self.at);
+    }
+}
+
 /// Takes the bytes of a struct from the front, visits its fields where they lie, and puts the bytes
 /// behind what is there.
 fn exchange<T: Fields>(visitor: &mut Visitor, bytes: &mut Vec<u8>) {
@@ -199,6 +219,8 @@ fn exchange_all(visitor: &mut Visitor, bytes: &mut Vec<u8>) {
     exchange::<ImageReply>(visitor, bytes);
     exchange::<RestoreReply>(visitor, bytes);
     exchange::<ExamineReply>(visitor, bytes);
+    exchange::<CompareReply>(visitor, bytes);
+    exchange::<NextReply>(visitor, bytes);
 }
 
 /// The bytes of all structs as Rust sets them, and the number that each field got.

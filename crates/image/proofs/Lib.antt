@@ -7,3 +7,4 @@ pub mod Heads
 pub mod Puts
 pub mod Parses
 pub mod Restores
+pub mod Examined

@@ -14,7 +14,7 @@ use Rattle.accounts.specs.Accounts.{zero-accounts}
 use Rattle.layout.specs.Bytes.{number}
 use Rattle.model.specs.Lists.{all, any, is-none, or-else}
 use Rattle.model.specs.Consistent.{allowed}
-use Rattle.model.specs.Refusals.{line-holds, first-refusal}
+use Rattle.model.specs.Refusals.{Line, line-holds, first-refusal}
 use Rattle.model.proofs.Bools.{and-left, or-neither}
 use Rattle.model.proofs.Refusals.{Numbered, accepted-exactly}
 use Rattle.framing.specs.Frames.{stream-of, frames-for, frames-right}
@@ -158,12 +158,16 @@ unfolding unless-parts
 unless-some zero x h = absurd (omega arith)
 unless-some (suc m) x h = refl
 
+pub refused-by : (ls : List Line) (p : Parsed) (r : ImageRefusal) (x : Parts) → p ≡ record { accounts = zero-accounts; shape = Refused r }
+    → first-refusal ls ≡ image-refusal-number r → parts-of p ≡ unless-parts (first-refusal ls) x
+unfolding shape-parts
+refused-by ls p r x e l =
+    ap parts-of e ∙ unless-some (image-refusal-number r) x (image-refusal-is r .1) ∙ ap (λ (m : ℕ). unless-parts m x) (sym l)
+
 pub refused-parts : (i : List ℕ) (p : Parsed) (r : ImageRefusal) → p ≡ record { accounts = zero-accounts; shape = Refused r }
     → first-refusal (shape-lines i) ≡ image-refusal-number r → parts-of p ≡ parts-in i
-unfolding shape-parts parts-in
-refused-parts i p r e l =
-    let x : Parts = record { refusal = 0; form = form-of i; size = size-in i; accounts = accounts-in i } in
-    ap parts-of e ∙ unless-some (image-refusal-number r) x (image-refusal-is r .1) ∙ ap (λ (m : ℕ). unless-parts m x) (sym l)
+unfolding parts-in
+refused-parts i p r e l = refused-by (shape-lines i) p r (record { refusal = 0; form = form-of i; size = size-in i; accounts = accounts-in i }) e l
 
 -- what was found of an image
 pub record Found (i : List ℕ) (f : Form) (n : ℕ) (k : Accounts) : Type 0 where

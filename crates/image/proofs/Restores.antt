@@ -73,13 +73,13 @@ module _ (f : Form) (n : ℕ) (t h : List ℕ) (k : Accounts) where
     restore-done r h′ e g w = rw (eq-eqb (length h) n room, ← at-is, sym e ∙ g, w, room)
 
 -- lines in front of others
-first-kept : (xs ys : List Line) (n : ℕ) → first-refusal xs ≡ suc n → first-refusal (xs ++ ys) ≡ suc n
+pub first-kept : (xs ys : List Line) (n : ℕ) → first-refusal xs ≡ suc n → first-refusal (xs ++ ys) ≡ suc n
 unfolding first-refusal
 first-kept [] ys n e = absurd (omega arith)
 first-kept ((m when true) ∷ xs) ys n e = e
 first-kept ((m when false) ∷ xs) ys n e = first-kept xs ys n e
 
-first-passed : (xs ys : List Line) → Numbered xs → first-refusal xs ≡ 0 → first-refusal (xs ++ ys) ≡ first-refusal ys
+pub first-passed : (xs ys : List Line) → Numbered xs → first-refusal xs ≡ 0 → first-refusal (xs ++ ys) ≡ first-refusal ys
 unfolding first-refusal all
 first-passed [] ys d e = refl
 first-passed ((m when true) ∷ xs) ys d e = absurd (omega (arith, leb-true 1 m (and-left (leb 1 m) _ d)))

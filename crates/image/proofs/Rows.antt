@@ -10,7 +10,7 @@ use Rattle.image_model.specs.Stream.{form-1, image-of}
 use Rattle.image_model.specs.declared.ImageRefusal.the-variants.{Contents}
 use Rattle.image_model.proofs.Computing.{computing}
 use Rattle.image.specs.declared.Shape.the-variants.{Image, Refused}
-use Rattle.image.specs.Parsing.{Parts, shape-parts, unless-parts, parts-in, length-for}
+use Rattle.image.specs.Parsing.{Parts, shape-parts, unless-parts, parts-in, examined-in, length-for}
 
 accounts : Accounts
 accounts = opened (100 ∷ 1000 ∷ replicate 6 0)
@@ -26,6 +26,12 @@ parts-rows : (parts-in image ≡ record { refusal = 0; form = form-1; size = 64;
     × (parts-in [] ≡ no-parts 21) × (parts-in (take 512 image) ≡ no-parts 22)
 unfolding computing parts-in unless-parts accounts image no-parts
 parts-rows = (refl, refl, refl)
+
+-- examined, its state counts too
+examined-rows : (examined-in image ≡ no-parts 26) × (examined-in (take 512 image) ≡ no-parts 22)
+    × (examined-in (image-of form-1 (8 ∷ replicate 63 0) accounts) ≡ record { refusal = 0; form = form-1; size = 64; accounts = accounts })
+unfolding computing examined-in unless-parts accounts image no-parts
+examined-rows = (refl, refl, refl)
 
 shape-rows : (shape-parts (Image form-1 64) accounts ≡ record { refusal = 0; form = form-1; size = 64; accounts = accounts })
     × (shape-parts (Refused Contents) zero-accounts ≡ no-parts 24)

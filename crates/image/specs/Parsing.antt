@@ -16,7 +16,7 @@ use Rattle.image_model.specs.declared.Form.{Form}
 use Rattle.image_model.specs.Answers.{image-refusal-number, Imaged, Restored-to}
 use Rattle.image_model.specs.Stream.{form-1, head-length, image-of, image-length}
 use Rattle.image_model.specs.Reading.{form-of, size-in, accounts-in}
-use Rattle.image_model.specs.Images.{shape-lines, put-lines, unless-written, unless-read}
+use Rattle.image_model.specs.Images.{shape-lines, examine-lines, put-lines, unless-written, unless-read}
 use Rattle.image.specs.declared.FormAnswer.{FormAnswer}
 use Rattle.image.specs.declared.FormAnswer.the-variants.{Known, Unknown}
 use Rattle.image.specs.declared.Shape.{Shape}
@@ -53,6 +53,10 @@ unless-parts (suc n) parts = record { refusal = suc n; form = form-1; size = 0; 
 
 unfoldable pub parts-in : List ℕ → Parts
 parts-in i = unless-parts (first-refusal (shape-lines i)) (record { refusal = 0; form = form-of i; size = size-in i; accounts = accounts-in i })
+
+-- the same where the state has to be consistent too
+unfoldable pub examined-in : List ℕ → Parts
+examined-in i = unless-parts (first-refusal (examine-lines i)) (record { refusal = 0; form = form-of i; size = size-in i; accounts = accounts-in i })
 
 -- the length of an image of a heap of so many bytes, 0 where no heap has that length
 unfoldable pub length-for : ℕ → ℕ

@@ -4,6 +4,7 @@ use accounts::Accounts;
 use image_model::Form;
 use image_model::ImageRefusal;
 
+mod asking;
 mod entries;
 mod forms;
 mod head;
@@ -13,6 +14,9 @@ mod reading;
 mod records;
 mod writing;
 
+pub use asking::accounts_in;
+pub use asking::examine;
+pub use asking::heap_place;
 pub use parsing::parse_image;
 pub use reading::read_image;
 pub use writing::image_length;
@@ -34,4 +38,10 @@ pub enum Shape {
 pub struct Parsed {
     pub accounts: Accounts,
     pub shape: Shape,
+}
+
+// Where the heap of an image begins in its stream, and how many bytes it has.
+pub struct HeapPlace {
+    pub start: u32,
+    pub size: u32,
 }

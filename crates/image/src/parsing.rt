@@ -58,7 +58,7 @@ fn contents_right(image: &[u8], form: Form, size: usize) -> bool
 }
 
 // The accounts that an image of a form says.
-fn read_accounts(image: &[u8], form: Form) -> Accounts
+pub(crate) fn read_accounts(image: &[u8], form: Form) -> Accounts
     requires { ⌜ FormFits form ⌝ }
     ensures { λ r. ⌜ r ≡ accounts-of form (stream-of (now (image .entry))) ⌝ }
 {
@@ -72,7 +72,7 @@ fn read_accounts(image: &[u8], form: Form) -> Accounts
 }
 
 // An image that is refused.
-fn refused(refusal: ImageRefusal) -> Parsed
+pub(crate) fn refused(refusal: ImageRefusal) -> Parsed
     ensures { λ r. ⌜ r ≡ record { accounts = zero-accounts; shape = Refused refusal } ⌝ }
 {
     Parsed {

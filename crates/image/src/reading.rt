@@ -39,7 +39,7 @@ fn is_sound_in(image: &[u8], from: u32, room: &mut [u8], accounts: Accounts) -> 
 }
 
 // Whether an image's heap, of so many bytes, is consistent with the accounts. The lent heap has no part in it: it stays as it is where they are not.
-fn is_sound(image: &[u8], from: u32, size: usize, accounts: Accounts) -> bool
+pub(crate) fn is_sound(image: &[u8], from: u32, size: usize, accounts: Accounts) -> bool
     requires { ⌜ allowed size ≡ true ⌝ }
     ensures { λ r. ⌜ r ≡ is-sound unit (padded size (drop from (stream-of (now (image .entry))))) accounts ⌝ }
 {

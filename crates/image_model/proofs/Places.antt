@@ -34,6 +34,9 @@ only-form n f e = go (eqb n 1) refl e
     go true t e = (eqb-true n 1 t, cc)
     go false t e = let z : _≡_ {A = ℕ} 0 1 = cc in absurd (omega arith)
 
+pub one-form : (f g : Form) → Known f → Known g → f ≡ g
+one-form f g e h = only-form (f .number) f e .1 ∙ sym (only-form (g .number) g h .1)
+
 -- the form with a number has that number
 pub form-has-number : (n : ℕ) (f : Form) → form-numbered n ≡ some f → f .number ≡ n
 unfolding form-1

@@ -3,32 +3,38 @@
 -- The search over lines is model's; what is shown here is that both outcomes follow it.
 -- Assumes nothing.
 use mathlib.Core.Path.{_≡_, refl, sym, _∙_}
-use mathlib.Core.List.{List, [], _∷_, map}
-use mathlib.Core.Bool.{false}
+use mathlib.Core.List.{List, [], _∷_, _++_, map}
+use mathlib.Core.Bool.{true, false}
 use mathlib.Core.Logic.{_↔_}
 use Prim.Native.Nat.{ℕ, zero, suc}
 use lib.ListN.{length}
+use lib.Dec.{eqb}
+use borrow.Author.Tests.{eq-eqb}
 use Rattle.accounts.specs.declared.Accounts.{Accounts}
 use Rattle.accounts.specs.Accounts.{zero-accounts}
 use Rattle.layout.specs.Bytes.{overwrite}
 use Rattle.model.specs.Lists.{all, any}
-use Rattle.model.specs.Refusals.{line-number, line-holds, first-refusal, line-1, line-2}
+use Rattle.model.specs.Refusals.{Line, _when_, line-number, line-holds, first-refusal, line-1, line-2}
 use Rattle.model.proofs.Refusals.{Numbered, FirstToHold, refused-exactly, accepted-exactly}
 use Rattle.image_model.specs.Stream.{image-of, image-length}
-use Rattle.image_model.specs.Reading.{heap-in, accounts-in}
-use Rattle.image_model.specs.Images.{put-lines, write-lines, line-21, line-22, line-23, line-24, line-25, line-26, shape-lines, read-lines}
+use Rattle.image_model.specs.Reading.{size-in, heap-in, accounts-in}
+use Rattle.image_model.specs.Images.{put-lines, write-lines, line-21, line-22, line-23, line-24, line-25, line-26, shape-lines, read-lines, examine-lines}
 use Rattle.image_model.specs.Images.{unless-written, unless-read, write-image, read-image}
 use Rattle.image_model.specs.declared.Form.{Form}
 
 -- the lines, in this order
 lines : Unit {0}
-unfolding line-1 line-2 put-lines write-lines line-21 line-22 line-23 line-24 line-25 line-26 shape-lines read-lines
+unfolding line-1 line-2 put-lines write-lines line-21 line-22 line-23 line-24 line-25 line-26 shape-lines read-lines examine-lines
 lines = tt
 
 pub columns : (f : Form) (o s : List ℕ) (k : Accounts) (i h : List ℕ)
     → (map line-number (write-lines f o s k) ≡ 1 ∷ 2 ∷ 25 ∷ []) × (map line-number (read-lines i h) ≡ 21 ∷ 22 ∷ 23 ∷ 24 ∷ 25 ∷ 26 ∷ [])
 unfolding lines
 columns f o s k i h = (refl, refl)
+
+pub examine-columns : (i : List ℕ) → map line-number (examine-lines i) ≡ 21 ∷ 22 ∷ 23 ∷ 24 ∷ 26 ∷ []
+unfolding lines
+examine-columns i = refl
 
 -- the writer
 module _ (f : Form) (o s : List ℕ) (k : Accounts) where
@@ -90,3 +96,16 @@ module _ (i h : List ℕ) where
   pub accepted-read : read-image i h .refusal ≡ 0 → read-image i h ≡ record { heap = heap-in i; accounts = accounts-in i; refusal = 0 }
   unfolding read-image unless-read
   accepted-read e = let w = sym read-refusal ∙ e in rw w
+
+-- an image alone is refused as the reader refuses it into a heap of the right length, where 25 does not arise
+pass-line : (n : ℕ) (xs ys : List Line) → first-refusal (xs ++ ((n when false) ∷ ys)) ≡ first-refusal (xs ++ ys)
+unfolding first-refusal
+pass-line n [] ys = refl
+pass-line n ((m when true) ∷ xs) ys = refl
+pass-line n ((m when false) ∷ xs) ys = pass-line n xs ys
+
+pub examined-read : (i h : List ℕ) → length h ≡ size-in i → first-refusal (examine-lines i) ≡ read-image i h .refusal
+unfolding read-lines examine-lines line-25
+examined-read i h l =
+    let t : eqb (length h) (size-in i) ≡ true = eq-eqb (length h) (size-in i) l in
+    sym (read-refusal i h ∙ (rw t (pass-line 25 (shape-lines i) (line-26 i ∷ []))))

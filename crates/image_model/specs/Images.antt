@@ -58,6 +58,10 @@ shape-lines i = line-21 i ∷ line-22 i ∷ line-23 i ∷ line-24 i ∷ []
 unfoldable pub read-lines : List ℕ → List ℕ → List Line
 read-lines i h = shape-lines i ++ (line-25 i h ∷ line-26 i ∷ [])
 
+-- the reader's lines of an image alone, with no heap lent
+unfoldable pub examine-lines : List ℕ → List Line
+examine-lines i = shape-lines i ++ (line-26 i ∷ [])
+
 -- what is due where there is no refusal; else the lent image as it was, the number and no byte
 unfoldable pub unless-written : ℕ → List ℕ → Imaged → Imaged
 unless-written zero o done = done

@@ -12,7 +12,7 @@ pub struct Form {
     pub records: usize,
 }
 
-// Why an image is not written or not read: a refusal that every call has, or one of the images' own, in the order of their numbers.
+// Why an image is not written, not read or not compared: a refusal that every call has, or one of the images' own, in the order of their numbers.
 pub enum ImageRefusal {
     Call(Refusal),
     ImageLength,
@@ -21,6 +21,7 @@ pub enum ImageRefusal {
     Contents,
     Room,
     Unsound,
+    HeapLengths,
 }
 
 // The answer of the writer: how many bytes it wrote.
@@ -54,6 +55,7 @@ impl ImageRefusal {
             ImageRefusal::Contents => 24,
             ImageRefusal::Room => 25,
             ImageRefusal::Unsound => 26,
+            ImageRefusal::HeapLengths => 27,
         }
     }
 }

@@ -1,6 +1,7 @@
 //! The tests of the reference implementation.
 
 mod bytes;
+mod comparison;
 mod damage;
 mod images;
 mod ledger;

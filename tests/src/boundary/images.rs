@@ -1,6 +1,6 @@
-//! The exported functions of images, with the layout of the crate `image_api`.
+//! The exported functions of images, with the layout of the crates `image_api` and `comparison_api`.
 
-use lokhazim_reference::Accounts;
+use lokhazim_reference::{Accounts, Difference};
 
 use super::CAccounts;
 
@@ -18,7 +18,42 @@ struct RestoreReply {
     refusal: u32,
 }
 
+/// What comparing two images gives back.
+#[repr(C)]
+struct CompareReply {
+    refusal: u32,
+    which: u32,
+    kind: u32,
+    place: usize,
+    length: usize,
+}
+
+/// What asking for the next difference gives back: the difference, and the position behind it.
+#[repr(C)]
+struct NextReply {
+    kind: u32,
+    place: usize,
+    length: usize,
+    part: u32,
+    at: usize,
+}
+
 extern "C" {
+    fn lokhazim_image_compare(
+        first: *const u8,
+        first_length: usize,
+        second: *const u8,
+        second_length: usize,
+        n: usize,
+    ) -> CompareReply;
+    fn lokhazim_image_compare_next(
+        first: *const u8,
+        first_length: usize,
+        second: *const u8,
+        second_length: usize,
+        part: u32,
+        at: usize,
+    ) -> NextReply;
     fn lokhazim_image_length(heap_length: usize) -> usize;
     fn lokhazim_image_write(
         image: *mut u8,
@@ -72,4 +107,60 @@ pub fn read(image: &mut [u8], heap: &mut [u8]) -> (u32, Accounts) {
         )
     };
     (reply.refusal, reply.accounts.into())
+}
+
+/// A difference by its kind's number; none for 0.
+fn difference(kind: u32, at: usize, length: usize) -> Option<Difference> {
+    match (kind, at, length) {
+        (0, 0, 0) => None,
+        (1, 0, 0) => Some(Difference::LastSerial),
+        (2, number, 0) => Some(Difference::Quota(number)),
+        (3, place, 0) => Some(Difference::Record(place)),
+        (4, offset, length) => Some(Difference::Bytes(offset, length)),
+        other => panic!("the numbers {other:?} name no difference"),
+    }
+}
+
+/// Asks the proved code for the n-th difference of two images, by refusal and the image it is about.
+pub fn compare(first: &[u8], second: &[u8], n: usize) -> Result<Option<Difference>, (u32, u32)> {
+    // Safety: each pointer and length are those of one borrowed slice, which is only read.
+    let reply = unsafe {
+        lokhazim_image_compare(
+            first.as_ptr(),
+            first.len(),
+            second.as_ptr(),
+            second.len(),
+            n,
+        )
+    };
+    if reply.refusal != 0 {
+        assert_eq!((reply.kind, reply.place, reply.length), (0, 0, 0));
+        return Err((reply.refusal, reply.which));
+    }
+    assert_eq!(reply.which, 0);
+    Ok(difference(reply.kind, reply.place, reply.length))
+}
+
+/// Asks the proved code for all differences of two images, each from where the last one was found.
+pub fn all_differences(first: &[u8], second: &[u8]) -> Vec<Difference> {
+    let (mut part, mut at) = (0, 0);
+    let mut all = Vec::new();
+    loop {
+        // Safety: as above.
+        let reply = unsafe {
+            lokhazim_image_compare_next(
+                first.as_ptr(),
+                first.len(),
+                second.as_ptr(),
+                second.len(),
+                part,
+                at,
+            )
+        };
+        let Some(found) = difference(reply.kind, reply.place, reply.length) else {
+            return all;
+        };
+        all.push(found);
+        (part, at) = (reply.part, reply.at);
+    }
 }

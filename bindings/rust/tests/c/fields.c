@@ -150,6 +150,24 @@ static void visit_examine_reply(struct lokhazim_examine_reply *it)
     visit_size(&it->heap_length);
 }
 
+static void visit_compare_reply(struct lokhazim_compare_reply *it)
+{
+    visit32(&it->refusal);
+    visit32(&it->which);
+    visit32(&it->kind);
+    visit_size(&it->place);
+    visit_size(&it->length);
+}
+
+static void visit_next_reply(struct lokhazim_next_reply *it)
+{
+    visit32(&it->kind);
+    visit_size(&it->place);
+    visit_size(&it->length);
+    visit32(&it->part);
+    visit_size(&it->at);
+}
+
 /* Stops where fewer bytes could be read or written than a struct has. */
 static void need(size_t done)
 {
@@ -190,5 +208,7 @@ int main(int count, char **words)
     EXCHANGE(image_reply);
     EXCHANGE(restore_reply);
     EXCHANGE(examine_reply);
+    EXCHANGE(compare_reply);
+    EXCHANGE(next_reply);
     return EXIT_SUCCESS;
 }

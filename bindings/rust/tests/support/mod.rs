@@ -39,7 +39,14 @@ pub fn compile(source: &str, level: &str) -> PathBuf {
         .arg("-I")
         .arg(repository("include"))
         .arg(&source)
-        .args(["liblokhazim.a", "liblokhazim_image.a"].map(library))
+        .args(
+            [
+                "liblokhazim.a",
+                "liblokhazim_image.a",
+                "liblokhazim_compare.a",
+            ]
+            .map(library),
+        )
         .arg("-o")
         .arg(&program)
         .output()

@@ -1,0 +1,133 @@
+//! What differs between two images.
+
+use core::error::Error;
+use core::fmt;
+use core::iter::FusedIterator;
+
+use crate::image::{verdict, ImageRefusal};
+use crate::raw;
+
+/// One difference between two images, named without its values.
+#[derive(Clone, Copy, Debug, PartialEq, Eq, Hash)]
+pub enum Difference {
+    /// The last serial.
+    LastSerial,
+    /// The quota of this number.
+    Quota(usize),
+    /// The hold record at this place.
+    Record(usize),
+    /// A run of heap bytes, as long as it can be: every byte of it differs.
+    Bytes {
+        /// The offset of its first byte in the heap.
+        offset: usize,
+        /// How many bytes it has.
+        length: usize,
+    },
+}
+
+/// Which of two images a refusal is about.
+#[derive(Clone, Copy, Debug, PartialEq, Eq, Hash)]
+pub enum Which {
+    /// The first.
+    First,
+    /// The second.
+    Second,
+    /// Both together.
+    Neither,
+}
+
+/// Why two images are not compared.
+#[derive(Clone, Copy, Debug, PartialEq, Eq, Hash)]
+pub struct CompareRefusal {
+    /// The refusal: 21 to 24 or 26 of one image, or 27.
+    pub refusal: ImageRefusal,
+    /// The image that it is about.
+    pub which: Which,
+}
+
+impl fmt::Display for CompareRefusal {
+    fn fmt(&self, f: &mut fmt::Formatter<'_>) -> fmt::Result {
+        let about = match self.which {
+            Which::First => "the first image: ",
+            Which::Second => "the second image: ",
+            Which::Neither => "",
+        };
+        write!(f, "{about}{}", self.refusal)
+    }
+}
+
+impl Error for CompareRefusal {}
+
+/// Lists everything that differs between two images and nothing else: the last serial, quotas,
+/// records, runs of heap bytes, each in rising order. There is nothing exactly if the two images
+/// hold equal states, which is exactly if their bytes are equal.
+///
+/// # Errors
+///
+/// Refusals 21 to 24 and 26 of the first image, then of the second, then 27.
+///
+/// ```
+/// use lokhazim::{compare_images, Difference, Heap};
+///
+/// let mut memory = [0; 128];
+/// let mut heap = Heap::open(&mut memory, [100; 8])?;
+/// let handle = heap.allocate(0, 10)?;
+/// let (mut before, mut after) = ([0; 1_536], [0; 1_536]);
+/// heap.save(&mut before)?;
+/// heap.lend_mut(handle)?[2..5].fill(7);
+/// heap.save(&mut after)?;
+/// let differences: Vec<_> = compare_images(&before, &after)?.collect();
+/// assert_eq!(differences, [Difference::Bytes { offset: 10, length: 3 }]);
+/// # Ok::<(), Box<dyn std::error::Error>>(())
+/// ```
+pub fn compare_images<'a>(
+    first: &'a [u8],
+    second: &'a [u8],
+) -> Result<Differences<'a>, CompareRefusal> {
+    let reply = raw::image_compare(first, second, 0);
+    verdict(reply.refusal).map_err(|refusal| CompareRefusal {
+        refusal,
+        which: match reply.which {
+            1 => Which::First,
+            2 => Which::Second,
+            _ => Which::Neither,
+        },
+    })?;
+    Ok(Differences {
+        first,
+        second,
+        part: 0,
+        at: 0,
+    })
+}
+
+/// The differences of two images, one after the other.
+#[derive(Clone, Debug)]
+pub struct Differences<'a> {
+    first: &'a [u8],
+    second: &'a [u8],
+    part: u32,
+    at: usize,
+}
+
+impl Iterator for Differences<'_> {
+    type Item = Difference;
+
+    fn next(&mut self) -> Option<Difference> {
+        let reply = raw::image_next(self.first, self.second, self.part, self.at);
+        let found = match reply.kind {
+            1 => Difference::LastSerial,
+            2 => Difference::Quota(reply.place),
+            3 => Difference::Record(reply.place),
+            4 => Difference::Bytes {
+                offset: reply.place,
+                length: reply.length,
+            },
+            _ => return None,
+        };
+        (self.part, self.at) = (reply.part, reply.at);
+        Some(found)
+    }
+}
+
+impl FusedIterator for Differences<'_> {}

@@ -1,0 +1,53 @@
+-- The same list from a position on, so that one difference can be asked for after the other (rules 14.11 to 14.13).
+use Prim.Native.Nat.{ℕ, zero, suc, _+_}
+use mathlib.Core.List.{List, [], _∷_, _++_}
+use lib.ListN.{drop}
+use Rattle.comparison.specs.Differences.{State, quota-part, record-part, byte-part, differences}
+use Rattle.comparison.specs.declared.Difference.{Difference}
+use Rattle.comparison.specs.declared.Difference.the-variants.{LastSerial, Quota as QuotaAt, Record as RecordAt, Bytes}
+use Rattle.comparison.specs.declared.Position.{Position}
+use Rattle.comparison.specs.declared.Position.the-variants.{Start, Quota, Record, Byte}
+use Rattle.comparison.specs.declared.NextAnswer.{NextAnswer}
+use Rattle.comparison.specs.declared.NextAnswer.the-variants.{Differs, Nothing}
+
+-- the bytes from an offset on; the records from a place on, then all bytes; the quotas from a number on, then all records and bytes
+module _ (a b : State) where
+  unfoldable pub from-byte : ℕ → List Difference
+  from-byte at = byte-part at (drop at (a .heap)) (drop at (b .heap))
+
+  unfoldable pub from-record : ℕ → List Difference
+  from-record p = record-part p (drop p (a .accounts .holds)) (drop p (b .accounts .holds)) ++ from-byte 0
+
+  unfoldable pub from-quota : ℕ → List Difference
+  from-quota q = quota-part q (drop q (a .accounts .quotas)) (drop q (b .accounts .quotas)) ++ from-record 0
+
+unfoldable pub differences-from : Position → State → State → List Difference
+differences-from Start a b = differences a b
+differences-from (Quota q) a b = from-quota a b q
+differences-from (Record p) a b = from-record a b p
+differences-from (Byte at) a b = from-byte a b at
+
+-- the position behind a difference
+unfoldable pub behind : Difference → Position
+behind LastSerial = Quota 0
+behind (QuotaAt q) = Quota (q + 1)
+behind (RecordAt p) = Record (p + 1)
+behind (Bytes at n) = Byte (at + n)
+
+-- the first of a list of differences, with the position behind it
+unfoldable pub first-of : List Difference → NextAnswer
+first-of [] = Nothing
+first-of (d ∷ ds) = Differs d (behind d)
+
+unfoldable pub next-of : Position → State → State → NextAnswer
+next-of p a b = first-of (differences-from p a b)
+
+-- what is made of an answer, nothing where there is no difference
+unfoldable pub with-answer : NextAnswer → (Difference → Position → List Difference) → List Difference
+with-answer Nothing f = []
+with-answer (Differs d p) f = f d p
+
+-- what so many questions give, each from the position behind the answer before
+unfoldable pub asked : ℕ → Position → State → State → List Difference
+asked zero p a b = []
+asked (suc n) p a b = with-answer (next-of p a b) (λ d q. d ∷ asked n q a b)

@@ -1,0 +1,76 @@
+-- A reply's numbers say everything: what an answer was can be read from them, so no two answers give the same reply; and a position's numbers are
+-- read as that position.
+-- Assumes nothing.
+use Prim.Native.Nat.{ℕ}
+use mathlib.Core.Path.{_≡_, refl, ap, sym, _∙_}
+use mathlib.Core.List.{[], _∷_}
+use mathlib.Core.Option.{Option, none, some}
+use lib.ListN.{getD}
+use Rattle.comparison.specs.declared.Difference.{Difference}
+use Rattle.comparison.specs.declared.Difference.the-variants.{LastSerial, Quota as QuotaAt, Record as RecordAt, Bytes}
+use Rattle.comparison.specs.declared.Which.{Which}
+use Rattle.comparison.specs.declared.Which.the-variants.{First, Second, Neither}
+use Rattle.comparison.specs.declared.Position.{Position}
+use Rattle.comparison.specs.declared.Position.the-variants.{Start, Quota, Record, Byte}
+use Rattle.comparison.specs.declared.NextAnswer.{NextAnswer}
+use Rattle.comparison.specs.declared.NextAnswer.the-variants.{Differs, Nothing}
+use Rattle.comparison.specs.Compare.{Compared}
+use Rattle.comparison_api.specs.Replies.{which-number, kind-number, place-number, length-number, reply-with, compare-reply, position-of}
+use Rattle.comparison_api.specs.Replies.{part-number, place-in, next-reply}
+use Rattle.comparison_api.specs.declared.CompareReply.{CompareReply}
+use Rattle.comparison_api.specs.declared.NextReply.{NextReply}
+use Rattle.comparison_api.proofs.Rows
+
+-- from numbers, the difference, the image, the position
+abbrev difference-from : ℕ → ℕ → ℕ → Option Difference
+difference-from k p n = getD (none ∷ some LastSerial ∷ some (QuotaAt p) ∷ some (RecordAt p) ∷ some (Bytes p n) ∷ []) k none
+
+difference-back : (d : Difference) → difference-from (kind-number d) (place-number d) (length-number d) ≡ some d
+difference-back LastSerial = refl
+difference-back (QuotaAt q) = refl
+difference-back (RecordAt p) = refl
+difference-back (Bytes at n) = refl
+
+abbrev which-from : ℕ → Which
+which-from n = getD (Neither ∷ First ∷ Second ∷ []) n Neither
+
+which-back : (w : Which) → which-from (which-number w) ≡ w
+which-back First = refl
+which-back Second = refl
+which-back Neither = refl
+
+-- so no two outcomes of compare give the same reply
+abbrev compared-from : CompareReply → Compared
+compared-from r = record { refusal = r .refusal; which = which-from (r .which); found = difference-from (r .kind) (r .place) (r .length) }
+
+compared-back : (n : ℕ) (w : Which) (o : Option Difference) → compared-from (reply-with n (which-number w) o) ≡ record { refusal = n; which = w; found = o }
+compared-back n w none = λ i. record { refusal = n; which = which-back w i; found = none }
+compared-back n w (some d) = λ i. record { refusal = n; which = which-back w i; found = difference-back d i }
+
+pub compare-reply-injective : (a b : Compared) → compare-reply a ≡ compare-reply b → a ≡ b
+compare-reply-injective a b e =
+    sym (compared-back (a .refusal) (a .which) (a .found)) ∙ ap compared-from e ∙ compared-back (b .refusal) (b .which) (b .found)
+
+-- a position's numbers are read as that position
+pub position-back : (p : Position) → position-of (part-number p) (place-in p) ≡ p
+unfolding position-of
+position-back Start = refl
+position-back (Quota q) = refl
+position-back (Record p) = refl
+position-back (Byte at) = refl
+
+-- and no two answers of going on give the same reply
+answer-from : Option Difference → Position → NextAnswer
+answer-from none p = Nothing
+answer-from (some d) p = Differs d p
+
+abbrev next-from : NextReply → NextAnswer
+next-from r = answer-from (difference-from (r .kind) (r .place) (r .length)) (position-of (r .part) (r .at))
+
+next-back : (a : NextAnswer) → next-from (next-reply a) ≡ a
+unfolding answer-from
+next-back (Differs d p) = λ i. answer-from (difference-back d i) (position-back p i)
+next-back Nothing = refl
+
+pub next-reply-injective : (a b : NextAnswer) → next-reply a ≡ next-reply b → a ≡ b
+next-reply-injective a b e = sym (next-back a) ∙ ap next-from e ∙ next-back b

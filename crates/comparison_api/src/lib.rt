@@ -1,0 +1,30 @@
+// Comparing images for programs in C and Rust, under plain names. A reply holds numbers alone. No call asks anything of its caller but that each
+// pointer and length are those of memory that is its own.
+mod exports;
+mod replies;
+
+pub use exports::lokhazim_image_compare;
+pub use exports::lokhazim_image_compare_next;
+
+// What compare gives: the refusal's number, 0 where there is none; which image it is about, 1 or 2, 0 for neither; and the difference. Its kind is 0 for
+// none, 1 for the last serial, 2 for a quota, 3 for a hold record and 4 for a run of heap bytes; its place is the quota's number, the record's place or
+// the run's offset; its length is the run's. What has no meaning is 0.
+#[repr(C)]
+pub struct CompareReply {
+    pub refusal: u32,
+    pub which: u32,
+    pub kind: u32,
+    pub place: usize,
+    pub length: usize,
+}
+
+// A difference and the position behind it: part is 0 for the start, 1 for a quota, 2 for a hold record and 3 for a heap byte, and at is which. All
+// is 0 where there is no difference.
+#[repr(C)]
+pub struct NextReply {
+    pub kind: u32,
+    pub place: usize,
+    pub length: usize,
+    pub part: u32,
+    pub at: usize,
+}

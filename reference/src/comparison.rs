@@ -1,0 +1,55 @@
+//! What differs between two images, as a list that is made all at once.
+
+use crate::image::{decode_sound, ImageRefusal};
+
+/// One difference, named without its values.
+#[derive(Clone, Copy, Debug, PartialEq, Eq, Hash)]
+pub enum Difference {
+    /// The last serials.
+    LastSerial,
+    /// The quotas of this number.
+    Quota(usize),
+    /// The hold records at this place.
+    Record(usize),
+    /// The heap bytes from this offset on, so many in a row.
+    Bytes(usize, usize),
+}
+
+/// Which image a refusal is about.
+#[derive(Clone, Copy, Debug, PartialEq, Eq, Hash)]
+pub enum Which {
+    /// The first image.
+    First,
+    /// The second image.
+    Second,
+    /// Both together.
+    Neither,
+}
+
+/// Lists all that differs in the states of two images, in the order of the rules.
+pub fn differences(first: &[u8], second: &[u8]) -> Result<Vec<Difference>, (ImageRefusal, Which)> {
+    let (heap_a, a) = decode_sound(first).map_err(|refusal| (refusal, Which::First))?;
+    let (heap_b, b) = decode_sound(second).map_err(|refusal| (refusal, Which::Second))?;
+    if heap_a.len() != heap_b.len() {
+        return Err((ImageRefusal::HeapLengths, Which::Neither));
+    }
+    let serial = (a.last_serial != b.last_serial).then_some(Difference::LastSerial);
+    let quotas = unequal(&a.quotas, &b.quotas).map(Difference::Quota);
+    let records = unequal(&a.holds, &b.holds).map(Difference::Record);
+    let mut all: Vec<Difference> = serial.into_iter().chain(quotas).chain(records).collect();
+    all.extend(runs(&unequal(&heap_a, &heap_b).collect::<Vec<_>>()));
+    Ok(all)
+}
+
+/// The places at which two lists of one length have different items.
+fn unequal<'a, T: PartialEq>(a: &'a [T], b: &'a [T]) -> impl Iterator<Item = usize> + 'a {
+    (0..a.len()).filter(|place| a[*place] != b[*place])
+}
+
+/// Rising offsets as runs of neighbours.
+fn runs(offsets: &[usize]) -> Vec<Difference> {
+    let neighbours = offsets.chunk_by(|before, after| before + 1 == *after);
+    neighbours
+        .map(|run| Difference::Bytes(run[0], run.len()))
+        .collect()
+}

@@ -1,0 +1,161 @@
+//! Pairs of images compared by the proved code and by the reference.
+
+use lokhazim_reference::{differences, Accounts, Difference, Which};
+
+use crate::boundary::images as proved;
+use crate::calls::Pair;
+use crate::compare::{save, Failure};
+use crate::image_cases::{image_of, HARMS};
+use crate::seed::Seed;
+use crate::state::State;
+use crate::states::{heap_length, sound, Plan};
+
+/// How many differences are asked for by number; the others only one after the other.
+const BY_NUMBER: usize = 12;
+
+impl Pair {
+    /// Compares two images on both sides: the first differences and the last by number, what
+    /// comes behind them, and all of them one after the other.
+    pub fn compare_images(&mut self, first: &[u8], second: &[u8]) -> Result<(), Failure> {
+        let expected = differences(first, second).map_err(|(refusal, which)| {
+            let which = match which {
+                Which::First => 1,
+                Which::Second => 2,
+                Which::Neither => 0,
+            };
+            (u32::from(refusal.number()), which)
+        });
+        let wrong = match &expected {
+            Err(refused) => self.refused_alike(first, second, *refused),
+            Ok(all) => self.listed_alike(first, second, all),
+        };
+        let Some(wrong) = wrong else {
+            return Ok(());
+        };
+        let name: String = self
+            .origin
+            .chars()
+            .map(|c| if c.is_ascii_alphanumeric() { c } else { '-' })
+            .collect();
+        let file = save(&format!("compare-{name}.first.image"), first)?;
+        save(&format!("compare-{name}.second.image"), second)?;
+        Err(Failure(format!(
+            "{}: {wrong}. The first image is saved in {}, the second beside it",
+            self.origin,
+            file.display()
+        )))
+    }
+
+    /// Says what is wrong with the refusal of the proved code, for some numbers asked.
+    fn refused_alike(&mut self, a: &[u8], b: &[u8], refused: (u32, u32)) -> Option<String> {
+        self.tally.count_image("compared", refused.0);
+        let asked = [0, 1, usize::MAX].map(|n| proved::compare(a, b, n));
+        let wrong = asked.into_iter().find(|answer| *answer != Err(refused))?;
+        Some(format!("proved {wrong:?}, reference refusal {refused:?}"))
+    }
+
+    /// Says what is wrong with the differences that the proved code lists.
+    fn listed_alike(&mut self, a: &[u8], b: &[u8], all: &[Difference]) -> Option<String> {
+        self.tally.count_image("compared", 0);
+        let numbers = (0..all.len().min(BY_NUMBER))
+            .chain(all.len().saturating_sub(1)..all.len() + 2)
+            .chain([usize::MAX]);
+        for n in numbers {
+            let answer = proved::compare(a, b, n);
+            if answer != Ok(all.get(n).copied()) {
+                return Some(format!(
+                    "difference {n}: proved {answer:?}, reference {:?}",
+                    all.get(n)
+                ));
+            }
+        }
+        let listed = proved::all_differences(a, b);
+        (listed != all).then(|| {
+            format!(
+                "one after the other {} differences are listed, and the reference has {}",
+                listed.len(),
+                all.len()
+            )
+        })
+    }
+}
+
+/// What is done to a state so that it differs, and stays consistent.
+fn changed(seed: &mut Seed, state: &State) -> State {
+    let mut other = state.clone();
+    let Accounts {
+        quotas,
+        last_serial,
+        holds,
+    } = &mut other.accounts;
+    for _ in 0..seed.below(4) {
+        match seed.below(4) {
+            0 => *last_serial = last_serial.saturating_add(1),
+            1 => {
+                let quota = &mut quotas[seed.place(8)];
+                if let Some(more) = quota.grant.checked_add(5) {
+                    quota.grant = more;
+                    quota.remainder += 5;
+                }
+            }
+            2 => holds.swap(seed.place(128), seed.place(128)),
+            _ => {
+                let hold = &mut holds[seed.place(128)];
+                if hold.is_used() {
+                    hold.count = hold.count % 255 + 1;
+                }
+            }
+        }
+    }
+    let live: Vec<_> = crate::cut::blocks(&state.heap)
+        .into_iter()
+        .filter(|block| block.serial != 0)
+        .collect();
+    for _ in 0..seed.below(6) {
+        let Some(block) = seed.any_of(&live) else {
+            break;
+        };
+        let (start, end) = (
+            block.offset as usize + 8,
+            (block.offset + block.size) as usize,
+        );
+        let inside = start + seed.place(end - start);
+        let from = seed.pick(&[start, end - 1, inside]);
+        let to = end.min(from + 1 + seed.place(9));
+        other.heap[from..to].fill(seed.byte());
+    }
+    other
+}
+
+/// Compares the n-th pair of a seed: equal, changed a little, of two states, damaged, or of two lengths.
+pub fn pairs(pair: &mut Pair, seed: u64, n: u64) -> Result<(), Failure> {
+    pair.begin("image-pair", seed, n);
+    let mut numbers = Seed::of_case(seed, n);
+    let state = sound(&mut numbers);
+    let first = image_of(pair, &state)?;
+    let second = match numbers.below(10) {
+        0 => first.clone(),
+        1 => {
+            let length = state.heap.len() as u32;
+            let other = Plan::new(&mut numbers, length).render(&mut numbers);
+            image_of(pair, &other)?
+        }
+        2 => {
+            let length = heap_length(&mut numbers);
+            let other = Plan::new(&mut numbers, length).render(&mut numbers);
+            image_of(pair, &other)?
+        }
+        3 | 4 => {
+            let (mut image, mut heap) = (first.clone(), state.heap.clone());
+            let (_, harm) = HARMS[numbers.place(HARMS.len())];
+            harm(&mut numbers, &mut image, &mut heap);
+            image
+        }
+        _ => {
+            let other = changed(&mut numbers, &state);
+            image_of(pair, &other)?
+        }
+    };
+    pair.compare_images(&first, &second)?;
+    pair.compare_images(&second, &first)
+}

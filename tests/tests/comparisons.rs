@@ -1,0 +1,117 @@
+//! Images compared by the proved code and by the reference, from fixed seeds.
+
+use lokhazim_reference::{Accounts, Difference, MAX_HEAP, QUOTAS};
+use lokhazim_tests::boundary::images::all_differences;
+use lokhazim_tests::calls::Pair;
+use lokhazim_tests::comparisons::pairs;
+use lokhazim_tests::image_cases::image_of;
+use lokhazim_tests::seed::Seed;
+use lokhazim_tests::state::{Call, State};
+use lokhazim_tests::states::Plan;
+
+/// The seed of every case.
+const SEED: u64 = 20_261_117;
+
+#[test]
+fn random_pairs_of_images() {
+    let mut pair = Pair::new();
+    for n in 0..3_000 {
+        pairs(&mut pair, SEED, n).unwrap_or_else(|failure| panic!("{failure}"));
+    }
+    println!("{}", pair.tally);
+    assert!(pair.tally.images("compared", 0) >= 2_000);
+    for number in [21, 22, 23, 24, 26, 27] {
+        assert!(pair.tally.images("compared", number) >= 20, "{number}");
+    }
+}
+
+/// The images of a heap of 128 bytes with one object of this length, and of the same heap changed.
+fn changed(pair: &mut Pair, length: u32, change: impl FnOnce(&mut State)) -> (Vec<u8>, Vec<u8>) {
+    let mut state = State {
+        heap: vec![0; 128],
+        accounts: Accounts::default(),
+    };
+    for call in [Call::Open([500; QUOTAS]), Call::Allocate(0, length)] {
+        pair.call(&mut state, call).expect("no difference");
+    }
+    let first = image_of(pair, &state).expect("no difference");
+    change(&mut state);
+    (first, image_of(pair, &state).expect("no difference"))
+}
+
+#[test]
+fn each_kind_of_difference_by_itself() {
+    use Difference::{Bytes, LastSerial, Quota, Record};
+    let mut pair = Pair::new();
+    let mut expect = |length: u32, change: fn(&mut State), expected: &[Difference]| {
+        let (first, second) = changed(&mut pair, length, change);
+        assert_eq!(all_differences(&first, &second), expected);
+        pair.compare_images(&first, &second)
+            .unwrap_or_else(|failure| panic!("{failure}"));
+    };
+    expect(120, |_| {}, &[]);
+    expect(120, |state| state.heap[50] = 1, &[Bytes(50, 1)]);
+    expect(120, |state| state.heap[127] = 1, &[Bytes(127, 1)]);
+    expect(120, |state| state.heap[8..].fill(9), &[Bytes(8, 120)]);
+    expect(
+        120,
+        |state| state.heap[20..23].copy_from_slice(&[1, 0, 1]),
+        &[Bytes(20, 1), Bytes(22, 1)],
+    );
+    expect(120, |state| state.accounts.last_serial = 9, &[LastSerial]);
+    expect(
+        120,
+        |state| state.accounts.holds.swap(0, 127),
+        &[Record(0), Record(127)],
+    );
+    expect(120, |state| state.accounts.holds[0].count = 2, &[Record(0)]);
+    let more = |state: &mut State| {
+        state.accounts.quotas[7].grant = 600;
+        state.accounts.quotas[7].remainder = 600;
+    };
+    expect(120, more, &[Quota(7)]);
+}
+
+#[test]
+fn a_run_at_the_first_byte() {
+    let mut pair = Pair::new();
+    let (first, _) = changed(&mut pair, 40, |_| {});
+    let (second, _) = changed(&mut pair, 48, |_| {});
+    let all = all_differences(&first, &second);
+    assert_eq!(all[1], Difference::Bytes(0, 1));
+    pair.compare_images(&first, &second)
+        .unwrap_or_else(|failure| panic!("{failure}"));
+}
+
+/// A state of the longest heap with one object that fills it, and every other byte written.
+fn striped(byte: u8) -> State {
+    let mut seed = Seed::new(SEED);
+    let mut state = Plan::new(&mut seed, MAX_HEAP as u32).render(&mut seed);
+    let objects: Vec<_> = lokhazim_tests::cut::blocks(&state.heap)
+        .into_iter()
+        .filter(|block| block.serial != 0)
+        .collect();
+    for block in objects {
+        let (start, end) = (
+            block.offset as usize + 8,
+            (block.offset + block.size) as usize,
+        );
+        state.heap[start..end].fill(0);
+        state.heap[start..end]
+            .iter_mut()
+            .step_by(2)
+            .for_each(|b| *b = byte);
+    }
+    state
+}
+
+#[test]
+fn thousands_of_runs_in_the_longest_heap() {
+    let mut pair = Pair::new();
+    let (first, second) = (striped(1), striped(2));
+    let images = [&first, &second].map(|state| image_of(&mut pair, state).expect("no difference"));
+    let all = all_differences(&images[0], &images[1]);
+    assert!(all.len() > 1_000, "{}", all.len());
+    pair.compare_images(&images[0], &images[1])
+        .unwrap_or_else(|failure| panic!("{failure}"));
+}
