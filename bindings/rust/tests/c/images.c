@@ -1,6 +1,6 @@
 /*
  * Images from C: a heap with every record used is written and read back, a refused image leaves heap
- * and accounts alone, and the caller's null pointer for the length is taken.
+ * and accounts alone, the caller's null pointer for the length is taken, and two images are compared.
  */
 #include "lokhazim_image.h"
 
@@ -19,6 +19,7 @@
 static _Alignas(LOKHAZIM_ALIGNMENT) uint8_t heap[LOKHAZIM_HEAP_MAX];
 static _Alignas(LOKHAZIM_ALIGNMENT) uint8_t other[LOKHAZIM_HEAP_MAX];
 static uint8_t image[LOKHAZIM_IMAGE_MAX + 1];
+static uint8_t changed[LOKHAZIM_IMAGE_MAX];
 static struct lokhazim_accounts accounts;
 
 /* Every quota holds objects, and every record is used. */
@@ -47,6 +48,33 @@ static int same(const struct lokhazim_accounts *a, const struct lokhazim_account
     return equal;
 }
 
+/* The second image has one byte of the first object changed, and one record's count. */
+static void compare(void)
+{
+    struct lokhazim_compare_reply reply;
+    struct lokhazim_next_reply next;
+    const size_t length = LOKHAZIM_IMAGE_MAX;
+    heap[8] ^= 1;
+    accounts.holds[5].count = 2;
+    CHECK(lokhazim_heap_save(heap, sizeof heap, &accounts, changed, sizeof changed, NULL) == LOKHAZIM_IMAGE_ACCEPTED);
+
+    reply = lokhazim_image_compare(image, length, changed, length, 0);
+    CHECK(reply.refusal == 0 && reply.kind == LOKHAZIM_RECORD_DIFFERS && reply.place == 5 && reply.length == 0);
+    reply = lokhazim_image_compare(image, length, changed, length, 1);
+    CHECK(reply.refusal == 0 && reply.kind == LOKHAZIM_BYTES_DIFFER && reply.place == 8 && reply.length == 1);
+    reply = lokhazim_image_compare(image, length, changed, length, 2);
+    CHECK(reply.refusal == 0 && reply.kind == LOKHAZIM_NO_DIFFERENCE);
+    reply = lokhazim_image_compare(image, length, changed, length - 1, 0);
+    CHECK(reply.refusal == LOKHAZIM_IMAGE_LENGTH && reply.which == 2 && reply.kind == 0);
+
+    next = lokhazim_image_compare_next(image, length, changed, length, 0, 0);
+    CHECK(next.kind == LOKHAZIM_RECORD_DIFFERS && next.place == 5);
+    next = lokhazim_image_compare_next(image, length, changed, length, next.part, next.at);
+    CHECK(next.kind == LOKHAZIM_BYTES_DIFFER && next.place == 8 && next.length == 1);
+    next = lokhazim_image_compare_next(image, length, changed, length, next.part, next.at);
+    CHECK(next.kind == LOKHAZIM_NO_DIFFERENCE);
+}
+
 int main(void)
 {
     size_t length = 1;
@@ -73,5 +101,6 @@ int main(void)
     image[600] ^= 1;
     CHECK(lokhazim_heap_restore(other, sizeof other - 8, &back, image, length) == LOKHAZIM_IMAGE_ROOM);
     CHECK(other[0] == 9 && other[sizeof other - 1] == 9 && same(&accounts, &back));
+    compare();
     return EXIT_SUCCESS;
 }
