@@ -42,6 +42,12 @@ pub fn save(name: &str, bytes: &[u8]) -> Result<PathBuf, Failure> {
     }
 }
 
+/// The origin of a case as a part of a file's name.
+pub fn file_stem(origin: &str) -> String {
+    let letter = |c: char| if c.is_ascii_alphanumeric() { c } else { '-' };
+    origin.chars().map(letter).collect()
+}
+
 /// A state and an answer as one side left them.
 pub struct Left<'a> {
     /// Heap and accounts after the call.
@@ -113,17 +119,7 @@ pub fn call_failure(origin: &str, before: &State, call: Call, wrong: &[String]) 
     }
     text.push_str("# Make it again with: build/cargo/debug/fuzz again FILE\n");
     text.push_str(&write_case(before, call));
-    let name: String = origin
-        .chars()
-        .map(|letter| {
-            if letter.is_ascii_alphanumeric() {
-                letter
-            } else {
-                '-'
-            }
-        })
-        .collect();
-    match save(&format!("call-{name}.txt"), text.as_bytes()) {
+    match save(&format!("call-{}.txt", file_stem(origin)), text.as_bytes()) {
         Ok(file) => Failure(format!(
             "{origin}: the call '{call}' is wrong: {}. The case is saved in {}",
             wrong.join("; "),

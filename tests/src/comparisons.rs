@@ -4,7 +4,7 @@ use lokhazim_reference::{differences, Accounts, Difference, Which};
 
 use crate::boundary::images as proved;
 use crate::calls::Pair;
-use crate::compare::{save, Failure};
+use crate::compare::{file_stem, save, Failure};
 use crate::image_cases::{image_of, HARMS};
 use crate::seed::Seed;
 use crate::state::State;
@@ -32,11 +32,7 @@ impl Pair {
         let Some(wrong) = wrong else {
             return Ok(());
         };
-        let name: String = self
-            .origin
-            .chars()
-            .map(|c| if c.is_ascii_alphanumeric() { c } else { '-' })
-            .collect();
+        let name = file_stem(&self.origin);
         let file = save(&format!("compare-{name}.first.image"), first)?;
         save(&format!("compare-{name}.second.image"), second)?;
         Err(Failure(format!(

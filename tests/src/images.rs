@@ -4,7 +4,7 @@ use lokhazim_reference::{image_length, read_image, write_image, Accounts};
 
 use crate::boundary::images as proved;
 use crate::calls::Pair;
-use crate::compare::{save, Failure};
+use crate::compare::{file_stem, save, Failure};
 use crate::lent::Lent;
 use crate::state::State;
 
@@ -96,11 +96,7 @@ impl Pair {
         if found == expected && guards_hold {
             return Ok(());
         }
-        let name: String = self
-            .origin
-            .chars()
-            .map(|c| if c.is_ascii_alphanumeric() { c } else { '-' })
-            .collect();
+        let name = file_stem(&self.origin);
         let file = save(&format!("{what}-{name}.image"), image)?;
         save(&format!("{what}-{name}.heap"), heap)?;
         Err(Failure(format!(
