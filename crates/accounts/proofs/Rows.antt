@@ -5,6 +5,7 @@ use mathlib.Core.Path.{_≡_, refl}
 use mathlib.Core.Bool.{true, false}
 use mathlib.Core.List.{[], _∷_, map}
 use lib.ListN.{replicate}
+use Rattle.accounts.specs.declared.Quota.{Quota}
 use Rattle.accounts.specs.declared.Hold.{Hold}
 use Rattle.accounts.specs.declared.Accounts.{Accounts}
 use Rattle.accounts.specs.declared.Place.the-variants.{At, Nothing}
@@ -26,22 +27,30 @@ held = put-hold 2 holder five
 -- accounts of zeros, opened ones, and another last serial
 pub opening-rows : (zero-accounts
     ≡ record {
-      quotas = replicate 8 (record { grant = 0; remainder = 0 });
+      quotas = replicate 8 (record { grant = 0; remainder = 0; permissions = 0 });
       «last_serial» = 0;
       holds = replicate 128 (record { serial = 0; quota = 0; count = 0 });
     })
     × (opened (5 ∷ 6 ∷ [])
-    ≡ record { quotas = record { grant = 5; remainder = 5 } ∷ record { grant = 6; remainder = 6 } ∷ []; «last_serial» = 0; holds = zero-accounts .holds })
+    ≡ record {
+      quotas = record { grant = 5; remainder = 5; permissions = 7 } ∷ record { grant = 6; remainder = 6; permissions = 7 } ∷ [];
+      «last_serial» = 0;
+      holds = zero-accounts .holds;
+    })
     × (with-last-serial 9 five ≡ record { quotas = five .quotas; «last_serial» = 9; holds = five .holds })
 unfolding five opened
 opening-rows = (refl, refl, refl)
 
+-- 5 remain of 9, and the permission to allocate is cleared
+unfoldable pub nine : Quota
+nine = record { grant = 9; remainder = 5; permissions = 6 }
+
 -- a quota alone: up to what remains it pays, and up to 32 bits it is paid back
-pub quota-rows : (map (λ n. charged n (record { grant = 9; remainder = 5 }) .remainder) (0 ∷ 5 ∷ 6 ∷ []) ≡ 5 ∷ 0 ∷ 5 ∷ [])
-    × (map (λ n. refunded n (record { grant = 9; remainder = 5 }) .remainder) (1 ∷ 4294967290 ∷ 4294967291 ∷ []) ≡ 6 ∷ 4294967295 ∷ 5 ∷ [])
-    × (charged 2 (record { grant = 9; remainder = 5 }) .grant ≡ 9) × (refunded 2 (record { grant = 9; remainder = 5 }) .grant ≡ 9)
-unfolding less-paid paid-back
-quota-rows = (refl, refl, refl, refl)
+pub quota-rows : (map (λ n. charged n nine .remainder) (0 ∷ 5 ∷ 6 ∷ []) ≡ 5 ∷ 0 ∷ 5 ∷ [])
+    × (map (λ n. refunded n nine .remainder) (1 ∷ 4294967290 ∷ 4294967291 ∷ []) ≡ 6 ∷ 4294967295 ∷ 5 ∷ [])
+    × (charged 2 nine .grant ≡ 9) × (refunded 2 nine .grant ≡ 9) × (charged 2 nine .permissions ≡ 6) × (refunded 2 nine .permissions ≡ 6)
+unfolding nine less-paid paid-back
+quota-rows = (refl, refl, refl, refl, refl, refl)
 
 -- one quota more than there are
 unfoldable pub too-many : Accounts

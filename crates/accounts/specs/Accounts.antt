@@ -17,9 +17,13 @@ QUOTAS = 8
 abbrev pub HOLDS : ℕ
 HOLDS = 128
 
+-- rule 15.1: the number of a quota that has all three permissions
+abbrev pub ALL-PERMISSIONS : ℕ
+ALL-PERMISSIONS = 7
+
 -- rule 3.8: zeros
 abbrev pub zero-quota : Quota
-zero-quota = record { grant = 0; remainder = 0 }
+zero-quota = record { grant = 0; remainder = 0; permissions = 0 }
 
 abbrev pub zero-hold : Hold
 zero-hold = record { serial = 0; quota = 0; count = 0 }
@@ -29,7 +33,10 @@ zero-accounts = record { quotas = replicate QUOTAS zero-quota; «last_serial» =
 
 -- one function for each field that changes
 abbrev pub with-remainder : ℕ → Quota → Quota
-with-remainder n q = record { grant = q .grant; remainder = n }
+with-remainder n q = record { grant = q .grant; remainder = n; permissions = q .permissions }
+
+abbrev pub with-permissions : ℕ → Quota → Quota
+with-permissions n q = record { grant = q .grant; remainder = q .remainder; permissions = n }
 
 abbrev pub with-quotas : List Quota → Accounts → Accounts
 with-quotas qs k = record { quotas = qs; «last_serial» = k .«last_serial»; holds = k .holds }
@@ -44,9 +51,9 @@ with-holds hs k = record { quotas = k .quotas; «last_serial» = k .«last_seria
 abbrev pub grants : Accounts → List ℕ
 grants k = map (λ x. x .grant) (k .quotas)
 
--- rule 8.3, the accounts at opening: each grant is there whole, no serial has been given and no record is used
+-- rule 8.3, the accounts at opening: each grant is there whole, every permission is set, no serial has been given and no record is used
 abbrev pub granted : ℕ → Quota
-granted g = record { grant = g; remainder = g }
+granted g = record { grant = g; remainder = g; permissions = ALL-PERMISSIONS }
 
 unfoldable pub opened : List ℕ → Accounts
 opened grants = record { quotas = map granted grants; «last_serial» = 0; holds = replicate HOLDS zero-hold }

@@ -12,11 +12,15 @@ pub const HOLDS: usize = 128;
 // The greatest number of 32 bits, which a remainder can be.
 pub const GREATEST_NUMBER: u32 = 4294967295;
 
-// What a quota was granted at the opening, and what remains of it.
+// The permissions of a quota that has all three.
+pub const ALL_PERMISSIONS: u8 = 7;
+
+// What a quota was granted at the opening, what remains of it, and its permissions by their bits (rules, section 15).
 #[repr(C)]
 pub struct Quota {
     pub grant: u32,
     pub remainder: u32,
+    pub permissions: u8,
 }
 
 // A hold record: how often a quota holds the object with a serial (rule 3.4). An unused record is all zero.
@@ -52,6 +56,7 @@ impl Quota {
         Quota {
             grant: self.grant,
             remainder: self.remainder - amount,
+            permissions: self.permissions,
         }
     }
 
@@ -65,6 +70,7 @@ impl Quota {
         Quota {
             grant: self.grant,
             remainder: self.remainder + amount,
+            permissions: self.permissions,
         }
     }
 }
@@ -128,6 +134,7 @@ impl Accounts {
         let quota = Quota {
             grant: 0,
             remainder: 0,
+            permissions: 0,
         };
         let hold = Hold::zero();
         Accounts {
@@ -137,7 +144,7 @@ impl Accounts {
         }
     }
 
-    // The accounts at opening: every grant is there whole.
+    // The accounts at opening: every grant is there whole, with all permissions.
     pub fn open(grants: [u32; QUOTAS]) -> Accounts
         ensures { λ r. ⌜ r ≡ opened grants ⌝ }
     {
@@ -149,6 +156,7 @@ impl Accounts {
             quotas[i] = Quota {
                 grant: grant,
                 remainder: grant,
+                permissions: ALL_PERMISSIONS,
             };
             i += 1;
         }

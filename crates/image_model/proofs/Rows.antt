@@ -7,7 +7,7 @@ use lib.ListN.{length, take, set, replicate}
 use Rattle.accounts.specs.declared.Accounts.{Accounts}
 use Rattle.accounts.specs.declared.Quota.{Quota}
 use Rattle.accounts.specs.declared.Hold.{Hold}
-use Rattle.accounts.specs.Accounts.{zero-quota, zero-hold, zero-accounts, opened}
+use Rattle.accounts.specs.Accounts.{zero-hold, zero-accounts, opened}
 use Rattle.framing.specs.Frames.{frame-of, cut-from, cut}
 use Rattle.image_model.specs.Stream.{form-1, stream, image-of, image-length, head-length}
 use Rattle.image_model.specs.Answers.{Imaged, Restored-to}
@@ -26,7 +26,7 @@ heap : List ℕ
 heap = 2 ∷ 0 ∷ 0 ∷ 0 ∷ 1 ∷ 0 ∷ 0 ∷ 0 ∷ 1 ∷ 2 ∷ 3 ∷ 4 ∷ 5 ∷ 6 ∷ 7 ∷ 8 ∷ 6 ∷ 0 ∷ 2 ∷ replicate 37 0 ++ replicate 8 255
 
 quota : ℕ → ℕ → Quota
-quota g r = record { grant = g; remainder = r }
+quota g r = record { grant = g; remainder = r; permissions = 7 }
 
 hold : ℕ → ℕ → ℕ → Hold
 hold s q c = record { serial = s; quota = q; count = c }
@@ -34,7 +34,7 @@ hold s q c = record { serial = s; quota = q; count = c }
 accounts : Accounts
 accounts =
     record {
-      quotas = quota 100 84 ∷ quota 1000 984 ∷ replicate 6 zero-quota;
+      quotas = quota 100 84 ∷ quota 1000 984 ∷ replicate 6 (quota 0 0);
       «last_serial» = 1;
       holds = hold 1 0 1 ∷ replicate 52 zero-hold ++ (hold 1 1 3 ∷ replicate 74 zero-hold);
     }

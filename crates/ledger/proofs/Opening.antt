@@ -4,15 +4,15 @@
 use Prim.Native.Nat.{ℕ, zero, suc, _+_, _-_, _%_, _≤_, _<_, _^_}
 use native.Mathlib.Nat.{add-zero}
 use native.Mathlib.Omega.{arith}
-use mathlib.Core.Path.{_≡_, refl, ap, _∙_}
+use mathlib.Core.Path.{_≡_, refl, ap, sym, _∙_}
 use mathlib.Core.List.{List, [], _∷_, map, List·Memᴰ·not-nil}
 use mathlib.Core.Bool.{Bool, true, false}
-use lib.ListN.{length, getD, replicate, length-replicate, length-map, List·getD-map}
+use lib.ListN.{length, getD, replicate, length-replicate, length-map}
 use lib.Dec.{leb, eqb, lit<}
 use borrow.Author.Tests.{leb-true, eqb-true}
 use Rattle.accounts.specs.declared.Quota.{Quota}
 use Rattle.accounts.specs.declared.Accounts.{Accounts}
-use Rattle.accounts.specs.Accounts.{QUOTAS, HOLDS, zero-hold, granted, opened, used}
+use Rattle.accounts.specs.Accounts.{QUOTAS, HOLDS, zero-quota, zero-hold, granted, opened, used}
 use Rattle.layout.specs.Blocks.{render}
 use Rattle.model.specs.Lists.{all, total}
 use Rattle.model.specs.Answers.{accepted}
@@ -51,6 +51,12 @@ opened-fresh grants s k o = go (allowed (length (o .before))) refl (o .opens)
         let z : _≡_ {A = ℕ} 1 0 = ap (λ (x : Outcome). x .values .refusal) f in
         absurd (omega arith)
 
+-- each quota has its grant whole, also one that does not exist
+granted-at : (gs : List ℕ) (q : ℕ) → (getD (map granted gs) q zero-quota .grant ≡ getD gs q 0) × (getD (map granted gs) q zero-quota .remainder ≡ getD gs q 0)
+granted-at [] q = (refl, refl)
+granted-at (g ∷ gs) zero = (refl, refl)
+granted-at (g ∷ gs) (suc q) = granted-at gs q
+
 -- unused records differ, and there is nothing to ask of them
 unused-differ : (n : ℕ) → records-differ (replicate n zero-hold) ≡ true
 unfolding records-differ used
@@ -85,7 +91,7 @@ module _ (H : ℕ) (fits : allowed H ≡ true) (grants : List ℕ) where
         valid = unused-valid HOLDS;
         unique = unused-differ HOLDS;
         recorded = refl;
-        balance = balance-exactly [] (replicate HOLDS zero-hold) (map granted grants) .1 (λ q h. rw (List·getD-map granted grants q 0, add-zero));
+        balance = balance-exactly [] (replicate HOLDS zero-hold) (map granted grants) .1 (λ q h. rw (add-zero) (granted-at grants q .0 ∙ sym (granted-at grants q .1)));
       }
 
   -- the fresh state is good
@@ -100,7 +106,7 @@ module _ (H : ℕ) (fits : allowed H ≡ true) (grants : List ℕ) where
         extent = rw (e, add-zero) fits;
         tests = fresh-tests;
         quotas = length-map grants granted ∙ n;
-        narrow = λ q. rw (List·getD-map granted grants q 0) (w q);
+        narrow = λ q. rw (granted-at grants q .0) (w q);
         serial = lit< tt;
       }
 

@@ -8,7 +8,7 @@ use Rattle.accounts.specs.Accounts.{QUOTAS, HOLDS}
 use Rattle.model.specs.Answers.{Values, refused, accepted, amount-of, lent}
 use Rattle.model.specs.Calls.{Outcome, open-heap}
 use Rattle.model.specs.Marked.{handle}
-use Rattle.model.specs.Tables.{Case, case, head, zeros, parts, quota, hold, accounts-of, state}
+use Rattle.model.specs.Tables.{Case, case, head, zeros, parts, quota-with, quota, hold, accounts-of, state}
 use Rattle.model.specs.Cases.{block}
 use Rattle.model.specs.declared.Call.{Call}
 use Rattle.model.specs.declared.Call.the-variants.{Allocate, AllocateArray, Claim, Release, FreeAll, Reallocate, Lend, Remaining, CanRelease, ListBlock}
@@ -19,9 +19,9 @@ opening H =
     let t = open-heap (replicate H 170) (5 ∷ 4294967295 ∷ replicate (QUOTAS - 2) 0) in
     (t .values, take 64 (t .heap), t .accounts)
 
--- a refused open leaves the bytes and gives accounts of zeros
+-- a refused open leaves the bytes and gives accounts of zeros, which have no permission
 abbrev pub not-opened : ℕ → Values × List ℕ × Accounts
-not-opened n = (refused 1, replicate n 170, accounts-of [] 0 [])
+not-opened n = (refused 1, replicate n 170, accounts-of (replicate QUOTAS (quota-with 0 0 0)) 0 [])
 
 abbrev pub is-opened : List ℕ → Values × List ℕ × Accounts
 is-opened bytes = (accepted, bytes, accounts-of (quota 5 5 ∷ quota 4294967295 4294967295 ∷ []) 0 [])
