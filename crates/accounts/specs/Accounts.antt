@@ -67,7 +67,7 @@ grants k = map (λ x. x .grant) (k .quotas)
 abbrev pub permissions : Accounts → List ℕ
 permissions k = map (λ x. x .permissions) (k .quotas)
 
--- rule 8.3, the accounts at opening: each grant is there whole, every permission is set, no serial has been given and no record is used
+-- rules 8.3 and 15.3, the accounts at opening: each grant is there whole, every permission is set, no serial has been given and no record is used
 abbrev pub granted : ℕ → Quota
 granted g = record { grant = g; remainder = g; permissions = ALL-PERMISSIONS }
 
@@ -113,7 +113,7 @@ refund q n k = cond (ltb q QUOTAS) (set-remaining q (paid-back n (remaining q k)
 unfoldable pub permits : ℕ → ℕ → Accounts → Bool
 permits bit q k = eqb (quota-at q k .permissions / bit % 2) 1
 
--- rule 15.3: the permissions p without those whose bit, 0 to 2, is set in n
+-- rule 15.4: the permissions p without those whose bit, 0 to 2, is set in n
 abbrev pub bit-left : ℕ → ℕ → ℕ
 bit-left n p = cond (eqb (n % 2) 0) (p % 2) 0
 

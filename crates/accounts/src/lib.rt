@@ -250,7 +250,7 @@ impl Accounts {
         self
     }
 
-    // What clearing permissions leaves to a quota (rule 15.3); 0 where there is no such quota.
+    // What clearing permissions leaves to a quota (rule 15.4); 0 where there is no such quota.
     pub fn left_permissions(self, quota: u32, bits: u32) -> u8
         ensures { λ r. ⌜ r ≡ left-permissions quota bits self ⌝ }
     {
