@@ -17,7 +17,7 @@ use Rattle.model.specs.Answers.{verdict-values}
 use Rattle.model.specs.Consistent.{allowed, sound}
 use Rattle.model.specs.Refusals.{first-refusal, line-1, line-2, check-lines}
 use Rattle.model.specs.Calls.{unless, check}
-use Rattle.model.proofs.Bools.{and-left, and-right, and-no}
+use Rattle.model.proofs.Bools.{and-left, and-right, and-no, and-yes}
 use Rattle.checker.specs.Keys.{well-formed}
 use Rattle.checker.specs.Chains.{SLOTS}
 use Rattle.checker.specs.Audit.{owes, solvent, entry-valid, begin, audit-parsed, audited}
@@ -48,10 +48,6 @@ valid-parts (x ∷ xs) = rw (valid-parts xs) (go (solvent x) (permissible (x .pe
     go false b c d = refl
     go true true c d = refl
     go true false c d = sym (and-no c false refl)
-
-and-yes : (a : Bool) → (a && true) ≡ a
-and-yes true = refl
-and-yes false = refl
 
 one-fails : (w v r f p : Bool) → (v && p) ≡ false → ((w && (v && r)) && (f && p)) ≡ false
 one-fails w false r f p e = ap (λ (x : Bool). x && (f && p)) (and-no w false refl)
