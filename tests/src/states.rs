@@ -3,7 +3,7 @@
 
 use std::collections::BTreeSet;
 
-use lokhazim_reference::{Accounts, Hold, Quota, HOLDS, QUOTAS};
+use lokhazim_reference::{Accounts, Hold, Quota, ALL_PERMISSIONS, HOLDS, QUOTAS};
 
 use crate::cut::{header, put};
 use crate::ledger::unit;
@@ -131,7 +131,11 @@ impl Plan {
             let charges = self.charges(number);
             let remainder = self.remainders[number].min(u32::MAX - charges);
             let grant = remainder + charges;
-            Quota { grant, remainder }
+            Quota {
+                grant,
+                remainder,
+                permissions: ALL_PERMISSIONS,
+            }
         });
         let accounts = Accounts {
             quotas,

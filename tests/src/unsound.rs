@@ -1,6 +1,8 @@
 //! Calls on states that are damaged, on bytes and numbers of any kind, and on heaps of any length.
 
-use lokhazim_reference::{Accounts, Hold, Quota, HOLDS, MAX_HEAP, MIN_HEAP, QUOTAS};
+use lokhazim_reference::{
+    Accounts, Hold, Quota, ALL_PERMISSIONS, HOLDS, MAX_HEAP, MIN_HEAP, QUOTAS,
+};
 
 use crate::calls::Pair;
 use crate::choice::{choose, one_of_each, Habits, MIXED};
@@ -126,6 +128,7 @@ fn one_free_block(seed: &mut Seed, length: u32) -> State {
     let quota = |amount| Quota {
         grant: amount,
         remainder: amount,
+        permissions: ALL_PERMISSIONS,
     };
     let accounts = Accounts {
         quotas: std::array::from_fn(|_| quota(seed.odd_word())),

@@ -3,7 +3,7 @@
 //! This folder alone has unsafe code. The structs have the layout of the crate `c_api`: all
 //! `repr(C)`, passed by value; a lent heap is a pointer and a length.
 
-use lokhazim_reference::{Accounts, Handle, Hold, Quota, HOLDS, QUOTAS};
+use lokhazim_reference::{Accounts, Handle, Hold, Quota, ALL_PERMISSIONS, HOLDS, QUOTAS};
 
 use crate::state::{Answer, Call};
 
@@ -203,6 +203,8 @@ impl From<CAccounts> for Accounts {
             quotas: accounts.quotas.map(|quota| Quota {
                 grant: quota.grant,
                 remainder: quota.remainder,
+                // Permissions do not cross this boundary.
+                permissions: ALL_PERMISSIONS,
             }),
             last_serial: accounts.last_serial,
             holds: accounts.holds.map(|hold| Hold {
