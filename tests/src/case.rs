@@ -125,6 +125,7 @@ fn read_call(text: &str) -> Option<Call> {
         ("remaining", &[q]) => Call::Remaining(q),
         ("can-release", &[q, b, l, s]) => Call::CanRelease(q, handle(b, l, s)),
         ("check", &[]) => Call::Check,
+        ("clear-permissions", &[q, n]) => Call::ClearPermissions(q, n),
         _ => return None,
     })
 }

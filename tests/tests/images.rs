@@ -27,7 +27,7 @@ fn states_are_written_and_read_back() {
     let tally = compare(1_500, |pair, n| states(pair, SEED, n));
     assert!(tally.images("written", 0) >= 1_500 && tally.images("read", 0) >= 1_500);
     assert!(tally.images("written", 1) >= 100 && tally.images("written", 2) >= 100);
-    assert!(tally.images("written", 25) >= 1_000);
+    assert!(tally.images("written", 25) >= 1_000 && tally.images("written", 28) >= 1_000);
 }
 
 #[test]
