@@ -22,13 +22,10 @@ pub unit-by-zeros : (n : ℕ) → n < 2 ^ 32 → by-zeros (leading-zeros 32 n) �
 unit-by-zeros n h =
     let z = leading-zeros 32 n in
     by-row (λ (k : ℕ). by-zeros (leading-zeros 32 n) ≡ k) n
-    (λ l. let a = zeros-below 32 13 n h (omega arith) in
-        rw (lt-leb z 16 (omega arith), lt-leb z 17 (omega arith), lt-leb z 18 (omega arith)))
-    (λ l m. let a = zeros-below 32 14 n h (omega arith) in let b = zeros-from 32 13 n h (omega arith) in
-        rw (lt-leb z 16 (omega arith), lt-leb z 17 (omega arith), le-leb z 18 (omega arith)))
-    (λ l m. let a = zeros-below 32 15 n h (omega arith) in let b = zeros-from 32 14 n h (omega arith) in
-        rw (lt-leb z 16 (omega arith), le-leb z 17 (omega arith)))
-    (λ l. let b = zeros-from 32 15 n h (omega arith) in rw (le-leb z 16 (omega arith)))
+    (λ l. let a = zeros-below 32 13 n h (omega arith) in rw (lt-leb z 16 (omega arith), lt-leb z 17 (omega arith), lt-leb z 18 (omega arith)))
+    (λ l m. let e : z ≡ 18 = omega (arith, zeros-below 32 14 n h (omega arith), zeros-from 32 13 n h (omega arith)) in ap by-zeros e)
+    (λ l m. let e : z ≡ 17 = omega (arith, zeros-below 32 15 n h (omega arith), zeros-from 32 14 n h (omega arith)) in ap by-zeros e)
+    (λ l. rw (le-leb z 16 (omega (arith, zeros-from 32 15 n h (omega arith)))))
 
 -- the first n values of a function from i on
 abbrev values : (ℕ → ℕ) → ℕ → ℕ → List ℕ

@@ -29,9 +29,41 @@ pub fn leading_zeros(x: u32) -> u32
     u32::leading_zeros(x)
 }
 
-// The unit for each count of leading zeros (rule 6.7).
+// The unit for each count of leading zeros from 0 on (rule 6.7): 64 up to 16 zeros, then 32, 16, and 8 from 19 on.
 const BY_ZEROS: [u8; 33] = [
-    64, 64, 64, 64, 64, 64, 64, 64, 64, 64, 64, 64, 64, 64, 64, 64, 64, 32, 16, 8, 8, 8, 8, 8, 8, 8, 8, 8, 8, 8, 8, 8, 8,
+    64,
+    64,
+    64,
+    64,
+    64,
+    64,
+    64,
+    64,
+    64,
+    64,
+    64,
+    64,
+    64,
+    64,
+    64,
+    64,
+    64,
+    32,
+    16,
+    8,
+    8,
+    8,
+    8,
+    8,
+    8,
+    8,
+    8,
+    8,
+    8,
+    8,
+    8,
+    8,
+    8,
 ];
 
 // The unit of a length without a comparison: of an object's, to align it.
