@@ -21,10 +21,10 @@ le-or-lt a b = go (leb a b) refl
     go false e = inr (leb-false a b e)
 
 -- m is the length of x in bits: with the zeros in front it makes all w bits, x fits into it, and into no shorter one
-pub record Digits (w x m : ℕ) : Type 0 where
-  pub all : leading-zeros w x + m ≡ w
-  pub enough : x < 2 ^ m
-  pub least : 2 ^ m ≤ 2 * x + 1
+record Digits (w x m : ℕ) : Type 0 where
+  all : leading-zeros w x + m ≡ w
+  enough : x < 2 ^ m
+  least : 2 ^ m ≤ 2 * x + 1
 
 -- with one bit more, a number that does not need it has one zero more, and another none
 digits-by : (w x : ℕ) → x < 2 ^ suc w → (x < 2 ^ w → (m : ℕ) × Digits w x m) → (t : Bool) → ltb x (2 ^ w) ≡ t → (m : ℕ) × Digits (suc w) x m
@@ -34,7 +34,7 @@ digits-by w x h shorter true e =
     (r .0, record { all = rw e (omega (arith, r .1 .all)); enough = r .1 .enough; least = r .1 .least })
 digits-by w x h shorter false e = (suc w, record { all = rw e (omega arith); enough = h; least = omega (arith, pow-suc 2 w, ltb-false x (2 ^ w) e) })
 
-pub digits-of : (w x : ℕ) → x < 2 ^ w → (m : ℕ) × Digits w x m
+digits-of : (w x : ℕ) → x < 2 ^ w → (m : ℕ) × Digits w x m
 unfolding leading-zeros
 digits-of zero x h = (0, record { all = refl; enough = h; least = omega arith })
 digits-of (suc w) x h = digits-by w x h (λ l. digits-of w x l) (ltb x (2 ^ w)) refl

@@ -8,6 +8,10 @@ use Rattle.rounding.proofs.ByZeros.{table-unit}
 use Rattle.rounding.proofs.object_unit.Statement.{statement}
 use Rattle.rounding.proofs.object_unit.Tie as tie
 
+-- the entry at the length's count is its unit; this stands first, so that a wrong entry or a wrong count is refused here
+returns : tie.Need-returns
+returns c = table-unit (c .before .args .length) (c .leading-zeros .result) (c .before .fits .length .fits) (c .leading-zeros .ensures)
+
 leading-zeros-requires : tie.Need-leading-zeros-requires
 leading-zeros-requires c κs = search needs
 
@@ -18,12 +22,7 @@ array-read-result : tie.Need-array-read-result
 array-read-result c = omega (arith, zeros-fit 32 (c .before .args .length) (c .before .fits .length .fits), c .leading-zeros .ensures)
 
 cast-result : tie.Need-cast-result
-cast-result c =
-    let n = c .before .args .length in
-    record { fits = omega (arith, table-unit n (c .leading-zeros .result) (c .before .fits .length .fits) (c .leading-zeros .ensures), unit-most n) }
-
-returns : tie.Need-returns
-returns c = table-unit (c .before .args .length) (c .leading-zeros .result) (c .before .fits .length .fits) (c .leading-zeros .ensures)
+cast-result c = record { fits = omega (arith, returns c, unit-most (c .before .args .length)) }
 
 pub object-unit-spec : {M : Type 1} → statement M
 object-unit-spec =
