@@ -29,14 +29,14 @@ returns-2 c = rw (lt-leb 16 (c .before .before .before .args .size) (c .if2 .tak
 sub-length : tie.Need-sub-length
 sub-length c = search needs
 
-cast-unit : tie.Need-cast-unit
-cast-unit c = search needs
+cast-object-unit : tie.Need-cast-object-unit
+cast-object-unit c = search needs
 
 object-unit-requires : tie.Need-object-unit-requires
 object-unit-requires c κs = search needs
 
-cast-unit-2 : tie.Need-cast-unit-2
-cast-unit-2 c = search needs
+cast-unit : tie.Need-cast-unit
+cast-unit c = search needs
 
 rem-if3 : tie.Need-rem-if3
 rem-if3 c = omega (arith, c .object-unit .ensures, unit-is .positive (c .before .before .before .before .args .size - 8))
@@ -64,9 +64,9 @@ is-fitting-spec =
     returns
     returns-2
     sub-length
-    cast-unit
+    cast-object-unit
     object-unit-requires
-    cast-unit-2
+    cast-unit
     rem-if3
     returns-3
     rem-result
