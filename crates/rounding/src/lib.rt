@@ -29,41 +29,41 @@ pub fn leading_zeros(x: u32) -> u32
     u32::leading_zeros(x)
 }
 
-// The unit for each count of leading zeros from 0 on (rule 6.7): 64 up to 16 zeros, then 32, 16, and 8 from 19 on.
-const BY_ZEROS: [u8; 33] = [
-    64,
-    64,
-    64,
-    64,
-    64,
-    64,
-    64,
-    64,
-    64,
-    64,
-    64,
-    64,
-    64,
-    64,
-    64,
-    64,
-    64,
-    32,
-    16,
-    8,
-    8,
-    8,
-    8,
-    8,
-    8,
-    8,
-    8,
-    8,
-    8,
-    8,
-    8,
-    8,
-    8,
+// Which power of two the unit is, for each count of leading zeros from 0 on (rule 6.7): 64 up to 16 zeros, then 32, 16, and 8 from 19 on.
+const POWERS: [u8; 33] = [
+    6,
+    6,
+    6,
+    6,
+    6,
+    6,
+    6,
+    6,
+    6,
+    6,
+    6,
+    6,
+    6,
+    6,
+    6,
+    6,
+    6,
+    5,
+    4,
+    3,
+    3,
+    3,
+    3,
+    3,
+    3,
+    3,
+    3,
+    3,
+    3,
+    3,
+    3,
+    3,
+    3,
 ];
 
 // The unit of a length without a comparison: of an object's, to align it.
@@ -71,5 +71,6 @@ pub fn object_unit(length: u32) -> u32
     ensures { λ r. ⌜ r ≡ unit-of length ⌝ }
 {
     let zeros = leading_zeros(length) as usize;
-    BY_ZEROS[zeros] as u32
+    let power = POWERS[zeros] as u32;
+    1 << power
 }
