@@ -4,7 +4,8 @@
  * The logger has nearly spent its quota and asks for more than is left. Once, in
  * such a controller, the charge was subtracted first and looked at afterwards:
  * what was left wrapped to billions, the logger took the whole heap, and the
- * valve could not close. Here the request is refused and the valve closes.
+ * valve could not close. Here the request is refused and the valve closes. And the
+ * radio lends its quota to a helper, which can't drop what the radio holds.
  *
  * After 'make lib':
  *     cc -std=c11 -Iinclude examples/valve.c build/lib/liblokhazim.a -o build/valve && build/valve
@@ -118,6 +119,15 @@ static void close_valve(void)
            command.base, remaining(VALVE));
 }
 
+/* A helper works with the radio's quota: it may release what the radio hands it, but not drop everything. */
+static void lend_quota(void)
+{
+    expect(lokhazim_heap_clear_permissions(heap, sizeof heap, &accounts, RADIO, LOKHAZIM_MAY_FREE_ALL, NULL), LOKHAZIM_ACCEPTED);
+    const enum lokhazim_refusal refusal = lokhazim_heap_free_all(heap, sizeof heap, &accounts, RADIO, NULL);
+    expect(refusal, LOKHAZIM_NOT_PERMITTED);
+    printf("A helper with the radio's quota may not drop everything: refusal %d.\n", (int)refusal);
+}
+
 /* The last hold is dropped: the bytes are cleared, and the handle names nothing any more. */
 static void drop_last_hold(struct lokhazim_handle buffer)
 {
@@ -134,6 +144,7 @@ int main(void)
     ask_for_too_much();
     hand_over(buffer);
     close_valve();
+    lend_quota();
     drop_last_hold(buffer);
     expect(lokhazim_heap_check(heap, sizeof heap, &accounts), LOKHAZIM_ACCEPTED);
     return EXIT_SUCCESS;

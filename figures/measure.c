@@ -41,6 +41,7 @@ CALL(allocate_array, 0, 5, 8, &given)
 CALL(claim, 1, middle, &amount)
 CALL(release, 0, middle, &amount)
 CALL(free_all, 0, &amount)
+CALL(clear_permissions, 1, LOKHAZIM_MAY_CLAIM, &amount)
 CALL(reallocate, 0, middle, 40, &given)
 CALL(lend, middle, &object)
 CALL(write, middle, 1, 2)
@@ -145,6 +146,7 @@ int main(void)
     MEASURE(claim);
     MEASURE(release);
     MEASURE(free_all);
+    MEASURE(clear_permissions);
     MEASURE(reallocate);
     MEASURE(lend);
     MEASURE(write);

@@ -5,7 +5,7 @@
  * on of 16, from 16,384 on of 32. An object costs its rounded length plus
  * LOKHAZIM_HEADER, and a part may hold an object that another part made. Every
  * call but open checks the whole heap and its accounts for itself, on any bytes
- * and any numbers. A call answers, or gives one of eleven refusals and changes
+ * and any numbers. A call answers, or gives one of twelve refusals and changes
  * nothing; only a refused open sets the accounts to zero.
  *
  * Use the functions lokhazim_heap_... at the end of this file. They take the
@@ -46,6 +46,15 @@
 extern "C" {
 #endif
 
+/*
+ * The number of this interface, one more with each change of a struct or of a
+ * function's arguments:
+ *   1  the interface before it had a number
+ *   2  a quota has permissions: struct lokhazim_quota has 12 bytes, and there is
+ *      lokhazim_clear_permissions
+ */
+#define LOKHAZIM_INTERFACE 2
+
 /* ---- Numbers ---- */
 
 /* The number of quotas; they are numbered from 0. */
@@ -67,14 +76,25 @@ extern "C" {
 /* The most bytes that can be asked for. */
 #define LOKHAZIM_REQUEST_MAX 32760
 
-/* Why a call is refused. The numbers are also the order in which calls check. */
+/*
+ * What a quota may do, as bits of its permissions. An opening and an image that is
+ * read set all of them, lokhazim_clear_permissions clears some, and nothing else
+ * changes them. Reallocate needs the first; release needs none.
+ */
+#define LOKHAZIM_MAY_ALLOCATE 1
+#define LOKHAZIM_MAY_CLAIM 2
+#define LOKHAZIM_MAY_FREE_ALL 4
+#define LOKHAZIM_MAY_ALL 7
+
+/* Why a call is refused. Calls check in the order of the numbers, but 12 right after 3. */
 enum lokhazim_refusal {
     /* Not refused. */
     LOKHAZIM_ACCEPTED = 0,
     /* The heap's length is not allowed. */
     LOKHAZIM_HEAP_LENGTH = 1,
     /* Heap and accounts don't agree: not opened, another heap's, or something else has written to them.
-     * Also a heap of an earlier version in which a long object's base is no such multiple as above. */
+     * Also a heap of an earlier version in which a long object's base is no such multiple as above,
+     * and permissions above LOKHAZIM_MAY_ALL. */
     LOKHAZIM_INCONSISTENT = 2,
     /* There is no quota of this number. */
     LOKHAZIM_QUOTA_NUMBER = 3,
@@ -93,15 +113,18 @@ enum lokhazim_refusal {
     /* Every serial was given: the heap has to be opened anew. */
     LOKHAZIM_SERIALS_EXHAUSTED = 10,
     /* No free run of bytes is long enough. */
-    LOKHAZIM_NO_SPACE = 11
+    LOKHAZIM_NO_SPACE = 11,
+    /* The quota lacks the permission that the call needs. */
+    LOKHAZIM_NOT_PERMITTED = 12
 };
 
 /* ---- The accounts and a handle ---- */
 
-/* What a quota was granted at the opening, and what remains of it. */
+/* What a quota was granted at the opening, what remains of it, and what it may do. */
 struct lokhazim_quota {
     uint32_t grant;
     uint32_t remainder;
+    uint8_t permissions;
 };
 
 /* How often a quota holds the object with this serial; unused if all zero. */
@@ -113,7 +136,8 @@ struct lokhazim_hold {
 
 /*
  * The accounts of a heap: to be kept with it, and changed by the calls alone.
- * A hold has two bytes of padding, so compare accounts field by field.
+ * A quota has three bytes of padding and a hold two, so compare accounts field by
+ * field.
  */
 struct lokhazim_accounts {
     struct lokhazim_quota quotas[LOKHAZIM_QUOTAS];
@@ -152,7 +176,7 @@ struct lokhazim_handle_reply {
     struct lokhazim_handle handle;
 };
 
-/* The reply of claim, release and free_all. */
+/* The reply of claim, release, free_all and clear_permissions. */
 struct lokhazim_amount_reply {
     struct lokhazim_accounts accounts;
     uint32_t refusal;
@@ -190,19 +214,20 @@ struct lokhazim_block_reply {
 
 static_assert(sizeof(size_t) == 8, "the library is for machines with 64-bit addresses");
 
-LOKHAZIM_SIZE(lokhazim_quota, 8);
+LOKHAZIM_SIZE(lokhazim_quota, 12);
 LOKHAZIM_OFFSET(lokhazim_quota, grant, 0);
 LOKHAZIM_OFFSET(lokhazim_quota, remainder, 4);
+LOKHAZIM_OFFSET(lokhazim_quota, permissions, 8);
 
 LOKHAZIM_SIZE(lokhazim_hold, 8);
 LOKHAZIM_OFFSET(lokhazim_hold, serial, 0);
 LOKHAZIM_OFFSET(lokhazim_hold, quota, 4);
 LOKHAZIM_OFFSET(lokhazim_hold, count, 5);
 
-LOKHAZIM_SIZE(lokhazim_accounts, 1092);
+LOKHAZIM_SIZE(lokhazim_accounts, 1124);
 LOKHAZIM_OFFSET(lokhazim_accounts, quotas, 0);
-LOKHAZIM_OFFSET(lokhazim_accounts, last_serial, 64);
-LOKHAZIM_OFFSET(lokhazim_accounts, holds, 68);
+LOKHAZIM_OFFSET(lokhazim_accounts, last_serial, 96);
+LOKHAZIM_OFFSET(lokhazim_accounts, holds, 100);
 
 LOKHAZIM_SIZE(lokhazim_handle, 12);
 LOKHAZIM_OFFSET(lokhazim_handle, base, 0);
@@ -212,19 +237,19 @@ LOKHAZIM_OFFSET(lokhazim_handle, serial, 8);
 LOKHAZIM_SIZE(lokhazim_grants, 32);
 LOKHAZIM_OFFSET(lokhazim_grants, values, 0);
 
-LOKHAZIM_SIZE(lokhazim_open_reply, 1096);
+LOKHAZIM_SIZE(lokhazim_open_reply, 1128);
 LOKHAZIM_OFFSET(lokhazim_open_reply, accounts, 0);
-LOKHAZIM_OFFSET(lokhazim_open_reply, refusal, 1092);
+LOKHAZIM_OFFSET(lokhazim_open_reply, refusal, 1124);
 
-LOKHAZIM_SIZE(lokhazim_handle_reply, 1108);
+LOKHAZIM_SIZE(lokhazim_handle_reply, 1140);
 LOKHAZIM_OFFSET(lokhazim_handle_reply, accounts, 0);
-LOKHAZIM_OFFSET(lokhazim_handle_reply, refusal, 1092);
-LOKHAZIM_OFFSET(lokhazim_handle_reply, handle, 1096);
+LOKHAZIM_OFFSET(lokhazim_handle_reply, refusal, 1124);
+LOKHAZIM_OFFSET(lokhazim_handle_reply, handle, 1128);
 
-LOKHAZIM_SIZE(lokhazim_amount_reply, 1100);
+LOKHAZIM_SIZE(lokhazim_amount_reply, 1132);
 LOKHAZIM_OFFSET(lokhazim_amount_reply, accounts, 0);
-LOKHAZIM_OFFSET(lokhazim_amount_reply, refusal, 1092);
-LOKHAZIM_OFFSET(lokhazim_amount_reply, amount, 1096);
+LOKHAZIM_OFFSET(lokhazim_amount_reply, refusal, 1124);
+LOKHAZIM_OFFSET(lokhazim_amount_reply, amount, 1128);
 
 LOKHAZIM_SIZE(lokhazim_amount, 8);
 LOKHAZIM_OFFSET(lokhazim_amount, refusal, 0);
@@ -274,6 +299,10 @@ struct lokhazim_amount_reply lokhazim_release(
 struct lokhazim_amount_reply lokhazim_free_all(
     uint8_t *heap, size_t length, struct lokhazim_accounts accounts, uint32_t quota);
 
+/* Clears the quota's permissions whose bits are set in `bits`; the amount is the permissions that are left. */
+struct lokhazim_amount_reply lokhazim_clear_permissions(
+    const uint8_t *heap, size_t length, struct lokhazim_accounts accounts, uint32_t quota, uint32_t bits);
+
 /* Makes an object of another length with the old one's bytes, then drops one hold on the old one. */
 struct lokhazim_handle_reply lokhazim_reallocate(
     uint8_t *heap, size_t length, struct lokhazim_accounts accounts, uint32_t quota,
@@ -310,7 +339,8 @@ uint32_t lokhazim_check(
  * Each gives its refusal. `accounts` is read, and written where it is not const;
  * it may not be null. The last pointers take the answer, which is zero where the
  * call is refused; a pointer to a number may be null if the number isn't wanted.
- * Any of them can give refusal 1, and any but open 2; the others are named.
+ * Any of them can give refusal 1, and any but open 2; the others are named, in the
+ * order in which they are checked.
  */
 
 /* Clears the heap and gives each quota its grant; where that is refused, the accounts become all zero. */
@@ -322,7 +352,7 @@ static inline enum lokhazim_refusal lokhazim_heap_open(
     return (enum lokhazim_refusal)reply.refusal;
 }
 
-/* Makes an object of at least `bytes` bytes, all zero, that the quota holds once. Refusals 3, 4, 8 to 11. */
+/* Makes an object of at least `bytes` bytes, all zero, that the quota holds once. Refusals 3, 12, 4, 8 to 11. */
 static inline enum lokhazim_refusal lokhazim_heap_allocate(
     uint8_t *heap, size_t length, struct lokhazim_accounts *accounts, uint32_t quota,
     uint32_t bytes, struct lokhazim_handle *handle)
@@ -333,7 +363,7 @@ static inline enum lokhazim_refusal lokhazim_heap_allocate(
     return (enum lokhazim_refusal)reply.refusal;
 }
 
-/* Makes an object for `count` elements of `size` bytes; their product is never cut to 32 bits. Refusals 3, 4, 8 to 11. */
+/* Makes an object for `count` elements of `size` bytes; their product is never cut to 32 bits. Refusals 3, 12, 4, 8 to 11. */
 static inline enum lokhazim_refusal lokhazim_heap_allocate_array(
     uint8_t *heap, size_t length, struct lokhazim_accounts *accounts, uint32_t quota,
     uint32_t count, uint32_t size, struct lokhazim_handle *handle)
@@ -347,7 +377,7 @@ static inline enum lokhazim_refusal lokhazim_heap_allocate_array(
 
 /*
  * Lets the quota hold the object, or hold it once more; *bytes becomes the object's length.
- * The first hold costs that plus LOKHAZIM_HEADER, further ones nothing. Refusals 3, 5, 7 to 9.
+ * The first hold costs that plus LOKHAZIM_HEADER, further ones nothing. Refusals 3, 12, 5, 7 to 9.
  */
 static inline enum lokhazim_refusal lokhazim_heap_claim(
     const uint8_t *heap, size_t length, struct lokhazim_accounts *accounts, uint32_t quota,
@@ -377,7 +407,7 @@ static inline enum lokhazim_refusal lokhazim_heap_release(
     return (enum lokhazim_refusal)reply.refusal;
 }
 
-/* Drops every hold of the quota; *refund becomes what the quota gets back. Refusal 3. */
+/* Drops every hold of the quota; *refund becomes what the quota gets back. Refusals 3, 12. */
 static inline enum lokhazim_refusal lokhazim_heap_free_all(
     uint8_t *heap, size_t length, struct lokhazim_accounts *accounts, uint32_t quota, uint32_t *refund)
 {
@@ -390,10 +420,27 @@ static inline enum lokhazim_refusal lokhazim_heap_free_all(
 }
 
 /*
+ * Clears the quota's permissions whose bits are set in `bits`, such as LOKHAZIM_MAY_CLAIM | LOKHAZIM_MAY_FREE_ALL; other
+ * bits mean nothing, and 0 clears none. *left becomes the permissions that the quota still has. A part can so lend its
+ * quota to a helper that may release and not drop everything. Refusal 3.
+ */
+static inline enum lokhazim_refusal lokhazim_heap_clear_permissions(
+    const uint8_t *heap, size_t length, struct lokhazim_accounts *accounts, uint32_t quota,
+    uint32_t bits, uint32_t *left)
+{
+    const struct lokhazim_amount_reply reply = lokhazim_clear_permissions(heap, length, *accounts, quota, bits);
+    *accounts = reply.accounts;
+    if (left) {
+        *left = reply.amount;
+    }
+    return (enum lokhazim_refusal)reply.refusal;
+}
+
+/*
  * Makes *moved with the old object's bytes, as far as both lengths go, then drops one hold on the old object.
  * Quota, records and heap need room for both. Where it is refused, *moved becomes zero and the old object stays
  * as it was: with `&handle` for `moved` the only copy of its handle would be lost, so take the answer in another
- * handle and copy that once the call is accepted. Refusals 3 to 6, 8 to 11.
+ * handle and copy that once the call is accepted. Refusals 3, 12, 4 to 6, 8 to 11.
  */
 static inline enum lokhazim_refusal lokhazim_heap_reallocate(
     uint8_t *heap, size_t length, struct lokhazim_accounts *accounts, uint32_t quota,

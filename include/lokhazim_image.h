@@ -22,7 +22,7 @@ extern "C" {
 /* The length of the longest image, that of a heap of LOKHAZIM_HEAP_MAX bytes. */
 #define LOKHAZIM_IMAGE_MAX 34816
 
-/* Why an image is not written or not read. The numbers are also the order of checking, but that 25 is a writer's last. */
+/* Why an image is not written or not read. The numbers are also the order of checking, but a writer checks 28 and then 25 last. */
 enum lokhazim_image_refusal {
     /* Not refused. */
     LOKHAZIM_IMAGE_ACCEPTED = 0,
@@ -43,7 +43,9 @@ enum lokhazim_image_refusal {
     /* The heap and the accounts in the image don't agree. */
     LOKHAZIM_IMAGE_INCONSISTENT = 26,
     /* Comparing: the heaps of the two images have different lengths. */
-    LOKHAZIM_IMAGE_HEAP_LENGTHS = 27
+    LOKHAZIM_IMAGE_HEAP_LENGTHS = 27,
+    /* Writing: a quota lacks a permission, which this form can't carry. */
+    LOKHAZIM_IMAGE_NOT_CARRIED = 28
 };
 
 /* What differs between two images. */
@@ -100,9 +102,9 @@ struct lokhazim_next_reply {
 static_assert(sizeof(struct lokhazim_image_reply) == 16, "the size of struct lokhazim_image_reply is not 16");
 static_assert(offsetof(struct lokhazim_image_reply, refusal) == 0, "struct lokhazim_image_reply: the offset of refusal is not 0");
 static_assert(offsetof(struct lokhazim_image_reply, length) == 8, "struct lokhazim_image_reply: the offset of length is not 8");
-static_assert(sizeof(struct lokhazim_restore_reply) == 1096, "the size of struct lokhazim_restore_reply is not 1096");
+static_assert(sizeof(struct lokhazim_restore_reply) == 1128, "the size of struct lokhazim_restore_reply is not 1128");
 static_assert(offsetof(struct lokhazim_restore_reply, accounts) == 0, "struct lokhazim_restore_reply: the offset of accounts is not 0");
-static_assert(offsetof(struct lokhazim_restore_reply, refusal) == 1092, "struct lokhazim_restore_reply: the offset of refusal is not 1092");
+static_assert(offsetof(struct lokhazim_restore_reply, refusal) == 1124, "struct lokhazim_restore_reply: the offset of refusal is not 1124");
 
 static_assert(sizeof(struct lokhazim_examine_reply) == 16, "the size of struct lokhazim_examine_reply is not 16");
 static_assert(offsetof(struct lokhazim_examine_reply, refusal) == 0, "struct lokhazim_examine_reply: the offset of refusal is not 0");
@@ -126,7 +128,7 @@ size_t lokhazim_image_length(size_t heap_length);
 struct lokhazim_image_reply lokhazim_image_write(
     uint8_t *image, size_t image_length, const uint8_t *heap, size_t length, struct lokhazim_accounts accounts);
 
-/* Reads an image into a heap of the same length, and gives its accounts. */
+/* Reads an image into a heap of the same length, and gives its accounts; every quota has all permissions. */
 struct lokhazim_restore_reply lokhazim_image_read(
     const uint8_t *image, size_t image_length, uint8_t *heap, size_t length);
 
@@ -149,7 +151,7 @@ struct lokhazim_next_reply lokhazim_image_compare_next(
 
 /* ---- The same with the accounts by pointer; each gives its refusal ---- */
 
-/* Writes an image of heap and accounts to the front of `image`; *written, if it is not null, becomes its length. Refusals 1, 2, 25. */
+/* Writes an image of heap and accounts to the front of `image`; *written, if it is not null, becomes its length. Refusals 1, 2, 28, 25. */
 static inline enum lokhazim_image_refusal lokhazim_heap_save(
     const uint8_t *heap, size_t length, const struct lokhazim_accounts *accounts,
     uint8_t *image, size_t image_length, size_t *written)
@@ -163,8 +165,8 @@ static inline enum lokhazim_image_refusal lokhazim_heap_save(
 
 /*
  * Reads an image into heap and accounts. Handles from before the image are good again, handles that were given out
- * after it mean nothing. Where it is refused, heap and accounts stay as they were, and calls go on with them.
- * Refusals 21 to 26.
+ * after it mean nothing; every quota has all permissions. Where it is refused, heap and accounts stay as they were, and calls
+ * go on with them. Refusals 21 to 26.
  */
 static inline enum lokhazim_image_refusal lokhazim_heap_restore(
     uint8_t *heap, size_t length, struct lokhazim_accounts *accounts,

@@ -3,12 +3,20 @@
 use std::fmt::Write;
 
 use lokhazim::{
-    compare_images, examine_image, image_length, Difference, Heap, Hold, ImageRefusal, Which,
+    compare_images, examine_image, image_length, Difference, Heap, Hold, ImageRefusal, Permissions,
+    Quota, Which,
 };
 
 use crate::failure::Failure;
 use crate::files;
 use crate::script::left_by;
+
+/// A quota as an opening with a grant of 0 leaves it, which is not shown.
+const UNGRANTED: Quota = Quota {
+    grant: 0,
+    remainder: 0,
+    permissions: Permissions::ALL.bits(),
+};
 
 /// A refused image, by the file that it is about.
 fn refused(name: &str) -> impl Fn(ImageRefusal) -> Failure + '_ {
@@ -42,8 +50,12 @@ pub fn show(name: &str) -> Result<(), Failure> {
         facts.form, facts.heap_length, accounts.last_serial
     );
     for (number, quota) in accounts.quotas.iter().enumerate() {
-        if quota.grant != 0 {
-            let _ = writeln!(text, "quota {number} {} {}", quota.grant, quota.remainder);
+        if *quota != UNGRANTED {
+            let _ = writeln!(
+                text,
+                "quota {number} {} {} {}",
+                quota.grant, quota.remainder, quota.permissions
+            );
         }
     }
     for (place, hold) in accounts.holds.iter().enumerate() {

@@ -28,7 +28,8 @@ lokhazim: a heap that parts of a firmware share, by its proved library
     lokhazim replay SCRIPT            run a script of calls and print each answer, then the blocks
     lokhazim image save SCRIPT OUT    run a script and write an image of the heap that it leaves
     lokhazim image show FILE          print what an image holds: form, length and last serial;
-                                      quota NUMBER GRANT REMAINDER; hold PLACE SERIAL QUOTA COUNT;
+                                      quota NUMBER GRANT REMAINDER PERMISSIONS (1 allocate, 2 claim,
+                                      4 free-all, added); hold PLACE SERIAL QUOTA COUNT;
                                       block OFFSET SIZE SERIAL
     lokhazim image compare A B        print what differs between two images, a line each: serial,
                                       quota NUMBER, record PLACE, bytes OFFSET LENGTH; status 0 where

@@ -83,7 +83,7 @@ fn an_image_is_saved_and_shown() {
         "",
     );
     assert_eq!(names(&folder), ["a", "a.image"]);
-    let shown = "ok 1 128 1\nquota 0 100 76\nquota 1 1000 1000\nhold 0 1 0 1\nblock 0 24 1\nblock 24 104 0\n";
+    let shown = "ok 1 128 1\nquota 0 100 76 7\nquota 1 1000 1000 7\nhold 0 1 0 1\nblock 0 24 1\nblock 24 104 0\n";
     expect(
         &lokhazim(&folder, &["image", "show", "a.image"]),
         0,

@@ -2,6 +2,7 @@
 //!
 //! Rules, section 3.
 
+use crate::permissions::Permission;
 use crate::Refusal;
 
 /// The number of quotas.
@@ -10,13 +11,20 @@ pub const QUOTAS: usize = 8;
 /// The number of hold records.
 pub const HOLDS: usize = 128;
 
-/// One quota: what it was granted and what is left of it.
+/// The permission bits of a quota from which nothing was cleared.
+pub const ALL_PERMISSIONS: u8 = 0b111;
+
+/// One quota: what it was granted, what is left of it and what it may do.
 #[derive(Clone, Copy, Debug, Default, PartialEq, Eq)]
 pub struct Quota {
     /// The grant given at opening.
     pub grant: u32,
     /// What is left of the grant.
     pub remainder: u32,
+    /// The permissions that are left, one bit each.
+    // OPEN: that they are kept as one byte of bits that are set is a choice; so is that a
+    // byte above 7 is not sound.
+    pub permissions: u8,
 }
 
 /// One hold record: a quota's holds on the object with this serial.
@@ -75,6 +83,7 @@ impl Accounts {
             quotas: grants.map(|grant| Quota {
                 grant,
                 remainder: grant,
+                permissions: ALL_PERMISSIONS,
             }),
             ..Accounts::default()
         }
@@ -83,6 +92,27 @@ impl Accounts {
     /// Gives the remainder of a quota.
     pub(crate) fn remainder(&self, quota: QuotaNumber) -> u32 {
         self.quotas[quota.index()].remainder
+    }
+
+    /// Gives the permission bits of a quota, to be read and changed.
+    pub(crate) fn permissions_mut(&mut self, quota: QuotaNumber) -> &mut u8 {
+        &mut self.quotas[quota.index()].permissions
+    }
+
+    /// Takes a quota number as it comes from the caller of a call that needs a permission, or
+    /// gives refusal 3 or 12.
+    pub(crate) fn permitted(
+        &self,
+        number: u32,
+        permission: Permission,
+    ) -> Result<QuotaNumber, Refusal> {
+        let quota = QuotaNumber::new(number)?;
+        let left = self.quotas[quota.index()].permissions;
+        if permission.is_among(left) {
+            Ok(quota)
+        } else {
+            Err(Refusal::NoPermission)
+        }
     }
 
     /// Finds the place of the quota's record for the object with this serial.

@@ -5,6 +5,7 @@ use std::collections::BTreeMap;
 use crate::accounts::{Accounts, QuotaNumber, QUOTAS};
 use crate::claims::{held_object, release_once};
 use crate::layout::{store, write_headers, Block, Handle, Layout, HEADER_BYTES};
+use crate::permissions::Permission;
 use crate::rounding::{round_request, Rounded};
 use crate::sound::{length_is_allowed, sound_layout};
 use crate::Refusal;
@@ -12,8 +13,8 @@ use crate::Refusal;
 /// Clears the heap, makes it one free block and gives fresh accounts (rules 8.2 to 8.4).
 ///
 /// A refused open leaves the heap as it was and gives all-zero accounts.
-// OPEN: once quotas have permissions, whether all-zero accounts have them all
-// cleared is free; taken by the letter, every bit is 0.
+// OPEN: whether all-zero accounts have all permissions cleared is free; taken by
+// the letter, every bit is 0.
 pub fn open(heap: &mut [u8], grants: [u32; QUOTAS]) -> (Accounts, Result<(), Refusal>) {
     if !length_is_allowed(heap.len()) {
         return (Accounts::default(), Err(Refusal::HeapLength));
@@ -55,7 +56,7 @@ pub fn reallocate(
     length: u32,
 ) -> Result<Handle, Refusal> {
     let layout = sound_layout(heap, accounts)?;
-    let quota = QuotaNumber::new(quota)?;
+    let quota = accounts.permitted(quota, Permission::Allocate)?;
     let rounded = round_request(u64::from(length))?;
     let (old, record) = held_object(&layout, accounts, quota, handle)?;
     let plan = Plan::new(&layout, accounts, quota, rounded)?;
@@ -73,7 +74,7 @@ fn allocate_bytes(
     request: u64,
 ) -> Result<Handle, Refusal> {
     let layout = sound_layout(heap, accounts)?;
-    let quota = QuotaNumber::new(quota)?;
+    let quota = accounts.permitted(quota, Permission::Allocate)?;
     let rounded = round_request(request)?;
     let plan = Plan::new(&layout, accounts, quota, rounded)?;
     plan.carry_out(heap, accounts, &layout);

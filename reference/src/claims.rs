@@ -2,6 +2,7 @@
 
 use crate::accounts::{Accounts, QuotaNumber};
 use crate::layout::{store, Block, Handle, Layout};
+use crate::permissions::Permission;
 use crate::sound::sound_layout;
 use crate::Refusal;
 
@@ -15,7 +16,7 @@ pub fn claim(
     handle: Handle,
 ) -> Result<u32, Refusal> {
     let layout = sound_layout(heap, accounts)?;
-    let quota = QuotaNumber::new(quota)?;
+    let quota = accounts.permitted(quota, Permission::Claim)?;
     let object = layout.named(handle).ok_or(Refusal::NoObject)?;
     match accounts.find_hold(quota, object.serial) {
         Some(record) => {
@@ -46,7 +47,7 @@ pub fn release(
 /// Drops every record of the quota and gives the quota given back (rules 8.20 to 8.22).
 pub fn free_all(heap: &mut [u8], accounts: &mut Accounts, quota: u32) -> Result<u32, Refusal> {
     let layout = sound_layout(heap, accounts)?;
-    let quota = QuotaNumber::new(quota)?;
+    let quota = accounts.permitted(quota, Permission::FreeAll)?;
     let mut given_back = 0;
     let mut freed = Vec::new();
     for object in layout.live() {

@@ -3,7 +3,7 @@
 //! The stream is made by appending its fields and read by taking them off its
 //! front; blocks are cut and joined in `frames`.
 
-use crate::accounts::{Accounts, Hold, Quota, HOLDS, QUOTAS};
+use crate::accounts::{Accounts, Hold, Quota, ALL_PERMISSIONS, HOLDS, QUOTAS};
 use crate::frames::{blocks_for, cut, join, BLOCK_BYTES};
 use crate::sound::{check, length_is_allowed};
 use crate::Refusal;
@@ -28,6 +28,8 @@ pub enum ImageRefusal {
     /// 24: a heap length that is not allowed, another number of blocks than it
     /// asks for, or a spare byte that is not zero.
     Contents,
+    /// 28: the form has no room for a part of the accounts.
+    FormTooSmall,
     /// 25: the lent image is too short, or the lent heap has another length.
     Room,
     /// 26: the heap and the accounts in the image are not sound.
@@ -45,6 +47,7 @@ impl ImageRefusal {
             ImageRefusal::BlockWrong => 22,
             ImageRefusal::Form => 23,
             ImageRefusal::Contents => 24,
+            ImageRefusal::FormTooSmall => 28,
             ImageRefusal::Room => 25,
             ImageRefusal::NotSound => 26,
             ImageRefusal::HeapLengths => 27,
@@ -65,6 +68,9 @@ pub fn write_image(
     accounts: &Accounts,
 ) -> Result<usize, ImageRefusal> {
     check(heap, accounts).map_err(ImageRefusal::Call)?;
+    if kept_by_the_form(accounts) != *accounts {
+        return Err(ImageRefusal::FormTooSmall);
+    }
     let written = cut(&stream_of(heap, accounts));
     let room = image.get_mut(..written.len()).ok_or(ImageRefusal::Room)?;
     room.copy_from_slice(&written);
@@ -87,6 +93,15 @@ pub(crate) fn decode_sound(image: &[u8]) -> Result<(Vec<u8>, Accounts), ImageRef
     let (heap, accounts) = decode(image)?;
     check(&heap, &accounts).map_err(|_| ImageRefusal::NotSound)?;
     Ok((heap, accounts))
+}
+
+/// Gives the accounts that a reader would make of what the form can say about these.
+fn kept_by_the_form(accounts: &Accounts) -> Accounts {
+    let mut kept = accounts.clone();
+    for quota in &mut kept.quotas {
+        quota.permissions = ALL_PERMISSIONS;
+    }
+    kept
 }
 
 /// Gives the stream of a state.
@@ -136,6 +151,7 @@ fn decode_contents(behind_form: &[u8], blocks: usize) -> Option<(Vec<u8>, Accoun
         *quota = Quota {
             grant: fields.word()?,
             remainder: fields.word()?,
+            permissions: ALL_PERMISSIONS,
         };
     }
     for hold in &mut accounts.holds {

@@ -11,6 +11,8 @@ pub enum Refusal {
     NotSound,
     /// 3: the quota number is not below the number of quotas.
     QuotaNumber,
+    /// 12: the quota lacks the permission that the call needs.
+    NoPermission,
     /// 4: the length or product is 0 or above the largest request.
     RequestLength,
     /// 5: the handle names no live object.
@@ -30,12 +32,13 @@ pub enum Refusal {
 }
 
 impl Refusal {
-    /// Gives the number of the refusal, from 1 to 11.
+    /// Gives the number of the refusal, from 1 to 12.
     pub const fn number(self) -> u8 {
         match self {
             Refusal::HeapLength => 1,
             Refusal::NotSound => 2,
             Refusal::QuotaNumber => 3,
+            Refusal::NoPermission => 12,
             Refusal::RequestLength => 4,
             Refusal::NoObject => 5,
             Refusal::NoRecord => 6,

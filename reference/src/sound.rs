@@ -4,7 +4,7 @@
 
 use std::collections::BTreeSet;
 
-use crate::accounts::{Accounts, Hold, QUOTAS};
+use crate::accounts::{Accounts, Hold, ALL_PERMISSIONS, QUOTAS};
 use crate::layout::{walk, Block, Found, Layout, HEADER_BYTES, SIZE_UNIT};
 use crate::rounding::unit_of;
 use crate::Refusal;
@@ -41,7 +41,8 @@ pub(crate) fn sound_layout(heap: &[u8], accounts: &Accounts) -> Result<Layout, R
         && no_two_used_records_agree(accounts)
         && every_object_has_a_record(&live, accounts)
         && every_grant_is_accounted_for(&live, accounts)
-        && every_object_fits_its_unit(&live);
+        && every_object_fits_its_unit(&live)
+        && permissions_are_three_bits(accounts);
     if !sound {
         return Err(Refusal::NotSound);
     }
@@ -143,4 +144,11 @@ fn every_object_fits_its_unit(live: &[Block]) -> bool {
         let unit = unit_of(object.length);
         object.length.is_multiple_of(unit) && object.base.is_multiple_of(unit)
     })
+}
+
+/// No quota has a permission bit that means nothing.
+// OPEN: that other bits make the accounts inconsistent is a choice.
+fn permissions_are_three_bits(accounts: &Accounts) -> bool {
+    let mut quotas = accounts.quotas.iter();
+    quotas.all(|quota| quota.permissions <= ALL_PERMISSIONS)
 }

@@ -15,8 +15,13 @@ pub fn write_case(state: &State, call: Call) -> String {
     let accounts = &state.accounts;
     // Writing to a string does not fail.
     let _ = writeln!(text, "last-serial {}", accounts.last_serial);
-    for (number, Quota { grant, remainder }) in accounts.quotas.iter().enumerate() {
-        let _ = writeln!(text, "quota {number} {grant} {remainder}");
+    for (number, quota) in accounts.quotas.iter().enumerate() {
+        let Quota {
+            grant,
+            remainder,
+            permissions,
+        } = quota;
+        let _ = writeln!(text, "quota {number} {grant} {remainder} {permissions}");
     }
     for (place, hold) in accounts.holds.iter().enumerate() {
         let Hold {
@@ -75,10 +80,11 @@ fn read_bytes(text: &str) -> Option<Vec<u8>> {
 fn read_number_line(accounts: &mut Accounts, word: &str, numbers: &[u64]) -> Option<()> {
     match (word, numbers) {
         ("last-serial", [serial]) => accounts.last_serial = *serial as u32,
-        ("quota", [number, grant, remainder]) if (*number as usize) < QUOTAS => {
+        ("quota", [number, grant, remainder, permissions]) if (*number as usize) < QUOTAS => {
             accounts.quotas[*number as usize] = Quota {
                 grant: *grant as u32,
                 remainder: *remainder as u32,
+                permissions: *permissions as u8,
             };
         }
         ("hold", [place, serial, quota, count]) if (*place as usize) < HOLDS => {
@@ -119,6 +125,7 @@ fn read_call(text: &str) -> Option<Call> {
         ("remaining", &[q]) => Call::Remaining(q),
         ("can-release", &[q, b, l, s]) => Call::CanRelease(q, handle(b, l, s)),
         ("check", &[]) => Call::Check,
+        ("clear-permissions", &[q, n]) => Call::ClearPermissions(q, n),
         _ => return None,
     })
 }

@@ -7,22 +7,22 @@ use crate::seed::Seed;
 use crate::state::Call;
 
 /// What kinds of calls are made, by the places of `Call::NAMES`.
-pub type Weights = [u32; 13];
+pub type Weights = [u32; 14];
 
 /// Makes objects more often than it drops them.
-pub const GROWING: Weights = [0, 30, 8, 8, 6, 0, 8, 3, 4, 2, 3, 2, 1];
+pub const GROWING: Weights = [0, 30, 8, 8, 6, 0, 8, 3, 4, 2, 3, 2, 1, 1];
 
 /// Drops objects more often than it makes them.
-pub const SHRINKING: Weights = [0, 7, 3, 5, 38, 2, 7, 3, 4, 2, 4, 2, 1];
+pub const SHRINKING: Weights = [0, 7, 3, 5, 38, 2, 7, 3, 4, 2, 4, 2, 1, 1];
 
 /// Claims and releases.
-pub const SHARING: Weights = [0, 6, 2, 36, 16, 1, 4, 3, 4, 2, 4, 2, 1];
+pub const SHARING: Weights = [0, 6, 2, 36, 16, 1, 4, 3, 4, 2, 4, 2, 1, 1];
 
 /// Every call.
-pub const MIXED: Weights = [1, 12, 6, 12, 14, 2, 12, 6, 6, 5, 8, 6, 3];
+pub const MIXED: Weights = [1, 12, 6, 12, 14, 2, 12, 6, 6, 5, 8, 6, 3, 2];
 
 /// The calls that the replay program knows, making as many objects as they drop.
-pub const REPLAYED: Weights = [0, 26, 8, 14, 26, 2, 14, 0, 0, 0, 0, 0, 0];
+pub const REPLAYED: Weights = [0, 26, 8, 14, 26, 2, 14, 0, 0, 0, 0, 0, 0, 0];
 
 /// Lengths on both sides of each row of the rounding table and of refusal 4.
 pub const EDGES: [u32; 28] = [
@@ -64,7 +64,8 @@ pub fn choose(seed: &mut Seed, habits: &Habits, view: &View, accounts: &Accounts
         9 => Call::Remaining(quota),
         10 => held(seed, habits, view, accounts, Call::CanRelease),
         11 => Call::List(place(seed, habits, view)),
-        _ => Call::Check,
+        12 => Call::Check,
+        _ => Call::ClearPermissions(quota, permission_bits(seed)),
     }
 }
 
@@ -72,7 +73,7 @@ pub fn choose(seed: &mut Seed, habits: &Habits, view: &View, accounts: &Accounts
 pub fn one_of_each(seed: &mut Seed, habits: &Habits, view: &View, books: &Accounts) -> Vec<Call> {
     let kinds = 0..Call::NAMES.len();
     let mut chosen = |kind: usize| {
-        let mut weights = [0; 13];
+        let mut weights = [0; 14];
         weights[kind] = 1;
         let habits = Habits { weights, ..*habits };
         choose(seed, &habits, view, books)
@@ -171,6 +172,19 @@ pub fn odd_product(seed: &mut Seed) -> (u32, u32) {
     match seed.percent(50) {
         true => (count, size),
         false => (size, count),
+    }
+}
+
+/// Gives a number whose lowest three bits name permissions, most often one of them or none, and
+/// whose other bits mean nothing.
+fn permission_bits(seed: &mut Seed) -> u32 {
+    let any = seed.below(8);
+    let named = seed.pick(&[0, 1, 2, 4, any]);
+    match seed.below(10) {
+        0 => u32::MAX,
+        1 => seed.odd_word(),
+        2..=4 => named | seed.word() << 3,
+        _ => named,
     }
 }
 

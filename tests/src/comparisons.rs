@@ -1,6 +1,6 @@
 //! Pairs of images compared by the proved code and by the reference.
 
-use lokhazim_reference::{differences, Accounts, Difference, Which};
+use lokhazim_reference::{differences, Accounts, Difference, Which, HOLDS, QUOTAS};
 
 use crate::boundary::images as proved;
 use crate::calls::Pair;
@@ -88,15 +88,15 @@ fn changed(seed: &mut Seed, state: &State) -> State {
         match seed.below(4) {
             0 => *last_serial = last_serial.saturating_add(1),
             1 => {
-                let quota = &mut quotas[seed.place(8)];
+                let quota = &mut quotas[seed.place(QUOTAS)];
                 if let Some(more) = quota.grant.checked_add(5) {
                     quota.grant = more;
                     quota.remainder += 5;
                 }
             }
-            2 => holds.swap(seed.place(128), seed.place(128)),
+            2 => holds.swap(seed.place(HOLDS), seed.place(HOLDS)),
             _ => {
-                let hold = &mut holds[seed.place(128)];
+                let hold = &mut holds[seed.place(HOLDS)];
                 if hold.is_used() {
                     hold.count = hold.count % 255 + 1;
                 }

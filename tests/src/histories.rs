@@ -1,20 +1,19 @@
 //! Undamaged histories: lists of calls from an opening or from a consistent state, with the caller's
 //! writes between them, compared call by call and checked against the ledger.
 
-use lokhazim_reference::{Accounts, Handle, HOLDS, QUOTAS};
+use lokhazim_reference::{image_length, Accounts, Handle, HOLDS, QUOTAS};
 
 use crate::calls::Pair;
 use crate::choice::{choose, grants, Habits, Weights, GROWING, MIXED, SHARING, SHRINKING};
 use crate::compare::{call_failure, Failure};
 use crate::cut::blocks;
 use crate::forged::View;
-use crate::image_cases::image_of;
 use crate::judge::broken;
 use crate::ledger::Ledger;
 use crate::seed::Seed;
 use crate::sentences::{wrong, Step};
 use crate::state::{Answer, Call, State};
-use crate::states::{heap_length, look_alike, sound};
+use crate::states::{heap_length, lacks_permission, look_alike, permitted, sound};
 
 /// How a history begins.
 #[derive(Clone, Copy, Debug, PartialEq, Eq)]
@@ -33,6 +32,14 @@ struct History<'a> {
     state: State,
     ledger: Ledger,
     given_out: Vec<Handle>,
+    saved: Option<Saved>,
+}
+
+/// An image of a history, and the ledger and the state of that moment.
+struct Saved {
+    image: Vec<u8>,
+    ledger: Ledger,
+    state: State,
 }
 
 /// Runs the n-th history of a seed with so many calls.
@@ -63,6 +70,7 @@ pub fn run(
             8 | 9 | 11 if numbers.percent(40) => habits.weights = SHRINKING,
             _ if history.ledger.objects.is_empty() => habits.weights = GROWING,
             _ if numbers.percent(6) => habits.weights = mood(&mut numbers),
+            12 if numbers.percent(10) => history.permit(&mut numbers, &habits)?,
             _ => {}
         }
         history.now_and_then(&mut numbers)?;
@@ -81,6 +89,7 @@ pub fn once(pair: &mut Pair, state: State, call: Call) -> Result<Answer, Failure
         state,
         ledger,
         given_out: Vec::new(),
+        saved: None,
     };
     history.call(call)
 }
@@ -110,6 +119,7 @@ fn begin<'a>(
         state,
         ledger,
         given_out: Vec::new(),
+        saved: None,
     })
 }
 
@@ -167,19 +177,58 @@ impl History<'_> {
     }
 
     /// Writes an image of the state, reads it back into other bytes, and goes on with what was read.
+    /// A state that lacks a permission is refused, and the history goes on without an image.
     fn go_through_an_image(&mut self, seed: &mut Seed) -> Result<(), Failure> {
-        let image = image_of(self.pair, &self.state)?;
-        let mut other = self.state.heap.clone();
+        let lent = vec![0; image_length(self.state.heap.len())];
+        let (refusal, image) = self.pair.write_image(&self.state, &lent)?;
+        let wanted = if lacks_permission(&self.state) { 28 } else { 0 };
+        if refusal != wanted {
+            return Err(self.wrong_image("is not written as the rules say"));
+        }
+        if refusal == 0 {
+            let (ledger, state) = (self.ledger.clone(), self.state.clone());
+            let saved = Saved {
+                image,
+                ledger,
+                state,
+            };
+            self.saved = Some(saved);
+            self.go_back(seed)?;
+        }
+        Ok(())
+    }
+
+    /// Reads the last image again into other bytes, and goes on with its state and its ledger.
+    fn go_back(&mut self, seed: &mut Seed) -> Result<(), Failure> {
+        let Some(saved) = &self.saved else {
+            return Ok(());
+        };
+        let mut other = saved.state.heap.clone();
         other.fill_with(|| seed.byte());
-        let (refusal, restored) = self.pair.read_image(&image, &other)?;
-        if refusal != 0 || restored != self.state {
-            return Err(Failure(format!(
-                "{}: the image of a history is not read back",
-                self.pair.origin
-            )));
+        let (refusal, restored) = self.pair.read_image(&saved.image, &other)?;
+        if refusal != 0 || restored != saved.state || restored != permitted(&restored) {
+            return Err(self.wrong_image("is not read back"));
         }
         self.state = restored;
+        self.ledger = saved.ledger.clone();
         Ok(())
+    }
+
+    /// Says what is wrong with an image of the history.
+    fn wrong_image(&self, what: &str) -> Failure {
+        Failure(format!("{}: an image {what}", self.pair.origin))
+    }
+
+    /// Opens again, or goes back to an image, where no quota that is used may allocate any more.
+    fn permit(&mut self, seed: &mut Seed, habits: &Habits) -> Result<(), Failure> {
+        let used = &self.ledger.permissions[..habits.quotas as usize];
+        if used.iter().any(|bits| bits % 2 == 1) {
+            return Ok(());
+        }
+        match seed.percent(50) {
+            true => self.go_back(seed),
+            false => self.call(Call::Open(grants(seed))).map(|_| ()),
+        }
     }
 
     /// Does now and then what a single call does not.
@@ -190,6 +239,7 @@ impl History<'_> {
             18 => self.claim_to_the_end(seed)?,
             19..=21 => self.fill_records(seed)?,
             22..=25 => self.go_through_an_image(seed)?,
+            26 => self.go_back(seed)?,
             _ => {}
         }
         Ok(())

@@ -5,9 +5,10 @@ use lokhazim_reference::image_length;
 use crate::calls::Pair;
 use crate::compare::Failure;
 use crate::damage::{damaged_together, DAMAGES};
+use crate::judge::check_refusal;
 use crate::seed::Seed;
 use crate::state::State;
-use crate::states::{sound, Plan};
+use crate::states::{lacks_permission, permitted, sound, Plan};
 
 /// The bytes of a frame, and where in it the carried bytes and the check begin.
 const FRAME: usize = 512;
@@ -18,6 +19,16 @@ const CHECK: usize = 508;
 const HEAD: usize = 1_100;
 const PIECE: usize = CHECK - CARRIED;
 
+/// Gives the refusal of writing an image into so many lent bytes (rule 13.5), by the harness's own
+/// reading, or 0.
+fn writers_refusal(state: &State, lent: usize) -> u32 {
+    match check_refusal(state) {
+        0 if lacks_permission(state) => 28,
+        0 if lent < image_length(state.heap.len()) => 25,
+        refusal => refusal,
+    }
+}
+
 /// Writes a state on both sides into bytes that are long enough, too short, or longer, and reads
 /// what was written back.
 pub fn round_trip(pair: &mut Pair, state: &State, seed: &mut Seed) -> Result<(), Failure> {
@@ -26,6 +37,13 @@ pub fn round_trip(pair: &mut Pair, state: &State, seed: &mut Seed) -> Result<(),
         let mut before = vec![0; lent];
         before.fill_with(|| seed.byte());
         let (refusal, image) = pair.write_image(state, &before)?;
+        let wanted = writers_refusal(state, lent);
+        if refusal != wanted {
+            return Err(Failure(format!(
+                "{}: writing into {lent} bytes gives {refusal}, and {wanted} by the rules",
+                pair.origin
+            )));
+        }
         if refusal != 0 {
             continue;
         }
@@ -82,9 +100,10 @@ fn renumber(image: &mut [u8]) {
     seal(image);
 }
 
-/// Gives an image of the state.
+/// Gives an image of the state with all permissions set, since the form can't carry others.
 pub fn image_of(pair: &mut Pair, state: &State) -> Result<Vec<u8>, Failure> {
-    let (_, image) = pair.write_image(state, &vec![0; image_length(state.heap.len())])?;
+    let lent = vec![0; image_length(state.heap.len())];
+    let (_, image) = pair.write_image(&permitted(state), &lent)?;
     Ok(image)
 }
 

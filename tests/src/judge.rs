@@ -1,6 +1,6 @@
-//! Rules 5.1 to 5.8, judged one by one with plain loops.
+//! Rules 5.1 to 5.8, 5.10 and 15.2, judged one by one with plain loops.
 
-use lokhazim_reference::{Block, Hold, QUOTAS};
+use lokhazim_reference::{Block, Hold, MAX_HEAP, MIN_HEAP, QUOTAS};
 
 use crate::cut::{walk, Stated};
 use crate::ledger::unit;
@@ -23,10 +23,12 @@ pub enum Sentence {
     Sums,
     /// 5.10: base and length of every object are multiples of its unit.
     Units,
+    /// 15.2: no quota has a permission that there is not.
+    Permissions,
 }
 
 /// All of them.
-pub const SENTENCES: [Sentence; 7] = [
+pub const SENTENCES: [Sentence; 8] = [
     Sentence::Cut,
     Sentence::Serials,
     Sentence::Records,
@@ -34,6 +36,7 @@ pub const SENTENCES: [Sentence; 7] = [
     Sentence::Held,
     Sentence::Sums,
     Sentence::Units,
+    Sentence::Permissions,
 ];
 
 /// Gives the rules that a state of an allowed heap length breaks. Where the sizes do not lead
@@ -56,9 +59,20 @@ pub fn broken(state: &State) -> Vec<Sentence> {
             .all(|b| used.iter().any(|h| h.serial == b.serial)),
         Sentence::Sums => sums_hold(state, &live, &used),
         Sentence::Units => live.iter().all(fits_its_unit),
+        Sentence::Permissions => state.accounts.quotas.iter().all(|q| q.permissions <= 7),
     };
     let broken = SENTENCES.into_iter().filter(|sentence| !holds(sentence));
     broken.collect()
+}
+
+/// Gives the refusal of the check, 1 or 2, or 0.
+pub fn check_refusal(state: &State) -> u32 {
+    let length = state.heap.len();
+    match broken(state).as_slice() {
+        _ if !length.is_multiple_of(8) || !(MIN_HEAP..=MAX_HEAP).contains(&length) => 1,
+        [] => 0,
+        _ => 2,
+    }
 }
 
 /// Gives the used records: those that are not all zero.

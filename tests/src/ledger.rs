@@ -27,14 +27,16 @@ impl Object {
     }
 }
 
-/// The ledger: the grants as opened and the objects. Heap length and last serial belong to what
-/// the caller handed in and was answered.
+/// The ledger: the grants as opened and the objects. Heap length, permissions and last serial belong
+/// to what the caller handed in and was answered.
 #[derive(Clone, Debug)]
 pub struct Ledger {
     /// The length of the heap.
     pub heap_length: u32,
     /// The grants as opened.
     pub grants: [u32; QUOTAS],
+    /// The permissions that were not cleared since.
+    pub permissions: [u8; QUOTAS],
     /// The last serial that was answered.
     pub last_serial: u32,
     /// The objects.
@@ -77,6 +79,7 @@ impl Ledger {
         Ledger {
             heap_length,
             grants,
+            permissions: [7; QUOTAS],
             last_serial: 0,
             objects: Vec::new(),
         }
@@ -96,6 +99,7 @@ impl Ledger {
         Ledger {
             heap_length: state.heap.len() as u32,
             grants: accounts.quotas.map(|quota| quota.grant),
+            permissions: accounts.quotas.map(|quota| quota.permissions),
             last_serial: accounts.last_serial,
             objects: objects.collect(),
         }
@@ -119,6 +123,7 @@ impl Ledger {
                 self.add(q, answer.handle());
                 self.change(old.serial, q, |holds| holds - 1);
             }
+            Call::ClearPermissions(q, n) => self.permissions[q as usize] &= !(n as u8),
             _ => {}
         }
         let held = |object: &Object| object.holds.iter().any(|holds| *holds > 0);
@@ -186,16 +191,28 @@ impl Ledger {
         })
     }
 
+    /// Gives the permission that a call needs (rule 15.5), by its bit, or 0 for a call that needs none.
+    fn needed(call: Call) -> u8 {
+        match call {
+            Call::Allocate(..) | Call::Array(..) | Call::Reallocate(..) => 1,
+            Call::Claim(..) => 2,
+            Call::FreeAll(_) => 4,
+            _ => 0,
+        }
+    }
+
     /// Gives the first line but 1, 2 and 11 of the table of refusals that holds for a call, or 0.
     pub fn refusal_before_space(&self, call: Call) -> u32 {
         let quota = match call {
             Call::Allocate(q, _) | Call::Array(q, ..) | Call::Claim(q, _) => q,
             Call::Release(q, _) | Call::FreeAll(q) | Call::Reallocate(q, ..) => q,
-            Call::Remaining(q) | Call::CanRelease(q, _) => q,
+            Call::Remaining(q) | Call::CanRelease(q, _) | Call::ClearPermissions(q, _) => q,
             _ => 0,
         };
-        if quota as usize >= QUOTAS {
-            return 3;
+        match self.permissions.get(quota as usize) {
+            None => return 3,
+            Some(bits) if bits & Ledger::needed(call) != Ledger::needed(call) => return 12,
+            Some(_) => {}
         }
         match call {
             Call::Allocate(q, n) => self.request_refusal(q, u64::from(n), None),

@@ -26,7 +26,7 @@ pub struct Step<'a> {
 
 /// Gives what is wrong with a call and the state that it left; nothing if every rule holds.
 pub fn wrong(step: &Step) -> Vec<String> {
-    let checks: [(&str, bool); 11] = [
+    let checks: [(&str, bool); 13] = [
         ("heap and accounts are sound", broken(step.after).is_empty()),
         (
             "live objects are the ledger's",
@@ -38,6 +38,8 @@ pub fn wrong(step: &Step) -> Vec<String> {
         ),
         ("grants are the ledger's", grants_are_the_ledgers(step)),
         ("remainders are grants less charges", remainders_hold(step)),
+        ("permissions are those not cleared", permissions_hold(step)),
+        ("no permission comes back", no_permission_comes_back(step)),
         (
             "no object shares a byte with another or a header",
             bytes_have_one_owner(step),
@@ -95,6 +97,24 @@ fn remainders_hold(step: &Step) -> bool {
     let quotas = &step.after.accounts.quotas;
     let remainders = quotas.map(|quota| i64::from(quota.remainder));
     (0..QUOTAS).all(|number| remainders[number] == step.ledger.remainder(number))
+}
+
+/// Rules 15.3 and 15.4: a quota's permissions are those that no clearing call has named since the opening.
+fn permissions_hold(step: &Step) -> bool {
+    let quotas = &step.after.accounts.quotas;
+    quotas.map(|quota| quota.permissions) == step.ledger.permissions
+}
+
+/// Rule 15.7: no call but an opening sets a permission, and none but the clearing one clears one.
+fn no_permission_comes_back(step: &Step) -> bool {
+    let opens = matches!(step.call, Call::Open(_)) && step.answer.is_accepted();
+    let mut quotas = step.before.accounts.quotas.iter();
+    let mut quotas = quotas.by_ref().zip(&step.after.accounts.quotas).enumerate();
+    quotas.all(|(number, (before, after))| {
+        let (before, after) = (before.permissions, after.permissions);
+        let clears = matches!(step.call, Call::ClearPermissions(q, _) if q as usize == number);
+        opens || before == after || clears && before & after == after
+    })
 }
 
 /// Rule 10.6: every object lies in the heap and shares no byte with another object or with a
@@ -178,6 +198,7 @@ fn answer_holds(step: &Step) -> bool {
         Call::Claim(_, h) => first == i64::from(h.length),
         Call::Release(q, _) | Call::FreeAll(q) => first == given_back(q),
         Call::Remaining(q) => first == step.ledger.remainder(q as usize),
+        Call::ClearPermissions(q, _) => first == i64::from(step.ledger.permissions[q as usize]),
         Call::Lend(h) => {
             let end = u64::from(h.base) + u64::from(h.length);
             step.answer.numbers == [u64::from(h.base), end, 0, 0]

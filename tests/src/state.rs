@@ -3,8 +3,8 @@
 use std::fmt;
 
 use lokhazim_reference::{
-    allocate, allocate_array, block_at, can_release, check, claim, free_all, lend, lend_mut, open,
-    reallocate, release, remaining, Accounts, Block, Handle, Refusal, QUOTAS,
+    allocate, allocate_array, block_at, can_release, check, claim, clear_permissions, free_all,
+    lend, lend_mut, open, reallocate, release, remaining, Accounts, Block, Handle, Refusal, QUOTAS,
 };
 
 /// A heap with its accounts.
@@ -45,6 +45,8 @@ pub enum Call {
     List(usize),
     /// The check that every call but open makes first.
     Check,
+    /// Clear permissions: quota, a number whose bits name them.
+    ClearPermissions(u32, u32),
 }
 
 /// What a call answers: the refusal's number or 0, and the numbers of the answer.
@@ -60,7 +62,7 @@ pub struct Answer {
 
 impl Call {
     /// The names of the calls, as the saved cases and the tallies write them.
-    pub const NAMES: [&'static str; 13] = [
+    pub const NAMES: [&'static str; 14] = [
         "open",
         "allocate",
         "array",
@@ -74,6 +76,7 @@ impl Call {
         "can-release",
         "list",
         "check",
+        "clear-permissions",
     ];
 
     /// Gives the place of the call's name in the list of names.
@@ -92,6 +95,7 @@ impl Call {
             Call::CanRelease(..) => 10,
             Call::List(_) => 11,
             Call::Check => 12,
+            Call::ClearPermissions(..) => 13,
         }
     }
 
@@ -114,7 +118,7 @@ impl Call {
         let plain = |numbers: &[u32]| numbers.iter().map(|n| u64::from(*n)).collect();
         match self {
             Call::Open(grants) => plain(&grants),
-            Call::Allocate(q, n) => plain(&[q, n]),
+            Call::Allocate(q, n) | Call::ClearPermissions(q, n) => plain(&[q, n]),
             Call::Array(q, n, s) => plain(&[q, n, s]),
             Call::Claim(q, h) | Call::Release(q, h) | Call::CanRelease(q, h) => with(&[q], h, &[]),
             Call::FreeAll(q) | Call::Remaining(q) => plain(&[q]),
@@ -225,6 +229,7 @@ impl State {
             Call::CanRelease(q, h) => answer(can_release(heap, accounts, q, h), |()| Vec::new()),
             Call::List(at) => answer(block_at(heap, accounts, at), block_numbers),
             Call::Check => answer(check(heap, accounts), |()| Vec::new()),
+            Call::ClearPermissions(q, n) => answer(clear_permissions(heap, accounts, q, n), amount),
         }
     }
 

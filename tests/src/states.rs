@@ -3,7 +3,7 @@
 
 use std::collections::BTreeSet;
 
-use lokhazim_reference::{Accounts, Hold, Quota, HOLDS, QUOTAS};
+use lokhazim_reference::{Accounts, Hold, Quota, ALL_PERMISSIONS, HOLDS, QUOTAS};
 
 use crate::cut::{header, put};
 use crate::ledger::unit;
@@ -28,6 +28,8 @@ pub struct Plan {
     pub records: [Hold; HOLDS],
     /// The remainder of each quota, before it is cut down to what the grant leaves room for.
     pub remainders: [u32; QUOTAS],
+    /// The permissions of each quota.
+    pub permissions: [u8; QUOTAS],
     /// The last serial.
     pub last_serial: u32,
 }
@@ -66,6 +68,7 @@ impl Plan {
             pieces,
             records,
             remainders: std::array::from_fn(|_| remainder(seed)),
+            permissions: permissions(seed),
             last_serial,
         }
     }
@@ -88,6 +91,7 @@ impl Plan {
             pieces: pieces.into_iter().filter(|piece| piece.size > 0).collect(),
             records,
             remainders: [100_000; QUOTAS],
+            permissions: [ALL_PERMISSIONS; QUOTAS],
             last_serial: 1,
         }
     }
@@ -131,7 +135,11 @@ impl Plan {
             let charges = self.charges(number);
             let remainder = self.remainders[number].min(u32::MAX - charges);
             let grant = remainder + charges;
-            Quota { grant, remainder }
+            Quota {
+                grant,
+                remainder,
+                permissions: self.permissions[number],
+            }
         });
         let accounts = Accounts {
             quotas,
@@ -146,6 +154,23 @@ impl Plan {
 pub fn sound(seed: &mut Seed) -> State {
     let length = heap_length(seed);
     Plan::new(seed, length).render(seed)
+}
+
+/// Gives the state with all permissions set, as an opening and an image that is read leave them.
+pub fn permitted(state: &State) -> State {
+    let mut all = state.clone();
+    for quota in &mut all.accounts.quotas {
+        quota.permissions = ALL_PERMISSIONS;
+    }
+    all
+}
+
+/// Tells whether a quota lacks a permission.
+pub fn lacks_permission(state: &State) -> bool {
+    let quotas = state.accounts.quotas.iter();
+    quotas
+        .map(|q| q.permissions)
+        .any(|bits| bits != ALL_PERMISSIONS)
 }
 
 /// Sizes of blocks whose objects stand at the bounds of the rounding table's rows.
@@ -281,6 +306,17 @@ fn remainder(seed: &mut Seed) -> u32 {
         3 => seed.odd_word(),
         _ => seed.between(1_000, 100_000),
     }
+}
+
+/// Gives the permissions of all quotas: most often all, else one lacking, or any.
+fn permissions(seed: &mut Seed) -> [u8; QUOTAS] {
+    let mut bits = [ALL_PERMISSIONS; QUOTAS];
+    match seed.below(6) {
+        0 => bits[seed.place(QUOTAS)] = seed.below(7) as u8,
+        1 => bits.fill_with(|| seed.below(8) as u8),
+        _ => {}
+    }
+    bits
 }
 
 /// Fills the bytes behind a header: zeros, any bytes, or bytes that look like headers.

@@ -10,7 +10,7 @@ use crate::state::{Answer, Call, State};
 #[derive(Clone, Debug, Default)]
 pub struct Tally {
     /// The calls by kind and by refusal, 0 where accepted.
-    pub calls: [[u64; 12]; 13],
+    pub calls: [[u64; 13]; 14],
     /// The scripts.
     pub scripts: u64,
     /// The lines of all answers to scripts, by their text: `ok`, `no 1` and so on, `bad`, or the list.
@@ -38,7 +38,7 @@ pub struct Tally {
 impl Tally {
     /// Counts a call that both answered alike.
     pub fn count_call(&mut self, call: Call, before: &State, after: &State, answer: &Answer) {
-        let refusal = (answer.refusal as usize).min(11);
+        let refusal = (answer.refusal as usize).min(12);
         self.calls[call.kind()][refusal] += 1;
         let holds = &before.accounts.holds;
         self.full_counts += u64::from(holds.iter().any(|hold| hold.count == 255));
@@ -100,6 +100,13 @@ impl Tally {
         self.calls.iter().map(|row| row[number]).sum()
     }
 
+    /// Gives the number of calls of a kind with this refusal, 0 for accepted ones.
+    pub fn refused_of(&self, name: &str, number: usize) -> u64 {
+        let rows = Call::NAMES.iter().zip(&self.calls);
+        let its = rows.filter(|(kind, _)| **kind == name);
+        its.map(|(_, row)| row[number]).sum()
+    }
+
     /// Gives the number of lines answered to scripts.
     pub fn all_lines(&self) -> u64 {
         self.lines.values().sum()
@@ -136,7 +143,7 @@ impl fmt::Display for Tally {
             return Ok(());
         }
         writeln!(f, "  calls accepted: {}", share(self.refused(0), calls))?;
-        for number in 1..=11 {
+        for number in 1..=12 {
             writeln!(
                 f,
                 "  calls refused by {number}: {}",
@@ -145,7 +152,11 @@ impl fmt::Display for Tally {
         }
         for (name, row) in Call::NAMES.iter().zip(&self.calls) {
             let all: u64 = row.iter().sum();
-            writeln!(f, "  {name}: {all}, accepted {}", share(row[0], all))?;
+            let (accepted, barred) = (share(row[0], all), row[12]);
+            writeln!(
+                f,
+                "  {name}: {all}, accepted {accepted}, not permitted {barred}"
+            )?;
         }
         writeln!(
             f,

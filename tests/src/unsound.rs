@@ -1,6 +1,6 @@
 //! Calls on states that are damaged, on bytes and numbers of any kind, and on heaps of any length.
 
-use lokhazim_reference::{Accounts, Hold, Quota, HOLDS, MAX_HEAP, MIN_HEAP, QUOTAS};
+use lokhazim_reference::{Accounts, Hold, Quota, ALL_PERMISSIONS, HOLDS, QUOTAS};
 
 use crate::calls::Pair;
 use crate::choice::{choose, one_of_each, Habits, MIXED};
@@ -8,7 +8,7 @@ use crate::compare::{call_failure, Failure};
 use crate::cut::{header, put};
 use crate::damage::{damaged_alone, damaged_together, Damage};
 use crate::forged::View;
-use crate::judge::broken;
+use crate::judge::check_refusal;
 use crate::seed::Seed;
 use crate::state::{Call, State};
 use crate::states::sound;
@@ -59,15 +59,10 @@ fn every_call(pair: &mut Pair, seed: &mut Seed, state: &State) -> Result<(), Fai
     Ok(())
 }
 
-/// Makes the check's call and holds it to rules 5.1 to 5.8, judged one by one.
+/// Makes the check's call and holds it to the rules of section 5, judged one by one.
 pub fn check_is_the_judges(pair: &mut Pair, state: &State) -> Result<(), Failure> {
     let answer = pair.call(&mut state.clone(), Call::Check)?;
-    let length = state.heap.len();
-    let wanted = match broken(state).as_slice() {
-        _ if !length.is_multiple_of(8) || !(MIN_HEAP..=MAX_HEAP).contains(&length) => 1,
-        [] => 0,
-        _ => 2,
-    };
+    let wanted = check_refusal(state);
     if answer.refusal == wanted {
         return Ok(());
     }
@@ -126,6 +121,7 @@ fn one_free_block(seed: &mut Seed, length: u32) -> State {
     let quota = |amount| Quota {
         grant: amount,
         remainder: amount,
+        permissions: ALL_PERMISSIONS,
     };
     let accounts = Accounts {
         quotas: std::array::from_fn(|_| quota(seed.odd_word())),
@@ -141,6 +137,7 @@ fn any_accounts(seed: &mut Seed) -> Accounts {
     for quota in &mut accounts.quotas {
         quota.grant = seed.odd_word();
         quota.remainder = seed.pick(&[quota.grant, seed.clone().odd_word()]);
+        quota.permissions = seed.pick(&[ALL_PERMISSIONS, ALL_PERMISSIONS, 0, seed.clone().byte()]);
     }
     accounts.last_serial = seed.odd_word();
     for _ in 0..seed.below(4) {
@@ -163,7 +160,7 @@ fn change_anything(seed: &mut Seed, state: &mut State) {
     );
     let block = seed.any_of(&crate::cut::blocks(heap));
     let in_header = block.map_or(at, |b| b.offset as usize + at % 8);
-    match seed.below(9) {
+    match seed.below(10) {
         0 => heap[at] = seed.byte(),
         1 => heap[at] ^= 1 << seed.below(8),
         2 | 3 => heap[in_header] ^= 1 << seed.below(8),
@@ -171,6 +168,7 @@ fn change_anything(seed: &mut Seed, state: &mut State) {
         5 => accounts.quotas[quota].remainder ^= 1 << seed.below(32),
         6 => accounts.last_serial = seed.odd_word(),
         7 => accounts.holds.swap(record, 0),
+        8 => accounts.quotas[quota].permissions ^= 1 << seed.below(8),
         _ => {
             let hold = &mut accounts.holds[record];
             match seed.below(3) {

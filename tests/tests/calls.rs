@@ -114,8 +114,27 @@ fn all_accepted(tally: &Tally, least: u64) {
     }
 }
 
+/// The calls that need a permission.
+const GUARDED: [&str; 5] = ["allocate", "array", "claim", "free-all", "reallocate"];
+
+/// Checks that each call that needs a permission was refused for lack of it at least so often, and
+/// no other call was.
+fn all_barred(tally: &Tally, least: u64) {
+    for name in Call::NAMES {
+        let barred = tally.refused_of(name, 12);
+        match GUARDED.contains(&name) {
+            true => assert!(
+                barred >= least,
+                "too few refusals by 12 of {name}: {barred}"
+            ),
+            false => assert_eq!(barred, 0, "{name} needs no permission"),
+        }
+    }
+}
+
 /// Checks what undamaged histories from an opening reach.
 fn histories_reach(tally: &Tally) {
+    all_barred(tally, 50);
     reached(tally, &[3, 4, 6, 7, 9], 20);
     reached(tally, &[5, 8, 11], 500);
     all_accepted(tally, 100);
@@ -146,6 +165,7 @@ fn more_undamaged_histories_and_the_ledger() {
 #[test]
 fn sound_states_that_no_replay_reaches_and_the_ledger() {
     let tally = SOUND_STATES.tally();
+    all_barred(tally, 50);
     reached(tally, &[3, 4, 6, 7, 9], 100);
     reached(tally, &[5, 8, 10, 11], 500);
     all_accepted(tally, 20);

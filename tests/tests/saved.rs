@@ -7,7 +7,7 @@ use lokhazim_tests::forged::View;
 use lokhazim_tests::judge::broken;
 use lokhazim_tests::seed::Seed;
 use lokhazim_tests::state::Call;
-use lokhazim_tests::states::sound;
+use lokhazim_tests::states::{lacks_permission, sound};
 
 #[test]
 fn a_state_that_is_made_sound_breaks_no_sentence() {
@@ -32,6 +32,7 @@ fn states_that_are_made_sound_differ_widely() {
     assert!(count(|s| s.accounts.holds.iter().all(|hold| hold.is_used())) >= 10);
     assert!(count(|s| blocks(&s.heap).iter().all(|block| block.serial != 0)) >= 20);
     assert!(count(|s| blocks(&s.heap).len() >= 40) >= 20);
+    assert!(count(lacks_permission) >= 100 && count(|s| !lacks_permission(s)) >= 250);
     let long = |b: &lokhazim_reference::Block| b.serial != 0 && b.size >= 8_200;
     assert!(
         states

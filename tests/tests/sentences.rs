@@ -103,6 +103,8 @@ fn right_steps_break_nothing() {
         Call::CanRelease(5, first()),
         Call::List(24),
         Call::Check,
+        Call::ClearPermissions(0, 3),
+        Call::ClearPermissions(8, 0),
     ];
     for call in calls {
         assert_eq!(Recorded::new(&begin(), call).wrong(), [""; 0], "{call}");
@@ -119,6 +121,36 @@ fn a_wrong_state_is_noticed() {
     step.breaks("grants are", |s| s.after.accounts.last_serial += 1);
     step.breaks("remainders", |s| s.after.accounts.quotas[4].remainder += 24);
     step.breaks("keep their bytes", |s| s.after.heap[11] = 0);
+    step.breaks("accounts are sound", |s| {
+        s.after.accounts.quotas[7].permissions = 15
+    });
+}
+
+#[test]
+fn a_wrong_permission_is_noticed() {
+    let mut state = begin();
+    state.perform(Call::ClearPermissions(4, 2));
+    let clear = Recorded::new(&state, Call::ClearPermissions(4, 0xFFFF_FFF1));
+    assert_eq!(clear.answer, Answer::accepted(&[4]));
+    clear.breaks("permissions are", |s| {
+        s.after.accounts.quotas[4].permissions = 5
+    });
+    clear.breaks("no permission comes back", |s| {
+        s.after.accounts.quotas[4].permissions = 6
+    });
+    clear.breaks("no permission comes back", |s| {
+        s.after.accounts.quotas[3].permissions = 3
+    });
+    clear.breaks("answers follow", |s| s.answer.numbers[0] = 5);
+    let claim = Recorded::new(&state, Call::Claim(4, first()));
+    assert_eq!(claim.answer, Answer::refused(12));
+    claim.breaks("as the table says", |s| s.answer = Answer::refused(8));
+    claim.breaks("as the table says", |s| s.answer = Answer::accepted(&[16]));
+    claim.breaks("no permission comes back", |s| {
+        s.after.accounts.quotas[4].permissions = 7
+    });
+    let release = Recorded::new(&state, Call::Release(0, first()));
+    release.breaks("as the table says", |s| s.answer = Answer::refused(12));
 }
 
 #[test]

@@ -3,6 +3,7 @@
 use core::fmt;
 
 use crate::layout::{Accounts, AmountReply, Grants, Handle, HandleReply, QUOTAS};
+use crate::permissions::Permissions;
 use crate::raw;
 use crate::refusal::{verdict, Refusal};
 
@@ -28,7 +29,7 @@ pub struct Heap<'a> {
 }
 
 impl<'a> Heap<'a> {
-    /// Clears the bytes and gives each quota its grant.
+    /// Clears the bytes and gives each quota its grant and all permissions.
     ///
     /// The bytes are a multiple of 8 from 64 to 32,768. Put them into [`Aligned`](crate::Aligned)
     /// where the addresses of objects have to be aligned.
@@ -90,7 +91,8 @@ impl<'a> Heap<'a> {
         (self.bytes, self.accounts)
     }
 
-    /// The accounts: each quota's grant and remainder, the last serial and the hold records.
+    /// The accounts: each quota's grant, remainder and permissions, the last serial and the hold
+    /// records.
     ///
     /// ```
     /// # let mut memory = [0; 128];
@@ -111,7 +113,7 @@ impl<'a> Heap<'a> {
     ///
     /// # Errors
     ///
-    /// Refusals 3, 4 and 8 to 11.
+    /// Refusals 3, 12, 4 and 8 to 11.
     ///
     /// ```
     /// use lokhazim::{Heap, Refusal};
@@ -138,7 +140,7 @@ impl<'a> Heap<'a> {
     ///
     /// # Errors
     ///
-    /// Refusals 3, 4 and 8 to 11.
+    /// Refusals 3, 12, 4 and 8 to 11.
     ///
     /// ```
     /// use lokhazim::{Heap, Refusal};
@@ -161,7 +163,7 @@ impl<'a> Heap<'a> {
     ///
     /// # Errors
     ///
-    /// Refusals 3, 5, 7, 8 and 9.
+    /// Refusals 3, 12, 5, 7, 8 and 9.
     ///
     /// ```
     /// # let mut memory = [0; 128];
@@ -206,7 +208,7 @@ impl<'a> Heap<'a> {
     ///
     /// # Errors
     ///
-    /// Refusal 3.
+    /// Refusals 3 and 12.
     ///
     /// ```
     /// # let mut memory = [0; 128];
@@ -222,6 +224,38 @@ impl<'a> Heap<'a> {
         self.take_amount(reply)
     }
 
+    /// Clears permissions of the quota; gives those that it still has.
+    ///
+    /// A part can so lend its quota to a helper that may release objects and not drop them all. No
+    /// call gives a permission back; an opening and an image that is read set them all.
+    ///
+    /// # Errors
+    ///
+    /// Refusal 3.
+    ///
+    /// ```
+    /// use lokhazim::{Heap, Permissions, Refusal};
+    ///
+    /// # let mut memory = [0; 128];
+    /// let mut heap = Heap::open(&mut memory, [100; 8])?;
+    /// let handle = heap.allocate(0, 10)?;
+    /// let left = heap.clear_permissions(0, Permissions::ALLOCATE | Permissions::FREE_ALL)?;
+    /// assert_eq!(left, Permissions::CLAIM);
+    /// assert_eq!(heap.free_all(0), Err(Refusal::NotPermitted));
+    /// assert_eq!(heap.allocate(0, 10), Err(Refusal::NotPermitted));
+    /// assert_eq!(heap.release(0, handle)?, 24);
+    /// # Ok::<(), Refusal>(())
+    /// ```
+    pub fn clear_permissions(
+        &mut self,
+        quota: u32,
+        cleared: Permissions,
+    ) -> Result<Permissions, Refusal> {
+        let bits = u32::from(cleared.bits());
+        let reply = raw::clear_permissions(self.bytes, &self.accounts, quota, bits);
+        self.take_amount(reply).map(Permissions::left)
+    }
+
     /// Makes an object of another length with the old one's bytes, as far as they fit, then drops
     /// one hold on the old one.
     ///
@@ -230,7 +264,7 @@ impl<'a> Heap<'a> {
     ///
     /// # Errors
     ///
-    /// Refusals 3 to 6 and 8 to 11; the old object is as it was.
+    /// Refusals 3, 12, 4 to 6 and 8 to 11; the old object is as it was.
     ///
     /// ```
     /// # let mut memory = [0; 128];

@@ -88,6 +88,8 @@ pub enum ImageRefusal {
     Inconsistent,
     /// 27: the heaps of two images have different lengths.
     HeapLengths,
+    /// 28: a quota lacks a permission, which the form can't carry.
+    NotCarried,
 }
 
 impl ImageRefusal {
@@ -109,6 +111,7 @@ impl ImageRefusal {
             ImageRefusal::Room => 25,
             ImageRefusal::Inconsistent => 26,
             ImageRefusal::HeapLengths => 27,
+            ImageRefusal::NotCarried => 28,
         }
     }
 
@@ -131,6 +134,7 @@ impl ImageRefusal {
             ImageRefusal::Room,
             ImageRefusal::Inconsistent,
             ImageRefusal::HeapLengths,
+            ImageRefusal::NotCarried,
         ];
         own.into_iter().find(|refusal| refusal.number() == number)
     }
@@ -145,6 +149,7 @@ impl ImageRefusal {
             ImageRefusal::Contents => "the image states a heap length that it can't have, or has bytes where zeros belong; it was not written by this library",
             ImageRefusal::Room => "the lent image is too short, or the lent heap has not the length of the image's; see image_length",
             ImageRefusal::HeapLengths => "the heaps of the two images have different lengths; only images of one length are compared",
+            ImageRefusal::NotCarried => "a quota lacks a permission, and images of form 1 carry none; save before permissions are cleared",
             ImageRefusal::Inconsistent => "the heap and the accounts in the image don't agree; it was not written by this library",
         }
     }
@@ -188,7 +193,8 @@ impl<'a> Heap<'a> {
     ///
     /// # Errors
     ///
-    /// [`ImageRefusal::Room`] where `image` is shorter than [`image_length`] says; it is as it was.
+    /// [`ImageRefusal::NotCarried`] where a quota lacks a permission, then [`ImageRefusal::Room`]
+    /// where `image` is shorter than [`image_length`] says; it is as it was.
     ///
     /// ```
     /// use lokhazim::{Heap, ImageRefusal};
@@ -214,7 +220,7 @@ impl<'a> Heap<'a> {
     /// Takes up a heap from an image; the bytes have the length of the image's heap.
     ///
     /// A board that was stopped goes on where it was: handles from before the image are good,
-    /// handles that were given out after it mean nothing.
+    /// handles that were given out after it mean nothing. Every quota has all permissions.
     ///
     /// # Errors
     ///

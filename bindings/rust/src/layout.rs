@@ -10,7 +10,7 @@ pub const QUOTAS: usize = 8;
 /// The number of hold records.
 pub const HOLDS: usize = 128;
 
-/// What a quota was granted at the opening, and what remains of it.
+/// What a quota was granted at the opening, what remains of it, and what it may do.
 #[derive(Clone, Copy, Debug, Default, PartialEq, Eq, Hash)]
 #[repr(C)]
 pub struct Quota {
@@ -18,6 +18,8 @@ pub struct Quota {
     pub grant: u32,
     /// What remains of the grant.
     pub remainder: u32,
+    /// The bits of its permissions, at most 7.
+    pub permissions: u8,
 }
 
 /// A hold record: how often a quota holds an object. An unused record is all zero.
@@ -87,7 +89,7 @@ pub struct HandleReply {
     pub handle: Handle,
 }
 
-/// The reply of claim, release and free-all.
+/// The reply of claim, release, free-all and clear permissions.
 #[repr(C)]
 pub struct AmountReply {
     /// The accounts after the call.
@@ -202,19 +204,19 @@ macro_rules! lies {
     };
 }
 
-lies!(Quota, 8: grant at 0, remainder at 4);
+lies!(Quota, 12: grant at 0, remainder at 4, permissions at 8);
 lies!(Hold, 8: serial at 0, quota at 4, count at 5);
-lies!(Accounts, 1092: quotas at 0, last_serial at 64, holds at 68);
+lies!(Accounts, 1124: quotas at 0, last_serial at 96, holds at 100);
 lies!(Handle, 12: base at 0, length at 4, serial at 8);
 lies!(Grants, 32: values at 0);
-lies!(OpenReply, 1096: accounts at 0, refusal at 1092);
-lies!(HandleReply, 1108: accounts at 0, refusal at 1092, handle at 1096);
-lies!(AmountReply, 1100: accounts at 0, refusal at 1092, amount at 1096);
+lies!(OpenReply, 1128: accounts at 0, refusal at 1124);
+lies!(HandleReply, 1140: accounts at 0, refusal at 1124, handle at 1128);
+lies!(AmountReply, 1132: accounts at 0, refusal at 1124, amount at 1128);
 lies!(Amount, 8: refusal at 0, amount at 4);
 lies!(RangeReply, 24: refusal at 0, start at 8, end at 16);
 lies!(BlockReply, 32: refusal at 0, found at 4, offset at 8, size at 16, serial at 24);
 lies!(ImageReply, 16: refusal at 0, length at 8);
-lies!(RestoreReply, 1096: accounts at 0, refusal at 1092);
+lies!(RestoreReply, 1128: accounts at 0, refusal at 1124);
 lies!(ExamineReply, 16: refusal at 0, form at 4, heap_length at 8);
 lies!(CompareReply, 32: refusal at 0, which at 4, kind at 8, place at 16, length at 24);
 lies!(NextReply, 40: kind at 0, place at 8, length at 16, part at 24, at at 32);

@@ -3,7 +3,7 @@
 //!
 //! Each part has a quota, each object costs its rounded length plus 8, and a part may hold an object
 //! that another made. Every call but the opening checks the whole heap and its accounts; a call
-//! answers, or gives one of eleven refusals and changes nothing. That is proved of the library on
+//! answers, or gives one of twelve refusals and changes nothing. That is proved of the library on
 //! any bytes and any numbers; this crate adds types that keep the bytes and their accounts together,
 //! and no rule of its own. A quota's number is an argument: keep the [`Heap`] in one trusted place
 //! that fills in each part's number.
@@ -62,6 +62,7 @@ mod comparison;
 mod heap;
 mod image;
 mod layout;
+mod permissions;
 mod queries;
 #[allow(unsafe_code)]
 mod raw;
@@ -72,6 +73,7 @@ pub use comparison::{compare_images, CompareRefusal, Difference, Differences, Wh
 pub use heap::Heap;
 pub use image::{examine_image, image_length, ImageFacts, ImageRefusal, IMAGE_MAX};
 pub use layout::{Accounts, Handle, Hold, Quota, HOLDS, QUOTAS};
+pub use permissions::Permissions;
 pub use refusal::Refusal;
 
 /// The length of the shortest heap; a heap's length is a multiple of 8.

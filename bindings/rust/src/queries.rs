@@ -3,6 +3,7 @@
 use crate::blocks::{Block, Blocks};
 use crate::heap::Heap;
 use crate::layout::Handle;
+use crate::permissions::Permissions;
 use crate::raw;
 use crate::refusal::{verdict, Refusal};
 
@@ -92,6 +93,27 @@ impl Heap<'_> {
     pub fn remaining(&self, quota: u32) -> Result<u32, Refusal> {
         let reply = raw::remaining(self.bytes, &self.accounts, quota);
         verdict(reply.refusal).map(|()| reply.amount)
+    }
+
+    /// What the quota may do.
+    ///
+    /// # Errors
+    ///
+    /// Refusal 3.
+    ///
+    /// ```
+    /// use lokhazim::{Heap, Permissions};
+    ///
+    /// # let mut memory = [0; 128];
+    /// let heap = Heap::open(&mut memory, [100; 8])?;
+    /// assert_eq!(heap.permissions(7)?, Permissions::ALL);
+    /// assert!(heap.permissions(8).is_err());
+    /// # Ok::<(), lokhazim::Refusal>(())
+    /// ```
+    pub fn permissions(&self, quota: u32) -> Result<Permissions, Refusal> {
+        // To clear none changes nothing, and answers what is left.
+        let reply = raw::clear_permissions(self.bytes, &self.accounts, quota, 0);
+        verdict(reply.refusal).map(|()| Permissions::left(reply.amount))
     }
 
     /// Whether release would be accepted.

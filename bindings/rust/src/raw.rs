@@ -47,6 +47,13 @@ extern "C" {
         accounts: Accounts,
         quota: u32,
     ) -> AmountReply;
+    fn lokhazim_clear_permissions(
+        heap: *const u8,
+        length: usize,
+        accounts: Accounts,
+        quota: u32,
+        bits: u32,
+    ) -> AmountReply;
     fn lokhazim_reallocate(
         heap: *mut u8,
         length: usize,
@@ -144,6 +151,7 @@ safe!(mut allocate_array = lokhazim_allocate_array(quota: u32, count: u32, size:
 safe!(ref claim = lokhazim_claim(quota: u32, handle: Handle) -> AmountReply);
 safe!(mut release = lokhazim_release(quota: u32, handle: Handle) -> AmountReply);
 safe!(mut free_all = lokhazim_free_all(quota: u32) -> AmountReply);
+safe!(ref clear_permissions = lokhazim_clear_permissions(quota: u32, bits: u32) -> AmountReply);
 safe!(mut reallocate = lokhazim_reallocate(quota: u32, handle: Handle, bytes: u32) -> HandleReply);
 safe!(ref lend = lokhazim_lend(handle: Handle) -> RangeReply);
 safe!(mut write = lokhazim_write(handle: Handle, at: u32, byte: u8) -> u32);

@@ -5,8 +5,8 @@ use core::fmt;
 
 /// Why a call is refused; a refused call changes nothing.
 ///
-/// The cases stand in the order in which calls check them. Their text says what is wrong and what
-/// to do:
+/// Calls check in the order of the numbers, but [`Refusal::NotPermitted`] right after
+/// [`Refusal::QuotaNumber`]. Their text says what is wrong and what to do:
 ///
 /// ```
 /// use lokhazim::Refusal;
@@ -21,7 +21,8 @@ use core::fmt;
 pub enum Refusal {
     /// 1: the heap's length is not allowed.
     HeapLength = 1,
-    /// 2: the heap's bytes and its accounts don't agree, or a long object's base is not aligned.
+    /// 2: the heap's bytes and its accounts don't agree, a long object's base is not aligned, or a
+    /// quota has permissions that don't exist.
     Inconsistent = 2,
     /// 3: there is no quota of this number.
     QuotaNumber = 3,
@@ -41,11 +42,13 @@ pub enum Refusal {
     SerialsExhausted = 10,
     /// 11: no free run of bytes is long enough.
     NoSpace = 11,
+    /// 12: the quota lacks the permission that the call needs.
+    NotPermitted = 12,
 }
 
 impl Refusal {
-    /// Every refusal, in the order in which calls check them.
-    pub const ALL: [Refusal; 11] = [
+    /// Every refusal, by its number.
+    pub const ALL: [Refusal; 12] = [
         Refusal::HeapLength,
         Refusal::Inconsistent,
         Refusal::QuotaNumber,
@@ -57,9 +60,10 @@ impl Refusal {
         Refusal::HoldsExhausted,
         Refusal::SerialsExhausted,
         Refusal::NoSpace,
+        Refusal::NotPermitted,
     ];
 
-    /// The refusal's number, 1 to 11, the same as in C.
+    /// The refusal's number, 1 to 12, the same as in C.
     ///
     /// ```
     /// assert_eq!(lokhazim::Refusal::QuotaExceeded.number(), 8);
@@ -110,6 +114,9 @@ impl Refusal {
             Refusal::HoldsExhausted => "all 128 hold records are used; release something",
             Refusal::SerialsExhausted => "every serial was given; open the heap anew",
             Refusal::NoSpace => "no free run of bytes is long enough; release something or ask for less",
+            Refusal::NotPermitted => {
+                "the quota lacks the permission for this call; it was cleared, and only an opening or an image that is read sets it again"
+            }
         }
     }
 }
@@ -126,7 +133,7 @@ impl Error for Refusal {}
 ///
 /// # Panics
 ///
-/// Where the number is above 11, which the library is proved not to give: then another library
+/// Where the number is above 12, which the library is proved not to give: then another library
 /// has been linked in its place.
 pub(crate) fn verdict(number: u32) -> Result<(), Refusal> {
     if number == 0 {

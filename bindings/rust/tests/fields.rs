@@ -61,6 +61,7 @@ impl Fields for Quota {
     fn visit(&mut self, visitor: &mut Visitor) {
         visitor.visit32(&mut self.grant);
         visitor.visit32(&mut self.remainder);
+        visitor.visit8(&mut self.permissions);
     }
 }
 

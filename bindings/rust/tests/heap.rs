@@ -1,6 +1,8 @@
 //! The heap through the crate's own types.
 
-use lokhazim::{Accounts, Block, Handle, Heap, Refusal, HEAP_MAX, HOLDS, QUOTAS};
+use lokhazim::{
+    Accounts, Block, Handle, Heap, ImageRefusal, Permissions, Refusal, HEAP_MAX, HOLDS, QUOTAS,
+};
 
 /// The lengths and counts of the objects of `fill`, by the place of their record.
 fn length_of(place: usize) -> u32 {
@@ -79,6 +81,10 @@ fn the_calls_leave_each_field_as_it_should_be() -> Result<(), Refusal> {
         assert_eq!(quota.grant, 100_000 + 1_000 * number as u32);
         assert_eq!(quota.remainder, quota.grant - spent[number]);
         assert_eq!(heap.remaining(number as u32)?, quota.remainder);
+        assert_eq!(
+            Permissions::from_bits(quota.permissions),
+            Some(Permissions::ALL)
+        );
     }
     assert_eq!(heap.accounts().last_serial, HOLDS as u32);
     Ok(())
@@ -101,6 +107,7 @@ fn the_library_notices_a_change_of_any_field() -> Result<(), Refusal> {
     for number in 0..QUOTAS {
         is_noticed(bytes, &accounts, |a| a.quotas[number].grant += 1);
         is_noticed(bytes, &accounts, |a| a.quotas[number].remainder += 1);
+        is_noticed(bytes, &accounts, |a| a.quotas[number].permissions = 8);
     }
     is_noticed(bytes, &accounts, |a| a.last_serial -= 1);
     for place in 0..HOLDS {
@@ -195,4 +202,106 @@ fn refused_calls_change_nothing() -> Result<(), Refusal> {
     assert_eq!(heap.accounts(), &before);
     assert_eq!(heap.check(), Ok(()));
     Ok(())
+}
+
+/// The calls that need a permission, and the permission that each needs.
+type Guarded = (
+    Permissions,
+    fn(&mut Heap, u32, Handle) -> Result<(), Refusal>,
+);
+
+const GUARDED: [Guarded; 5] = [
+    (Permissions::ALLOCATE, |heap, quota, _| {
+        heap.allocate(quota, 8).map(drop)
+    }),
+    (Permissions::ALLOCATE, |heap, quota, _| {
+        heap.allocate_array(quota, 2, 4).map(drop)
+    }),
+    (Permissions::ALLOCATE, |heap, quota, handle| {
+        heap.reallocate(quota, handle, 8).map(drop)
+    }),
+    (Permissions::CLAIM, |heap, quota, handle| {
+        heap.claim(quota, handle).map(drop)
+    }),
+    (Permissions::FREE_ALL, |heap, quota, _| {
+        heap.free_all(quota).map(drop)
+    }),
+];
+
+#[test]
+fn each_call_needs_its_own_permission() -> Result<(), Refusal> {
+    for bits in 0..8 {
+        let cleared = Permissions::from_bits(bits).expect("a number below 8");
+        for (needed, call) in GUARDED {
+            let mut memory = [0; 256];
+            let mut heap = Heap::open(&mut memory, [100; QUOTAS])?;
+            let handle = heap.allocate(3, 8)?;
+            heap.claim(2, handle)?;
+            let left = heap.clear_permissions(3, cleared)?;
+            assert_eq!(left.bits(), 7 - bits);
+            assert_eq!(
+                (heap.permissions(3)?, heap.permissions(2)?),
+                (left, Permissions::ALL)
+            );
+            let expected = match left.contains(needed) {
+                true => Ok(()),
+                false => Err(Refusal::NotPermitted),
+            };
+            assert_eq!(call(&mut heap, 3, handle), expected, "{cleared:?}");
+            assert_eq!(call(&mut heap, 2, handle), Ok(()), "{cleared:?}");
+        }
+    }
+    Ok(())
+}
+
+#[test]
+fn a_cleared_permission_stays_cleared_until_an_image_is_read(
+) -> Result<(), Box<dyn std::error::Error>> {
+    let mut memory = [0; 128];
+    let mut heap = Heap::open(&mut memory, [100; QUOTAS])?;
+    let handle = heap.allocate(0, 8)?;
+    let mut image = [7; 1_536];
+    heap.save(&mut image)?;
+    let saved = image;
+    assert_eq!(
+        heap.clear_permissions(0, Permissions::ALL)?,
+        Permissions::NONE
+    );
+    heap.release(0, handle)?;
+    assert_eq!(
+        heap.clear_permissions(0, Permissions::NONE)?,
+        Permissions::NONE
+    );
+    for length in [0, 1_535, 1_536] {
+        assert_eq!(
+            heap.save(&mut image[..length]),
+            Err(ImageRefusal::NotCarried)
+        );
+    }
+    assert_eq!(image, saved);
+    heap.go_back(&image)?;
+    assert_eq!(heap.permissions(0)?, Permissions::ALL);
+    Ok(())
+}
+
+#[test]
+fn permissions_are_shown_by_their_names() {
+    let names = [
+        "NONE",
+        "ALLOCATE",
+        "CLAIM",
+        "ALLOCATE | CLAIM",
+        "FREE_ALL",
+        "ALLOCATE | FREE_ALL",
+        "CLAIM | FREE_ALL",
+        "ALLOCATE | CLAIM | FREE_ALL",
+    ];
+    for (bits, name) in (0..).zip(names) {
+        let permissions = Permissions::from_bits(bits).expect("a number below 8");
+        assert_eq!(
+            (format!("{permissions:?}"), permissions.bits()),
+            (name.to_owned(), bits)
+        );
+    }
+    assert!((8..=255).all(|bits| Permissions::from_bits(bits).is_none()));
 }

@@ -5,11 +5,18 @@ mod support;
 
 use std::error::Error;
 
-use lokhazim::{Refusal, HEAP_MAX, HEAP_MIN, HOLDS, QUOTAS, REQUEST_MAX};
+use lokhazim::{
+    ImageRefusal, Permissions, Refusal, HEAP_MAX, HEAP_MIN, HOLDS, QUOTAS, REQUEST_MAX,
+};
 
-/// The header's text.
+/// A header's text.
+fn text_of(name: &str) -> String {
+    std::fs::read_to_string(support::repository(name)).expect("the header is there")
+}
+
+/// The text of the header of calls.
 fn header() -> String {
-    std::fs::read_to_string(support::repository("include/lokhazim.h")).expect("the header is there")
+    text_of("include/lokhazim.h")
 }
 
 /// A name such as `NoSpace` as the header writes it, `NO_SPACE`.
@@ -44,6 +51,10 @@ fn the_header_has_the_same_constants() {
         ("HEAP_MAX", HEAP_MAX),
         ("REQUEST_MAX", REQUEST_MAX as usize),
         ("ALIGNMENT", align_of::<lokhazim::Aligned<64>>()),
+        ("MAY_ALLOCATE", Permissions::ALLOCATE.bits().into()),
+        ("MAY_CLAIM", Permissions::CLAIM.bits().into()),
+        ("MAY_FREE_ALL", Permissions::FREE_ALL.bits().into()),
+        ("MAY_ALL", Permissions::ALL.bits().into()),
     ] {
         let line = format!("#define LOKHAZIM_{name} {value}\n");
         assert!(header.contains(&line), "the header lacks the line '{line}'");
@@ -51,13 +62,26 @@ fn the_header_has_the_same_constants() {
 }
 
 #[test]
-fn numbers_run_from_1_to_11_and_back() {
+fn the_header_of_images_has_the_same_numbers() {
+    let header = text_of("include/lokhazim_image.h");
+    for number in (0..100).filter(|number| ImageRefusal::from_number(*number).is_some()) {
+        let entry = format!(" = {number}");
+        let named = |line: &&str| line.trim_end_matches(',').ends_with(&entry);
+        let entries = header
+            .lines()
+            .filter(|line| line.starts_with("    LOKHAZIM_IMAGE_"));
+        assert_eq!(entries.filter(named).count(), 1, "{number}");
+    }
+}
+
+#[test]
+fn numbers_run_from_1_to_12_and_back() {
     for (place, refusal) in Refusal::ALL.into_iter().enumerate() {
         assert_eq!(refusal.number() as usize, place + 1);
         assert_eq!(Refusal::from_number(refusal.number()), Some(refusal));
     }
     assert_eq!(Refusal::from_number(0), None);
-    assert_eq!(Refusal::from_number(12), None);
+    assert_eq!(Refusal::from_number(13), None);
 }
 
 #[test]

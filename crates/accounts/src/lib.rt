@@ -1,6 +1,8 @@
 // The accounts of a shared heap: quotas, the last serial and hold records, taken by value and given back by value (rules, section 3).
+ghost use Prim.Native.Nat.{_<_};
 ghost use mathlib.Core.Path.{_≡_};
 ghost use Rattle.accounts.specs.Accounts.{zero-hold, zero-accounts, charged, refunded, used, is-for, dropped, opened, remaining, spent, charge, refund, with-holds, with-last-serial};
+ghost use Rattle.accounts.specs.Accounts.{with-permissions, bit-left, cleared, left-permissions, clear-permissions};
 ghost use Rattle.accounts.specs.Accounts.{find-hold, lowest-unused, hold-at, put-hold, drop-hold, drop-records};
 
 // The number of quotas.
@@ -12,11 +14,21 @@ pub const HOLDS: usize = 128;
 // The greatest number of 32 bits, which a remainder can be.
 pub const GREATEST_NUMBER: u32 = 4294967295;
 
-// What a quota was granted at the opening, and what remains of it.
+// The three permissions of a quota, by their bits, and the number of a quota that has all of them (rule 15.1).
+pub const ALLOCATE: u8 = 1;
+
+pub const CLAIM: u8 = 2;
+
+pub const FREE_ALL: u8 = 4;
+
+pub const ALL_PERMISSIONS: u8 = 7;
+
+// What a quota was granted at the opening, what remains of it, and its permissions by their bits (rules, section 15).
 #[repr(C)]
 pub struct Quota {
     pub grant: u32,
     pub remainder: u32,
+    pub permissions: u8,
 }
 
 // A hold record: how often a quota holds the object with a serial (rule 3.4). An unused record is all zero.
@@ -41,7 +53,38 @@ pub enum Place {
     Nothing,
 }
 
+// Bit 0 of the permissions; 0 where bit 0 of the other number is set.
+fn bit_left(bits: u32, permissions: u8) -> u8
+    ensures { λ r. ⌜ (r ≡ bit-left bits permissions) × (r < 2) ⌝ }
+{
+    if bits % 2 == 0 {
+        return permissions % 2;
+    }
+    0
+}
+
+// The permissions without those whose bit, 0 to 2, is set in the other number.
+fn cleared(bits: u32, permissions: u8) -> u8
+    ensures { λ r. ⌜ r ≡ cleared bits permissions ⌝ }
+{
+    let allocate = bit_left(bits, permissions);
+    let claim = bit_left(bits / 2, permissions / 2);
+    let free_all = bit_left(bits / 4, permissions / 4);
+    allocate + (2 * claim + 4 * free_all)
+}
+
 impl Quota {
+    // The quota with other permissions.
+    fn with_permissions(self, permissions: u8) -> Quota
+        ensures { λ r. ⌜ r ≡ with-permissions permissions self ⌝ }
+    {
+        Quota {
+            grant: self.grant,
+            remainder: self.remainder,
+            permissions: permissions,
+        }
+    }
+
     // The quota after it has paid; as it is where it has less than that.
     fn charged(self, amount: u32) -> Quota
         ensures { λ r. ⌜ r ≡ charged amount self ⌝ }
@@ -52,6 +95,7 @@ impl Quota {
         Quota {
             grant: self.grant,
             remainder: self.remainder - amount,
+            permissions: self.permissions,
         }
     }
 
@@ -65,6 +109,7 @@ impl Quota {
         Quota {
             grant: self.grant,
             remainder: self.remainder + amount,
+            permissions: self.permissions,
         }
     }
 }
@@ -128,6 +173,7 @@ impl Accounts {
         let quota = Quota {
             grant: 0,
             remainder: 0,
+            permissions: 0,
         };
         let hold = Hold::zero();
         Accounts {
@@ -137,7 +183,7 @@ impl Accounts {
         }
     }
 
-    // The accounts at opening: every grant is there whole.
+    // The accounts at opening: every grant is there whole, with all permissions.
     pub fn open(grants: [u32; QUOTAS]) -> Accounts
         ensures { λ r. ⌜ r ≡ opened grants ⌝ }
     {
@@ -149,6 +195,7 @@ impl Accounts {
             quotas[i] = Quota {
                 grant: grant,
                 remainder: grant,
+                permissions: ALL_PERMISSIONS,
             };
             i += 1;
         }
@@ -202,6 +249,30 @@ impl Accounts {
         if q < QUOTAS {
             let entry = self.quotas[q];
             self.quotas[q] = entry.refunded(amount);
+        }
+        self
+    }
+
+    // What clearing permissions leaves to a quota (rule 15.4); 0 where there is no such quota.
+    pub fn left_permissions(self, quota: u32, bits: u32) -> u8
+        ensures { λ r. ⌜ r ≡ left-permissions quota bits self ⌝ }
+    {
+        let at = quota as usize;
+        if at < QUOTAS {
+            return cleared(bits, self.quotas[at].permissions);
+        }
+        0
+    }
+
+    // The quota's permissions are cleared so; where there is no such quota, nothing changes.
+    pub fn clear_permissions(mut self, quota: u32, bits: u32) -> Accounts
+        ensures { λ r. ⌜ r ≡ clear-permissions quota bits self ⌝ }
+    {
+        let q = quota as usize;
+        if q < QUOTAS {
+            let entry = self.quotas[q];
+            let left = cleared(bits, entry.permissions);
+            self.quotas[q] = entry.with_permissions(left);
         }
         self
     }

@@ -12,20 +12,20 @@ use lib.Dec.{lit<}
 use Rattle.accounts.specs.declared.Quota.{Quota}
 use Rattle.accounts.specs.declared.Hold.{Hold}
 use Rattle.accounts.specs.declared.Accounts.{Accounts}
-use Rattle.accounts.specs.Accounts.{QUOTAS, HOLDS, zero-quota, zero-hold}
+use Rattle.accounts.specs.Accounts.{QUOTAS, HOLDS, zero-quota, zero-hold, granted}
 use Rattle.layout.specs.Bytes.{bytes, number, Octets}
 use Rattle.layout.proofs.Numbers.{octets-take, octets-drop, part-length}
 use Rattle.model.proofs.Bools.{and-left, and-right}
 use Rattle.framing.proofs.Padding.{length-padded}
 use Rattle.image_model.specs.Items.{many, each, every}
-use Rattle.image_model.specs.Stream.{marks-of, marks-right, blank, entry-bytes, record-bytes, entry-width, record-width, entries-at, records-at}
+use Rattle.image_model.specs.Stream.{tail-carries, marks-of, marks-right, carries, blank, entry-bytes, record-bytes, entry-width, record-width, entries-at, records-at}
 use Rattle.image_model.specs.Stream.{head-length, head-of, stream, Typed}
 use Rattle.image_model.specs.Reading.{entry-of, entry-right, record-of, record-right, marks-in, length-in, accounts-of, heap-of, items-right}
 use Rattle.image_model.specs.declared.Form.{Form}
-use Rattle.image_model.proofs.Items.{All, all-places, all-drop, all-both, all-same, each-length, each-all, many-each}
+use Rattle.image_model.proofs.Items.{All, all-places, all-drop, all-both, all-same, all-map, all-tested, each-length, each-all, many-each}
 use Rattle.image_model.proofs.Parts.{split, bytes-split-here}
-use Rattle.image_model.proofs.Places.{Known, known-shaped, marks-again, marks-keep, blank-lengths, blank-zero}
-use Rattle.image_model.proofs.Entries.{EntryFits, RecordFits, four-below, entry-again, entry-fits, record-again, record-fits}
+use Rattle.image_model.proofs.Places.{Known, known-shaped, marks-again, marks-keep, blank-lengths, blank-is, blank-carried}
+use Rattle.image_model.proofs.Entries.{EntryFits, EntryCarried, RecordFits, four-below, entry-again, entry-fits, record-again, record-fits}
 use Rattle.image_model.proofs.Cuts.{padded-take}
 
 -- what is read is of the accounts' type, whatever the bytes
@@ -50,18 +50,26 @@ module _ (f : Form) (t : List ℕ) where
   keeps = marks-keep f (marks-in t) read-accounts
 
   -- the numbers of quotas and records fit
-  entries-fit : Octets t → All EntryFits (accounts-of f t .quotas)
+  entries-fit : Octets t → All (EntryCarried f) (accounts-of f t .quotas)
   unfolding read-accounts
   entries-fit o =
-      let a = each-all EntryFits (entry-of f) (entry-fits f) (entry-width f) (f .quotas) (drop entries-at t) (octets-drop entries-at t o) in
-      let z : All EntryFits (blank f .quotas) = rw (blank-zero f .0) (all-same EntryFits QUOTAS zero-quota (lit< tt, lit< tt)) in
-      rw (keeps .0) (all-both EntryFits read-quotas (drop (f .quotas) (blank f .quotas)) a (all-drop EntryFits (f .quotas) (blank f .quotas) z))
+      let E = EntryCarried f in
+      let a = each-all E (entry-of f) (entry-fits f) (entry-width f) (f .quotas) (drop entries-at t) (octets-drop entries-at t o) in
+      let z : All E (blank f .quotas) = rw (blank-is f .0) (all-same E QUOTAS (granted 0) ((lit< tt, lit< tt, lit< tt), blank-carried f)) in
+      rw (keeps .0) (all-both E read-quotas (drop (f .quotas) (blank f .quotas)) a (all-drop E (f .quotas) (blank f .quotas) z))
+
+  -- and the form says all of them
+  pub carried-read : Octets t → carries f (accounts-of f t) ≡ true
+  unfolding carries
+  carried-read o =
+      let qs = accounts-of f t .quotas in
+      all-tested (tail-carries f) qs (all-map (EntryCarried f) (λ (q : Quota). tail-carries f q ≡ true) (λ q y. y .1) qs (entries-fit o))
 
   records-fit : Octets t → All RecordFits (accounts-of f t .holds)
   unfolding read-accounts
   records-fit o =
       let a = each-all RecordFits record-of record-fits record-width (f .records) (drop (records-at f) t) (octets-drop (records-at f) t o) in
-      let z : All RecordFits (blank f .holds) = rw (blank-zero f .1) (all-same RecordFits HOLDS zero-hold (lit< tt, lit< tt, lit< tt)) in
+      let z : All RecordFits (blank f .holds) = rw (blank-is f .1) (all-same RecordFits HOLDS zero-hold (lit< tt, lit< tt, lit< tt)) in
       rw (keeps .2) (all-both RecordFits read-holds (drop (f .records) (blank f .holds)) a (all-drop RecordFits (f .records) (blank f .holds) z))
 
   pub typed-read : Known f → Octets t → Typed (accounts-of f t)
@@ -69,14 +77,15 @@ module _ (f : Form) (t : List ℕ) where
   typed-read e o =
       let w = known-shaped f e in
       let b = blank-lengths f in
-      let q = entries-fit o in
+      let q = all-map (EntryCarried f) EntryFits (λ x y. y .0) (accounts-of f t .quotas) (entries-fit o) in
       let r = records-fit o in
       record {
         quotas = rw (keeps .0) (simp (length-append, length-drop, each-length) (omega arith));
         holds = rw (keeps .2) (simp (length-append, length-drop, each-length) (omega arith));
         last = rw (keeps .1) (four-below (drop 8 t) (octets-drop 8 t o));
-        grant = λ i. all-places EntryFits zero-quota (accounts-of f t .quotas) q (lit< tt, lit< tt) i .0;
-        remainder = λ i. all-places EntryFits zero-quota (accounts-of f t .quotas) q (lit< tt, lit< tt) i .1;
+        grant = λ i. all-places EntryFits zero-quota (accounts-of f t .quotas) q (lit< tt, lit< tt, lit< tt) i .0;
+        remainder = λ i. all-places EntryFits zero-quota (accounts-of f t .quotas) q (lit< tt, lit< tt, lit< tt) i .1;
+        permissions = λ i. all-places EntryFits zero-quota (accounts-of f t .quotas) q (lit< tt, lit< tt, lit< tt) i .2;
         serial = λ i. all-places RecordFits zero-hold (accounts-of f t .holds) r (lit< tt, lit< tt, lit< tt) i .0;
         quota = λ i. all-places RecordFits zero-hold (accounts-of f t .holds) r (lit< tt, lit< tt, lit< tt) i .1;
         count = λ i. all-places RecordFits zero-hold (accounts-of f t .holds) r (lit< tt, lit< tt, lit< tt) i .2;

@@ -12,12 +12,12 @@ use Rattle.accounts.specs.declared.Quota.{Quota}
 use Rattle.accounts.specs.declared.Hold.{Hold}
 use Rattle.layout.specs.Bytes.{bytes, number, Octets}
 use Rattle.layout.proofs.Numbers.{bytes-length, number-below, octets-take, octets-drop}
-use Rattle.image_model.specs.Stream.{entry-tail, tail-of, entry-bytes, entry-width, record-bytes}
+use Rattle.image_model.specs.Stream.{entry-tail, tail-of, tail-carries, entry-bytes, entry-width, record-bytes}
 use Rattle.image_model.specs.Reading.{entry-of, entry-right, record-of, record-right}
 use Rattle.image_model.specs.declared.Form.{Form}
 use Rattle.image_model.proofs.Items.{zeros-are, are-zeros}
 use Rattle.image_model.proofs.Parts.{part-behind, number-here, bytes-split-here, one-at}
-use Rattle.image_model.proofs.Places.{tail-length, tail-tested, tail-back, tail-again, tail-keeps}
+use Rattle.image_model.proofs.Places.{tail-length, tail-tested, tail-back, tail-again, tail-keeps, tail-says}
 
 -- a number of at most four bytes
 pub four-below : (s : List ℕ) → Octets s → number (take 4 s) < 2 ^ 32
@@ -29,12 +29,16 @@ four-below s o =
 
 -- the numbers of an entry and of a record fit their bytes
 abbrev pub EntryFits : Quota → Type 0
-EntryFits q = (q .grant < 2 ^ 32) × (q .remainder < 2 ^ 32)
+EntryFits q = (q .grant < 2 ^ 32) × (q .remainder < 2 ^ 32) × (q .permissions < 2 ^ 8)
 
 abbrev pub RecordFits : Hold → Type 0
 RecordFits h = (h .serial < 2 ^ 32) × (h .quota < 2 ^ 8) × (h .count < 2 ^ 8)
 
 module _ (f : Form) where
+  -- and the form says all of an entry
+  abbrev pub EntryCarried : Quota → Type 0
+  EntryCarried q = EntryFits q × (tail-carries f q ≡ true)
+
   pub entry-length : (q : Quota) → length (entry-bytes f q) ≡ entry-width f
   unfolding entry-bytes
   entry-length q = simp (length-append, bytes-length, tail-length) (omega arith)
@@ -52,14 +56,14 @@ module _ (f : Form) where
     entry-third = part-behind 4 4 (entry-bytes f q) (bytes 4 (q .remainder)) (entry-tail f q) entry-second (bytes-length 4 (q .remainder))
 
   -- written and read, and tested
-  pub entry-back : (q : Quota) → EntryFits q → entry-of f (entry-bytes f q) ≡ q
+  pub entry-back : (q : Quota) → EntryCarried q → entry-of f (entry-bytes f q) ≡ q
   unfolding entry-of
   entry-back q y =
-      let g = number-here 4 0 (q .grant) (entry-bytes f q) (bytes 4 (q .remainder) ++ entry-tail f q) (entry-first q) (y .0) in
-      let r = number-here 4 4 (q .remainder) (entry-bytes f q) (entry-tail f q) (entry-second q) (y .1) in
-      (λ i. tail-of f (entry-third q i) (record { grant = g i; remainder = r i })) ∙ tail-back f q
+      let g = number-here 4 0 (q .grant) (entry-bytes f q) (bytes 4 (q .remainder) ++ entry-tail f q) (entry-first q) (y .0 .0) in
+      let r = number-here 4 4 (q .remainder) (entry-bytes f q) (entry-tail f q) (entry-second q) (y .0 .1) in
+      (λ i. tail-of f (entry-third q i) (record { grant = g i; remainder = r i; permissions = 0 })) ∙ tail-back f q (y .1)
 
-  pub entry-tested : (q : Quota) → EntryFits q → entry-right f (entry-bytes f q) ≡ true
+  pub entry-tested : (q : Quota) → EntryCarried q → entry-right f (entry-bytes f q) ≡ true
   unfolding entry-right
   entry-tested q y = rw (entry-third q) (tail-tested f q)
 
@@ -67,18 +71,20 @@ module _ (f : Form) where
   pub entry-again : (c : List ℕ) → Octets c → length c ≡ entry-width f → entry-right f c ≡ true → entry-bytes f (entry-of f c) ≡ c
   unfolding entry-bytes entry-of entry-right
   entry-again c o l e =
-      let q : Quota = record { grant = number (take 4 c); remainder = number (take 4 (drop 4 c)) } in
+      let q : Quota = record { grant = number (take 4 c); remainder = number (take 4 (drop 4 c)); permissions = 0 } in
       let k = tail-keeps f (drop 8 c) q in
       let t = tail-again f (drop 8 c) q (octets-drop 8 c o) (simp length-drop (omega arith)) e in
       (λ i. bytes 4 (k .0 i) ++ (bytes 4 (k .1 i) ++ t i))
       ∙ ap (λ (x : List ℕ). bytes 4 (number (take 4 c)) ++ x) (bytes-split-here 4 4 c o (omega arith))
       ∙ bytes-split-here 4 0 c o (omega arith)
 
-  pub entry-fits : (c : List ℕ) → Octets c → EntryFits (entry-of f c)
+  pub entry-fits : (c : List ℕ) → Octets c → EntryCarried (entry-of f c)
   unfolding entry-of
   entry-fits c o =
-      let k = tail-keeps f (drop 8 c) (record { grant = number (take 4 c); remainder = number (take 4 (drop 4 c)) }) in
-      (rw (k .0) (four-below c o), rw (k .1) (four-below (drop 4 c) (octets-drop 4 c o)))
+      let q : Quota = record { grant = number (take 4 c); remainder = number (take 4 (drop 4 c)); permissions = 0 } in
+      let k = tail-keeps f (drop 8 c) q in
+      let p = tail-says f (drop 8 c) q (octets-drop 8 c o) in
+      ((rw (k .0) (four-below c o), rw (k .1) (four-below (drop 4 c) (octets-drop 4 c o)), p .0), p .1)
 
 pub record-length : (h : Hold) → length (record-bytes h) ≡ 8
 unfolding record-bytes

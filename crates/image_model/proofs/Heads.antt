@@ -15,14 +15,14 @@ use Rattle.accounts.specs.Accounts.{zero-quota, zero-hold}
 use Rattle.layout.specs.Bytes.{bytes, number}
 use Rattle.layout.proofs.Numbers.{bytes-length}
 use Rattle.image_model.specs.Items.{many, each, every}
-use Rattle.image_model.specs.Stream.{marks-of, with-marks, carries, blank, entry-bytes, record-bytes, entry-width, record-width, entries-at, records-at}
+use Rattle.image_model.specs.Stream.{tail-carries, marks-of, with-marks, carries, blank, entry-bytes, record-bytes, entry-width, record-width, entries-at, records-at}
 use Rattle.image_model.specs.Stream.{head-length, head-of, stream, Typed}
 use Rattle.image_model.specs.Reading.{entry-of, entry-right, record-of, record-right, marks-in, length-in, accounts-of, heap-of, items-right}
 use Rattle.image_model.specs.declared.Form.{Form}
-use Rattle.image_model.proofs.Items.{All, places-all, all-take, many-length, each-many, every-many}
+use Rattle.image_model.proofs.Items.{All, places-all, all-take, all-with, many-length, each-many, every-many}
 use Rattle.image_model.proofs.Parts.{part-here, part-behind, number-here}
 use Rattle.image_model.proofs.Places.{Known, known-shaped, marks-length, marks-back, quotas-whole, holds-whole}
-use Rattle.image_model.proofs.Entries.{EntryFits, RecordFits, entry-length, entry-back, entry-tested, record-length, record-back, record-tested}
+use Rattle.image_model.proofs.Entries.{EntryFits, EntryCarried, RecordFits, entry-length, entry-back, entry-tested, record-length, record-back, record-tested}
 use Rattle.image_model.proofs.Cuts.{padded-take}
 
 -- the quotas and records that a form carries, and their bytes
@@ -54,8 +54,11 @@ module _ (f : Form) (e : Known f) (k : Accounts) (y : Typed k) where
   records-length = many-length record-bytes record-width record-length (carried-holds f k) ∙ ap (λ (n : ℕ). n * record-width) (carried-lengths .1)
 
   -- the numbers of what is carried fit
-  entries-fit : All EntryFits (carried-quotas f k)
-  entries-fit = all-take EntryFits (f .quotas) (k .quotas) (places-all EntryFits zero-quota (k .quotas) (λ i. (y .grant i, y .remainder i)))
+  entries-fit : carries f k ≡ true → All (EntryCarried f) (carried-quotas f k)
+  unfolding carries
+  entries-fit c =
+      let fit = places-all EntryFits zero-quota (k .quotas) (λ i. (y .grant i, y .remainder i, y .permissions i)) in
+      all-take (EntryCarried f) (f .quotas) (k .quotas) (all-with EntryFits (tail-carries f) (k .quotas) fit c)
 
   records-fit : All RecordFits (carried-holds f k)
   records-fit = all-take RecordFits (f .records) (k .holds) (places-all RecordFits zero-hold (k .holds) (λ i. (y .serial i, y .quota i, y .count i)))
@@ -130,8 +133,8 @@ module _ (f : Form) (e : Known f) (s : List ℕ) (k : Accounts) (y : Typed k) (t
   quotas-read : carries f k ≡ true → each (entry-of f) (entry-width f) (f .quotas) (drop entries-at t) ++ drop (f .quotas) (blank f .quotas) ≡ k .quotas
   quotas-read c =
       let n = carried-lengths f e k y .0 in
-      let fit = entries-fit f e k y in
-      let r = each-many (entry-bytes f) (entry-width f) (entry-length f) EntryFits (entry-of f) (entry-back f) (carried-quotas f k) behind-entries fit in
+      let fit = entries-fit f e k y c in
+      let r = each-many (entry-bytes f) (entry-width f) (entry-length f) (EntryCarried f) (entry-of f) (entry-back f) (carried-quotas f k) behind-entries fit in
       rw (at-12, rw n at r) (quotas-whole f e k y c)
 
   holds-read : carries f k ≡ true → each record-of record-width (f .records) (drop (records-at f) t) ++ drop (f .records) (blank f .holds) ≡ k .holds
@@ -153,11 +156,12 @@ module _ (f : Form) (e : Known f) (s : List ℕ) (k : Accounts) (y : Typed k) (t
   heap-read h = rw (length-read h, at-heap) (padded-take (length s) (s ++ q) (simp length-append (omega arith)) ∙ take-at s q (length s) refl)
 
   -- and every byte that carries nothing is right
-  pub items-tested : items-right f t ≡ true
+  pub items-tested : carries f k ≡ true → items-right f t ≡ true
   unfolding items-right
-  items-tested =
+  items-tested c =
       let n = carried-lengths f e k y in
-      let fit = entries-fit f e k y in
-      let a = every-many (entry-bytes f) (entry-width f) (entry-length f) EntryFits (entry-right f) (entry-tested f) (carried-quotas f k) behind-entries fit in
+      let fit = entries-fit f e k y c in
+      let a = every-many (entry-bytes f) (entry-width f) (entry-length f) (EntryCarried f) (entry-right f) (entry-tested f) (carried-quotas f k)
+      behind-entries fit in
       let b = every-many record-bytes record-width record-length RecordFits record-right record-tested (carried-holds f k) (s ++ q) (records-fit f e k y) in
       rw (at-12, at-records, rw (n .0) at a, rw (n .1) at b)

@@ -14,7 +14,7 @@ use borrow.Author.Tests.{eqb-true}
 use Rattle.layout.specs.Bytes.{Octets}
 use Rattle.layout.proofs.Numbers.{octets-take, octets-drop}
 use Rattle.model.specs.Lists.{all}
-use Rattle.model.proofs.Bools.{and-left, and-right}
+use Rattle.model.proofs.Bools.{and-left, and-right, and-both}
 use Rattle.image_model.specs.Items.{many, each, every, all-zero}
 
 -- P holds of every item
@@ -50,6 +50,21 @@ all-both P (x ∷ xs) ys a b = (a .0, all-both P xs ys (a .1) b)
 pub all-same : {A : Type 0} (P : A → Type 0) (n : ℕ) (x : A) → P x → All P (replicate n x)
 all-same P zero x p = tt
 all-same P (suc n) x p = (p, all-same P n x p)
+
+-- of what follows, and with a test that holds of each
+pub all-map : {A : Type 0} (P Q : A → Type 0) → ((x : A) → P x → Q x) → (xs : List A) → All P xs → All Q xs
+all-map P Q h [] a = tt
+all-map P Q h (x ∷ xs) a = (h x (a .0), all-map P Q h xs (a .1))
+
+pub all-tested : {A : Type 0} (p : A → Bool) (xs : List A) → All (λ (x : A). p x ≡ true) xs → all p xs ≡ true
+unfolding all
+all-tested p [] a = refl
+all-tested p (x ∷ xs) a = and-both (p x) (all p xs) (a .0) (all-tested p xs (a .1))
+
+pub all-with : {A : Type 0} (P : A → Type 0) (p : A → Bool) (xs : List A) → All P xs → all p xs ≡ true → All (λ (x : A). P x × (p x ≡ true)) xs
+unfolding all
+all-with P p [] a e = tt
+all-with P p (x ∷ xs) a e = ((a .0, and-left (p x) (all p xs) e), all-with P p xs (a .1) (and-right (p x) (all p xs) e))
 
 -- so many items are read
 pub each-length : {A : Type 0} (g : List ℕ → A) (w n : ℕ) (s : List ℕ) → length (each g w n s) ≡ n

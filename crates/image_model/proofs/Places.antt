@@ -9,13 +9,13 @@ use Prim.Native.Nat.{ℕ, _≤_, _<_, _^_}
 use native.Mathlib.Omega.{arith}
 use lib.ListN.{length, take, drop, replicate}
 use lib.Seq.{take-all}
-use lib.Dec.{eqb}
+use lib.Dec.{eqb, lit<}
 use borrow.Author.Tests.{eqb-true}
 use Rattle.accounts.specs.declared.Quota.{Quota}
 use Rattle.accounts.specs.declared.Accounts.{Accounts}
-use Rattle.accounts.specs.Accounts.{QUOTAS, HOLDS, zero-quota, zero-hold}
+use Rattle.accounts.specs.Accounts.{QUOTAS, HOLDS, ALL-PERMISSIONS, zero-hold, with-permissions, granted, opened}
 use Rattle.layout.specs.Bytes.{Octets}
-use Rattle.image_model.specs.Stream.{form-1, form-numbered, entry-tail, tail-width, tail-of, tail-right, marks-of, marks-right, with-marks, carries}
+use Rattle.image_model.specs.Stream.{form-1, form-numbered, entry-tail, tail-width, tail-of, tail-right, tail-carries, marks-of, marks-right, with-marks, carries}
 use Rattle.image_model.specs.Stream.{blank, head-length, Typed}
 use Rattle.image_model.specs.declared.Form.{Form}
 use Rattle.image_model.proofs.Rows.{head-row}
@@ -72,9 +72,10 @@ module _ (f : Form) where
   unfolding tail-right
   tail-tested q = refl
 
-  pub tail-back : (q : Quota) → tail-of f (entry-tail f q) (record { grant = q .grant; remainder = q .remainder }) ≡ q
-  unfolding tail-of
-  tail-back q = refl
+  pub tail-back : (q : Quota) → tail-carries f q ≡ true
+      → tail-of f (entry-tail f q) (record { grant = q .grant; remainder = q .remainder; permissions = 0 }) ≡ q
+  unfolding tail-of tail-carries
+  tail-back q e = λ i. with-permissions (sym (eqb-true (q .permissions) ALL-PERMISSIONS e) i) q
 
   -- bytes that are right are those of the quota that they say, whose grant and remainder are as they were
   pub tail-again : (s : List ℕ) (q : Quota) → Octets s → length s ≡ tail-width f → tail-right f s ≡ true → entry-tail f (tail-of f s q) ≡ s
@@ -85,6 +86,11 @@ module _ (f : Form) where
   pub tail-keeps : (s : List ℕ) (q : Quota) → (tail-of f s q .grant ≡ q .grant) × (tail-of f s q .remainder ≡ q .remainder)
   unfolding tail-of
   tail-keeps s q = (refl, refl)
+
+  -- and they say all that it has
+  pub tail-says : (s : List ℕ) (q : Quota) → Octets s → (tail-of f s q .permissions < 2 ^ 8) × (tail-carries f (tail-of f s q) ≡ true)
+  unfolding tail-of tail-carries
+  tail-says s q o = (lit< tt, refl)
 
 -- Second place. The marks are two bytes, they are right, and they say the accounts that they were written of
 module _ (f : Form) where
@@ -113,24 +119,28 @@ module _ (f : Form) where
 -- Third and fourth place. Accounts that the form carries are what it carries of them, with what it lacks behind
 module _ (f : Form) (e : Known f) (k : Accounts) (y : Typed k) (c : carries f k ≡ true) where
   pub quotas-whole : take (f .quotas) (k .quotas) ++ drop (f .quotas) (blank f .quotas) ≡ k .quotas
-  unfolding form-1 blank
+  unfolding form-1 blank opened
   quotas-whole =
       let w = only-form (f .number) f e .1 in
       let n = y .quotas in
       rw w (append-nil (take 8 (k .quotas)) ∙ take-all 8 (k .quotas) (omega arith))
 
   pub holds-whole : take (f .records) (k .holds) ++ drop (f .records) (blank f .holds) ≡ k .holds
-  unfolding form-1 blank
+  unfolding form-1 blank opened
   holds-whole =
       let w = only-form (f .number) f e .1 in
       let n = y .holds in
       rw w (append-nil (take 128 (k .holds)) ∙ take-all 128 (k .holds) (omega arith))
 
--- what it lacks is as long as the accounts are, and so are all its numbers zero
+-- what it lacks is as long as the accounts are; its quotas have every permission, and all its other numbers are zero
 pub blank-lengths : (f : Form) → (length (blank f .quotas) ≡ QUOTAS) × (length (blank f .holds) ≡ HOLDS)
-unfolding blank
+unfolding blank opened
 blank-lengths f = (refl, refl)
 
-pub blank-zero : (f : Form) → (blank f .quotas ≡ replicate QUOTAS zero-quota) × (blank f .holds ≡ replicate HOLDS zero-hold)
-unfolding blank
-blank-zero f = (refl, refl)
+pub blank-is : (f : Form) → (blank f .quotas ≡ replicate QUOTAS (granted 0)) × (blank f .holds ≡ replicate HOLDS zero-hold)
+unfolding blank opened
+blank-is f = (refl, refl)
+
+pub blank-carried : (f : Form) → tail-carries f (granted 0) ≡ true
+unfolding tail-carries
+blank-carried f = refl

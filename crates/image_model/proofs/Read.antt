@@ -30,7 +30,7 @@ use Rattle.image_model.proofs.Items.{zeros-are}
 use Rattle.image_model.proofs.Places.{Known, form-has-number, form-is-known}
 use Rattle.image_model.proofs.Cuts.{padded-octets, cut-padded, uncut-length, uncut-octets}
 use Rattle.image_model.proofs.Heads.{stream-length}
-use Rattle.image_model.proofs.Again.{typed-read, stream-again}
+use Rattle.image_model.proofs.Again.{typed-read, carried-read, stream-again}
 
 -- what an image is of which no line holds
 pub record Right (i h : List ℕ) : Type 0 where
@@ -121,7 +121,7 @@ module _ (i h : List ℕ) (o : Octets i) (r : Right i h) where
   heap-length = length-padded (length-in (stream-of i)) (drop (head-length (form-of i)) (stream-of i))
 
   accepts : Accepts f (heap-in i) (accounts-in i)
-  unfolding f t accounts-in heap-in heap-of carries
+  unfolding f t accounts-in heap-in heap-of
   accepts =
       record {
         known = is-known;
@@ -129,7 +129,7 @@ module _ (i h : List ℕ) (o : Octets i) (r : Right i h) where
         octets = padded-octets (length-in t) (drop (head-length f) t) (octets-drop (head-length f) t stream-octets);
         sound = r .sound;
         typed = typed-read f t is-known stream-octets;
-        carried = refl;
+        carried = carried-read f t stream-octets;
       }
 
   -- the stream that would be written, with zeros behind it, is the stream that was read

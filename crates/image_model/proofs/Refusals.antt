@@ -18,17 +18,17 @@ use Rattle.model.specs.Refusals.{Line, _when_, line-number, line-holds, first-r
 use Rattle.model.proofs.Refusals.{Numbered, FirstToHold, refused-exactly, accepted-exactly}
 use Rattle.image_model.specs.Stream.{image-of, image-length}
 use Rattle.image_model.specs.Reading.{size-in, heap-in, accounts-in}
-use Rattle.image_model.specs.Images.{put-lines, write-lines, line-21, line-22, line-23, line-24, line-25, line-26, shape-lines, read-lines, examine-lines}
+use Rattle.image_model.specs.Images.{line-28, put-lines, write-lines, line-21, line-22, line-23, line-24, line-25, line-26, shape-lines, read-lines, examine-lines}
 use Rattle.image_model.specs.Images.{unless-written, unless-read, write-image, read-image}
 use Rattle.image_model.specs.declared.Form.{Form}
 
 -- the lines, in this order
 lines : Unit {0}
-unfolding line-1 line-2 put-lines write-lines line-21 line-22 line-23 line-24 line-25 line-26 shape-lines read-lines examine-lines
+unfolding line-1 line-2 line-28 put-lines write-lines line-21 line-22 line-23 line-24 line-25 line-26 shape-lines read-lines examine-lines
 lines = tt
 
 pub columns : (f : Form) (o s : List ℕ) (k : Accounts) (i h : List ℕ)
-    → (map line-number (write-lines f o s k) ≡ 1 ∷ 2 ∷ 25 ∷ []) × (map line-number (read-lines i h) ≡ 21 ∷ 22 ∷ 23 ∷ 24 ∷ 25 ∷ 26 ∷ [])
+    → (map line-number (write-lines f o s k) ≡ 1 ∷ 2 ∷ 28 ∷ 25 ∷ []) × (map line-number (read-lines i h) ≡ 21 ∷ 22 ∷ 23 ∷ 24 ∷ 25 ∷ 26 ∷ [])
 unfolding lines
 columns f o s k i h = (refl, refl)
 

@@ -7,7 +7,7 @@ use lib.ListN.{length, take, set, replicate}
 use Rattle.accounts.specs.declared.Accounts.{Accounts}
 use Rattle.accounts.specs.declared.Quota.{Quota}
 use Rattle.accounts.specs.declared.Hold.{Hold}
-use Rattle.accounts.specs.Accounts.{zero-quota, zero-hold, zero-accounts, opened}
+use Rattle.accounts.specs.Accounts.{zero-hold, zero-accounts, with-permissions, with-quotas, opened}
 use Rattle.framing.specs.Frames.{frame-of, cut-from, cut}
 use Rattle.image_model.specs.Stream.{form-1, stream, image-of, image-length, head-length}
 use Rattle.image_model.specs.Answers.{Imaged, Restored-to}
@@ -26,7 +26,7 @@ heap : List ℕ
 heap = 2 ∷ 0 ∷ 0 ∷ 0 ∷ 1 ∷ 0 ∷ 0 ∷ 0 ∷ 1 ∷ 2 ∷ 3 ∷ 4 ∷ 5 ∷ 6 ∷ 7 ∷ 8 ∷ 6 ∷ 0 ∷ 2 ∷ replicate 37 0 ++ replicate 8 255
 
 quota : ℕ → ℕ → Quota
-quota g r = record { grant = g; remainder = r }
+quota g r = record { grant = g; remainder = r; permissions = 7 }
 
 hold : ℕ → ℕ → ℕ → Hold
 hold s q c = record { serial = s; quota = q; count = c }
@@ -34,7 +34,7 @@ hold s q c = record { serial = s; quota = q; count = c }
 accounts : Accounts
 accounts =
     record {
-      quotas = quota 100 84 ∷ quota 1000 984 ∷ replicate 6 zero-quota;
+      quotas = quota 100 84 ∷ quota 1000 984 ∷ replicate 6 (quota 0 0);
       «last_serial» = 1;
       holds = hold 1 0 1 ∷ replicate 52 zero-hold ++ (hold 1 1 3 ∷ replicate 74 zero-hold);
     }
@@ -79,14 +79,24 @@ written o n = record { image = o; refusal = 0; length = n }
 not-written : List ℕ → ℕ → Imaged
 not-written o n = record { image = o; refusal = n; length = 0 }
 
--- the writer: into as many bytes as the image has, into more, into fewer; and 1 and 2 before 25
+-- the same accounts without a permission of the first quota, and of the last
+cleared-first : Accounts
+cleared-first = with-quotas (set (accounts .quotas) 0 (with-permissions 3 (quota 100 84))) accounts
+
+cleared-last : Accounts
+cleared-last = with-quotas (set (accounts .quotas) 7 (with-permissions 6 (quota 0 0))) accounts
+
+-- the writer: into as many bytes as the image has, into more, into fewer; 28 for a permission that is cleared; and 1 and 2 before 28 before 25
 write-rows : (write-image form-1 (lent 1536) heap accounts ≡ written (image-of form-1 heap accounts) 1536)
     × (write-image form-1 (lent 1540) heap accounts ≡ written (image-of form-1 heap accounts ++ lent 4) 1536)
     × (write-image form-1 (lent 1535) heap accounts ≡ not-written (lent 1535) 25)
-    × (write-image form-1 [] (replicate 56 0) accounts ≡ not-written [] 1)
-    × (write-image form-1 [] (replicate 64 0) accounts ≡ not-written [] 2)
-unfolding small lent written not-written
-write-rows = (refl, refl, refl, refl, refl)
+    × (write-image form-1 (lent 1536) heap cleared-first ≡ not-written (lent 1536) 28)
+    × (write-image form-1 (lent 1536) heap cleared-last ≡ not-written (lent 1536) 28)
+    × (write-image form-1 [] heap cleared-last ≡ not-written [] 28)
+    × (write-image form-1 [] (replicate 56 0) cleared-last ≡ not-written [] 1)
+    × (write-image form-1 [] (replicate 64 0) cleared-last ≡ not-written [] 2)
+unfolding small lent written not-written cleared-first cleared-last
+write-rows = (refl, refl, refl, refl, refl, refl, refl, refl)
 
 -- the reader gives back what was written
 read-rows : (read-image (image-of form-1 heap accounts) (lent 64) ≡ record { heap = heap; accounts = accounts; refusal = 0 })

@@ -23,7 +23,7 @@ use Rattle.model.proofs.Bools.{or-neither}
 use Rattle.image_model.specs.Stream.{carries, image-of, image-length, Typed}
 use Rattle.image_model.specs.Reading.{form-of, heap-in, accounts-in}
 use Rattle.image_model.specs.Answers.{Imaged, Restored-to}
-use Rattle.image_model.specs.Images.{put-lines, write-lines, write-image, read-image, Accepts}
+use Rattle.image_model.specs.Images.{line-28, put-lines, write-lines, write-image, read-image, Accepts}
 use Rattle.image_model.specs.declared.Form.{Form}
 use Rattle.image_model.proofs.Places.{Known}
 use Rattle.image_model.proofs.Refusals.{write-accepted-exactly, accepted-write}
@@ -47,25 +47,30 @@ image-told-apart f g s u k l a b e =
     (sym (x .0) ∙ ap form-of e ∙ y .0, sym (x .1) ∙ ap heap-in e ∙ y .1, sym (x .2) ∙ ap accounts-in e ∙ y .2)
 
 module _ (f : Form) (o s : List ℕ) (k : Accounts) where
-  -- no line of the writer holds exactly if the length is allowed, the state is consistent and the lent image has room
-  room : any line-holds (write-lines f o s k) ≡ false → (allowed (length s) ≡ true) × (is-sound unit s k ≡ true) × (image-length f (length s) ≤ length o)
-  unfolding any write-lines put-lines line-1 line-2
+  -- no line of the writer holds exactly if the length is allowed, the state is consistent, the form carries the accounts and the lent image has room
+  room : any line-holds (write-lines f o s k) ≡ false
+      → (allowed (length s) ≡ true) × (is-sound unit s k ≡ true) × (carries f k ≡ true) × (image-length f (length s) ≤ length o)
+  unfolding any write-lines put-lines line-1 line-2 line-28
   room e =
       let a = or-neither (not (allowed (length s))) _ e in
       let b = or-neither (not (is-sound unit s k)) _ (a .1) in
-      let c = or-neither (ltb (length o) (image-length f (length s))) false (b .1) in
-      (not-false (allowed (length s)) (a .0), not-false (is-sound unit s k) (b .0), ltb-false (length o) (image-length f (length s)) (c .0))
+      let c = or-neither (not (carries f k)) _ (b .1) in
+      let d = or-neither (ltb (length o) (image-length f (length s))) false (c .1) in (
+        not-false (allowed (length s)) (a .0),
+        not-false (is-sound unit s k) (b .0),
+        not-false (carries f k) (c .0),
+        ltb-false (length o) (image-length f (length s)) (d .0),
+      )
 
   has-room : Accepts f s k → image-length f (length s) ≤ length o → any line-holds (write-lines f o s k) ≡ false
-  unfolding any write-lines put-lines line-1 line-2
-  has-room a l = rw (a .extent, a .sound, le-ltb (length o) (image-length f (length s)) l)
+  unfolding any write-lines put-lines line-1 line-2 line-28
+  has-room a l = rw (a .extent, a .sound, a .carried, le-ltb (length o) (image-length f (length s)) l)
 
   -- what the writer accepts, of bytes and of accounts of their type, can be written
   pub write-accepts : write-image f o s k .refusal ≡ 0 → Known f → Octets s → Typed k → Accepts f s k × (image-length f (length s) ≤ length o)
-  unfolding carries
   write-accepts e n b y =
       let r = room (write-accepted-exactly f o s k .0 e) in
-      (record { known = n; extent = r .0; octets = b; sound = r .1; typed = y; carried = refl }, r .2)
+      (record { known = n; extent = r .0; octets = b; sound = r .1; typed = y; carried = r .2 }, r .3)
 
   -- and what can be written is accepted where there is room for it
   pub accepts-write : Accepts f s k → image-length f (length s) ≤ length o
@@ -79,7 +84,7 @@ module _ (f : Form) (o s : List ℕ) (k : Accounts) where
       × (drop (write-image f o s k .length) (write-image f o s k .image) ≡ drop (write-image f o s k .length) o)
   write-answer e n y =
       let l = image-has-length f s k n y in
-      let r = room (write-accepted-exactly f o s k .0 e) .2 in
+      let r = room (write-accepted-exactly f o s k .0 e) .3 in
       let m = image-length f (length s) in
       let w : overwrite 0 (image-of f s k) o ≡ image-of f s k ++ drop m o =
       overwrite-fits 0 (image-of f s k) o (omega arith) ∙ rw (zero-add (length (image-of f s k)), l) in

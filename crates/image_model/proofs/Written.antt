@@ -102,7 +102,7 @@ module _ (f : Form) (s : List ℕ) (k : Accounts) (a : Accepts f s k) where
   unfolding contents-right n L
   contents-is =
       rw (form-is, size-is, a .extent, eq-eqb (length i / 512) (frames-for (head-length f + length s)) count, padding)
-      (items-tested f (a .known) s k (a .typed) (stream-of i) zeros whole)
+      (items-tested f (a .known) s k (a .typed) (stream-of i) zeros whole (a .carried))
 
   frames-are : frames-right n 0 n i ≡ true
   unfolding i image-of cut n L

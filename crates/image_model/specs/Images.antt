@@ -19,9 +19,13 @@ use Rattle.image_model.specs.Reading.{marks-in, form-in, form-of, size-i
 use Rattle.image_model.specs.Answers.{Imaged, Restored-to}
 use Rattle.image_model.specs.declared.Form.{Form}
 
+-- 28: the form has no room for something in the accounts
+unfoldable pub line-28 : Form → Accounts → Line
+line-28 f k = 28 when not (carries f k)
+
 -- 25 of the writer: the lent image is shorter than the image to write
 unfoldable pub put-lines : Form → List ℕ → List ℕ → Accounts → List Line
-put-lines f o s k = (25 when ltb (length o) (image-length f (length s))) ∷ []
+put-lines f o s k = line-28 f k ∷ (25 when ltb (length o) (image-length f (length s))) ∷ []
 
 unfoldable pub write-lines : Form → List ℕ → List ℕ → Accounts → List Line
 write-lines f o s k = line-1 s ∷ line-2 unit s k ∷ put-lines f o s k

@@ -20,7 +20,7 @@ use Rattle.image_model.specs.declared.Form.{Form}
 
 -- an entry and a record from their bytes, and whether the bytes that carry nothing are right
 unfoldable pub entry-of : Form → List ℕ → Quota
-entry-of f s = tail-of f (drop 8 s) (record { grant = number (take 4 s); remainder = number (take 4 (drop 4 s)) })
+entry-of f s = tail-of f (drop 8 s) (record { grant = number (take 4 s); remainder = number (take 4 (drop 4 s)); permissions = 0 })
 
 unfoldable pub entry-right : Form → List ℕ → Bool
 entry-right f s = tail-right f (drop 8 s)

@@ -1,6 +1,6 @@
 -- What an image carries (rules 13.2 to 13.4): a head with the accounts, then the heap, as one stream of bytes; and the stream in frames.
 -- One definition is to serve every form. What forms differ in beyond their three numbers stands in four places, each marked below; form 1 has
--- nothing in them but two zero bytes.
+-- nothing in them but two zero bytes, and so its quotas have every permission.
 use Prim.Native.Nat.{ℕ, _+_, _*_, _<_, _^_}
 use mathlib.Core.Path.{_≡_}
 use mathlib.Core.List.{List, [], _++_}
@@ -11,8 +11,9 @@ use lib.Dec.{eqb}
 use Rattle.accounts.specs.declared.Quota.{Quota}
 use Rattle.accounts.specs.declared.Hold.{Hold}
 use Rattle.accounts.specs.declared.Accounts.{Accounts}
-use Rattle.accounts.specs.Accounts.{QUOTAS, HOLDS, zero-quota, zero-hold, zero-accounts}
+use Rattle.accounts.specs.Accounts.{QUOTAS, HOLDS, ALL-PERMISSIONS, zero-quota, zero-hold, with-permissions, opened}
 use Rattle.layout.specs.Bytes.{bytes}
+use Rattle.model.specs.Lists.{all}
 use Rattle.framing.specs.Frames.{frames-for, cut}
 use Rattle.image_model.specs.Items.{many, all-zero}
 use Rattle.image_model.specs.declared.Form.{Form}
@@ -32,10 +33,14 @@ unfoldable pub tail-width : Form → ℕ
 tail-width f = 0
 
 unfoldable pub tail-of : Form → List ℕ → Quota → Quota
-tail-of f s q = q
+tail-of f s q = with-permissions ALL-PERMISSIONS q
 
 unfoldable pub tail-right : Form → List ℕ → Bool
 tail-right f s = true
+
+-- and whether they say all that the quota has beyond grant and remainder
+unfoldable pub tail-carries : Form → Quota → Bool
+tail-carries f q = eqb (q .permissions) ALL-PERMISSIONS
 
 -- Second place: the two bytes behind the form's number. The bytes, whether they are right, and the accounts with what they say
 unfoldable pub marks-of : Form → Accounts → List ℕ
@@ -49,11 +54,11 @@ with-marks f m k = k
 
 -- Third place: whether the form has room for everything in these accounts
 unfoldable pub carries : Form → Accounts → Bool
-carries f k = true
+carries f k = all (tail-carries f) (k .quotas)
 
 -- Fourth place: what accounts have wherever the form carries nothing of them
 unfoldable pub blank : Form → Accounts
-blank f = zero-accounts
+blank f = opened (replicate QUOTAS 0)
 
 -- a record: serial, quota, count and two zero bytes
 unfoldable pub record-bytes : Hold → List ℕ
@@ -105,6 +110,7 @@ pub record Typed (k : Accounts) : Type 0 where
   pub last : k .«last_serial» < 2 ^ 32
   pub grant : (q : ℕ) → getD (k .quotas) q zero-quota .grant < 2 ^ 32
   pub remainder : (q : ℕ) → getD (k .quotas) q zero-quota .remainder < 2 ^ 32
+  pub permissions : (q : ℕ) → getD (k .quotas) q zero-quota .permissions < 2 ^ 8
   pub serial : (i : ℕ) → getD (k .holds) i zero-hold .serial < 2 ^ 32
   pub quota : (i : ℕ) → getD (k .holds) i zero-hold .quota < 2 ^ 8
   pub count : (i : ℕ) → getD (k .holds) i zero-hold .count < 2 ^ 8

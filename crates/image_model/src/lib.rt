@@ -22,6 +22,7 @@ pub enum ImageRefusal {
     Room,
     Unsound,
     HeapLengths,
+    NotCarried,
 }
 
 // The answer of the writer: how many bytes it wrote.
@@ -56,6 +57,7 @@ impl ImageRefusal {
             ImageRefusal::Room => 25,
             ImageRefusal::Unsound => 26,
             ImageRefusal::HeapLengths => 27,
+            ImageRefusal::NotCarried => 28,
         }
     }
 }

@@ -6,7 +6,7 @@ use lib.ListN.{length, take, drop, replicate}
 use Rattle.accounts.specs.declared.Quota.{Quota}
 use Rattle.accounts.specs.declared.Hold.{Hold}
 use Rattle.accounts.specs.declared.Accounts.{Accounts}
-use Rattle.accounts.specs.Accounts.{QUOTAS, HOLDS, zero-quota, zero-hold}
+use Rattle.accounts.specs.Accounts.{QUOTAS, HOLDS, zero-hold}
 use Rattle.model.specs.Answers.{Values, accepted}
 use Rattle.model.specs.Calls.{Outcome, unchanged}
 use Rattle.model.specs.Step.{step}
@@ -49,17 +49,21 @@ unfoldable pub parts : List (List ℕ) → List ℕ
 parts [] = []
 parts (p ∷ ps) = p ++ parts ps
 
+-- a quota with this number as its permissions, and one with all three
+abbrev pub quota-with : ℕ → ℕ → ℕ → Quota
+quota-with p g r = record { grant = g; remainder = r; permissions = p }
+
 abbrev pub quota : ℕ → ℕ → Quota
-quota g r = record { grant = g; remainder = r }
+quota g r = quota-with 7 g r
 
 abbrev pub hold : ℕ → ℕ → ℕ → Hold
 hold s q n = record { serial = s; quota = q; count = n }
 
--- accounts whose tables begin with these quotas and these records, with zeros behind them
+-- accounts whose tables begin with these quotas and these records; behind them are quotas with no grant and every permission, and unused records
 unfoldable pub accounts-of : List Quota → ℕ → List Hold → Accounts
 accounts-of qs last hs =
     record {
-      quotas = qs ++ replicate (QUOTAS - length qs) zero-quota;
+      quotas = qs ++ replicate (QUOTAS - length qs) (quota 0 0);
       «last_serial» = last;
       holds = hs ++ replicate (HOLDS - length hs) zero-hold;
     }

@@ -24,7 +24,7 @@ heap-with (placed base length behind) = render (gap (base - 8) ++ (record { seri
 unfoldable pub accounts-with : Placed → Accounts
 accounts-with (placed base length behind) =
     record {
-      quotas = record { grant = length + 8; remainder = 0 } ∷ replicate (QUOTAS - 1) zero-quota;
+      quotas = record { grant = length + 8; remainder = 0; permissions = 7 } ∷ replicate (QUOTAS - 1) zero-quota;
       «last_serial» = 1;
       holds = record { serial = 1; quota = 0; count = 1 } ∷ replicate (HOLDS - 1) zero-hold;
     }

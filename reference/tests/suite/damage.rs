@@ -203,6 +203,20 @@ fn sentence_6_grants_are_remainders_and_charges_in_whole_numbers() {
     is_refused_as_not_sound("a charge for each count", &count);
 }
 
+#[test]
+fn permissions_are_three_bits() {
+    for quota in 0..QUOTAS {
+        for bits in [8, 15, 128, 255] {
+            let more = changed(|s| s.accounts.quotas[quota].permissions = bits);
+            is_refused_as_not_sound("a fourth permission", &more);
+        }
+        for bits in 0..8 {
+            let fewer = changed(|s| s.accounts.quotas[quota].permissions = bits);
+            assert_eq!(check(&fewer.heap, &fewer.accounts), Ok(()));
+        }
+    }
+}
+
 /// Makes a heap of this length with one object, which quota 0 holds.
 fn with_object(heap_length: u32, base: u32, length: u32) -> State {
     let (front, behind) = (base - 8, heap_length - base - length);
@@ -337,12 +351,13 @@ fn random_damage_to_accounts_is_judged_alike() {
         let state = changed(|s| {
             let quota = prng.index(QUOTAS);
             let record = prng.index(7);
-            match prng.below(6) {
+            match prng.below(7) {
                 0 => s.accounts.quotas[quota].grant = prng.odd_word(),
                 1 => s.accounts.quotas[quota].remainder = prng.odd_word(),
                 2 => s.accounts.last_serial = prng.below(12),
                 3 => s.accounts.holds[record].serial = prng.below(7),
                 4 => s.accounts.holds[record].quota = prng.below(4) as u8,
+                5 => s.accounts.quotas[quota].permissions = prng.pick(&[0, 3, 7, 8, 255]),
                 _ => s.accounts.holds[record].count = prng.pick(&[0, 1, 2, 255]),
             }
         });

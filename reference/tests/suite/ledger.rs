@@ -28,12 +28,14 @@ impl Object {
     }
 }
 
-/// The ledger: heap length and grants as opened, the last serial answered, and
-/// the objects.
+/// The ledger: heap length and grants as opened, the permissions that are left, the last
+/// serial answered, and the objects.
 #[derive(Clone, Debug)]
 pub struct Ledger {
     pub heap_length: u32,
     pub grants: [u32; QUOTAS],
+    /// Allocate, claim and free-all for each quota, true until it is cleared.
+    pub permissions: [[bool; 3]; QUOTAS],
     pub last_serial: u32,
     pub objects: Vec<Object>,
 }
@@ -80,6 +82,11 @@ impl Ledger {
             (Call::Reallocate(q, old, _), Answer::Object(new)) => {
                 self.add(*new, q);
                 self.change_holds(old.serial, q, |holds| holds - 1);
+            }
+            (Call::ClearPermissions(q, bits), _) => {
+                for (bit, permission) in self.permissions[q as usize].iter_mut().enumerate() {
+                    *permission &= bits & 1 << bit == 0;
+                }
             }
             _ => {}
         }
@@ -184,6 +191,7 @@ impl Ledger {
             }
             Call::CanRelease(q, h) => self.releasable(q, h).map(|_| Answer::Yes),
             Call::FreeAll(q) => {
+                self.permitted(q, 2)?;
                 let left = self.remaining(q)?;
                 let grant = i128::from(self.grants[q as usize]);
                 Ok(Answer::Number((grant - left) as u32))
@@ -192,6 +200,12 @@ impl Ledger {
             Call::Lend(h) => {
                 let object = self.named(h).ok_or(5)?;
                 Ok(Answer::Part(h.base as usize..object.end() as usize))
+            }
+            Call::ClearPermissions(q, bits) => {
+                self.remaining(q)?;
+                let weights = [1, 2, 4].into_iter().zip(self.permissions[q as usize]);
+                let left = weights.filter(|(weight, set)| *set && bits & weight == 0);
+                Ok(Answer::Number(left.map(|(weight, _)| weight).sum()))
             }
             Call::Step(place) => {
                 let mut blocks = self.blocks().into_iter();
@@ -205,6 +219,13 @@ impl Ledger {
     fn remaining(&self, quota: u32) -> Result<i128, u8> {
         let number = quota as usize;
         (number < QUOTAS).then(|| self.remainder(number)).ok_or(3)
+    }
+
+    /// Gives refusal 3 or 12 unless the quota has the permission of this bit.
+    fn permitted(&self, quota: u32, bit: usize) -> Result<(), u8> {
+        self.remaining(quota)?;
+        let permission = self.permissions[quota as usize][bit];
+        permission.then_some(()).ok_or(12)
     }
 
     /// Gives the object that the quota can release, or refusal 3, 5 or 6.
@@ -228,7 +249,7 @@ impl Ledger {
 
     /// Gives the answer of a claim.
     fn predict_claim(&self, quota: u32, handle: Handle) -> Result<Answer, u8> {
-        self.remaining(quota)?;
+        self.permitted(quota, 1)?;
         let object = self.named(handle).ok_or(5)?;
         match object.holds[quota as usize] {
             0 => self.payable(quota, object.charge())?,
@@ -240,7 +261,7 @@ impl Ledger {
 
     /// Gives the answer of an allocate, array or reallocate.
     fn predict_request(&self, quota: u32, request: u64, old: Option<Handle>) -> Result<Answer, u8> {
-        self.remaining(quota)?;
+        self.permitted(quota, 0)?;
         let unit = unit_of(request).ok_or(4)?;
         if let Some(old) = old {
             self.releasable(quota, old)?;

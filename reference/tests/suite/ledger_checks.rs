@@ -18,6 +18,7 @@ pub fn check_all(state: &State, ledger: &Ledger, contents: &Contents) {
     used_records_are_the_holds(state, ledger);
     grants_are_the_grants(state, ledger);
     remainders_are_grants_less_charges(state, ledger);
+    permissions_are_those_not_cleared(state, ledger);
     bytes_belong_to_one_object_or_header(state, ledger);
     contents_are_unchanged(state, ledger, contents);
 }
@@ -71,6 +72,14 @@ fn remainders_are_grants_less_charges(state: &State, ledger: &Ledger) {
     for (number, quota) in state.accounts.quotas.iter().enumerate() {
         assert_eq!(i128::from(quota.remainder), ledger.remainder(number));
         assert_eq!(state.remainder(number as u32), quota.remainder);
+    }
+}
+
+/// The permissions of the accounts are those that no call has cleared.
+fn permissions_are_those_not_cleared(state: &State, ledger: &Ledger) {
+    for (quota, left) in state.accounts.quotas.iter().zip(ledger.permissions) {
+        let bits = left.map(u8::from);
+        assert_eq!(quota.permissions, bits[0] + 2 * bits[1] + 4 * bits[2]);
     }
 }
 

@@ -8,6 +8,7 @@ mod ledger;
 mod ledger_checks;
 mod lines;
 mod naive;
+mod permissions;
 mod prng;
 mod random_bytes;
 mod random_lists;

@@ -47,6 +47,7 @@ pub fn is_sound(heap: &[u8], accounts: &Accounts) -> bool {
         && records_are_sound(&live, accounts)
         && sums_are_sound(&live, accounts)
         && live.iter().all(fits_its_unit)
+        && accounts.quotas.iter().all(|quota| quota.permissions < 8)
 }
 
 /// Judges the rules about live serials (5.3 and 5.4).

@@ -14,6 +14,7 @@ fn any_accounts(prng: &mut Prng) -> Accounts {
     for quota in &mut accounts.quotas {
         quota.grant = prng.odd_word();
         quota.remainder = prng.odd_word();
+        quota.permissions = prng.byte();
     }
     for record in &mut accounts.holds {
         if prng.percent(50) {

@@ -19,6 +19,8 @@ struct Style {
     shares: [u32; 3],
     /// The serial that counts as the last one given at first.
     last_serial: u32,
+    /// The share of calls that clear permissions, of a thousand.
+    clearing: u32,
 }
 
 /// A style with middling numbers, to be changed where another is wanted.
@@ -30,10 +32,11 @@ const PLAIN: Style = Style {
     steps: 250,
     shares: [35, 15, 25],
     last_serial: 0,
+    clearing: 0,
 };
 
 /// How often each refusal was given, and at 0 how often a call was accepted.
-type Tally = [usize; 12];
+type Tally = [usize; 13];
 
 /// A list of calls that is being made.
 struct Run {
@@ -61,6 +64,7 @@ impl Run {
         let ledger = Ledger {
             heap_length: style.heap_length,
             grants: state.accounts.quotas.map(|quota| quota.grant),
+            permissions: [[true; 3]; QUOTAS],
             last_serial: style.last_serial,
             objects: Vec::new(),
         };
@@ -130,7 +134,7 @@ impl Run {
     /// Checks that a handle of header-like bytes inside an object gives 5.
     fn forged_handle_names_nothing(&mut self, forged: Handle) {
         self.state.refused(Call::Lend(forged), 5);
-        self.state.refused(Call::Claim(0, forged), 5);
+        self.state.refused(Call::CanRelease(0, forged), 5);
         self.state.refused(Call::Release(0, forged), 5);
     }
 
@@ -213,6 +217,10 @@ impl Run {
     /// Chooses a call with its arguments.
     fn choose(&mut self) -> Call {
         let quota = self.quota();
+        if self.prng.below(1_000) < self.style.clearing {
+            let bits = self.prng.pick(&[0, 1, 2, 4, 5, 6, 8, 0xFFFF_FFF8]);
+            return Call::ClearPermissions(quota, bits);
+        }
         let [allocations, claims, releases] = self.style.shares;
         let chosen = self.prng.below(100);
         if chosen < allocations {
@@ -335,6 +343,17 @@ fn lists_that_reach_the_last_serial() {
         ..PLAIN
     };
     all_given(lists(style, 500..504), &[10, 5, 6, 8]);
+}
+
+#[test]
+fn lists_in_which_permissions_are_cleared() {
+    let style = Style {
+        quotas: QUOTAS as u32,
+        grant: 2_000,
+        clearing: 30,
+        ..PLAIN
+    };
+    all_given(lists(style, 700..708), &[12, 3, 4, 5, 6, 11]);
 }
 
 #[test]

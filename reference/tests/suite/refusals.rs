@@ -26,8 +26,8 @@ impl Lines {
         self.0 >> number & 1 == 1
     }
 
-    /// Gives the lowest of the numbers whose line is made to hold.
-    fn lowest_of(self, numbers: &[u8]) -> Option<u8> {
+    /// Gives the first of the numbers whose line is made to hold.
+    fn first_of(self, numbers: &[u8]) -> Option<u8> {
         numbers.iter().copied().find(|number| self.has(*number))
     }
 }
@@ -65,6 +65,9 @@ fn state_for(lines: Lines) -> State {
     if lines.has(2) {
         state.accounts.quotas[0].grant += 1;
     }
+    if lines.has(12) {
+        state.accounts.quotas[usize::from(CALLER)].permissions = 0;
+    }
     if lines.has(1) {
         state.heap.push(0);
     }
@@ -80,39 +83,35 @@ fn calls_for(lines: Lines) -> Vec<(Call, Vec<u8>)> {
         object.serial += 1;
     }
     let claim_numbers = if lines.has(6) {
-        vec![1, 2, 3, 5, 8, 9]
+        vec![1, 2, 3, 12, 5, 8, 9]
     } else {
-        vec![1, 2, 3, 5, 7]
+        vec![1, 2, 3, 12, 5, 7]
     };
-    let reallocate_numbers = vec![1, 2, 3, 4, 5, 6, 8, 9, 10, 11];
+    let allocate_numbers = vec![1, 2, 3, 12, 4, 8, 9, 10, 11];
+    let reallocate_numbers = vec![1, 2, 3, 12, 4, 5, 6, 8, 9, 10, 11];
     vec![
-        (
-            Call::Allocate(quota, length),
-            vec![1, 2, 3, 4, 8, 9, 10, 11],
-        ),
-        (
-            Call::Array(quota, length, 1),
-            vec![1, 2, 3, 4, 8, 9, 10, 11],
-        ),
+        (Call::Allocate(quota, length), allocate_numbers.clone()),
+        (Call::Array(quota, length, 1), allocate_numbers),
         (Call::Claim(quota, object), claim_numbers),
         (Call::Release(quota, object), vec![1, 2, 3, 5, 6]),
-        (Call::FreeAll(quota), vec![1, 2, 3]),
+        (Call::FreeAll(quota), vec![1, 2, 3, 12]),
         (Call::Reallocate(quota, object, length), reallocate_numbers),
         (Call::Lend(object), vec![1, 2, 5]),
         (Call::Remaining(quota), vec![1, 2, 3]),
         (Call::CanRelease(quota, object), vec![1, 2, 3, 5, 6]),
+        (Call::ClearPermissions(quota, 7), vec![1, 2, 3]),
         (Call::Step(0), vec![1, 2]),
     ]
 }
 
 #[test]
 fn every_set_of_lines_gives_the_first_that_the_call_lists_or_is_accepted() {
-    for set in (0..1 << 12).step_by(2) {
+    for set in (0..1 << 13).step_by(2) {
         let lines = Lines(set);
         let state = state_for(lines);
         for (call, numbers) in calls_for(lines) {
             let mut after = state.clone();
-            match lines.lowest_of(&numbers) {
+            match lines.first_of(&numbers) {
                 Some(number) => after.refused(call, number),
                 None => assert!(after.perform(call).is_ok(), "{call:?} with {set:b}"),
             }
@@ -121,7 +120,7 @@ fn every_set_of_lines_gives_the_first_that_the_call_lists_or_is_accepted() {
 }
 
 #[test]
-fn refusal_numbers_run_from_1_to_11() {
+fn refusal_numbers_run_from_1_to_12() {
     let all = [
         Refusal::HeapLength,
         Refusal::NotSound,
@@ -134,9 +133,10 @@ fn refusal_numbers_run_from_1_to_11() {
         Refusal::RecordsFull,
         Refusal::SerialsSpent,
         Refusal::NoSpace,
+        Refusal::NoPermission,
     ];
     let numbers: Vec<u8> = all.iter().map(|refusal| refusal.number()).collect();
-    assert_eq!(numbers, (1..=11).collect::<Vec<u8>>());
+    assert_eq!(numbers, (1..=12).collect::<Vec<u8>>());
 }
 
 #[test]

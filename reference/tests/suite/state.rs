@@ -67,7 +67,7 @@ pub fn heap_of(pieces: &[Piece]) -> Vec<u8> {
 }
 
 /// Gives accounts with these records and remainders, whose grants are remainder
-/// plus the sizes of the live pieces that the quota has a record for.
+/// plus the sizes of the live pieces that the quota has a record for, and all permissions.
 pub fn accounts_of(
     pieces: &[Piece],
     holds: &[Hold],
@@ -82,6 +82,7 @@ pub fn accounts_of(
     for (number, quota) in accounts.quotas.iter_mut().enumerate() {
         quota.remainder = remainders[number];
         quota.grant = remainders[number];
+        quota.permissions = ALL_PERMISSIONS;
         for &(size, serial) in pieces.iter().filter(|(_, serial)| *serial != 0) {
             let held = |hold: &Hold| hold.serial == serial && usize::from(hold.quota) == number;
             if holds.iter().any(held) {
@@ -112,6 +113,7 @@ pub enum Call {
     Lend(Handle),
     Remaining(u32),
     CanRelease(u32, Handle),
+    ClearPermissions(u32, u32),
     Step(usize),
 }
 
@@ -139,6 +141,9 @@ impl State {
             Call::Lend(h) => lend(heap, accounts, h).map(Answer::Part),
             Call::Remaining(q) => remaining(heap, accounts, q).map(Answer::Number),
             Call::CanRelease(q, h) => can_release(heap, accounts, q, h).map(|()| Answer::Yes),
+            Call::ClearPermissions(q, bits) => {
+                clear_permissions(heap, accounts, q, bits).map(Answer::Number)
+            }
             Call::Step(place) => block_at(heap, accounts, place).map(Answer::Listed),
         }
     }
@@ -185,6 +190,7 @@ pub fn one_of_each(quota: u32, handle: Handle, length: u32) -> Vec<Call> {
         Call::Lend(handle),
         Call::Remaining(quota),
         Call::CanRelease(quota, handle),
+        Call::ClearPermissions(quota, 1),
         Call::Step(0),
     ]
 }

@@ -15,6 +15,7 @@ pub mod images;
 struct CQuota {
     grant: u32,
     remainder: u32,
+    permissions: u8,
 }
 
 /// A hold record as it crosses the boundary.
@@ -136,6 +137,13 @@ extern "C" {
         accounts: CAccounts,
         quota: u32,
     ) -> AmountReply;
+    fn lokhazim_clear_permissions(
+        heap: *const u8,
+        heap_length: usize,
+        accounts: CAccounts,
+        quota: u32,
+        bits: u32,
+    ) -> AmountReply;
     fn lokhazim_reallocate(
         heap: *mut u8,
         heap_length: usize,
@@ -186,6 +194,7 @@ impl From<&Accounts> for CAccounts {
             quotas: accounts.quotas.map(|quota| CQuota {
                 grant: quota.grant,
                 remainder: quota.remainder,
+                permissions: quota.permissions,
             }),
             last_serial: accounts.last_serial,
             holds: accounts.holds.map(|hold| CHold {
@@ -203,6 +212,7 @@ impl From<CAccounts> for Accounts {
             quotas: accounts.quotas.map(|quota| Quota {
                 grant: quota.grant,
                 remainder: quota.remainder,
+                permissions: quota.permissions,
             }),
             last_serial: accounts.last_serial,
             holds: accounts.holds.map(|hold| Hold {
@@ -277,6 +287,7 @@ pub fn perform(heap: &mut [u8], accounts: &Accounts, call: Call) -> (Accounts, A
             Call::Release(q, h) => lokhazim_release(p, len, c, q, h.into()).parts(),
             Call::FreeAll(q) => lokhazim_free_all(p, len, c, q).parts(),
             Call::Reallocate(q, h, n) => lokhazim_reallocate(p, len, c, q, h.into(), n).parts(),
+            Call::ClearPermissions(q, n) => lokhazim_clear_permissions(p, len, c, q, n).parts(),
             asking => (accounts.clone(), ask(p, len, c, asking)),
         }
     }

@@ -1,4 +1,4 @@
-//! Damage to consistent states: ways to break each of rules 5.1 to 5.8, alone and together.
+//! Damage to consistent states: ways to break each rule of section 5, alone and together.
 
 mod plan;
 mod written;
@@ -10,7 +10,7 @@ use plan::{
 };
 use written::{
     add_to_quota, charge_each_count, charge_without_header, first_back_size, last_size,
-    moved_amount, set_back, set_size, wrapped_sum,
+    moved_amount, set_back, set_permissions, set_size, wrapped_sum,
 };
 
 use crate::judge::{broken, Sentence};
@@ -46,7 +46,7 @@ const fn kind(name: &'static str, sentence: Sentence, way: Way) -> Damage {
 }
 
 /// Every kind of damage.
-pub const DAMAGES: [Damage; 37] = [
+pub const DAMAGES: [Damage; 39] = [
     kind(
         "a live block of 8 bytes",
         Sentence::Cut,
@@ -223,6 +223,16 @@ pub const DAMAGES: [Damage; 37] = [
         "a base by the unit of the request",
         Sentence::Units,
         Way::Plan(base_by_the_request),
+    ),
+    kind(
+        "a permission that there is not",
+        Sentence::Permissions,
+        Way::State(|s, n| set_permissions(s, n, |bits, high| bits | high)),
+    ),
+    kind(
+        "permissions that are none of a quota's",
+        Sentence::Permissions,
+        Way::State(|s, n| set_permissions(s, n, |_, high| high)),
     ),
 ];
 

@@ -1,4 +1,4 @@
-//! Damage to a written state: sizes and back sizes of headers, grants and remainders.
+//! Damage to a written state: sizes and back sizes of headers, grants, remainders and permissions.
 
 use lokhazim_reference::{Hold, QUOTAS};
 
@@ -64,6 +64,18 @@ pub(super) fn add_to_quota(
     let quota = &mut state.accounts.quotas[seed.place(QUOTAS)];
     quota.grant = u32::try_from(i64::from(quota.grant) + grant * by).ok()?;
     quota.remainder = u32::try_from(i64::from(quota.remainder) + remainder * by).ok()?;
+    Some(())
+}
+
+/// Changes the permissions of any quota; the change is handed a number with a bit above the third.
+pub(super) fn set_permissions(
+    state: &mut State,
+    seed: &mut Seed,
+    change: fn(u8, u8) -> u8,
+) -> Option<()> {
+    let quota = &mut state.accounts.quotas[seed.place(QUOTAS)];
+    let (one, any) = (8 << seed.below(5), seed.between(8, 255) as u8);
+    quota.permissions = change(quota.permissions, seed.pick(&[one, any]));
     Some(())
 }
 

@@ -5,13 +5,15 @@ use crate::layout::{Hold, Quota, HOLDS, QUOTAS};
 
 const INCONSISTENT: u32 = 2;
 
-/// Accounts in which no two fields of one width are the same; no heap agrees with them.
+/// Accounts in which no two fields of four bytes are the same, nor two of one byte near each other;
+/// no heap agrees with them.
 fn distinct() -> Accounts {
     let mark = |n: usize| (n as u32 + 1).wrapping_mul(0x9E37_79B1);
     Accounts {
         quotas: core::array::from_fn(|i| Quota {
             grant: mark(2 * i),
             remainder: mark(2 * i + 1),
+            permissions: 200 + i as u8,
         }),
         last_serial: mark(2 * QUOTAS),
         holds: core::array::from_fn(|i| Hold {
@@ -55,6 +57,7 @@ fn each_call_hands_back_every_field_that_it_refuses() {
         claim(&heap, &accounts, 0, handle),
         release(&mut heap, &accounts, 0, handle),
         free_all(&mut heap, &accounts, 0),
+        clear_permissions(&heap, &accounts, 0, 7),
     ];
     for reply in amounts {
         assert_eq!(
@@ -72,6 +75,10 @@ fn each_grant_reaches_its_quota() {
     assert_eq!(reply.refusal, 0);
     assert_eq!(reply.accounts.quotas.map(|quota| quota.grant), values);
     assert_eq!(reply.accounts.quotas.map(|quota| quota.remainder), values);
+    assert_eq!(
+        reply.accounts.quotas.map(|quota| quota.permissions),
+        [7; QUOTAS]
+    );
     assert_eq!(reply.accounts.last_serial, 0);
     assert_eq!(reply.accounts.holds, [Hold::default(); HOLDS]);
 }

@@ -55,6 +55,7 @@ static void visit_quota(struct lokhazim_quota *it)
 {
     visit32(&it->grant);
     visit32(&it->remainder);
+    visit8(&it->permissions);
 }
 
 static void visit_hold(struct lokhazim_hold *it)

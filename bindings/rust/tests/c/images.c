@@ -1,6 +1,7 @@
 /*
  * Images from C: a heap with every record used is written and read back, a refused image leaves heap
- * and accounts alone, the caller's null pointer for the length is taken, and two images are compared.
+ * and accounts alone, the caller's null pointer for the length is taken, two images are compared, and
+ * accounts with a cleared permission are not written.
  */
 #include "lokhazim_image.h"
 
@@ -39,7 +40,12 @@ static void fill(void)
 
 static int same(const struct lokhazim_accounts *a, const struct lokhazim_accounts *b)
 {
-    int equal = a->last_serial == b->last_serial && memcmp(a->quotas, b->quotas, sizeof a->quotas) == 0;
+    int equal = a->last_serial == b->last_serial;
+    for (int i = 0; i < LOKHAZIM_QUOTAS; i++) {
+        equal &= a->quotas[i].grant == b->quotas[i].grant;
+        equal &= a->quotas[i].remainder == b->quotas[i].remainder;
+        equal &= a->quotas[i].permissions == b->quotas[i].permissions;
+    }
     for (int i = 0; i < LOKHAZIM_HOLDS; i++) {
         equal &= a->holds[i].serial == b->holds[i].serial;
         equal &= a->holds[i].quota == b->holds[i].quota;
@@ -75,6 +81,20 @@ static void compare(void)
     CHECK(next.kind == LOKHAZIM_NO_DIFFERENCE);
 }
 
+/* A cleared permission is refused before the room is looked at, and nothing is written. */
+static void cleared(void)
+{
+    size_t length = 1;
+    const uint32_t last = LOKHAZIM_QUOTAS - 1;
+    memset(changed, 7, sizeof changed);
+    CHECK(lokhazim_heap_clear_permissions(heap, sizeof heap, &accounts, last, LOKHAZIM_MAY_CLAIM, NULL) == LOKHAZIM_ACCEPTED);
+    CHECK(lokhazim_heap_save(heap, sizeof heap, &accounts, changed, sizeof changed, &length) == LOKHAZIM_IMAGE_NOT_CARRIED);
+    CHECK(length == 0 && changed[0] == 7);
+    CHECK(lokhazim_heap_save(heap, sizeof heap, &accounts, changed, 0, NULL) == LOKHAZIM_IMAGE_NOT_CARRIED);
+    CHECK(lokhazim_heap_restore(heap, sizeof heap, &accounts, image, LOKHAZIM_IMAGE_MAX) == LOKHAZIM_IMAGE_ACCEPTED);
+    CHECK(accounts.quotas[last].permissions == LOKHAZIM_MAY_ALL);
+}
+
 int main(void)
 {
     size_t length = 1;
@@ -102,5 +122,6 @@ int main(void)
     CHECK(lokhazim_heap_restore(other, sizeof other - 8, &back, image, length) == LOKHAZIM_IMAGE_ROOM);
     CHECK(other[0] == 9 && other[sizeof other - 1] == 9 && same(&accounts, &back));
     compare();
+    cleared();
     return EXIT_SUCCESS;
 }

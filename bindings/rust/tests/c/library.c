@@ -31,6 +31,7 @@ static int same(const struct lokhazim_accounts *a, const struct lokhazim_account
     for (int i = 0; i < LOKHAZIM_QUOTAS; i++) {
         equal &= a->quotas[i].grant == b->quotas[i].grant;
         equal &= a->quotas[i].remainder == b->quotas[i].remainder;
+        equal &= a->quotas[i].permissions == b->quotas[i].permissions;
     }
     for (int i = 0; i < LOKHAZIM_HOLDS; i++) {
         equal &= a->holds[i].serial == b->holds[i].serial;
@@ -40,7 +41,7 @@ static int same(const struct lokhazim_accounts *a, const struct lokhazim_account
     return equal;
 }
 
-/* Accounts in which no two fields of one width are the same; no heap agrees with them. */
+/* Accounts in which no two fields of four bytes are the same, nor two of one byte near each other; no heap agrees with them. */
 static struct lokhazim_accounts distinct(void)
 {
     struct lokhazim_accounts it;
@@ -48,6 +49,7 @@ static struct lokhazim_accounts distinct(void)
     for (int i = 0; i < LOKHAZIM_QUOTAS; i++) {
         it.quotas[i].grant = ++n * 0x9E3779B1u;
         it.quotas[i].remainder = ++n * 0x9E3779B1u;
+        it.quotas[i].permissions = (uint8_t)(200 + i);
     }
     it.last_serial = ++n * 0x9E3779B1u;
     for (int i = 0; i < LOKHAZIM_HOLDS; i++) {
@@ -69,6 +71,7 @@ static void grants_come_back(void)
     for (int i = 0; i < LOKHAZIM_QUOTAS; i++) {
         CHECK(accounts.quotas[i].grant == grants.values[i]);
         CHECK(accounts.quotas[i].remainder == grants.values[i]);
+        CHECK(accounts.quotas[i].permissions == LOKHAZIM_MAY_ALL);
     }
     CHECK(accounts.last_serial == 0);
     CHECK(accounts.holds[0].count == 0 && accounts.holds[LOKHAZIM_HOLDS - 1].count == 0);
@@ -91,6 +94,8 @@ static void accounts_come_back(void)
     REFUSED(INCONSISTENT, lokhazim_heap_release(HEAP, &after, 0, handle, NULL));
     CHECK(same(&before, &after));
     REFUSED(INCONSISTENT, lokhazim_heap_free_all(HEAP, &after, 0, NULL));
+    CHECK(same(&before, &after));
+    REFUSED(INCONSISTENT, lokhazim_heap_clear_permissions(HEAP, &after, 0, LOKHAZIM_MAY_ALL, NULL));
     CHECK(same(&before, &after));
     REFUSED(INCONSISTENT, lokhazim_heap_reallocate(HEAP, &after, 0, handle, 8, &given));
     CHECK(same(&before, &after));
@@ -164,6 +169,7 @@ static void fields_are_noticed(void)
     for (int i = 0; i < LOKHAZIM_QUOTAS; i++) {
         NOTICED(accounts.quotas[i].grant, accounts.quotas[i].grant + 1);
         NOTICED(accounts.quotas[i].remainder, accounts.quotas[i].remainder + 1);
+        NOTICED(accounts.quotas[i].permissions, LOKHAZIM_MAY_ALL + 1);
     }
     NOTICED(accounts.last_serial, LOKHAZIM_HOLDS - 1);
     for (uint32_t i = 0; i < LOKHAZIM_HOLDS; i++) {
@@ -237,6 +243,38 @@ static void numbers_in_order(void)
     CHECK(refund == 16 && accounts.quotas[3].remainder == 500);
 }
 
+/* Quota q loses the permissions with the bits of q. Then each call goes by its own bit of its own quota. */
+static void permissions_are_read(void)
+{
+    const struct lokhazim_grants grants = { { 500, 500, 500, 500, 500, 500, 500, 500 } };
+    struct lokhazim_handle object;
+    struct lokhazim_handle given;
+    ACCEPTED(lokhazim_heap_open(HEAP, &accounts, grants));
+    ACCEPTED(lokhazim_heap_allocate(HEAP, &accounts, 0, 8, &object));
+    for (uint32_t q = 1; q <= LOKHAZIM_MAY_ALL; q++) {
+        ACCEPTED(lokhazim_heap_claim(HEAP, &accounts, q, object, NULL));
+    }
+    for (uint32_t q = 0; q <= LOKHAZIM_MAY_ALL; q++) {
+        uint32_t left = 99;
+        ACCEPTED(lokhazim_heap_clear_permissions(HEAP, &accounts, q, q | 0xFFFFFFF8u, &left));
+        CHECK(left == LOKHAZIM_MAY_ALL - q && accounts.quotas[q].permissions == left);
+        ACCEPTED(lokhazim_heap_clear_permissions(HEAP, &accounts, q, 0, &left));
+        CHECK(left == LOKHAZIM_MAY_ALL - q);
+    }
+    REFUSED(QUOTA_NUMBER, lokhazim_heap_clear_permissions(HEAP, &accounts, LOKHAZIM_QUOTAS, 0, NULL));
+    for (uint32_t q = 0; q <= LOKHAZIM_MAY_ALL; q++) {
+        const uint32_t left = accounts.quotas[q].permissions;
+        const int makes = left & LOKHAZIM_MAY_ALLOCATE ? LOKHAZIM_ACCEPTED : LOKHAZIM_NOT_PERMITTED;
+        const int claims = left & LOKHAZIM_MAY_CLAIM ? LOKHAZIM_ACCEPTED : LOKHAZIM_NOT_PERMITTED;
+        const int frees = left & LOKHAZIM_MAY_FREE_ALL ? LOKHAZIM_ACCEPTED : LOKHAZIM_NOT_PERMITTED;
+        CHECK((int)lokhazim_heap_allocate(HEAP, &accounts, q, 8, &given) == makes);
+        CHECK((int)lokhazim_heap_allocate_array(HEAP, &accounts, q, 2, 4, &given) == makes);
+        CHECK((int)lokhazim_heap_claim(HEAP, &accounts, q, object, NULL) == claims);
+        CHECK((int)lokhazim_heap_reallocate(HEAP, &accounts, q, object, 8, &given) == makes);
+        CHECK((int)lokhazim_heap_free_all(HEAP, &accounts, q, NULL) == frees);
+    }
+}
+
 int main(void)
 {
     grants_come_back();
@@ -247,5 +285,6 @@ int main(void)
     fields_are_noticed();
     handles_and_replies();
     numbers_in_order();
+    permissions_are_read();
     return EXIT_SUCCESS;
 }

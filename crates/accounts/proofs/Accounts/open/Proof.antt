@@ -10,14 +10,14 @@ use mathlib.Core.List.{List}
 use lib.ListN.{length, getD, length-set}
 use Rattle.accounts.specs.declared.Quota.{Quota}
 use Rattle.accounts.specs.declared.Accounts.{Accounts}
-use Rattle.accounts.specs.Accounts.{QUOTAS, zero-quota, zero-accounts, with-quotas, granted, opened}
+use Rattle.accounts.specs.Accounts.{QUOTAS, zero-accounts, with-quotas, granted, opened}
 use Rattle.accounts.proofs.Laws.{sized-zero, mapped-more, mapped-all}
 use Rattle.accounts.proofs.Accounts.open.Statement.{statement}
 use Rattle.accounts.proofs.Accounts.open.Tie as tie
 
 abbrev Inv-loop : tie.InvT-loop
 Inv-loop grants accounts quotas₀ i₀ quotas i =
-    (i ≤ QUOTAS) × (length quotas ≡ QUOTAS) × ((j : ℕ) → j < i → getD quotas j zero-quota ≡ granted (getD grants j 0))
+    (i ≤ QUOTAS) × (length quotas ≡ QUOTAS) × ((j : ℕ) → j < i → getD quotas j (granted 0) ≡ granted (getD grants j 0))
 
 abbrev μ-loop : tie.MeasureT-loop
 μ-loop grants accounts quotas₀ i₀ quotas i = QUOTAS - i
@@ -51,7 +51,7 @@ loop-again c =
     let at = c .before in (
       search needs,
       simp length-set (at .loop .inv .1),
-      mapped-more granted 0 zero-quota refl (at .before .before .before .args .t1) (at .loop .quotas) (at .loop .i) (at .loop .inv .2) (omega arith) _ refl,
+      mapped-more granted 0 (granted 0) refl (at .before .before .before .args .t1) (at .loop .quotas) (at .loop .i) (at .loop .inv .2) (omega arith) _ refl,
     )
 
 returns : tie.Need-returns Inv-loop μ-loop
@@ -62,7 +62,7 @@ returns c =
     let gs = start .args .t1 in
     let given : length gs ≡ QUOTAS = start .good .0 .1 .0 .1 in
     ap (with-quotas (at .loop .quotas)) (at .before .before .zero .ensures)
-    ∙ ap (λ (qs : List Quota). with-quotas qs zero-accounts) (mapped-all granted 0 zero-quota refl gs (at .loop .quotas) (at .loop .i) (at .loop .inv .2) (at .loop .inv .1 ∙ sym given) (omega arith))
+    ∙ ap (λ (qs : List Quota). with-quotas qs zero-accounts) (mapped-all granted 0 (granted 0) refl gs (at .loop .quotas) (at .loop .i) (at .loop .inv .2) (at .loop .inv .1 ∙ sym given) (omega arith))
 
 pub open-spec : {M : Type 1} → statement M
 open-spec =
