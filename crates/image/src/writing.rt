@@ -32,7 +32,8 @@ fn put_with(
     heap: &[u8],
     accounts: Accounts,
 ) -> WriteAnswer
-    requires { ⌜ (carries form accounts ≡ true) × FormFits form × (length (now head) ≡ 12 + form .quotas * 8 + form .records * 8) × (length (now heap) ≤ 32768) ⌝ }
+    requires { ⌜ (carries form accounts ≡ true) × FormFits form
+        × (length (now head) ≡ 12 + form .quotas * 8 + form .records * 8) × (length (now heap) ≤ 32768) ⌝ }
     ensures { λ r. ⌜ imaged (now (image .exit)) r ≡ put-image form (now (image .entry)) (now (heap .entry)) accounts ⌝ }
 {
     write_head(head, form, heap.len() as u32, accounts);

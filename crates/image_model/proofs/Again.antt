@@ -61,7 +61,9 @@ module _ (f : Form) (t : List ℕ) where
   -- and the form says all of them
   pub carried-read : Octets t → carries f (accounts-of f t) ≡ true
   unfolding carries
-  carried-read o = all-tested (tail-carries f) (accounts-of f t .quotas) (all-map (EntryCarried f) (λ (q : Quota). tail-carries f q ≡ true) (λ q y. y .1) (accounts-of f t .quotas) (entries-fit o))
+  carried-read o =
+      let qs = accounts-of f t .quotas in
+      all-tested (tail-carries f) qs (all-map (EntryCarried f) (λ (q : Quota). tail-carries f q ≡ true) (λ q y. y .1) qs (entries-fit o))
 
   records-fit : Octets t → All RecordFits (accounts-of f t .holds)
   unfolding read-accounts

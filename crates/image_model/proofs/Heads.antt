@@ -161,6 +161,7 @@ module _ (f : Form) (e : Known f) (s : List ℕ) (k : Accounts) (y : Typed k) (t
   items-tested c =
       let n = carried-lengths f e k y in
       let fit = entries-fit f e k y c in
-      let a = every-many (entry-bytes f) (entry-width f) (entry-length f) (EntryCarried f) (entry-right f) (entry-tested f) (carried-quotas f k) behind-entries fit in
+      let a = every-many (entry-bytes f) (entry-width f) (entry-length f) (EntryCarried f) (entry-right f) (entry-tested f) (carried-quotas f k)
+      behind-entries fit in
       let b = every-many record-bytes record-width record-length RecordFits record-right record-tested (carried-holds f k) (s ++ q) (records-fit f e k y) in
       rw (at-12, at-records, rw (n .0) at a, rw (n .1) at b)

@@ -72,7 +72,8 @@ module _ (f : Form) where
   unfolding tail-right
   tail-tested q = refl
 
-  pub tail-back : (q : Quota) → tail-carries f q ≡ true → tail-of f (entry-tail f q) (record { grant = q .grant; remainder = q .remainder; permissions = 0 }) ≡ q
+  pub tail-back : (q : Quota) → tail-carries f q ≡ true
+      → tail-of f (entry-tail f q) (record { grant = q .grant; remainder = q .remainder; permissions = 0 }) ≡ q
   unfolding tail-of tail-carries
   tail-back q e = λ i. with-permissions (sym (eqb-true (q .permissions) ALL-PERMISSIONS e) i) q
 
