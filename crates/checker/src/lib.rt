@@ -31,8 +31,8 @@ ghost use Rattle.checker.specs.Audit.{all-zero, begin, audit-parsed};
 ghost use Rattle.checker.specs.Contracts.{Findable, Fresh, Indexed, Owing, Charged, Payable, Paid, Settled, Ready, Visited};
 ghost use Rattle.checker.specs.Holders.{held-each, has-key, Chained};
 
-// The number of slots: so many that a chain is seldom longer than one record.
-const SLOTS: usize = 4 * HOLDS;
+// The number of slots: as many as records, so that a chain is seldom longer than two records and the index stays small.
+const SLOTS: usize = HOLDS;
 
 // Rule 2.1: whether a heap may have this length.
 pub fn is_allowed(len: usize) -> bool
