@@ -3,13 +3,14 @@
 use Prim.Native.Nat.{_+_, _-_}
 use mathlib.Core.Path.{_≡_, refl}
 use mathlib.Core.Bool.{true, false}
-use mathlib.Core.List.{[], _∷_, map}
+use mathlib.Core.List.{[], _∷_, _++_, map}
 use lib.ListN.{replicate}
 use Rattle.accounts.specs.declared.Quota.{Quota}
 use Rattle.accounts.specs.declared.Hold.{Hold}
 use Rattle.accounts.specs.declared.Accounts.{Accounts}
 use Rattle.accounts.specs.declared.Place.the-variants.{At, Nothing}
-use Rattle.accounts.specs.Accounts.{QUOTAS, HOLDS, zero-hold, zero-accounts, with-last-serial, opened}
+use Rattle.accounts.specs.Accounts.{QUOTAS, HOLDS, zero-hold, zero-accounts, with-quotas, with-last-serial, granted, opened}
+use Rattle.accounts.specs.Accounts.{ALLOCATE, CLAIM, FREE-ALL, permissible, permissions, permits, cleared, left-permissions, clear-permissions}
 use Rattle.accounts.specs.Accounts.{remaining, spent, set-remaining, less-paid, paid-back, charged, refunded, charge, refund}
 use Rattle.accounts.specs.Accounts.{used, unused, is-for, first-from, find-hold, lowest-unused, hold-at, put-hold, drop-hold, record-of, drop-records}
 
@@ -74,6 +75,26 @@ refund-rows = (refl, refl, refl, refl)
 pub spent-rows : (map (λ n. spent 1 (charge 1 n five)) (0 ∷ 4 ∷ 5 ∷ []) ≡ 0 ∷ 4 ∷ 5 ∷ []) × (spent 1 (refund 1 1 five) ≡ 0) × (spent QUOTAS five ≡ 0)
 unfolding five opened remaining spent set-remaining less-paid paid-back charge refund
 spent-rows = (refl, refl, refl)
+
+-- all permissions are set at opening, by their bits; a quota that is not there has none
+pub permits-rows : (map (λ b. permits b 0 five) (ALLOCATE ∷ CLAIM ∷ FREE-ALL ∷ []) ≡ true ∷ true ∷ true ∷ [])
+    × (map (λ b. permits b QUOTAS five) (ALLOCATE ∷ CLAIM ∷ FREE-ALL ∷ []) ≡ false ∷ false ∷ false ∷ [])
+    × (map (λ n. map (λ b. permits b 1 (clear-permissions 1 n five)) (1 ∷ 2 ∷ 4 ∷ [])) (1 ∷ 2 ∷ 4 ∷ [])
+    ≡ (false ∷ true ∷ true ∷ []) ∷ (true ∷ false ∷ true ∷ []) ∷ (true ∷ true ∷ false ∷ []) ∷ [])
+unfolding five opened permits clear-permissions
+permits-rows = (refl, refl, refl)
+
+-- a permission goes where its bit is set, stays where it is not, and is never set; bits above 2 mean nothing; the last quota, and one too many
+pub clear-rows : (map (λ n. left-permissions 1 n five) (0 ∷ 1 ∷ 2 ∷ 3 ∷ 4 ∷ 5 ∷ 6 ∷ 7 ∷ 8 ∷ 4294967288 ∷ 4294967290 ∷ [])
+    ≡ 7 ∷ 6 ∷ 5 ∷ 4 ∷ 3 ∷ 2 ∷ 1 ∷ 0 ∷ 7 ∷ 7 ∷ 5 ∷ [])
+    × (map (cleared 2) (0 ∷ 1 ∷ 2 ∷ 3 ∷ 4 ∷ 5 ∷ 6 ∷ 7 ∷ []) ≡ 0 ∷ 1 ∷ 0 ∷ 1 ∷ 4 ∷ 5 ∷ 4 ∷ 5 ∷ [])
+    × (permissions (clear-permissions (QUOTAS - 1) 5 five) ≡ replicate (QUOTAS - 1) 7 ++ (2 ∷ []))
+    × (clear-permissions 1 5 five
+    ≡ with-quotas (record { grant = 5; remainder = 5; permissions = 7 } ∷ record { grant = 5; remainder = 5; permissions = 2 } ∷ replicate (QUOTAS - 2) (granted 5)) five)
+    × (left-permissions QUOTAS 0 five ≡ 0) × (clear-permissions QUOTAS 7 five ≡ five) × (clear-permissions QUOTAS 7 too-many ≡ too-many)
+    × (map permissible (0 ∷ 7 ∷ 8 ∷ 255 ∷ []) ≡ true ∷ true ∷ false ∷ false ∷ [])
+unfolding five too-many opened clear-permissions
+clear-rows = (refl, refl, refl, refl, refl, refl, refl, refl)
 
 -- each number of a record makes it used
 pub used-rows : map used (record { serial = 0; quota = 0; count = 0 } ∷ record { serial = 1; quota = 0; count = 0 }

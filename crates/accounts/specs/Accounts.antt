@@ -1,5 +1,5 @@
 -- The accounts (rules, section 3): quotas, the last serial given, and hold records.
-use Prim.Native.Nat.{ℕ, suc, _+_, _-_, _^_}
+use Prim.Native.Nat.{ℕ, suc, _+_, _*_, _-_, _/_, _%_, _^_}
 use mathlib.Core.List.{List, [], _∷_, map}
 use mathlib.Core.Bool.{Bool, not, cond, _&&_}
 use lib.ListN.{getD, set, replicate}
@@ -17,9 +17,21 @@ QUOTAS = 32
 abbrev pub HOLDS : ℕ
 HOLDS = 512
 
--- rule 15.1: the number of a quota that has all three permissions
+-- rule 15.1: the three permissions by their bits, the number of a quota that has all of them, and which numbers are permissions
+abbrev pub ALLOCATE : ℕ
+ALLOCATE = 1
+
+abbrev pub CLAIM : ℕ
+CLAIM = 2
+
+abbrev pub FREE-ALL : ℕ
+FREE-ALL = 4
+
 abbrev pub ALL-PERMISSIONS : ℕ
 ALL-PERMISSIONS = 7
+
+abbrev pub permissible : ℕ → Bool
+permissible p = leb p ALL-PERMISSIONS
 
 -- rule 3.8: zeros
 abbrev pub zero-quota : Quota
@@ -51,7 +63,11 @@ with-holds hs k = record { quotas = k .quotas; «last_serial» = k .«last_seria
 abbrev pub grants : Accounts → List ℕ
 grants k = map (λ x. x .grant) (k .quotas)
 
--- rule 8.3, the accounts at opening: each grant is there whole, every permission is set, no serial has been given and no record is used
+-- what the quotas may do
+abbrev pub permissions : Accounts → List ℕ
+permissions k = map (λ x. x .permissions) (k .quotas)
+
+-- rules 8.3 and 15.3, the accounts at opening: each grant is there whole, every permission is set, no serial has been given and no record is used
 abbrev pub granted : ℕ → Quota
 granted g = record { grant = g; remainder = g; permissions = ALL-PERMISSIONS }
 
@@ -92,6 +108,24 @@ charge q n k = cond (ltb q QUOTAS) (set-remaining q (less-paid n (remaining q k)
 
 unfoldable pub refund : ℕ → ℕ → Accounts → Accounts
 refund q n k = cond (ltb q QUOTAS) (set-remaining q (paid-back n (remaining q k)) k) k
+
+-- whether the quota has the permission with this bit; one that does not exist has none
+unfoldable pub permits : ℕ → ℕ → Accounts → Bool
+permits bit q k = eqb (quota-at q k .permissions / bit % 2) 1
+
+-- rule 15.4: the permissions p without those whose bit, 0 to 2, is set in n
+abbrev pub bit-left : ℕ → ℕ → ℕ
+bit-left n p = cond (eqb (n % 2) 0) (p % 2) 0
+
+abbrev pub cleared : ℕ → ℕ → ℕ
+cleared n p = bit-left n p + (2 * bit-left (n / 2) (p / 2) + 4 * bit-left (n / 4) (p / 4))
+
+-- what clearing leaves to the quota with a number; and the accounts then, where there is no such quota as they were
+abbrev pub left-permissions : ℕ → ℕ → Accounts → ℕ
+left-permissions q n k = cleared n (quota-at q k .permissions)
+
+unfoldable pub clear-permissions : ℕ → ℕ → Accounts → Accounts
+clear-permissions q n k = cond (ltb q QUOTAS) (with-quotas (set (k .quotas) q (with-permissions (left-permissions q n k) (quota-at q k))) k) k
 
 -- rule 3.3: a record is used if one of its numbers is not 0
 unfoldable pub used : Hold → Bool

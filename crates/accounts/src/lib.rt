@@ -1,6 +1,8 @@
 // The accounts of a shared heap: quotas, the last serial and hold records, taken by value and given back by value (rules, section 3).
+ghost use Prim.Native.Nat.{_<_};
 ghost use mathlib.Core.Path.{_≡_};
 ghost use Rattle.accounts.specs.Accounts.{zero-hold, zero-accounts, charged, refunded, used, is-for, dropped, opened, remaining, spent, charge, refund, with-holds, with-last-serial};
+ghost use Rattle.accounts.specs.Accounts.{with-permissions, bit-left, cleared, left-permissions, clear-permissions};
 ghost use Rattle.accounts.specs.Accounts.{find-hold, lowest-unused, hold-at, put-hold, drop-hold, drop-records};
 
 // The number of quotas.
@@ -12,7 +14,10 @@ pub const HOLDS: usize = 512;
 // The greatest number of 32 bits, which a remainder can be.
 pub const GREATEST_NUMBER: u32 = 4294967295;
 
-// The permissions of a quota that has all three.
+// The three permissions of a quota, by their bits, and the number of a quota that has all of them (rule 15.1).
+pub const ALLOCATE: u8 = 1;
+pub const CLAIM: u8 = 2;
+pub const FREE_ALL: u8 = 4;
 pub const ALL_PERMISSIONS: u8 = 7;
 
 // What a quota was granted at the opening, what remains of it, and its permissions by their bits (rules, section 15).
@@ -45,7 +50,38 @@ pub enum Place {
     Nothing,
 }
 
+// Bit 0 of the permissions; 0 where bit 0 of the other number is set.
+fn bit_left(bits: u32, permissions: u8) -> u8
+    ensures { λ r. ⌜ (r ≡ bit-left bits permissions) × (r < 2) ⌝ }
+{
+    if bits % 2 == 0 {
+        return permissions % 2;
+    }
+    0
+}
+
+// The permissions without those whose bit, 0 to 2, is set in the other number.
+fn cleared(bits: u32, permissions: u8) -> u8
+    ensures { λ r. ⌜ r ≡ cleared bits permissions ⌝ }
+{
+    let allocate = bit_left(bits, permissions);
+    let claim = bit_left(bits / 2, permissions / 2);
+    let free_all = bit_left(bits / 4, permissions / 4);
+    allocate + (2 * claim + 4 * free_all)
+}
+
 impl Quota {
+    // The quota with other permissions.
+    fn with_permissions(self, permissions: u8) -> Quota
+        ensures { λ r. ⌜ r ≡ with-permissions permissions self ⌝ }
+    {
+        Quota {
+            grant: self.grant,
+            remainder: self.remainder,
+            permissions: permissions,
+        }
+    }
+
     // The quota after it has paid; as it is where it has less than that.
     fn charged(self, amount: u32) -> Quota
         ensures { λ r. ⌜ r ≡ charged amount self ⌝ }
@@ -210,6 +246,30 @@ impl Accounts {
         if q < QUOTAS {
             let entry = self.quotas[q];
             self.quotas[q] = entry.refunded(amount);
+        }
+        self
+    }
+
+    // What clearing permissions leaves to a quota (rule 15.4); 0 where there is no such quota.
+    pub fn left_permissions(self, quota: u32, bits: u32) -> u8
+        ensures { λ r. ⌜ r ≡ left-permissions quota bits self ⌝ }
+    {
+        let number = quota as usize;
+        if number < QUOTAS {
+            return cleared(bits, self.quotas[number].permissions);
+        }
+        0
+    }
+
+    // The quota's permissions are cleared so; where there is no such quota, nothing changes.
+    pub fn clear_permissions(mut self, quota: u32, bits: u32) -> Accounts
+        ensures { λ r. ⌜ r ≡ clear-permissions quota bits self ⌝ }
+    {
+        let q = quota as usize;
+        if q < QUOTAS {
+            let entry = self.quotas[q];
+            let left = cleared(bits, entry.permissions);
+            self.quotas[q] = entry.with_permissions(left);
         }
         self
     }

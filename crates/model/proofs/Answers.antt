@@ -1,4 +1,4 @@
--- The answers' values tell every two answers apart: the eleven refusals have the numbers 1 to 11, one each, and an answer that is no refusal
+-- The answers' values tell every two answers apart: the twelve refusals have the numbers 1 to 12, one each, and an answer that is no refusal
 -- has 0 there and what it gives beside it.
 -- A number gives its refusal back, which shows that no two have the same; of an answer, the refusal's number and the value give it back.
 -- And `answer-of` loses nothing: the answer that it gives to what `step` gives has step's values, so two outcomes of a call with different values
@@ -16,7 +16,7 @@ use Rattle.accounts.specs.declared.Accounts.{Accounts}
 use Rattle.model.specs.Lists.{all}
 use Rattle.model.specs.Refusals.{Line, _when_, line-number, first-refusal}
 use Rattle.model.specs.Calls.{Outcome, unless}
-use Rattle.model.specs.Calls.{allocate, allocate-array, claim, release, free-all, reallocate, lend, remaining-of, can-release, list-block}
+use Rattle.model.specs.Calls.{allocate, allocate-array, claim, release, free-all, reallocate, lend, remaining-of, can-release, list-block, clear}
 use Rattle.model.specs.Step.{Answered, step, performed}
 use Rattle.model.specs.Answers.{Values, refusal-number, zero-handle, zero-range, refused, accepted, listed}
 use Rattle.model.specs.Answers.{verdict-values, handle-values, amount-values, range-values, block-values, answer-values}
@@ -25,7 +25,7 @@ use Rattle.model.proofs.Bools.{and-left, and-right}
 use Rattle.model.proofs.Refusals.{lines-of, tables}
 use Rattle.model.specs.declared.ListedBlock.{ListedBlock}
 use Rattle.model.specs.declared.Refusal.{Refusal}
-use Rattle.model.specs.declared.Refusal.the-variants.{HeapLength, Inconsistent, QuotaNumber, ObjectLength, NoSuchObject, NotHeld, CountLimit, QuotaExceeded, HoldsExhausted, SerialsExhausted, NoSpace}
+use Rattle.model.specs.declared.Refusal.the-variants.{HeapLength, Inconsistent, QuotaNumber, ObjectLength, NoSuchObject, NotHeld, CountLimit, QuotaExceeded, HoldsExhausted, SerialsExhausted, NoSpace, NotPermitted}
 use Rattle.model.specs.declared.Verdict.{Verdict}
 use Rattle.model.specs.declared.Verdict.the-variants.{Accepted, Refused as NotAccepted}
 use Rattle.model.specs.declared.HandleAnswer.{HandleAnswer}
@@ -39,14 +39,14 @@ use Rattle.model.specs.declared.BlockAnswer.the-variants.{Listed, NoBloc
 use Rattle.model.specs.declared.Answer.{Answer}
 use Rattle.model.specs.declared.Answer.the-variants.{Verdict as OfVerdict, Handle as OfHandle, Amount as OfAmount, Range as OfRange, Block as OfBlock}
 use Rattle.model.specs.declared.Call.{Call}
-use Rattle.model.specs.declared.Call.the-variants.{Allocate, AllocateArray, Claim, Release, FreeAll, Reallocate, Lend, Remaining, CanRelease, ListBlock}
+use Rattle.model.specs.declared.Call.the-variants.{Allocate, AllocateArray, Claim, Release, FreeAll, Reallocate, Lend, Remaining, CanRelease, ListBlock, ClearPermissions}
 
--- every number from 1 to 11 is a refusal's
-pub refusal-numbers : map refusal-number refusals ≡ 1 ∷ 2 ∷ 3 ∷ 4 ∷ 5 ∷ 6 ∷ 7 ∷ 8 ∷ 9 ∷ 10 ∷ 11 ∷ []
+-- every number from 1 to 12 is a refusal's
+pub refusal-numbers : map refusal-number refusals ≡ 1 ∷ 2 ∷ 3 ∷ 4 ∷ 5 ∷ 6 ∷ 7 ∷ 8 ∷ 9 ∷ 10 ∷ 11 ∷ 12 ∷ []
 refusal-numbers = refl
 
 -- and a refusal's number is one of those, and the number of no other
-pub refusal-number-is : (r : Refusal) → (refusal-at (refusal-number r) ≡ r) × (1 ≤ refusal-number r) × (refusal-number r ≤ 11)
+pub refusal-number-is : (r : Refusal) → (refusal-at (refusal-number r) ≡ r) × (1 ≤ refusal-number r) × (refusal-number r ≤ 12)
 refusal-number-is HeapLength = (refl, omega arith, omega arith)
 refusal-number-is Inconsistent = (refl, omega arith, omega arith)
 refusal-number-is QuotaNumber = (refl, omega arith, omega arith)
@@ -58,6 +58,7 @@ refusal-number-is QuotaExceeded = (refl, omega arith, omega arith)
 refusal-number-is HoldsExhausted = (refl, omega arith, omega arith)
 refusal-number-is SerialsExhausted = (refl, omega arith, omega arith)
 refusal-number-is NoSpace = (refl, omega arith, omega arith)
+refusal-number-is NotPermitted = (refl, omega arith, omega arith)
 
 -- what a function undoes tells its arguments apart
 told-apart : {A B : Type 0} (f : A → B) (back : B → A) → ((a : A) → back (f a) ≡ a) → (a c : A) → f a ≡ f c → a ≡ c
@@ -127,11 +128,13 @@ pub answer-rows : (answer-of (Allocate 1 8) accepted ≡ OfHandle (Given zero-ha
     × (answer-of (Remaining 1) accepted ≡ OfAmount (Amount 0))
     × (answer-of (CanRelease 1 zero-handle) accepted ≡ OfVerdict Accepted)
     × (answer-of (ListBlock 0) accepted ≡ OfBlock NoBlock)
+    × (answer-of (ClearPermissions 1 8) accepted ≡ OfAmount (Amount 0))
     × (answer-of (Lend zero-handle) (refused 5) ≡ OfRange (NotLent NoSuchObject))
     × (answer-of (CanRelease 1 zero-handle) (refused 6) ≡ OfVerdict (NotAccepted NotHeld))
     × (answer-of (Allocate 1 8) (refused 11) ≡ OfHandle (NotGiven NoSpace))
+    × (answer-of (FreeAll 1) (refused 12) ≡ OfAmount (NoAmount NotPermitted))
 unfolding answer-of
-answer-rows = (refl, refl, refl, refl, refl, refl, refl, refl, refl, refl, refl, refl, refl)
+answer-rows = (refl, refl, refl, refl, refl, refl, refl, refl, refl, refl, refl, refl, refl, refl, refl)
 
 -- a number of the table: the number of the refusal that it stands for
 abbrev pub is-refusal : ℕ → Bool
@@ -157,6 +160,7 @@ lines-are-refusals unit (Lend h) s k = refl
 lines-are-refusals unit (Remaining q) s k = refl
 lines-are-refusals unit (CanRelease q h) s k = refl
 lines-are-refusals unit (ListBlock at) s k = refl
+lines-are-refusals unit (ClearPermissions q n) s k = refl
 
 -- an answer that is made of values has these values
 abbrev pub Faithful : (Values → Answer) → Values → Type 0
@@ -201,7 +205,7 @@ block-lists (some b) = refl
 -- the answer to what `step` gives has step's values
 pub answer-of-values : (unit : ℕ → ℕ) (c : Call) (s : List ℕ) (k : Accounts) → Faithful (answer-of c) (step unit c s k .values)
 unfolding answer-of answer-values verdict-values handle-values amount-values range-values
-    step allocate allocate-array claim release free-all reallocate lend remaining-of can-release list-block
+    step allocate allocate-array claim release free-all reallocate lend remaining-of can-release list-block clear
 answer-of-values unit (Allocate q n) s k = faithful (λ v. OfHandle (handle-from v)) handle-refuses s k _ refl _ (lines-are-refusals unit (Allocate q n) s k)
 answer-of-values unit (AllocateArray q count size) s k =
     faithful (λ v. OfHandle (handle-from v)) handle-refuses s k _ refl _ (lines-are-refusals unit (AllocateArray q count size) s k)
@@ -216,6 +220,8 @@ answer-of-values unit (CanRelease q h) s k =
     faithful (λ v. OfVerdict (verdict-from v)) verdict-refuses s k _ refl _ (lines-are-refusals unit (CanRelease q h) s k)
 answer-of-values unit (ListBlock at) s k =
     faithful (λ v. OfBlock (block-from v)) block-refuses s k _ (block-lists _) _ (lines-are-refusals unit (ListBlock at) s k)
+answer-of-values unit (ClearPermissions q n) s k =
+    faithful (λ v. OfAmount (amount-from v)) amount-refuses s k _ refl _ (lines-are-refusals unit (ClearPermissions q n) s k)
 
 -- so answers to a call tell apart what `step` gives to it, here and there
 pub answer-of-injective : (unit : ℕ → ℕ) (c : Call) (s s′ : List ℕ) (k k′ : Accounts)

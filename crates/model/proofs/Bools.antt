@@ -24,6 +24,10 @@ pub and-no : (a b : Bool) → b ≡ false → (a && b) ≡ false
 and-no true b e = e
 and-no false b e = refl
 
+pub and-yes : (a : Bool) → (a && true) ≡ a
+and-yes true = refl
+and-yes false = refl
+
 pub or-cases : (a b : Bool) → (a || b) ≡ true → (a ≡ true) ⊎ (b ≡ true)
 or-cases true b e = inl refl
 or-cases false b e = inr e

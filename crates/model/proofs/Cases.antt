@@ -5,7 +5,7 @@ use mathlib.Core.List.{map}
 use Rattle.rounding.specs.Rounding.{unit}
 use Rattle.model.specs.Tables.{run, values-of, got, wanted, parts, accounts-of, written}
 use Rattle.model.specs.Cases.{opened-heap, block, with-gaps, used-heap, next-serial-last, shared, held-times, several, sixteen, copying}
-use Rattle.model.specs.Cases.{lengths, allocations, wide, claims, releases, reallocations, walks}
+use Rattle.model.specs.Cases.{lengths, allocations, wide, claims, releases, reallocations, walks, clearings}
 use Rattle.model.proofs.Computing.{computing}
 
 pub lengths-run : map (got unit) lengths ≡ map wanted lengths
@@ -35,3 +35,7 @@ reallocations-run = refl
 pub walks-run : map (got unit) walks ≡ map wanted walks
 unfolding computing run values-of got wanted parts accounts-of opened-heap block with-gaps walks
 walks-run = refl
+
+pub clearings-run : map (got unit) clearings ≡ map wanted clearings
+unfolding computing run values-of got wanted parts accounts-of opened-heap clearings
+clearings-run = refl

@@ -1,5 +1,5 @@
 -- Every definition that a computed run unfolds, under one name.
-use Rattle.accounts.specs.Accounts.{opened, remaining, set-remaining, less-paid, paid-back, charge, refund, used, unused, is-for, drop-records}
+use Rattle.accounts.specs.Accounts.{opened, remaining, set-remaining, less-paid, paid-back, charge, refund, used, unused, is-for, drop-records, permits, clear-permissions}
 use Rattle.layout.specs.Bytes.{bytes, number}
 use Rattle.layout.specs.Blocks.{header-bytes, read-header, starts-block, render-from, render, read-block, in-front, parse-from, parse}
 use Rattle.rounding.specs.Rounding.{unit, object-length, alignment}
@@ -8,12 +8,12 @@ use Rattle.model.specs.Objects.{objects-from, objects, blocks-of, object
 use Rattle.model.specs.Consistent.{allowed, long-enough, starts-free, free-apart, well-cut, serials-differ, serials-given, record-valid, records-differ, is-of, held, has-record, charged-for, charges, balanced-from, consistent-blocks, consistent-parsed, consistent, in-units, sound}
 use Rattle.model.specs.Space.{outside-occupied, suitable, first-candidate, lowest-base, left-over, cut-block, carve-from, carve, vacate, vacate-unheld, join-front, join-free, settle, body-of, copy-into}
 use Rattle.model.specs.Holds.{count-of, take-record, raise-count, less-one, lower-count}
-use Rattle.model.specs.Refusals.{first-refusal, line-1, line-2, line-3, line-4, line-5, line-6, line-7, line-8, line-9, line-10, only-if, claims-first, open-lines, check-lines, quota-lines, lend-lines, release-lines, claim-lines, base-for, line-11, allocate-lines, reallocate-lines}
-use Rattle.model.specs.Calls.{unless, fresh, open-heap, allocated, claimed, given-back, released, freed, copied, new-object, allocate, allocate-array, claim, release, free-all, reallocate, lend, remaining-of, can-release, check, listing-from, list-block}
+use Rattle.model.specs.Refusals.{first-refusal, line-1, line-2, line-3, line-4, line-5, line-6, line-7, line-8, line-9, line-10, line-12, only-if, claims-first, open-lines, check-lines, quota-lines, free-all-lines, lend-lines, release-lines, claim-lines, base-for, line-11, allocate-lines, reallocate-lines}
+use Rattle.model.specs.Calls.{unless, fresh, open-heap, allocated, claimed, given-back, released, freed, copied, new-object, allocate, allocate-array, claim, release, free-all, reallocate, lend, remaining-of, can-release, check, listing-from, list-block, clear}
 use Rattle.model.specs.Step.{step}
 
 unfoldable pub computing : Unit {0}
-unfolding opened remaining set-remaining less-paid paid-back charge refund used unused is-for
+unfolding opened remaining set-remaining less-paid paid-back charge refund used unused is-for permits clear-permissions
     bytes number header-bytes read-header starts-block render-from render read-block in-front parse-from parse
     unit object-length alignment
     all any total first change-first is-none or-else
@@ -21,7 +21,7 @@ unfolding opened remaining set-remaining less-paid paid-back charge refund used 
     allowed long-enough starts-free free-apart well-cut serials-differ serials-given record-valid records-differ is-of held has-record charged-for charges balanced-from consistent-blocks consistent-parsed consistent in-units sound
     outside-occupied suitable first-candidate lowest-base left-over cut-block carve-from carve vacate vacate-unheld join-front join-free settle body-of copy-into
     count-of take-record raise-count less-one lower-count drop-records
-    first-refusal line-1 line-2 line-3 line-4 line-5 line-6 line-7 line-8 line-9 line-10 only-if claims-first open-lines check-lines quota-lines lend-lines release-lines claim-lines base-for line-11 allocate-lines reallocate-lines
-    unless fresh open-heap allocated claimed given-back released freed copied new-object allocate allocate-array claim release free-all reallocate lend remaining-of can-release check listing-from list-block
+    first-refusal line-1 line-2 line-3 line-4 line-5 line-6 line-7 line-8 line-9 line-10 line-12 only-if claims-first open-lines check-lines quota-lines free-all-lines lend-lines release-lines claim-lines base-for line-11 allocate-lines reallocate-lines
+    unless fresh open-heap allocated claimed given-back released freed copied new-object allocate allocate-array claim release free-all reallocate lend remaining-of can-release check listing-from list-block clear
     step
 computing = tt

@@ -17,7 +17,7 @@ use borrow.Author.Tests.{leb-true, le-leb, ltb-true, lt-ltb, eqb-true, eqb-false
 use Rattle.accounts.specs.declared.Quota.{Quota}
 use Rattle.accounts.specs.declared.Hold.{Hold}
 use Rattle.accounts.specs.declared.Accounts.{Accounts}
-use Rattle.accounts.specs.Accounts.{QUOTAS, zero-quota, zero-hold, used, is-for}
+use Rattle.accounts.specs.Accounts.{QUOTAS, zero-quota, zero-hold, used, is-for, permissible, permissions}
 use Rattle.layout.specs.Bytes.{Octets}
 use Rattle.layout.specs.Blocks.{Block, size, live, render, parse, AllWritable}
 use Rattle.layout.proofs.Parse.{parse-is}
@@ -329,11 +329,15 @@ consistent-is s k o = (
   λ c. consistent-exactly s k .1 (c .blocks, parse-is s (c .blocks) o .1 (c .cut, c .writable), facts-exactly (c .blocks) k .1 (c .facts)),
 )
 
--- what is sound is consistent, and each of its objects fits its unit
+-- what is sound is consistent, each of its objects fits its unit, and each quota's permissions are such
 pub sound-consistent : (unit : ℕ → ℕ) (s : List ℕ) (k : Accounts) → sound unit s k ≡ true → consistent s k ≡ true
 unfolding sound
 sound-consistent unit s k e = and-left (consistent s k) _ e
 
 pub sound-fits : (unit : ℕ → ℕ) (s : List ℕ) (k : Accounts) → sound unit s k ≡ true → (o : Handle) → List·Memᴰ o (objects-of s) → in-units unit o ≡ true
 unfolding sound
-sound-fits unit s k e = all-member (in-units unit) (objects-of s) (and-right (consistent s k) _ e)
+sound-fits unit s k e = all-member (in-units unit) (objects-of s) (and-left (all (in-units unit) (objects-of s)) _ (and-right (consistent s k) _ e))
+
+pub sound-permissible : (unit : ℕ → ℕ) (s : List ℕ) (k : Accounts) → sound unit s k ≡ true → all permissible (permissions k) ≡ true
+unfolding sound
+sound-permissible unit s k e = and-right (all (in-units unit) (objects-of s)) _ (and-right (consistent s k) _ e)

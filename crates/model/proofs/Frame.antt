@@ -8,7 +8,7 @@ use native.Mathlib.Omega.{arith}
 use mathlib.Core.List.{List, [], _∷_, map}
 use mathlib.Core.Bool.{Bool, true, false, not, cond, _&&_, false≢true}
 use mathlib.Core.Logic.{_↔_}
-use lib.ListN.{length, getD, List·getD-map, length-map}
+use lib.ListN.{length, getD, set, List·getD-map, length-map}
 use lib.Seq.{getD-set-other, map-set-same}
 use lib.Dec.{ltb, eqb}
 use borrow.Author.Tests.{not-true, eqb-false}
@@ -16,6 +16,7 @@ use Rattle.accounts.specs.declared.Quota.{Quota}
 use Rattle.accounts.specs.declared.Hold.{Hold}
 use Rattle.accounts.specs.declared.Accounts.{Accounts}
 use Rattle.accounts.specs.Accounts.{QUOTAS, zero-quota, zero-hold, with-remainder, quota-at, remaining, set-remaining, less-paid, paid-back, charge, refund, with-holds, used, unused, is-for, drop-records}
+use Rattle.accounts.specs.Accounts.{with-quotas, with-permissions, left-permissions, clear-permissions}
 use Rattle.model.specs.Lists.{change-first}
 use Rattle.model.specs.Holds.{with-count, take-record, raise-count, less-one, lower-count}
 use Rattle.model.specs.Refusals.{claims-first}
@@ -74,6 +75,21 @@ module _ (q : ℕ) (p : ℕ → Bool) (k : Accounts) where
   pub refund-keeps : (n : ℕ) → Kept (eqb q) p k (refund q n k)
   unfolding refund
   refund-keeps n = when-keeps (ltb q QUOTAS) (paid-back n (remaining q k))
+
+-- cleared permissions are one quota's
+pub clear-keeps : (q n : ℕ) (p : ℕ → Bool) (k : Accounts) → Kept (eqb q) p k (clear-permissions q n k)
+unfolding clear-permissions
+clear-keeps q n p k = go (ltb q QUOTAS)
+  where
+    go : (t : Bool) → Kept (eqb q) p k (cond t (with-quotas (set (k .quotas) q (with-permissions (left-permissions q n k) (quota-at q k))) k) k)
+    go false = kept-same (eqb q) p k
+    go true =
+        record {
+          grants = map-set-same (λ (x : Quota). x .grant) (k .quotas) q (with-permissions (left-permissions q n k) (quota-at q k)) zero-quota refl;
+          others = λ j e. getD-set-other (k .quotas) q j (with-permissions (left-permissions q n k) (quota-at q k)) zero-quota (λ x. eqb-false q j e (sym x));
+          records = λ i e. refl;
+          places = refl;
+        }
 
 -- a place is the first whose record passes a test
 unfoldable pub first-at : (Hold → Bool) → List Hold → ℕ → Bool

@@ -21,7 +21,7 @@ use Rattle.model.specs.Lists.{all, any, total}
 use Rattle.model.specs.Answers.{amount-of}
 use Rattle.model.specs.Objects.{blocks-of, objects, objects-of}
 use Rattle.model.specs.Consistent.{consistent, has-record, charged-for, charges}
-use Rattle.model.specs.Refusals.{first-refusal, quota-lines}
+use Rattle.model.specs.Refusals.{first-refusal, free-all-lines}
 use Rattle.model.specs.Calls.{State, leaves, unless, unchanged, state-of, freed, free-all}
 use Rattle.model.specs.declared.Handle.{Handle}
 use Rattle.model.proofs.Bools.{and-both}
@@ -64,10 +64,10 @@ module _ (s : List ℕ) (k : Accounts) (o : Octets s) (c : consistent s k ≡ tr
       }
 
   -- free-all leaves heap and accounts as they are and answers 0
-  pub free-all-none : (unit : ℕ → ℕ) → free-all unit s k q ≡ unless (first-refusal (quota-lines unit s k q)) s k (unchanged s k (amount-of 0))
+  pub free-all-none : (unit : ℕ → ℕ) → free-all unit s k q ≡ unless (first-refusal (free-all-lines unit s k q)) s k (unchanged s k (amount-of 0))
   unfolding free-all
   free-all-none unit =
       let again : render (blocks-of s) ≡ s = parse-is s (blocks-of s) o .0 (consistent-cut s k c .0) .0 in
       rw (charges-none q (k .holds) none (objects-of s))
-      (ap (λ (t : State). unless (first-refusal (quota-lines unit s k q)) s k (leaves t (amount-of 0))) freed-none
-      ∙ ap (λ (x : List ℕ). unless (first-refusal (quota-lines unit s k q)) s k (unchanged x k (amount-of 0))) again)
+      (ap (λ (t : State). unless (first-refusal (free-all-lines unit s k q)) s k (leaves t (amount-of 0))) freed-none
+      ∙ ap (λ (x : List ℕ). unless (first-refusal (free-all-lines unit s k q)) s k (unchanged x k (amount-of 0))) again)

@@ -14,6 +14,7 @@ pub mod Settle
 pub mod Touched
 pub mod Frame
 pub mod StepFrame
+pub mod Permissions
 pub mod Refusals
 pub mod Answers
 pub mod Consistent

@@ -5,8 +5,8 @@ use mathlib.Core.List.{map}
 use Rattle.rounding.specs.Rounding.{unit}
 use Rattle.model.specs.Tables.{run, values-of, got, wanted, parts, accounts-of}
 use Rattle.model.specs.Cases.{block}
-use Rattle.model.specs.Lines.{opening, every-call, one-block, each-refused, filled-from, holders, records-from, full-heap, full-accounts, four-accounts, four-objects}
-use Rattle.model.specs.Lines.{heap-lengths, openings, first-lines, full-lines, last-lines}
+use Rattle.model.specs.Lines.{opening, every-call, one-block, each-refused, filled-from, holders, records-from, full-heap, full-accounts, four-accounts, four-objects, barred-accounts, zero-state}
+use Rattle.model.specs.Lines.{heap-lengths, openings, first-lines, full-lines, last-lines, permission-lines}
 use Rattle.model.proofs.Computing.{computing}
 
 pub openings-run : map opening heap-lengths ≡ openings
@@ -24,3 +24,7 @@ full-lines-run = refl
 pub last-lines-run : map (got unit) last-lines ≡ map wanted last-lines
 unfolding computing run values-of got wanted accounts-of filled-from holders records-from four-accounts four-objects last-lines
 last-lines-run = refl
+
+pub permission-lines-run : map (got unit) permission-lines ≡ map wanted permission-lines
+unfolding computing run values-of got wanted parts accounts-of block filled-from holders records-from barred-accounts zero-state permission-lines
+permission-lines-run = refl

@@ -15,12 +15,12 @@ use Rattle.accounts.specs.declared.Accounts.{Accounts}
 use Rattle.accounts.specs.Accounts.{zero-accounts}
 use Rattle.model.specs.Lists.{all, any}
 use Rattle.model.specs.Answers.{Values, refused}
-use Rattle.model.specs.Refusals.{Line, _when_, line-number, line-holds, first-refusal, line-1, line-2, line-3, line-4, line-5, line-6, line-7, line-8, line-9, line-10, line-11, only-if, open-lines, check-lines, quota-lines, lend-lines, release-lines, claim-lines, allocate-lines, reallocate-lines}
-use Rattle.model.specs.Calls.{Outcome, unless, unchanged, open-heap, allocate, allocate-array, claim, release, free-all, reallocate, lend, remaining-of, can-release, check, list-block}
+use Rattle.model.specs.Refusals.{Line, _when_, line-number, line-holds, first-refusal, line-1, line-2, line-3, line-4, line-5, line-6, line-7, line-8, line-9, line-10, line-11, line-12, only-if, open-lines, check-lines, quota-lines, free-all-lines, lend-lines, release-lines, claim-lines, allocate-lines, reallocate-lines}
+use Rattle.model.specs.Calls.{Outcome, unless, unchanged, open-heap, allocate, allocate-array, claim, release, free-all, reallocate, lend, remaining-of, can-release, check, list-block, clear}
 use Rattle.model.specs.Step.{step}
 use Rattle.model.specs.declared.Handle.{Handle}
 use Rattle.model.specs.declared.Call.{Call}
-use Rattle.model.specs.declared.Call.the-variants.{Allocate, AllocateArray, Claim, Release, FreeAll, Reallocate, Lend, Remaining, CanRelease, ListBlock}
+use Rattle.model.specs.declared.Call.the-variants.{Allocate, AllocateArray, Claim, Release, FreeAll, Reallocate, Lend, Remaining, CanRelease, ListBlock, ClearPermissions}
 use Rattle.model.proofs.Bools.{and-left, and-right}
 
 -- no line has the number 0, which stands for no refusal
@@ -70,8 +70,8 @@ accepted-exactly ls p = (none-holds ls p, no-refusal ls)
 
 -- the table and each call's lines of it, under one name
 unfoldable pub tables : Unit {0}
-unfolding line-1 line-2 line-3 line-4 line-5 line-6 line-7 line-8 line-9 line-10 line-11 only-if
-    open-lines check-lines quota-lines lend-lines release-lines claim-lines allocate-lines reallocate-lines
+unfolding line-1 line-2 line-3 line-4 line-5 line-6 line-7 line-8 line-9 line-10 line-11 line-12 only-if
+    open-lines check-lines quota-lines free-all-lines lend-lines release-lines claim-lines allocate-lines reallocate-lines
 tables = tt
 
 module _ (unit : ℕ → ℕ) (s : List ℕ) (k : Accounts) (q : ℕ) (h : Handle) (n : ℕ) where
@@ -79,13 +79,14 @@ module _ (unit : ℕ → ℕ) (s : List ℕ) (k : Accounts) (q : ℕ) (h : Handl
   pub columns : (map line-number (open-lines s) ≡ 1 ∷ [])
       × (map line-number (check-lines unit s k) ≡ 1 ∷ 2 ∷ [])
       × (map line-number (quota-lines unit s k q) ≡ 1 ∷ 2 ∷ 3 ∷ [])
-      × (map line-number (allocate-lines unit s k q n) ≡ 1 ∷ 2 ∷ 3 ∷ 4 ∷ 8 ∷ 9 ∷ 10 ∷ 11 ∷ [])
+      × (map line-number (free-all-lines unit s k q) ≡ 1 ∷ 2 ∷ 3 ∷ 12 ∷ [])
+      × (map line-number (allocate-lines unit s k q n) ≡ 1 ∷ 2 ∷ 3 ∷ 12 ∷ 4 ∷ 8 ∷ 9 ∷ 10 ∷ 11 ∷ [])
       × (map line-number (lend-lines unit s k h) ≡ 1 ∷ 2 ∷ 5 ∷ [])
       × (map line-number (release-lines unit s k q h) ≡ 1 ∷ 2 ∷ 3 ∷ 5 ∷ 6 ∷ [])
-      × (map line-number (claim-lines unit s k q h) ≡ 1 ∷ 2 ∷ 3 ∷ 5 ∷ 7 ∷ 8 ∷ 9 ∷ [])
-      × (map line-number (reallocate-lines unit s k q h n) ≡ 1 ∷ 2 ∷ 3 ∷ 4 ∷ 5 ∷ 6 ∷ 8 ∷ 9 ∷ 10 ∷ 11 ∷ [])
+      × (map line-number (claim-lines unit s k q h) ≡ 1 ∷ 2 ∷ 3 ∷ 12 ∷ 5 ∷ 7 ∷ 8 ∷ 9 ∷ [])
+      × (map line-number (reallocate-lines unit s k q h n) ≡ 1 ∷ 2 ∷ 3 ∷ 12 ∷ 4 ∷ 5 ∷ 6 ∷ 8 ∷ 9 ∷ 10 ∷ 11 ∷ [])
   unfolding tables
-  columns = (refl, refl, refl, refl, refl, refl, refl, refl)
+  columns = (refl, refl, refl, refl, refl, refl, refl, refl, refl)
 
 -- the lines of a call
 abbrev pub lines-of : (ℕ → ℕ) → Call → List ℕ → Accounts → List Line
@@ -93,12 +94,13 @@ lines-of unit (Allocate q n) s k = allocate-lines unit s k q n
 lines-of unit (AllocateArray q count size) s k = allocate-lines unit s k q (count * size)
 lines-of unit (Claim q h) s k = claim-lines unit s k q h
 lines-of unit (Release q h) s k = release-lines unit s k q h
-lines-of unit (FreeAll q) s k = quota-lines unit s k q
+lines-of unit (FreeAll q) s k = free-all-lines unit s k q
 lines-of unit (Reallocate q h n) s k = reallocate-lines unit s k q h n
 lines-of unit (Lend h) s k = lend-lines unit s k h
 lines-of unit (Remaining q) s k = quota-lines unit s k q
 lines-of unit (CanRelease q h) s k = release-lines unit s k q h
 lines-of unit (ListBlock at) s k = check-lines unit s k
+lines-of unit (ClearPermissions q n) s k = quota-lines unit s k q
 
 -- t is what `unless` gives over these lines, of which none has the number 0, with an outcome that answers no refusal
 pub record ByLines (ls : List Line) (s : List ℕ) (k : Accounts) (t : Outcome) : Type 0 where
@@ -109,7 +111,7 @@ pub record ByLines (ls : List Line) (s : List ℕ) (k : Accounts) (t : Outcome) 
 
 -- every call is given by its lines
 pub by-lines : (unit : ℕ → ℕ) (c : Call) (s : List ℕ) (k : Accounts) → ByLines (lines-of unit c s k) s k (step unit c s k)
-unfolding all tables step allocate allocate-array claim release free-all reallocate lend remaining-of can-release list-block
+unfolding all tables step allocate allocate-array claim release free-all reallocate lend remaining-of can-release list-block clear
 by-lines unit (Allocate q n) s k = record { done = _; outcome = refl; accepts = refl; numbered = refl }
 by-lines unit (AllocateArray q count size) s k = record { done = _; outcome = refl; accepts = refl; numbered = refl }
 by-lines unit (Claim q h) s k = record { done = _; outcome = refl; accepts = refl; numbered = refl }
@@ -120,6 +122,7 @@ by-lines unit (Lend h) s k = record { done = _; outcome = refl; accepts = refl; 
 by-lines unit (Remaining q) s k = record { done = _; outcome = refl; accepts = refl; numbered = refl }
 by-lines unit (CanRelease q h) s k = record { done = _; outcome = refl; accepts = refl; numbered = refl }
 by-lines unit (ListBlock at) s k = record { done = _; outcome = refl; accepts = refl; numbered = refl }
+by-lines unit (ClearPermissions q n) s k = record { done = _; outcome = refl; accepts = refl; numbered = refl }
 
 -- so are open, which hands back accounts of zeros, and the check
 pub open-by-lines : (s grants : List ℕ) → ByLines (open-lines s) s zero-accounts (open-heap s grants)
@@ -186,11 +189,11 @@ abbrev pub Kept : List ℕ → Accounts → Outcome → Type 0
 Kept s k t = (t .heap ≡ s) × (t .accounts ≡ k)
 
 module _ (unit : ℕ → ℕ) (s : List ℕ) (k : Accounts) (q : ℕ) (h : Handle) (at : ℕ) where
-  -- lend, remaining, can release, the listing and the check change nothing, accepted or not; claim never changes the heap
+  -- lend, remaining, can release, the listing and the check change nothing, accepted or not; claim and clearing permissions never change the heap
   pub changes-nothing : Kept s k (lend unit s k h) × Kept s k (remaining-of unit s k q) × Kept s k (can-release unit s k q h) × Kept s k (list-block unit s k at) × Kept s k (check unit s k)
-      × (claim unit s k q h .heap ≡ s)
-  unfolding lend remaining-of can-release list-block check claim
-  changes-nothing = (kept _ _, kept _ _, kept _ _, kept _ _, kept _ _, unless-has (λ t. t .heap ≡ s) _ s k _ refl (λ m. refl))
+      × (claim unit s k q h .heap ≡ s) × (clear unit s k q at .heap ≡ s)
+  unfolding lend remaining-of can-release list-block check claim clear
+  changes-nothing = (kept _ _, kept _ _, kept _ _, kept _ _, kept _ _, unless-has (λ t. t .heap ≡ s) _ s k _ refl (λ m. refl), unless-has (λ t. t .heap ≡ s) _ s k _ refl (λ m. refl))
     where
       kept : (n : ℕ) (v : Values) → Kept s k (unless n s k (unchanged s k v))
       kept n v = unless-has (Kept s k) n s k (unchanged s k v) (refl, refl) (λ m. (refl, refl))

@@ -6,22 +6,23 @@ use Prim.Native.Nat.{ℕ, zero, suc, _+_, _*_}
 use native.Mathlib.Nat.{add-zero}
 use mathlib.Core.List.{List}
 use mathlib.Core.Bool.{Bool, true, false, cond}
-use lib.ListN.{length}
+use lib.ListN.{length, set}
 use lib.Dec.{ltb, eqb}
 use Rattle.accounts.specs.declared.Accounts.{Accounts}
 use Rattle.accounts.specs.Accounts.{QUOTAS, remaining, set-remaining, less-paid, paid-back, charge, refund, with-holds}
+use Rattle.accounts.specs.Accounts.{with-quotas, with-permissions, quota-at, left-permissions, clear-permissions}
 use Rattle.model.specs.Objects.{objects-of, lookup, lookup-whole, found}
 use Rattle.model.specs.Consistent.{charge-of, charges}
 use Rattle.model.specs.Holds.{take-record, raise-count}
-use Rattle.model.specs.Refusals.{first-refusal, claims-first, quota-lines, release-lines, claim-lines, allocate-lines, reallocate-lines, lend-lines, check-lines}
-use Rattle.model.specs.Calls.{Outcome, unless, state-of, allocated, claimed, given-back, released, freed, copied, new-object, allocate, allocate-array, claim, release, free-all, reallocate, lend, remaining-of, can-release, list-block}
+use Rattle.model.specs.Refusals.{first-refusal, claims-first, quota-lines, free-all-lines, release-lines, claim-lines, allocate-lines, reallocate-lines, lend-lines, check-lines}
+use Rattle.model.specs.Calls.{Outcome, unless, state-of, allocated, claimed, given-back, released, freed, copied, new-object, allocate, allocate-array, claim, release, free-all, reallocate, lend, remaining-of, can-release, list-block, clear}
 use Rattle.model.specs.Step.{step}
 use Rattle.model.specs.declared.Handle.{Handle}
 use Rattle.model.specs.declared.Call.{Call}
-use Rattle.model.specs.declared.Call.the-variants.{Allocate, AllocateArray, Claim, Release, FreeAll, Reallocate, Lend, Remaining, CanRelease, ListBlock}
-use Rattle.model.proofs.Frame.{Kept, kept-quotas, kept-same, beside-unused, beside-claim, beside-both, other-record, other-quota, allocated-keeps, claimed-keeps, released-keeps, reallocated-keeps, freed-keeps}
+use Rattle.model.specs.declared.Call.the-variants.{Allocate, AllocateArray, Claim, Release, FreeAll, Reallocate, Lend, Remaining, CanRelease, ListBlock, ClearPermissions}
+use Rattle.model.proofs.Frame.{Kept, kept-quotas, kept-same, beside-unused, beside-claim, beside-both, other-record, other-quota, allocated-keeps, claimed-keeps, released-keeps, reallocated-keeps, freed-keeps, clear-keeps}
 
--- the quotas whose remainder a call may change
+-- the quotas that a call may change
 abbrev pub pays : Call → ℕ → Bool
 pays (Allocate q n) j = eqb q j
 pays (AllocateArray q count size) j = eqb q j
@@ -33,6 +34,7 @@ pays (Lend h) j = false
 pays (Remaining q) j = false
 pays (CanRelease q h) j = false
 pays (ListBlock at) j = false
+pays (ClearPermissions q n) j = eqb q j
 
 -- the places of the records that it leaves as they are
 abbrev pub bystander : Call → List ℕ → Accounts → ℕ → Bool
@@ -46,6 +48,7 @@ bystander (Lend h) s k i = true
 bystander (Remaining q) s k i = true
 bystander (CanRelease q h) s k i = true
 bystander (ListBlock at) s k i = true
+bystander (ClearPermissions q n) s k i = true
 
 unless-keeps : (w p : ℕ → Bool) (n : ℕ) (s : List ℕ) (k : Accounts) (done : Outcome) → Kept w p k (done .accounts) → Kept w p k (unless n s k done .accounts)
 unfolding unless
@@ -55,7 +58,7 @@ unless-keeps w p (suc n) s k done a = kept-same w p k
 module _ (unit : ℕ → ℕ) where
   -- each call keeps every grant, every other quota, every record at another place, and how many quotas and records there are
   pub step-keeps : (c : Call) (s : List ℕ) (k : Accounts) → Kept (pays c) (bystander c s k) k (step unit c s k .accounts)
-  unfolding step allocate allocate-array claim release free-all reallocate lend remaining-of can-release list-block
+  unfolding step allocate allocate-array claim release free-all reallocate lend remaining-of can-release list-block clear
   step-keeps (Allocate q n) s k =
       unless-keeps (eqb q) (beside-unused (k .holds)) (first-refusal (allocate-lines unit s k q n)) s k _
       (allocated-keeps q (new-object unit s k n) (state-of s k))
@@ -68,7 +71,7 @@ module _ (unit : ℕ → ℕ) where
       unless-keeps (eqb q) (other-record (found (lookup h s) .serial) q (k .holds)) (first-refusal (release-lines unit s k q h)) s k _
       (released-keeps q (found (lookup h s)) (state-of s k))
   step-keeps (FreeAll q) s k =
-      unless-keeps (eqb q) (other-quota q (k .holds)) (first-refusal (quota-lines unit s k q)) s k _
+      unless-keeps (eqb q) (other-quota q (k .holds)) (first-refusal (free-all-lines unit s k q)) s k _
       (freed-keeps q (charges (k .holds) q (objects-of s)) (state-of s k))
   step-keeps (Reallocate q h n) s k =
       unless-keeps (eqb q) (beside-both q (found (lookup-whole h s)) k) (first-refusal (reallocate-lines unit s k q h n)) s k _
@@ -77,6 +80,7 @@ module _ (unit : ℕ → ℕ) where
   step-keeps (Remaining q) s k = unless-keeps (λ j. false) (λ x. true) (first-refusal (quota-lines unit s k q)) s k _ (kept-same _ _ k)
   step-keeps (CanRelease q h) s k = unless-keeps (λ j. false) (λ x. true) (first-refusal (release-lines unit s k q h)) s k _ (kept-same _ _ k)
   step-keeps (ListBlock at) s k = unless-keeps (λ j. false) (λ x. true) (first-refusal (check-lines unit s k)) s k _ (kept-same _ _ k)
+  step-keeps (ClearPermissions q n) s k = unless-keeps (eqb q) (λ x. true) (first-refusal (quota-lines unit s k q)) s k _ (clear-keeps q n (λ x. true) k)
 
 -- payments leave the last serial
 set-serial : (t : Bool) (q n : ℕ) (k : Accounts) → cond t (set-remaining q n k) k .«last_serial» ≡ k .«last_serial»
@@ -102,6 +106,14 @@ claimed-serial q o k = go (claims-first k q o)
     go true = charge-serial q (charge-of (o .length)) k
     go false = refl
 
+clear-serial : (q n : ℕ) (k : Accounts) → clear-permissions q n k .«last_serial» ≡ k .«last_serial»
+unfolding clear-permissions
+clear-serial q n k = go (ltb q QUOTAS)
+  where
+    go : (t : Bool) → cond t (with-quotas (set (k .quotas) q (with-permissions (left-permissions q n k) (quota-at q k))) k) k .«last_serial» ≡ k .«last_serial»
+    go true = refl
+    go false = refl
+
 -- the serials that a call gives: one where it asks for a new object and is accepted
 abbrev pub one-if-accepted : ℕ → ℕ
 one-if-accepted zero = 1
@@ -118,6 +130,7 @@ serials-given-by (Lend h) r = 0
 serials-given-by (Remaining q) r = 0
 serials-given-by (CanRelease q h) r = 0
 serials-given-by (ListBlock at) r = 0
+serials-given-by (ClearPermissions q n) r = 0
 
 -- a refused call gives none; what it would have answered does not matter
 unless-same : (n : ℕ) (s : List ℕ) (k : Accounts) (done : Outcome) → done .accounts .«last_serial» ≡ k .«last_serial» → unless n s k done .accounts .«last_serial» ≡ k .«last_serial» + 0
@@ -134,18 +147,19 @@ unless-next (suc n) s k done z e = sym (add-zero (k .«last_serial»))
 module _ (unit : ℕ → ℕ) where
   pub step-serial : (c : Call) (s : List ℕ) (k : Accounts)
       → step unit c s k .accounts .«last_serial» ≡ k .«last_serial» + serials-given-by c (step unit c s k .values .refusal)
-  unfolding step allocate allocate-array claim release free-all reallocate lend remaining-of can-release list-block allocated released freed copied new-object
+  unfolding step allocate allocate-array claim release free-all reallocate lend remaining-of can-release list-block clear allocated released freed copied new-object
   step-serial (Allocate q n) s k = unless-next (first-refusal (allocate-lines unit s k q n)) s k _ refl refl
   step-serial (AllocateArray q count size) s k = unless-next (first-refusal (allocate-lines unit s k q (count * size))) s k _ refl refl
   step-serial (Claim q h) s k = unless-same (first-refusal (claim-lines unit s k q h)) s k _ (claimed-serial q (found (lookup h s)) k)
   step-serial (Release q h) s k = unless-same (first-refusal (release-lines unit s k q h)) s k _ (refund-serial q (given-back q (found (lookup h s)) k) k)
-  step-serial (FreeAll q) s k = unless-same (first-refusal (quota-lines unit s k q)) s k _ (refund-serial q (charges (k .holds) q (objects-of s)) k)
+  step-serial (FreeAll q) s k = unless-same (first-refusal (free-all-lines unit s k q)) s k _ (refund-serial q (charges (k .holds) q (objects-of s)) k)
   step-serial (Reallocate q h n) s k =
       unless-next (first-refusal (reallocate-lines unit s k q h n)) s k _ refl (refund-serial q _ (allocated q (new-object unit s k n) (state-of s k) .accounts))
   step-serial (Lend h) s k = unless-same (first-refusal (lend-lines unit s k h)) s k _ refl
   step-serial (Remaining q) s k = unless-same (first-refusal (quota-lines unit s k q)) s k _ refl
   step-serial (CanRelease q h) s k = unless-same (first-refusal (release-lines unit s k q h)) s k _ refl
   step-serial (ListBlock at) s k = unless-same (first-refusal (check-lines unit s k)) s k _ refl
+  step-serial (ClearPermissions q n) s k = unless-same (first-refusal (quota-lines unit s k q)) s k _ (clear-serial q n k)
 
 -- what a call leaves of the accounts beside what its rule names: every grant, every quota but its own, every record but those that it is about, how
 -- many quotas and records there are, and the last serial but for the one that it gives

@@ -10,7 +10,7 @@ use Rattle.model.specs.declared.Handle.{Handle}
 use Rattle.model.specs.declared.Range.{Range}
 use Rattle.model.specs.declared.ListedBlock.{ListedBlock}
 use Rattle.model.specs.declared.Refusal.{Refusal}
-use Rattle.model.specs.declared.Refusal.the-variants.{HeapLength, Inconsistent, QuotaNumber, ObjectLength, NoSuchObject, NotHeld, CountLimit, QuotaExceeded, HoldsExhausted, SerialsExhausted, NoSpace}
+use Rattle.model.specs.declared.Refusal.the-variants.{HeapLength, Inconsistent, QuotaNumber, ObjectLength, NoSuchObject, NotHeld, CountLimit, QuotaExceeded, HoldsExhausted, SerialsExhausted, NoSpace, NotPermitted}
 use Rattle.model.specs.declared.Verdict.{Verdict}
 use Rattle.model.specs.declared.Verdict.the-variants.{Accepted, Refused as NotAccepted}
 use Rattle.model.specs.declared.HandleAnswer.{HandleAnswer}
@@ -24,7 +24,7 @@ use Rattle.model.specs.declared.BlockAnswer.the-variants.{Listed, NoBloc
 use Rattle.model.specs.declared.Answer.{Answer}
 use Rattle.model.specs.declared.Answer.the-variants.{Verdict as OfVerdict, Handle as OfHandle, Amount as OfAmount, Range as OfRange, Block as OfBlock}
 use Rattle.model.specs.declared.Call.{Call}
-use Rattle.model.specs.declared.Call.the-variants.{Allocate, AllocateArray, Claim, Release, FreeAll, Reallocate, Lend, Remaining, CanRelease, ListBlock}
+use Rattle.model.specs.declared.Call.the-variants.{Allocate, AllocateArray, Claim, Release, FreeAll, Reallocate, Lend, Remaining, CanRelease, ListBlock, ClearPermissions}
 
 -- rule 7.1
 abbrev pub refusal-number : Refusal → ℕ
@@ -39,6 +39,7 @@ refusal-number QuotaExceeded = 8
 refusal-number HoldsExhausted = 9
 refusal-number SerialsExhausted = 10
 refusal-number NoSpace = 11
+refusal-number NotPermitted = 12
 
 -- the values of an answer: the refusal's number, 0 where the call is accepted, and what it answers; what a call does not answer is zero or none
 pub record Values : Type 0 where
@@ -108,7 +109,7 @@ answer-values (OfBlock a) = block-values a
 abbrev pub refusals : List Refusal
 refusals =
     HeapLength ∷ Inconsistent ∷ QuotaNumber ∷ ObjectLength ∷ NoSuchObject ∷ NotHeld ∷ CountLimit ∷ QuotaExceeded
-    ∷ HoldsExhausted ∷ SerialsExhausted ∷ NoSpace ∷ []
+    ∷ HoldsExhausted ∷ SerialsExhausted ∷ NoSpace ∷ NotPermitted ∷ []
 
 abbrev pub refusal-at : ℕ → Refusal
 refusal-at n = getD refusals (n - 1) HeapLength
@@ -149,3 +150,4 @@ answer-of (Lend h) v = OfRange (range-from v)
 answer-of (Remaining q) v = OfAmount (amount-from v)
 answer-of (CanRelease q h) v = OfVerdict (verdict-from v)
 answer-of (ListBlock at) v = OfBlock (block-from v)
+answer-of (ClearPermissions q n) v = OfAmount (amount-from v)

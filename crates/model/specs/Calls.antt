@@ -5,7 +5,7 @@ use mathlib.Core.Bool.{cond}
 use lib.ListN.{length, replicate}
 use lib.Dec.{eqb}
 use Rattle.accounts.specs.declared.Accounts.{Accounts}
-use Rattle.accounts.specs.Accounts.{zero-accounts, opened, with-holds, with-last-serial, charge, refund, remaining, drop-records}
+use Rattle.accounts.specs.Accounts.{zero-accounts, opened, with-holds, with-last-serial, charge, refund, remaining, drop-records, left-permissions, clear-permissions}
 use Rattle.layout.specs.Blocks.{Block, size, render}
 use Rattle.rounding.specs.Rounding.{object-length}
 use Rattle.model.specs.Lists.{first, or-else}
@@ -14,7 +14,7 @@ use Rattle.model.specs.Objects.{blocks-of, objects-of, lookup, lookup-wh
 use Rattle.model.specs.Consistent.{charge-of, charges}
 use Rattle.model.specs.Space.{carve, settle, body-of, copy-into}
 use Rattle.model.specs.Holds.{count-of, take-record, raise-count, lower-count}
-use Rattle.model.specs.Refusals.{first-refusal, open-lines, check-lines, quota-lines, lend-lines, release-lines, claim-lines, claims-first, base-for, allocate-lines, reallocate-lines}
+use Rattle.model.specs.Refusals.{first-refusal, open-lines, check-lines, quota-lines, free-all-lines, lend-lines, release-lines, claim-lines, claims-first, base-for, allocate-lines, reallocate-lines}
 use Rattle.model.specs.declared.Handle.{Handle}
 use Rattle.model.specs.declared.ListedBlock.{ListedBlock}
 
@@ -129,7 +129,7 @@ module _ (unit : ℕ → ℕ) where
   free-all s k q =
       let back = charges (k .holds) q (objects-of s) in
       let done = leaves (freed q back (state-of s k)) (amount-of back) in
-      unless (first-refusal (quota-lines unit s k q)) s k done
+      unless (first-refusal (free-all-lines unit s k q)) s k done
 
   -- Reallocate, rules 8.23 and 8.24: allocate while the old object still counts, copy, then release once
   unfoldable pub reallocate : List ℕ → Accounts → ℕ → Handle → ℕ → Outcome
@@ -152,6 +152,10 @@ module _ (unit : ℕ → ℕ) where
 
   unfoldable pub can-release : List ℕ → Accounts → ℕ → Handle → Outcome
   can-release s k q h = unless (first-refusal (release-lines unit s k q h)) s k (unchanged s k accepted)
+
+  -- Clear permissions, rule 15.4: those whose bit is set in n; the answer is what is left
+  unfoldable pub clear : List ℕ → Accounts → ℕ → ℕ → Outcome
+  clear s k q n = unless (first-refusal (quota-lines unit s k q)) s k (unchanged s (clear-permissions q n k) (amount-of (left-permissions q n k)))
 
   -- rule 8.35: the check that every call but open begins with
   unfoldable pub check : List ℕ → Accounts → Outcome

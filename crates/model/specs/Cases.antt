@@ -8,9 +8,9 @@ use Rattle.rounding.specs.Rounding.{unit}
 use Rattle.model.specs.Answers.{Values, refused, accepted, given, amount-of, lent, listed}
 use Rattle.model.specs.Calls.{Outcome, open-heap}
 use Rattle.model.specs.Marked.{handle}
-use Rattle.model.specs.Tables.{Case, case, run, head, zeros, parts, quota, hold, accounts-of, state, written}
+use Rattle.model.specs.Tables.{Case, case, run, head, zeros, parts, quota-with, quota, hold, accounts-of, state, written}
 use Rattle.model.specs.declared.Call.{Call}
-use Rattle.model.specs.declared.Call.the-variants.{Allocate, AllocateArray, Claim, Release, FreeAll, Reallocate, Lend, Remaining, CanRelease, ListBlock}
+use Rattle.model.specs.declared.Call.the-variants.{Allocate, AllocateArray, Claim, Release, FreeAll, Reallocate, Lend, Remaining, CanRelease, ListBlock, ClearPermissions}
 
 -- a fresh heap of H bytes with two grants
 unfoldable pub opened-heap : ℕ → ℕ → ℕ → Outcome
@@ -187,4 +187,22 @@ walks =
     (block 0 16 0 ∷ block 16 16 2 ∷ block 32 32 0 ∷ block 64 16 4 ∷ block 80 48 0 ∷ listed none ∷ listed none ∷ listed none ∷ listed none ∷ [])
     0 (parts (head 2 0 0 ∷ zeros 8 ∷ head 2 2 2 ∷ zeros 8 ∷ head 4 2 0 ∷ zeros 24 ∷ head 2 4 4 ∷ zeros 8 ∷ head 6 2 0 ∷ zeros 40 ∷ []))
     (accounts-of (quota 1000 968 ∷ quota 1000 1000 ∷ []) 4 (zero-hold ∷ hold 2 0 1 ∷ zero-hold ∷ hold 4 0 1 ∷ []))
+    ∷ []
+
+-- permissions are cleared one after the other, and none is set again (rules 15.3 to 15.5)
+unfoldable pub clearings : List Case
+clearings =
+    let h = handle 8 8 1 in
+    -- all are set at opening; bits above 2 mean nothing; a quota that may neither claim nor free all still releases
+    case (opened-heap 64 100 100)
+    (ClearPermissions 0 0 ∷ ClearPermissions 0 4294967288 ∷ Allocate 0 8 ∷ ClearPermissions 0 1 ∷ Allocate 0 8 ∷ Claim 1 h ∷ ClearPermissions 1 4294967290
+    ∷ Claim 1 h ∷ ClearPermissions 1 4 ∷ FreeAll 1 ∷ Release 1 h ∷ ClearPermissions 0 8 ∷ FreeAll 0 ∷ [])
+    (amount-of 7 ∷ amount-of 7 ∷ given h ∷ amount-of 6 ∷ refused 12 ∷ amount-of 8 ∷ amount-of 5
+    ∷ refused 12 ∷ amount-of 1 ∷ refused 12 ∷ amount-of 16 ∷ amount-of 6 ∷ amount-of 16 ∷ [])
+    0 (parts (head 8 0 0 ∷ zeros 56 ∷ [])) (accounts-of (quota-with 6 100 100 ∷ quota-with 1 100 100 ∷ []) 1 [])
+    -- a quota that may allocate alone reallocates
+    ∷ case (opened-heap 128 100 0)
+    (Allocate 0 8 ∷ ClearPermissions 0 6 ∷ Reallocate 0 h 8 ∷ AllocateArray 0 2 4 ∷ Claim 0 (handle 24 8 2) ∷ FreeAll 0 ∷ Release 0 (handle 24 8 2) ∷ [])
+    (given h ∷ amount-of 1 ∷ given (handle 24 8 2) ∷ given (handle 8 8 3) ∷ refused 12 ∷ refused 12 ∷ amount-of 16 ∷ [])
+    0 (parts (head 2 0 3 ∷ zeros 8 ∷ head 14 2 0 ∷ zeros 104 ∷ [])) (accounts-of (quota-with 1 100 84 ∷ []) 3 (hold 3 0 1 ∷ []))
     ∷ []

@@ -7,7 +7,7 @@ use lib.Dec.{leb, ltb, eqb}
 use Rattle.accounts.specs.declared.Quota.{Quota}
 use Rattle.accounts.specs.declared.Hold.{Hold}
 use Rattle.accounts.specs.declared.Accounts.{Accounts}
-use Rattle.accounts.specs.Accounts.{QUOTAS, used, is-for}
+use Rattle.accounts.specs.Accounts.{QUOTAS, used, is-for, permissible, permissions}
 use Rattle.layout.specs.Blocks.{Block, size, live, parse, greatest-heap}
 use Rattle.model.specs.Lists.{all, any, total}
 use Rattle.model.specs.Objects.{objects, objects-of}
@@ -108,7 +108,7 @@ fits-unit unit base length = eqb (length % unit length) 0 && eqb (base % unit le
 unfoldable pub in-units : (ℕ → ℕ) → Handle → Bool
 in-units unit o = fits-unit unit (o .base) (o .length)
 
--- the whole of section 5, which line 2 asks for: the state is consistent (5.1 to 5.8), and every base and length fits its object's unit (5.10). Rules that
--- speak of a table of units or of settings stand here, so that the laws of `consistent` know of none.
+-- what line 2 asks for: the state is consistent (5.1 to 5.8), every base and length fits its object's unit (5.10), and every quota's permissions are
+-- such (15.2). Rules that speak of a table of units or of settings stand here, so that the laws of `consistent` know of none.
 unfoldable pub sound : (ℕ → ℕ) → List ℕ → Accounts → Bool
-sound unit s k = consistent s k && all (in-units unit) (objects-of s)
+sound unit s k = consistent s k && (all (in-units unit) (objects-of s) && all permissible (permissions k))

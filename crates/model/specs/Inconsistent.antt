@@ -9,7 +9,7 @@ use Rattle.accounts.specs.declared.Accounts.{Accounts}
 use Rattle.accounts.specs.Accounts.{QUOTAS, HOLDS, zero-hold}
 use Rattle.rounding.specs.Rounding.{unit}
 use Rattle.model.specs.Calls.{check}
-use Rattle.model.specs.Tables.{head, zeros, parts, quota, hold, accounts-of}
+use Rattle.model.specs.Tables.{head, zeros, parts, quota-with, quota, hold, accounts-of}
 
 -- the refusal that the check gives for heap and accounts
 pub data Judged : Type 0 where
@@ -112,4 +112,13 @@ broken-balances =
     ∷ judged 2 good-heap (with-quotas (quota 100 84 ∷ quota 20 12 ∷ []))
     -- equal only in 32 bits that wrap
     ∷ judged 2 good-heap (with-quotas (quota 5 4294967269 ∷ quota 20 4 ∷ []))
+    ∷ []
+
+-- which numbers are permissions (rule 15.2): of the first quota, and of the last
+unfoldable pub permission-numbers : List Judged
+permission-numbers =
+    judged 0 good-heap (with-quotas (quota-with 0 100 68 ∷ quota-with 5 20 4 ∷ []))
+    ∷ judged 0 good-heap (with-quotas (quota 100 68 ∷ quota 20 4 ∷ replicate (QUOTAS - 3) (quota 0 0) ++ (quota-with 3 0 0 ∷ [])))
+    ∷ judged 2 good-heap (with-quotas (quota-with 8 100 68 ∷ quota 20 4 ∷ []))
+    ∷ judged 2 good-heap (with-quotas (quota 100 68 ∷ quota 20 4 ∷ replicate (QUOTAS - 3) (quota 0 0) ++ (quota-with 255 0 0 ∷ [])))
     ∷ []

@@ -11,7 +11,7 @@ use Rattle.model.specs.Marked.{handle}
 use Rattle.model.specs.Tables.{Case, case, head, zeros, parts, quota-with, quota, hold, accounts-of, state}
 use Rattle.model.specs.Cases.{block}
 use Rattle.model.specs.declared.Call.{Call}
-use Rattle.model.specs.declared.Call.the-variants.{Allocate, AllocateArray, Claim, Release, FreeAll, Reallocate, Lend, Remaining, CanRelease, ListBlock}
+use Rattle.model.specs.declared.Call.the-variants.{Allocate, AllocateArray, Claim, Release, FreeAll, Reallocate, Lend, Remaining, CanRelease, ListBlock, ClearPermissions}
 
 -- what open answers and leaves for a heap of H bytes: its first bytes and the accounts
 unfoldable pub opening : ℕ → Values × List ℕ × Accounts
@@ -39,7 +39,7 @@ unfoldable pub every-call : List Call
 every-call =
     let h = handle 8 8 9 in
     Allocate QUOTAS 0 ∷ AllocateArray QUOTAS 0 1 ∷ Reallocate QUOTAS h 0 ∷ Claim QUOTAS h ∷ Release QUOTAS h ∷ CanRelease QUOTAS h
-    ∷ FreeAll QUOTAS ∷ Remaining QUOTAS ∷ Lend h ∷ ListBlock 0 ∷ []
+    ∷ FreeAll QUOTAS ∷ Remaining QUOTAS ∷ ClearPermissions QUOTAS 0 ∷ Lend h ∷ ListBlock 0 ∷ []
 
 -- one free block of so many units and bytes, with a back size that is true only if it is 0
 unfoldable pub one-block : ℕ → ℕ → ℕ → Outcome
@@ -54,7 +54,7 @@ unfoldable pub first-lines : List Case
 first-lines =
     each-refused 1 (one-block 7 48 1)
     ++ (each-refused 2 (one-block 8 56 1)
-    ++ (case (one-block 8 56 0) every-call (replicate 8 (refused 3) ++ (refused 5 ∷ block 0 64 0 ∷ [])) 0 (head 8 0 0) (accounts-of [] 0 []) ∷ []))
+    ++ (case (one-block 8 56 0) every-call (replicate 9 (refused 3) ++ (refused 5 ∷ block 0 64 0 ∷ [])) 0 (head 8 0 0) (accounts-of [] 0 []) ∷ []))
 
 -- so many objects of 8 bytes, from one with a serial on, behind a block of `back` units
 unfoldable pub filled-from : ℕ → ℕ → ℕ → List ℕ
@@ -130,4 +130,35 @@ last-lines =
     (Reallocate 1 (handle 24 8 1) 8 ∷ Reallocate 1 (handle 8 16 1) 8 ∷ Reallocate 1 (handle 8 8 2) 8
     ∷ Claim 1 (handle 24 8 1) ∷ Claim 1 (handle 8 16 1) ∷ Claim 1 (handle 8 8 2) ∷ [])
     (replicate 6 (refused 5)) 0 (filled-from 4 0 1) (four-accounts 4)
+    ∷ []
+
+-- the same objects; quota 0 may not allocate, quota 1 not claim, quota 2 not free all, and quota 3 nothing
+unfoldable pub barred-accounts : Accounts
+barred-accounts = accounts-of (quota-with 6 79 15 ∷ quota-with 5 1000 984 ∷ quota-with 3 8 8 ∷ quota-with 0 8 8 ∷ []) 4294967295 (hold 1 1 1 ∷ records-from 1 4 1)
+
+-- what a refused open hands back, over one free block
+unfoldable pub zero-state : Outcome
+zero-state = state (parts (head 8 0 0 ∷ zeros 56 ∷ [])) (accounts-of (replicate QUOTAS (quota-with 0 0 0)) 0 [])
+
+-- 12 right after 3 (rule 15.6)
+unfoldable pub permission-lines : List Case
+permission-lines =
+    let h = handle 8 8 1 in
+    let missing = handle 8 8 9 in
+    -- before 4, 5, 6, 8 and 10; claim with a record, and free-all with none
+    case (state (filled-from 4 0 1) barred-accounts)
+    (Allocate 0 0 ∷ Allocate 0 8 ∷ Allocate 3 32761 ∷ AllocateArray 0 0 8 ∷ AllocateArray 3 1 8 ∷ Reallocate 0 missing 0 ∷ Reallocate 0 h 8 ∷ Reallocate 3 h 8
+    ∷ Claim 1 missing ∷ Claim 1 h ∷ Claim 3 h ∷ FreeAll 2 ∷ FreeAll 3 ∷ [])
+    (replicate 13 (refused 12)) 0 (filled-from 4 0 1) barred-accounts
+    -- each call asks for its own permission alone
+    ∷ case (state (filled-from 4 0 1) barred-accounts)
+    (Allocate 1 0 ∷ Allocate 2 0 ∷ AllocateArray 1 0 8 ∷ Reallocate 1 missing 0 ∷ Reallocate 2 missing 8 ∷ Claim 0 missing ∷ Claim 2 missing ∷ FreeAll 4 ∷ [])
+    (refused 4 ∷ refused 4 ∷ refused 4 ∷ refused 4 ∷ refused 5 ∷ refused 5 ∷ refused 5 ∷ amount-of 0 ∷ []) 0 (filled-from 4 0 1) barred-accounts
+    -- the others ask for none
+    ∷ case (state (filled-from 4 0 1) barred-accounts)
+    (Release 3 missing ∷ Release 3 h ∷ CanRelease 3 missing ∷ CanRelease 3 h ∷ Remaining 3 ∷ Lend h ∷ ListBlock 0 ∷ ClearPermissions 3 7 ∷ [])
+    (refused 5 ∷ refused 6 ∷ refused 5 ∷ refused 6 ∷ amount-of 8 ∷ lent (record { start = 8; end = 16 }) ∷ block 0 16 1 ∷ amount-of 0 ∷ [])
+    0 (filled-from 4 0 1) barred-accounts
+    -- accounts of zeros have no permission
+    ∷ case zero-state (Allocate 0 8 ∷ FreeAll 0 ∷ ClearPermissions 0 0 ∷ []) (refused 12 ∷ refused 12 ∷ amount-of 0 ∷ []) 0 (head 8 0 0) (zero-state .accounts)
     ∷ []

@@ -6,7 +6,7 @@ use mathlib.Core.Option.{Option}
 use lib.ListN.{length}
 use lib.Dec.{leb, ltb, eqb}
 use Rattle.accounts.specs.declared.Accounts.{Accounts}
-use Rattle.accounts.specs.Accounts.{QUOTAS, used, remaining}
+use Rattle.accounts.specs.Accounts.{QUOTAS, ALLOCATE, CLAIM, FREE-ALL, used, remaining, permits}
 use Rattle.rounding.specs.Rounding.{object-length, alignment}
 use Rattle.model.specs.Lists.{all, is-none}
 use Rattle.model.specs.Objects.{blocks-of, lookup, lookup-whole, found}
@@ -82,6 +82,10 @@ line-9 k = 9 when all used (k .holds)
 unfoldable pub line-10 : Accounts → Line
 line-10 k = 10 when eqb (k .«last_serial») greatest-serial
 
+-- line 12, rule 15.6: the quota lacks the permission with this bit
+unfoldable pub line-12 : ℕ → Accounts → ℕ → Line
+line-12 bit k q = 12 when not (permits bit q k)
+
 -- rule 7.3: a line that is given only where a test holds
 unfoldable pub only-if : Bool → Line → Line
 only-if c (n when t) = n when c && t
@@ -100,6 +104,9 @@ module _ (unit : ℕ → ℕ) where
   unfoldable pub quota-lines : List ℕ → Accounts → ℕ → List Line
   quota-lines s k q = line-1 s ∷ line-2 unit s k ∷ line-3 q ∷ []
 
+  unfoldable pub free-all-lines : List ℕ → Accounts → ℕ → List Line
+  free-all-lines s k q = line-1 s ∷ line-2 unit s k ∷ line-3 q ∷ line-12 FREE-ALL k q ∷ []
+
   unfoldable pub lend-lines : List ℕ → Accounts → Handle → List Line
   lend-lines s k h = line-1 s ∷ line-2 unit s k ∷ line-5 (lookup h s) ∷ []
 
@@ -112,7 +119,7 @@ module _ (unit : ℕ → ℕ) where
   claim-lines s k q h =
       let o = found (lookup h s) in
       let pays = claims-first k q o in
-      line-1 s ∷ line-2 unit s k ∷ line-3 q ∷ line-5 (lookup h s) ∷ line-7 k q o ∷ only-if pays (line-8 k q (o .length)) ∷ only-if pays (line-9 k) ∷ []
+      line-1 s ∷ line-2 unit s k ∷ line-3 q ∷ line-12 CLAIM k q ∷ line-5 (lookup h s) ∷ line-7 k q o ∷ only-if pays (line-8 k q (o .length)) ∷ only-if pays (line-9 k) ∷ []
 
   -- rule 8.6: the base of a new object for a request of n bytes
   unfoldable pub base-for : List ℕ → ℕ → Option ℕ
@@ -124,10 +131,10 @@ module _ (unit : ℕ → ℕ) where
 
   unfoldable pub allocate-lines : List ℕ → Accounts → ℕ → ℕ → List Line
   allocate-lines s k q n =
-      line-1 s ∷ line-2 unit s k ∷ line-3 q ∷ line-4 n ∷ line-8 k q (object-length unit n) ∷ line-9 k ∷ line-10 k ∷ line-11 s n ∷ []
+      line-1 s ∷ line-2 unit s k ∷ line-3 q ∷ line-12 ALLOCATE k q ∷ line-4 n ∷ line-8 k q (object-length unit n) ∷ line-9 k ∷ line-10 k ∷ line-11 s n ∷ []
 
   unfoldable pub reallocate-lines : List ℕ → Accounts → ℕ → Handle → ℕ → List Line
   reallocate-lines s k q h n =
       let o = found (lookup-whole h s) in
-      line-1 s ∷ line-2 unit s k ∷ line-3 q ∷ line-4 n ∷ line-5 (lookup-whole h s) ∷ line-6 k q o
+      line-1 s ∷ line-2 unit s k ∷ line-3 q ∷ line-12 ALLOCATE k q ∷ line-4 n ∷ line-5 (lookup-whole h s) ∷ line-6 k q o
       ∷ line-8 k q (object-length unit n) ∷ line-9 k ∷ line-10 k ∷ line-11 s n ∷ []

@@ -3,10 +3,10 @@ use Prim.Native.Nat.{ℕ}
 use mathlib.Core.List.{List}
 use Rattle.accounts.specs.declared.Accounts.{Accounts}
 use Rattle.model.specs.Answers.{answer-of}
-use Rattle.model.specs.Calls.{Outcome, allocate, allocate-array, claim, release, free-all, reallocate, lend, remaining-of, can-release, list-block}
+use Rattle.model.specs.Calls.{Outcome, allocate, allocate-array, claim, release, free-all, reallocate, lend, remaining-of, can-release, list-block, clear}
 use Rattle.model.specs.declared.Answer.{Answer}
 use Rattle.model.specs.declared.Call.{Call}
-use Rattle.model.specs.declared.Call.the-variants.{Allocate, AllocateArray, Claim, Release, FreeAll, Reallocate, Lend, Remaining, CanRelease, ListBlock}
+use Rattle.model.specs.declared.Call.the-variants.{Allocate, AllocateArray, Claim, Release, FreeAll, Reallocate, Lend, Remaining, CanRelease, ListBlock, ClearPermissions}
 
 -- what a call leaves, and its answer
 pub record Answered : Type 0 where
@@ -26,6 +26,7 @@ module _ (unit : ℕ → ℕ) where
   step (Remaining q) s k = remaining-of unit s k q
   step (CanRelease q h) s k = can-release unit s k q h
   step (ListBlock at) s k = list-block unit s k at
+  step (ClearPermissions q n) s k = clear unit s k q n
 
   unfoldable pub performed : Call → List ℕ → Accounts → Answered
   performed c s k =

@@ -35,7 +35,7 @@ pub struct ListedBlock {
     pub serial: u32,
 }
 
-// The eleven refusals, in the order in which they are checked (rule 7.1).
+// The twelve refusals, in the order of their numbers. They are checked in this order (rule 7.1), but for the last, which comes right after the third (rule 15.6).
 pub enum Refusal {
     HeapLength,
     Inconsistent,
@@ -48,6 +48,7 @@ pub enum Refusal {
     HoldsExhausted,
     SerialsExhausted,
     NoSpace,
+    NotPermitted,
 }
 
 // The answer of a call that gives nothing but its verdict: open, can release, check.
@@ -130,6 +131,10 @@ pub enum Call {
     ListBlock {
         at: usize,
     },
+    ClearPermissions {
+        quota: u32,
+        bits: u32,
+    },
 }
 
 impl Refusal {
@@ -149,6 +154,7 @@ impl Refusal {
             Refusal::HoldsExhausted => 9,
             Refusal::SerialsExhausted => 10,
             Refusal::NoSpace => 11,
+            Refusal::NotPermitted => 12,
         }
     }
 }
