@@ -1,6 +1,6 @@
 -- The refusal of a call by its lines, from what the check has answered: every call but open begins with the check's two lines.
 -- Assumes nothing.
-use Prim.Native.Nat.{ℕ, zero, suc, _≤_, _<_}
+use Prim.Native.Nat.{ℕ, zero, suc, _/_, _%_, _≤_, _<_}
 use native.Mathlib.Nat.{not-suc-le-zero}
 use native.Mathlib.Omega.{arith}
 use mathlib.Core.Path.{_≡_, refl, ap, sym, _∙_}
@@ -8,11 +8,11 @@ use mathlib.Core.List.{List, [], _∷_}
 use mathlib.Core.Bool.{Bool, true, false, not, _||_}
 use lib.ListN.{length}
 use lib.Dec.{leb}
-use borrow.Author.Tests.{leb-true, le-leb, lt-leb, not-false}
+use borrow.Author.Tests.{leb-true, le-leb, lt-leb, eq-eqb, not-false}
 use Rattle.accounts.specs.declared.Accounts.{Accounts}
-use Rattle.accounts.specs.Accounts.{QUOTAS}
+use Rattle.accounts.specs.Accounts.{QUOTAS, quota-at, permits}
 use Rattle.model.specs.Answers.{Values, refused, refusal-number, verdict-values}
-use Rattle.model.specs.Refusals.{Line, _when_, first-refusal, line-1, line-2, line-3, check-lines}
+use Rattle.model.specs.Refusals.{Line, _when_, first-refusal, line-1, line-2, line-3, line-12, check-lines}
 use Rattle.model.specs.Lists.{all, any}
 use Rattle.model.specs.Consistent.{allowed, consistent, sound}
 use Rattle.model.specs.Calls.{Outcome, unless, unchanged, check}
@@ -100,3 +100,17 @@ check-consistent unit s k v told e =
     let q = or-neither (not (sound unit s k)) false (p .1) in
     let f = not-false (sound unit s k) (q .0) in
     (not-false (allowed (length s)) (p .0), sound-consistent unit s k f, f)
+
+-- 12: the permission, by the bit of the quota's number
+pub line-12-refuses : (bit q : ℕ) (k : Accounts) (rest : List Line) → quota-at q k .permissions / bit % 2 ≡ 0 → first-refusal (line-12 bit k q ∷ rest) ≡ 12
+unfolding line-12 permits
+line-12-refuses bit q k rest e = line-refuses 12 (not (permits bit q k)) rest (rw e)
+
+pub line-12-passes : (bit q : ℕ) (k : Accounts) (rest : List Line) → permits bit q k ≡ true → first-refusal (line-12 bit k q ∷ rest) ≡ first-refusal rest
+unfolding line-12
+line-12-passes bit q k rest e = line-passes 12 (not (permits bit q k)) rest (rw e)
+
+-- a bit that is not 0 is 1
+pub permitted : (bit q : ℕ) (k : Accounts) → (quota-at q k .permissions / bit % 2 ≡ 0 → ⊥) → permits bit q k ≡ true
+unfolding permits
+permitted bit q k e = eq-eqb (quota-at q k .permissions / bit % 2) 1 (omega (arith, e))

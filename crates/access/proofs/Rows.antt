@@ -22,7 +22,7 @@ heap = 3 ∷ 0 ∷ 0 ∷ 0 ∷ 1 ∷ 0 ∷ 0 ∷ 0 ∷ (replicate 16 0 ++ (5 ∷
 -- its accounts: quota 0 holds the object, and has so much of its 100 bytes left
 pub accounts : ℕ → Accounts
 accounts left = record {
-  quotas = record { grant = 100; remainder = left } ∷ replicate (QUOTAS - 1) record { grant = 0; remainder = 0 };
+  quotas = record { grant = 100; remainder = left; permissions = 7 } ∷ replicate (QUOTAS - 1) record { grant = 0; remainder = 0; permissions = 7 };
   «last_serial» = 1;
   holds = record { serial = 1; quota = 0; count = 1 } ∷ replicate (HOLDS - 1) record { serial = 0; quota = 0; count = 0 };
 }

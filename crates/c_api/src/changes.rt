@@ -10,7 +10,7 @@ use accounts::Accounts;
 use model::Handle;
 ghost use mathlib.Core.Path.{_≡_};
 ghost use Rattle.rounding.specs.Rounding.{unit};
-ghost use Rattle.model.specs.Calls.{open-heap, allocate, allocate-array, claim, release, free-all, reallocate};
+ghost use Rattle.model.specs.Calls.{open-heap, allocate, allocate-array, claim, release, free-all, reallocate, clear};
 ghost use Rattle.c_api.specs.Replies.{open-reply, handle-reply, amount-reply};
 
 // One free block covers the heap, and every quota has its grant.
@@ -81,6 +81,19 @@ pub extern "C" fn lokhazim_free_all(heap: &mut [u8], accounts: Accounts, quota: 
     ensures { λ r. ⌜ amount-reply (now (heap .exit)) r ≡ free-all unit (now (heap .entry)) accounts quota ⌝ }
 {
     reply_of_amount(heap::free_all(heap, accounts, quota))
+}
+
+// Those permissions of a quota are cleared whose bit is set in a number; the amount is what is left of them.
+#[no_mangle]
+pub extern "C" fn lokhazim_clear_permissions(
+    heap: &[u8],
+    accounts: Accounts,
+    quota: u32,
+    bits: u32,
+) -> AmountReply
+    ensures { λ r. ⌜ amount-reply (now (heap .entry)) r ≡ clear unit (now (heap .entry)) accounts quota bits ⌝ }
+{
+    reply_of_amount(heap::clear_permissions(heap, accounts, quota, bits))
 }
 
 // A new object of at least `length` bytes with the old one's first bytes, and the old one is released once.

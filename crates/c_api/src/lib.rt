@@ -12,6 +12,7 @@ mod replies;
 pub use changes::lokhazim_allocate;
 pub use changes::lokhazim_allocate_array;
 pub use changes::lokhazim_claim;
+pub use changes::lokhazim_clear_permissions;
 pub use changes::lokhazim_free_all;
 pub use changes::lokhazim_open;
 pub use changes::lokhazim_reallocate;
@@ -44,7 +45,7 @@ pub struct HandleReply {
     pub handle: Handle,
 }
 
-// What claim, release and free-all give.
+// What claim, release, free-all and clear permissions give.
 #[repr(C)]
 pub struct AmountReply {
     pub accounts: Accounts,

@@ -3,10 +3,10 @@
 -- changes no record.
 -- Assumes nothing.
 use mathlib.Core.Path.{_≡_, ap, sym, _∙_}
-use Prim.Native.Nat.{ℕ, _+_, _≤_, _<_}
+use Prim.Native.Nat.{ℕ, _+_, _/_, _%_, _≤_, _<_}
 use native.Mathlib.Omega.{arith}
 use mathlib.Core.List.{List, [], _∷_}
-use mathlib.Core.Bool.{not}
+use mathlib.Core.Bool.{true, not}
 use mathlib.Core.Option.{Option}
 use lib.ListN.{set}
 use lib.Dec.{eqb, ltb}
@@ -14,18 +14,18 @@ use borrow.Author.Tests.{eq-eqb, ne-eqb, lt-ltb, le-ltb}
 use Rattle.accounts.specs.declared.Hold.{Hold}
 use Rattle.accounts.specs.declared.Accounts.{Accounts}
 use Rattle.accounts.specs.declared.Place.the-variants.{At, Nothing}
-use Rattle.accounts.specs.Accounts.{QUOTAS, used, unused, remaining, charge, with-holds, with-last-serial, put-hold, lowest-unused}
+use Rattle.accounts.specs.Accounts.{QUOTAS, ALLOCATE, quota-at, permits, used, unused, remaining, charge, with-holds, with-last-serial, put-hold, lowest-unused}
 use Rattle.accounts.proofs.Laws.{charge-kept, charge-last}
 use Rattle.layout.specs.Bytes.{Octets}
 use Rattle.model.specs.Answers.{refusal-number, given, verdict-values, handle-values}
 use Rattle.model.specs.Lists.{all, is-none, or-else}
 use Rattle.model.specs.Consistent.{charge-of}
 use Rattle.model.specs.Holds.{take-record}
-use Rattle.model.specs.Refusals.{Line, first-refusal, line-3, line-4, line-8, line-9, line-10, line-11, greatest-serial, base-for, allocate-lines}
+use Rattle.model.specs.Refusals.{Line, first-refusal, line-3, line-4, line-8, line-9, line-10, line-11, line-12, greatest-serial, base-for, allocate-lines}
 use Rattle.model.specs.Calls.{unless, check, leaves, state-of, allocated, new-object, allocate}
 use Rattle.model.specs.declared.Handle.{Handle}
 use Rattle.model.specs.declared.Refusal.{Refusal}
-use Rattle.model.specs.declared.Refusal.the-variants.{QuotaNumber, ObjectLength, QuotaExceeded, HoldsExhausted, SerialsExhausted, NoSpace}
+use Rattle.model.specs.declared.Refusal.the-variants.{QuotaNumber, ObjectLength, QuotaExceeded, HoldsExhausted, SerialsExhausted, NoSpace, NotPermitted}
 use Rattle.model.specs.declared.Verdict.{Verdict}
 use Rattle.model.specs.declared.Verdict.the-variants.{Accepted, Refused}
 use Rattle.model.specs.declared.HandleAnswer.the-variants.{Given, Refused as NotGiven}
@@ -40,7 +40,7 @@ use Rattle.access.specs.Results.{outcome}
 use Rattle.calls.specs.Results.{handle-outcome}
 use Rattle.writer.specs.Carving.{carve-in}
 use Rattle.calls.specs.Ready.{Checked, Ready}
-use Rattle.access.proofs.Lines.{check-refuses, check-accepts, refused-is, accepted-is, line-refuses, line-passes, line-3-refuses}
+use Rattle.access.proofs.Lines.{check-refuses, check-accepts, refused-is, accepted-is, line-refuses, line-passes, line-3-refuses, line-12-refuses, line-12-passes}
 use Rattle.access.proofs.Records.{found-some, found-change, nothing-some}
 use Rattle.quotas.proofs.Claims.{all-used}
 use Rattle.calls.proofs.Ready.{checked-passes, ready-passes}
@@ -86,8 +86,11 @@ module _ (unit : ℕ → ℕ) (s : List ℕ) (k : Accounts) (q n : ℕ) where
   abbrev pub from-4 : List Line
   from-4 = line-4 n ∷ from-8
 
+  abbrev pub from-12 : List Line
+  from-12 = line-12 ALLOCATE k q ∷ from-4
+
   abbrev pub from-3 : List Line
-  from-3 = line-3 q ∷ from-4
+  from-3 = line-3 q ∷ from-12
 
   abbrev pub number : ℕ
   number = first-refusal (allocate-lines unit s k q n)
@@ -99,7 +102,7 @@ module _ (unit : ℕ → ℕ) (s : List ℕ) (k : Accounts) (q n : ℕ) where
       ap (handle-outcome s) e
       ∙ refused-is number s k (leaves (allocated q (new-object unit s k n) (state-of s k)) (given (new-object unit s k n))) f g
 
-  -- the first four lines
+  -- the first five lines
   pub refused-check : (v : Verdict) → verdict-values v ≡ check unit s k .values → (f : Refusal) → v ≡ Refused f → (r : HandleResult) → r ≡ record { accounts = k; answer = NotGiven f }
       → handle-outcome s r ≡ allocate unit s k q n
   unfolding allocate-lines
@@ -108,12 +111,17 @@ module _ (unit : ℕ → ℕ) (s : List ℕ) (k : Accounts) (q n : ℕ) where
   pub refused-3 : (v : Verdict) → verdict-values v ≡ check unit s k .values → v ≡ Accepted → QUOTAS ≤ q → (r : HandleResult) → r ≡ record { accounts = k; answer = NotGiven QuotaNumber }
       → handle-outcome s r ≡ allocate unit s k q n
   unfolding allocate-lines
-  refused-3 v told a h r e = refused-by r QuotaNumber e (check-accepts unit s k v told from-3 a ∙ line-3-refuses q from-4 h)
+  refused-3 v told a h r e = refused-by r QuotaNumber e (check-accepts unit s k v told from-3 a ∙ line-3-refuses q from-12 h)
 
-  pub refused-4 : Checked unit s k q → first-refusal from-4 ≡ 4 → (r : HandleResult) → r ≡ record { accounts = k; answer = NotGiven ObjectLength }
+  pub refused-12 : Checked unit s k q → quota-at q k .permissions / ALLOCATE % 2 ≡ 0 → (r : HandleResult) → r ≡ record { accounts = k; answer = NotGiven NotPermitted }
       → handle-outcome s r ≡ allocate unit s k q n
   unfolding allocate-lines
-  refused-4 c h r e = refused-by r ObjectLength e (checked-passes unit s k q from-4 c ∙ h)
+  refused-12 c z r e = refused-by r NotPermitted e (checked-passes unit s k q from-12 c ∙ line-12-refuses ALLOCATE q k from-4 z)
+
+  pub refused-4 : Checked unit s k q → permits ALLOCATE q k ≡ true → first-refusal from-4 ≡ 4
+      → (r : HandleResult) → r ≡ record { accounts = k; answer = NotGiven ObjectLength } → handle-outcome s r ≡ allocate unit s k q n
+  unfolding allocate-lines
+  refused-4 c p h r e = refused-by r ObjectLength e (checked-passes unit s k q from-12 c ∙ line-12-passes ALLOCATE q k from-4 p ∙ h)
 
 -- the others, of a request that is ready
 module _ (unit : ℕ → ℕ) (units : Units unit) (s : List ℕ) (k : Accounts) (q n : ℕ) (y : Ready unit s k q n) (r : HandleResult) where

@@ -1,4 +1,4 @@
--- The lines that a checked or ready request has passed: none of the first three, or four, holds of it, so the others decide.
+-- The lines that a checked or ready request has passed: none of the first three, or five, holds of it, so the others decide.
 -- Assumes nothing.
 use Prim.Native.Nat.{ℕ, _<_}
 use native.Mathlib.Omega.{arith}
@@ -9,15 +9,15 @@ use lib.ListN.{length}
 use lib.Dec.{ltb, eqb}
 use borrow.Author.Tests.{lt-ltb, le-ltb, eq-eqb, ne-eqb}
 use Rattle.accounts.specs.declared.Accounts.{Accounts}
-use Rattle.accounts.specs.Accounts.{QUOTAS}
+use Rattle.accounts.specs.Accounts.{QUOTAS, ALLOCATE}
 use Rattle.model.specs.Answers.{verdict-values}
 use Rattle.model.specs.Consistent.{allowed, sound}
-use Rattle.model.specs.Refusals.{Line, first-refusal, line-1, line-2, line-3, line-4, greatest-length, check-lines}
+use Rattle.model.specs.Refusals.{Line, first-refusal, line-1, line-2, line-3, line-4, line-12, greatest-length, check-lines}
 use Rattle.model.specs.Calls.{unless, check}
 use Rattle.model.specs.declared.Verdict.{Verdict}
 use Rattle.model.specs.declared.Verdict.the-variants.{Accepted}
 use Rattle.model.proofs.Bools.{or-right}
-use Rattle.access.proofs.Lines.{line-refuses, line-passes, line-3-passes, check-consistent}
+use Rattle.access.proofs.Lines.{line-refuses, line-passes, line-3-passes, line-12-passes, check-consistent}
 use Rattle.calls.specs.Ready.{Checked, Ready}
 
 -- lines 1 to 3 do not hold of a quota that exists, where the check accepts
@@ -45,8 +45,10 @@ pub line-4-long : (n : ℕ) (rest : List Line) → greatest-length < n → first
 unfolding line-4
 line-4-long n rest l = line-refuses 4 (eqb n 0 || ltb greatest-length n) rest (or-right (eqb n 0) _ (lt-ltb greatest-length n l))
 
-pub ready-passes : (unit : ℕ → ℕ) (s : List ℕ) (k : Accounts) (q n : ℕ) (rest : List Line) → Ready unit s k q n → first-refusal (line-1 s ∷ line-2 unit s k ∷ line-3 q ∷ line-4 n ∷ rest) ≡ first-refusal rest
+pub ready-passes : (unit : ℕ → ℕ) (s : List ℕ) (k : Accounts) (q n : ℕ) (rest : List Line) → Ready unit s k q n
+    → first-refusal (line-1 s ∷ line-2 unit s k ∷ line-3 q ∷ line-12 ALLOCATE k q ∷ line-4 n ∷ rest) ≡ first-refusal rest
 unfolding line-4
 ready-passes unit s k q n rest r =
-    checked-passes unit s k q (line-4 n ∷ rest) (r .checked)
+    checked-passes unit s k q (line-12 ALLOCATE k q ∷ line-4 n ∷ rest) (r .checked)
+    ∙ line-12-passes ALLOCATE q k (line-4 n ∷ rest) (r .permitted)
     ∙ line-passes 4 (eqb n 0 || ltb greatest-length n) rest (rw (ne-eqb n 0 (λ e. omega (arith, r .some)), le-ltb greatest-length n (r .short)))

@@ -1,17 +1,17 @@
 -- Reallocate's refusals as results: the number of the first line that holds, from what the check, the lookup and the search for the record found.
 -- Assumes nothing.
-use Prim.Native.Nat.{ℕ, _≤_}
+use Prim.Native.Nat.{ℕ, _/_, _%_, _≤_}
 use mathlib.Core.Path.{_≡_, refl, ap, _∙_}
 use mathlib.Core.List.{List, _∷_}
 use mathlib.Core.Bool.{true, not}
 use mathlib.Core.Option.{some}
 use Rattle.accounts.specs.declared.Accounts.{Accounts}
 use Rattle.accounts.specs.declared.Place.the-variants.{At, Nothing}
-use Rattle.accounts.specs.Accounts.{QUOTAS, find-hold}
+use Rattle.accounts.specs.Accounts.{QUOTAS, ALLOCATE, quota-at, permits, find-hold}
 use Rattle.model.specs.Answers.{refusal-number, verdict-values, handle-values}
 use Rattle.model.specs.Objects.{lookup, lookup-whole, found}
 use Rattle.model.specs.Consistent.{has-record}
-use Rattle.model.specs.Refusals.{Line, first-refusal, line-3, line-4, line-5, line-6, reallocate-lines}
+use Rattle.model.specs.Refusals.{Line, first-refusal, line-3, line-4, line-5, line-6, line-12, reallocate-lines}
 use Rattle.model.specs.Calls.{check, reallocate}
 use Rattle.model.specs.declared.Handle.{Handle}
 use Rattle.model.specs.declared.Refusal.{Refusal}
@@ -22,7 +22,7 @@ use Rattle.model.proofs.Lookup.{lookup-whole-is}
 use Rattle.finder.specs.declared.Met.{Met}
 use Rattle.finder.specs.declared.Lookup.the-variants.{Found, Missing}
 use Rattle.finder.specs.Walk.{object-met, find-object}
-use Rattle.access.proofs.Lines.{check-refuses, check-accepts, refused-is, line-refuses, line-3-refuses}
+use Rattle.access.proofs.Lines.{check-refuses, check-accepts, refused-is, line-refuses, line-3-refuses, line-12-refuses, line-12-passes}
 use Rattle.access.proofs.Lookups.{byte-quota, line-5-refuses, line-5-passes, located, unnamed, record-found, record-missing}
 use Rattle.calls.specs.declared.HandleResult.{HandleResult}
 use Rattle.calls.specs.Results.{handle-outcome}
@@ -32,9 +32,12 @@ use Rattle.calls.proofs.Granted.{from-8}
 use Rattle.calls.proofs.Reallocated.{whole-named}
 
 module _ (unit : ℕ → ℕ) (s : List ℕ) (k : Accounts) (q : ℕ) (h : Handle) (n : ℕ) where
-  -- the lines behind the fourth
+  -- the lines behind line 4, and those behind line 3
   abbrev pub from-5 : List Line
   from-5 = line-5 (lookup-whole h s) ∷ line-6 k q (found (lookup-whole h s)) ∷ from-8 unit s k q n
+
+  abbrev pub from-12 : List Line
+  from-12 = line-12 ALLOCATE k q ∷ line-4 n ∷ from-5
 
   -- a refusal as a result
   pub refuses : (r : HandleResult) (x : Refusal) → r ≡ record { accounts = k; answer = Refused x } → first-refusal (reallocate-lines unit s k q h n) ≡ refusal-number x
@@ -45,16 +48,20 @@ module _ (unit : ℕ → ℕ) (s : List ℕ) (k : Accounts) (q : ℕ) (h : Handl
   -- the first three lines, where the check has answered v
   pub by-check : (v : Verdict) → verdict-values v ≡ check unit s k .values → (x : Refusal) → v ≡ NotAccepted x → first-refusal (reallocate-lines unit s k q h n) ≡ refusal-number x
   unfolding reallocate-lines
-  by-check v told x e = check-refuses unit s k v told (line-3 q ∷ line-4 n ∷ from-5) x e
+  by-check v told x e = check-refuses unit s k v told (line-3 q ∷ from-12) x e
 
   pub by-quota : (v : Verdict) → verdict-values v ≡ check unit s k .values → v ≡ Accepted → QUOTAS ≤ q → first-refusal (reallocate-lines unit s k q h n) ≡ 3
   unfolding reallocate-lines
-  by-quota v told a l = check-accepts unit s k v told (line-3 q ∷ line-4 n ∷ from-5) a ∙ line-3-refuses q (line-4 n ∷ from-5) l
+  by-quota v told a l = check-accepts unit s k v told (line-3 q ∷ from-12) a ∙ line-3-refuses q from-12 l
 
-  -- the fourth
-  pub by-length : Checked unit s k q → first-refusal (line-4 n ∷ from-5) ≡ 4 → first-refusal (reallocate-lines unit s k q h n) ≡ 4
+  -- the permission and the length
+  pub by-permission : Checked unit s k q → quota-at q k .permissions / ALLOCATE % 2 ≡ 0 → first-refusal (reallocate-lines unit s k q h n) ≡ 12
   unfolding reallocate-lines
-  by-length c e = checked-passes unit s k q (line-4 n ∷ from-5) c ∙ e
+  by-permission c z = checked-passes unit s k q from-12 c ∙ line-12-refuses ALLOCATE q k (line-4 n ∷ from-5) z
+
+  pub by-length : Checked unit s k q → permits ALLOCATE q k ≡ true → first-refusal (line-4 n ∷ from-5) ≡ 4 → first-refusal (reallocate-lines unit s k q h n) ≡ 4
+  unfolding reallocate-lines
+  by-length c p e = checked-passes unit s k q from-12 c ∙ line-12-passes ALLOCATE q k (line-4 n ∷ from-5) p ∙ e
 
   -- the fifth and sixth, of a request that is ready
   module _ (r : Ready unit s k q n) where

@@ -10,18 +10,18 @@ use mathlib.Core.Option.{some}
 use Rattle.accounts.specs.declared.Accounts.{Accounts}
 use Rattle.accounts.specs.declared.Hold.{Hold}
 use Rattle.accounts.specs.declared.Place.the-variants.{At}
-use Rattle.accounts.specs.Accounts.{used, unused, is-for, first-from, find-hold}
+use Rattle.accounts.specs.Accounts.{permissible, permissions, used, unused, is-for, first-from, find-hold}
 use Rattle.accounts.proofs.Laws.{for-another}
 use Rattle.rounding.specs.Rounding.{Units}
 use Rattle.layout.specs.Bytes.{Octets, copy-part}
 use Rattle.layout.specs.Blocks.{Block, render}
 use Rattle.model.specs.Answers.{given, handle-values}
-use Rattle.model.specs.Lists.{or-else, change-first}
+use Rattle.model.specs.Lists.{all, or-else, change-first}
 use Rattle.model.specs.Holds.{take-record}
 use Rattle.model.specs.Objects.{blocks-of, objects, objects-of, lookup, lookup-whole, found}
 use mathlib.Core.Logic.{⊎-elim}
-use Rattle.model.specs.Consistent.{allowed, consistent, has-record, in-units, sound as is-sound}
-use Rattle.model.proofs.Lists.{all-member, member-all}
+use Rattle.model.specs.Consistent.{allowed, has-record, in-units, sound as is-sound}
+use Rattle.model.proofs.Lists.{member-all}
 use Rattle.model.specs.Refusals.{Line, first-refusal, line-5, line-6, release-lines, allocate-lines, reallocate-lines}
 use Rattle.model.specs.Calls.{Outcome, State, unless, leaves, state-of, allocated, copied, released, new-object, allocate, release, reallocate}
 use Rattle.model.specs.Step.{step}
@@ -30,7 +30,9 @@ use Rattle.model.specs.declared.Refusal.{Refusal}
 use Rattle.model.specs.declared.HandleAnswer.{HandleAnswer}
 use Rattle.model.specs.declared.HandleAnswer.the-variants.{Given, Refused}
 use Rattle.model.specs.declared.Call.the-variants.{Allocate}
-use Rattle.model.proofs.Bools.{fails, and-right, and-both}
+use Rattle.model.proofs.Bools.{fails, and-both}
+use Rattle.model.proofs.Consistent.{sound-fits, sound-permissible}
+use Rattle.model.proofs.Permissions.{allocated-permissions}
 use Rattle.model.proofs.Lookup.{lookup-exactly, lookup-whole-is}
 use Rattle.model.proofs.Refusals.{by-lines, refusal-of-lines, accepted-exactly, unless-refused}
 use Rattle.writer.proofs.CopyBytes.{copied-bytes}
@@ -159,15 +161,22 @@ module _ (unit : ℕ → ℕ) (units : Units unit) (s : List ℕ) (k : Accounts)
     written : Written-out filled
     written = good-heap filled (copied-good old new made made-good)
 
-    -- every object of it is in its units: the old ones were, and the new one is
+    filled-permissions : permissions (filled .accounts) ≡ permissions k
+    unfolding copied
+    filled-permissions = allocated-permissions q new (state-of s k)
+
+    -- every object of it is in its units: the old ones were, and the new one is. The permissions are as they were
     filled-fits : is-sound unit (render (filled .blocks)) (filled .accounts) ≡ true
     unfolding is-sound objects-of
     filled-fits =
-        let was = all-member (in-units unit) (objects (blocks-of s)) (and-right (consistent s k) _ (r .checked .sound)) in
+        let may : all permissible (permissions (filled .accounts)) ≡ true = ap (all permissible) filled-permissions ∙ sound-permissible unit s k (r .checked .sound) in
         let d = allocated-objects q new (state-of s k) start room in
         and-both _ _ (written .sound)
+        (and-both _ _
         (member-all (in-units unit) (objects-of (render (filled .blocks)))
-        (λ x m. ⊎-elim (λ (e : x ≡ new). rw e (new-in-units unit units s k q n p)) (λ y. was x y) (added-cases new (objects (blocks-of s)) (objects (made .blocks)) d x (rw (written .objects, copied-objects old new made made-good) at m))))
+        (λ x m. ⊎-elim (λ (e : x ≡ new). rw e (new-in-units unit units s k q n p)) (λ y. sound-fits unit s k (r .checked .sound) x y)
+        (added-cases new (objects (blocks-of s)) (objects (made .blocks)) d x (rw (written .objects, copied-objects old new made made-good) at m))))
+        may)
 
     filled-checked : Checked unit (render (filled .blocks)) (filled .accounts) q
     filled-checked = record { extent = written .allowed; consistent = written .sound; sound = filled-fits; exists = r .checked .exists }

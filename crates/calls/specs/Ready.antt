@@ -5,7 +5,7 @@ use mathlib.Core.List.{List}
 use mathlib.Core.Bool.{true}
 use lib.ListN.{length}
 use Rattle.accounts.specs.declared.Accounts.{Accounts}
-use Rattle.accounts.specs.Accounts.{QUOTAS, find-hold}
+use Rattle.accounts.specs.Accounts.{QUOTAS, ALLOCATE, permits, find-hold}
 use Rattle.accounts.specs.declared.Place.the-variants.{At}
 use Rattle.finder.specs.declared.Met.{Met}
 use Rattle.finder.specs.declared.Lookup.the-variants.{Found}
@@ -21,9 +21,10 @@ pub record Checked (unit : ℕ → ℕ) (s : List ℕ) (k : Accounts) (q : ℕ) 
   pub sound : is-sound unit s k ≡ true
   pub exists : q < QUOTAS
 
--- nor does line 4
+-- nor do lines 12 and 4
 pub record Ready (unit : ℕ → ℕ) (s : List ℕ) (k : Accounts) (q n : ℕ) : Type 0 where
   pub checked : Checked unit s k q
+  pub permitted : permits ALLOCATE q k ≡ true
   pub some : 0 < n
   pub short : n ≤ greatest-length
 

@@ -1,5 +1,6 @@
 // Allocation (rules 8.5 to 8.12): the refusals in their order, then an object is cut out of a free block and its quota pays.
 use crate::HandleResult;
+use accounts::ALLOCATE;
 use accounts::Accounts;
 use accounts::Hold;
 use accounts::Place;
@@ -91,6 +92,9 @@ fn allocate_wide(heap: &mut [u8], accounts: Accounts, quota: u32, length: u64) -
     }
     if QUOTAS <= quota as usize {
         return HandleResult::refused(accounts, Refusal::QuotaNumber);
+    }
+    if accounts.quotas[quota as usize].permissions / ALLOCATE % 2 == 0 {
+        return HandleResult::refused(accounts, Refusal::NotPermitted);
     }
     if length == 0 {
         return HandleResult::refused(accounts, Refusal::ObjectLength);

@@ -2,6 +2,7 @@
 use crate::HandleResult;
 use crate::allocation::grant;
 use crate::releasing::drop_claim;
+use accounts::ALLOCATE;
 use accounts::Accounts;
 use accounts::Place;
 use accounts::QUOTAS;
@@ -88,6 +89,9 @@ pub fn reallocate(
     }
     if QUOTAS <= quota as usize {
         return HandleResult::refused(accounts, Refusal::QuotaNumber);
+    }
+    if accounts.quotas[quota as usize].permissions / ALLOCATE % 2 == 0 {
+        return HandleResult::refused(accounts, Refusal::NotPermitted);
     }
     if length == 0 {
         return HandleResult::refused(accounts, Refusal::ObjectLength);

@@ -11,6 +11,7 @@ use borrow.Author.Tests.{le-leb, eq-eqb, ne-eqb}
 use lib.Dec.{eqb, leb}
 use lib.ListN.{length}
 use Rattle.accounts.specs.declared.Accounts.{Accounts}
+use Rattle.accounts.specs.Accounts.{permissions, permissible}
 use Rattle.layout.specs.Blocks.{Block, size, in-front, parse}
 use Rattle.model.specs.Lists.{all, or-else}
 use Rattle.model.specs.Objects.{object, objects-from, objects, blocks-of, objects-of}
@@ -36,12 +37,12 @@ fitting-front unit at b (some bs) = go (eqb (b .serial) 0)
     go true = refl
     go false = rw (own-length b, own-base at b)
 
--- the test of a heap is consistency with that
-pub fitting-sound : (unit : ℕ → ℕ) (s : List ℕ) (k : Accounts) → (consistent s k && fitting unit 0 (parse s)) ≡ sound unit s k
+-- the test of a heap and its permissions is consistency with that
+pub fitting-sound : (unit : ℕ → ℕ) (s : List ℕ) (k : Accounts) → (consistent s k && (fitting unit 0 (parse s) && all permissible (permissions k))) ≡ sound unit s k
 unfolding sound consistent consistent-parsed fitting objects-of objects blocks-of or-else
 fitting-sound unit s k = go (parse s)
   where
-    go : (o : Option (List Block)) → (consistent-parsed o k && fitting unit 0 o) ≡ (consistent-parsed o k && all (in-units unit) (objects-from 0 (or-else [] o)))
+    go : (o : Option (List Block)) → (consistent-parsed o k && (fitting unit 0 o && all permissible (permissions k))) ≡ (consistent-parsed o k && (all (in-units unit) (objects-from 0 (or-else [] o)) && all permissible (permissions k)))
     go none = refl
     go (some bs) = refl
 

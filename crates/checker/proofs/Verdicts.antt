@@ -3,11 +3,12 @@
 use Prim.Native.Nat.{ℕ}
 use mathlib.Core.Path.{_≡_, refl, ap, sym, _∙_}
 use mathlib.Core.Bool.{Bool, true, false, cond, _&&_}
-use mathlib.Core.List.{List}
+use mathlib.Core.List.{List, [], _∷_, map}
 use mathlib.Core.Option.{some}
 use lib.ListN.{length, replicate, getD-replicate, length-replicate, length-map}
+use Rattle.accounts.specs.declared.Quota.{Quota}
 use Rattle.accounts.specs.declared.Accounts.{Accounts}
-use Rattle.accounts.specs.Accounts.{QUOTAS, HOLDS}
+use Rattle.accounts.specs.Accounts.{QUOTAS, HOLDS, permissions, permissible}
 use Rattle.layout.specs.Blocks.{parse}
 use Rattle.model.specs.declared.Refusal.the-variants.{HeapLength, Inconsistent}
 use Rattle.model.specs.declared.Verdict.the-variants.{Accepted, Refused}
@@ -16,10 +17,10 @@ use Rattle.model.specs.Answers.{verdict-values}
 use Rattle.model.specs.Consistent.{allowed, sound}
 use Rattle.model.specs.Refusals.{first-refusal, line-1, line-2, check-lines}
 use Rattle.model.specs.Calls.{unless, check}
-use Rattle.model.proofs.Bools.{and-no}
+use Rattle.model.proofs.Bools.{and-left, and-right, and-no, and-yes}
 use Rattle.checker.specs.Keys.{well-formed}
 use Rattle.checker.specs.Chains.{SLOTS}
-use Rattle.checker.specs.Audit.{owes, begin, audit-parsed, audited}
+use Rattle.checker.specs.Audit.{owes, solvent, entry-valid, begin, audit-parsed, audited}
 use Rattle.checker.specs.Contracts.{Fresh, Index, Owing, Ready}
 use Rattle.checker.specs.Fitting.{fitting}
 use Rattle.checker.proofs.Fitting.{fitting-sound}
@@ -37,6 +38,21 @@ fresh =
       no-head = λ x l. getD-replicate SLOTS x HOLDS 0 l;
     }
 
+-- the two tests of each quota, one after the other
+valid-parts : (xs : List Quota) → all entry-valid xs ≡ (all solvent xs && all permissible (map (λ (x : Quota). x .permissions) xs))
+unfolding all
+valid-parts [] = refl
+valid-parts (x ∷ xs) = rw (valid-parts xs) (go (solvent x) (permissible (x .permissions)) (all solvent xs) (all permissible (map (λ (y : Quota). y .permissions) xs)))
+  where
+    go : (a b c d : Bool) → ((a && b) && (c && d)) ≡ ((a && c) && (b && d))
+    go false b c d = refl
+    go true true c d = refl
+    go true false c d = sym (and-no c false refl)
+
+one-fails : (w v r f p : Bool) → (v && p) ≡ false → ((w && (v && r)) && (f && p)) ≡ false
+one-fails w false r f p e = ap (λ (x : Bool). x && (f && p)) (and-no w false refl)
+one-fails w true r f p e = and-no (w && r) (f && p) (and-no f p e)
+
 module _ (unit : ℕ → ℕ) (s : List ℕ) (k : Accounts) where
   -- a length that is not allowed
   pub verdict-length : allowed (length s) ≡ false → verdict-values (Refused HeapLength) ≡ check unit s k .values
@@ -44,15 +60,15 @@ module _ (unit : ℕ → ℕ) (s : List ℕ) (k : Accounts) where
   verdict-length e = rw e
 
   module _ (fits : allowed (length s) ≡ true) (long : length (k .quotas) ≡ QUOTAS) where
-    same-verdict : (audited (parse s) k && fitting unit 0 (parse s)) ≡ sound unit s k
-    same-verdict = ap (λ (x : Bool). x && fitting unit 0 (parse s)) (audited-is-consistent s k long) ∙ fitting-sound unit s k
+    same-verdict : (audited (parse s) k && (fitting unit 0 (parse s) && all permissible (permissions k))) ≡ sound unit s k
+    same-verdict = ap (λ (x : Bool). x && (fitting unit 0 (parse s) && all permissible (permissions k))) (audited-is-consistent s k long) ∙ fitting-sound unit s k
 
     -- an audit that fails, and one that passes
-    verdict-fails : (audited (parse s) k && fitting unit 0 (parse s)) ≡ false → verdict-values (Refused Inconsistent) ≡ check unit s k .values
+    verdict-fails : (audited (parse s) k && (fitting unit 0 (parse s) && all permissible (permissions k))) ≡ false → verdict-values (Refused Inconsistent) ≡ check unit s k .values
     unfolding verdict-values check unless first-refusal check-lines line-1 line-2
     verdict-fails e = rw (fits, sym same-verdict ∙ e)
 
-    verdict-passes : (audited (parse s) k && fitting unit 0 (parse s)) ≡ true → verdict-values Accepted ≡ check unit s k .values
+    verdict-passes : (audited (parse s) k && (fitting unit 0 (parse s) && all permissible (permissions k))) ≡ true → verdict-values Accepted ≡ check unit s k .values
     unfolding verdict-values check unless first-refusal check-lines line-1 line-2
     verdict-passes e = rw (fits, sym same-verdict ∙ e)
 
@@ -61,21 +77,21 @@ module _ (unit : ℕ → ℕ) (s : List ℕ) (k : Accounts) where
     unfolding audited
     verdict-ill e = verdict-fails (rw e)
 
-    -- a remainder above its grant
+    -- a remainder above its grant, or a number that is no permissions
     pub verdict-insolvent : {owed : List ℕ} → Owing (k .quotas) false owed → verdict-values (Refused Inconsistent) ≡ check unit s k .values
     unfolding audited
-    verdict-insolvent w =
-        let e : audited (parse s) k ≡ false = rw (sym (w .0)) (and-no (all well-formed (k .holds)) false refl) in
-        verdict-fails (ap (λ (x : Bool). x && fitting unit 0 (parse s)) e)
+    verdict-insolvent w = verdict-fails (one-fails (all well-formed (k .holds)) (all solvent (k .quotas)) _ (fitting unit 0 (parse s)) (all permissible (permissions k)) (sym (valid-parts (k .quotas)) ∙ sym (w .0)))
 
     -- the walk
     module _ {keys next heads owed : List ℕ} (i : Index (k .holds) keys next heads) (w : Owing (k .quotas) true owed) where
       pub ready : Ready keys next heads owed
       ready = record { long = i .long; owed-long = ap length (w .1 refl) ∙ length-map (k .quotas) owes ∙ long; up = i .up; linked = i .linked; heads-inside = i .heads-inside }
 
-      audited-walk : (audited (parse s) k && fitting unit 0 (parse s)) ≡ (audit-parsed (k .«last_serial») (parse s) (some (begin keys owed)) && fitting unit 0 (parse s))
+      audited-walk : (audited (parse s) k && (fitting unit 0 (parse s) && all permissible (permissions k))) ≡ (audit-parsed (k .«last_serial») (parse s) (some (begin keys owed)) && fitting unit 0 (parse s))
       unfolding audited
-      audited-walk = rw (i .well, sym (w .0), w .1 refl, i .keyed)
+      audited-walk =
+          let both = sym (valid-parts (k .quotas)) ∙ sym (w .0) in
+          rw (i .well, and-left (all solvent (k .quotas)) _ both, w .1 refl, i .keyed, and-right (all solvent (k .quotas)) _ both, and-yes (fitting unit 0 (parse s)))
 
       pub verdict-walk : (t : Bool) → t ≡ (audit-parsed (k .«last_serial») (parse s) (some (begin keys owed)) && fitting unit 0 (parse s)) → verdict-values (cond t Accepted (Refused Inconsistent)) ≡ check unit s k .values
       verdict-walk true e = verdict-passes (audited-walk ∙ sym e)

@@ -7,6 +7,7 @@ use mathlib.Core.Option.{Option, none, some}
 use lib.Dec.{leb, eqb}
 use Rattle.accounts.specs.declared.Quota.{Quota}
 use Rattle.accounts.specs.declared.Accounts.{Accounts}
+use Rattle.accounts.specs.Accounts.{permissible}
 use Rattle.layout.specs.Blocks.{Block, size}
 use Rattle.model.specs.Lists.{all}
 use Rattle.checker.specs.Keys.{well-formed, keys-of, strike, struck, Payment, pay, unpaid}
@@ -17,6 +18,10 @@ owes x = x .grant - x .remainder
 
 abbrev pub solvent : Quota → Bool
 solvent x = leb (x .remainder) (x .grant)
+
+-- and its permissions are such
+abbrev pub entry-valid : Quota → Bool
+entry-valid x = solvent x && permissible (x .permissions)
 
 -- no number is left
 abbrev pub all-zero : List ℕ → Bool

@@ -12,7 +12,7 @@ use Rattle.accounts.specs.Accounts.{QUOTAS, HOLDS}
 use Rattle.model.specs.Lists.{all}
 use Rattle.checker.specs.Keys.{well-formed, keys-of, strike, struck, Payment, pay, unpaid}
 use Rattle.checker.specs.Chains.{SLOTS, Ascends, Covers, Linked}
-use Rattle.checker.specs.Audit.{owes, solvent, begin, behind, visit, settled}
+use Rattle.checker.specs.Audit.{owes, entry-valid, begin, behind, visit, settled}
 use Rattle.checker.specs.Fitting.{fits-block}
 
 -- `find` asks for chains that lead from a place to each key of the serial
@@ -45,9 +45,9 @@ abbrev pub Indexed : List Hold → Bool → List ℕ → List ℕ → List ℕ �
 Indexed hs true keys next heads = Index hs keys next heads
 Indexed hs false keys next heads = all well-formed hs ≡ false
 
--- `owing` says whether every quota is solvent, and what each owes
+-- `owing` says whether every quota is solvent and has a number that is permissions, and what each owes
 abbrev pub Owing : List Quota → Bool → List ℕ → Type 0
-Owing qs r owed = (r ≡ all solvent qs) × (r ≡ true → owed ≡ map owes qs)
+Owing qs r owed = (r ≡ all entry-valid qs) × (r ≡ true → owed ≡ map owes qs)
 
 -- `pay` says whether a quota owes the charge, and takes it off
 abbrev pub Charged : ℕ → ℕ → List ℕ → Bool → List ℕ → Type 0

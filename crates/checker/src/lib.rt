@@ -2,6 +2,7 @@
 // Each used record becomes a key, in the chain of its serial's slot. Each live block strikes its serial's keys, and their quotas pay for it. At the
 // end every key is struck and no quota owes anything. Serials that share a slot make its chain long, so serials picked on purpose cost more.
 // `held_each` follows the same chains to say which serials have a record.
+use accounts::ALL_PERMISSIONS;
 use accounts::Accounts;
 use accounts::HOLDS;
 use accounts::Hold;
@@ -136,7 +137,7 @@ fn index(
     true
 }
 
-// What each quota owes; false where a remainder is above its grant.
+// What each quota owes; false where a remainder is above its grant, or a number is no quota's permissions (rule 15.2).
 fn owing(quotas: [Quota; QUOTAS], owed: &mut [usize; QUOTAS]) -> bool
     requires { ⌜ length (now owed) ≡ QUOTAS ⌝ }
     ensures { λ r. ⌜ Owing quotas r (now (owed .exit)) ⌝ }
@@ -145,6 +146,9 @@ fn owing(quotas: [Quota; QUOTAS], owed: &mut [usize; QUOTAS]) -> bool
     while i < QUOTAS {
         let quota = quotas[i];
         if quota.grant < quota.remainder {
+            return false;
+        }
+        if ALL_PERMISSIONS < quota.permissions {
             return false;
         }
         owed[i] = (quota.grant - quota.remainder) as usize;

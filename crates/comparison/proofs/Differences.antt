@@ -32,14 +32,17 @@ use Rattle.comparison.proofs.Items.{differing-all, differing-sorted, no
 -- two quotas and two records are the same exactly if they are equal
 pub same-quota-self : (x : Quota) → same-quota x x ≡ true
 unfolding same-quota
-same-quota-self x = and-both _ _ (eq-eqb (x .grant) (x .grant) refl) (eq-eqb (x .remainder) (x .remainder) refl)
+same-quota-self x =
+    and-both _ _ (eq-eqb (x .grant) (x .grant) refl) (and-both _ _ (eq-eqb (x .remainder) (x .remainder) refl) (eq-eqb (x .permissions) (x .permissions) refl))
 
 pub same-quota-is : (x y : Quota) → same-quota x y ≡ true → x ≡ y
 unfolding same-quota
 same-quota-is x y e =
     let g = eqb-true (x .grant) (y .grant) (and-left _ _ e) in
-    let r = eqb-true (x .remainder) (y .remainder) (and-right (eqb (x .grant) (y .grant)) _ e) in
-    λ i. record { grant = g i; remainder = r i }
+    let f = and-right (eqb (x .grant) (y .grant)) _ e in
+    let r = eqb-true (x .remainder) (y .remainder) (and-left _ _ f) in
+    let p = eqb-true (x .permissions) (y .permissions) (and-right (eqb (x .remainder) (y .remainder)) _ f) in
+    λ i. record { grant = g i; remainder = r i; permissions = p i }
 
 pub same-record-self : (x : Hold) → same-record x x ≡ true
 unfolding same-record

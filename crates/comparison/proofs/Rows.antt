@@ -8,7 +8,7 @@ use lib.ListN.{set, replicate, take}
 use Rattle.accounts.specs.declared.Accounts.{Accounts}
 use Rattle.accounts.specs.declared.Quota.{Quota}
 use Rattle.accounts.specs.declared.Hold.{Hold}
-use Rattle.accounts.specs.Accounts.{zero-quota, zero-hold, with-quotas, with-last-serial, with-holds, opened}
+use Rattle.accounts.specs.Accounts.{zero-quota, zero-hold, with-permissions, with-quotas, with-last-serial, with-holds, opened}
 use Rattle.framing.specs.Frames.{cut}
 use Rattle.image_model.specs.Stream.{form-1, stream, image-of}
 use Rattle.comparison.specs.Differences.{State, differences}
@@ -27,7 +27,7 @@ heap : List ℕ
 heap = 2 ∷ 0 ∷ 0 ∷ 0 ∷ 1 ∷ 0 ∷ 0 ∷ 0 ∷ 1 ∷ 2 ∷ 3 ∷ 4 ∷ 5 ∷ 6 ∷ 7 ∷ 8 ∷ 6 ∷ 0 ∷ 2 ∷ replicate 37 0 ++ replicate 8 255
 
 quota : ℕ → ℕ → Quota
-quota g r = record { grant = g; remainder = r }
+quota g r = record { grant = g; remainder = r; permissions = 7 }
 
 hold : ℕ → ℕ → ℕ → Hold
 hold s q c = record { serial = s; quota = q; count = c }
@@ -35,7 +35,7 @@ hold s q c = record { serial = s; quota = q; count = c }
 accounts : Accounts
 accounts =
     record {
-      quotas = quota 100 84 ∷ quota 1000 984 ∷ replicate 6 zero-quota;
+      quotas = quota 100 84 ∷ quota 1000 984 ∷ replicate 6 (quota 0 0);
       «last_serial» = 1;
       holds = hold 1 0 1 ∷ replicate 52 zero-hold ++ (hold 1 1 3 ∷ replicate 74 zero-hold);
     }
@@ -85,6 +85,7 @@ holds-with hs = with-accounts (with-holds hs accounts)
 account-rows : (differences state (with-accounts (with-last-serial 2 accounts)) ≡ LastSerial ∷ [])
     × (differences state (quotas-with (set (accounts .quotas) 1 (quota 1001 984))) ≡ QuotaAt 1 ∷ [])
     × (differences state (quotas-with (set (accounts .quotas) 1 (quota 1000 983))) ≡ QuotaAt 1 ∷ [])
+    × (differences state (quotas-with (set (accounts .quotas) 1 (with-permissions 6 (quota 1000 984)))) ≡ QuotaAt 1 ∷ [])
     × (differences state (quotas-with (set (set (accounts .quotas) 7 (quota 1 0)) 0 zero-quota)) ≡ QuotaAt 0 ∷ QuotaAt 7 ∷ [])
     × (differences state (holds-with (set (accounts .holds) 53 (hold 2 1 3))) ≡ RecordAt 53 ∷ [])
     × (differences state (holds-with (set (accounts .holds) 53 (hold 1 2 3))) ≡ RecordAt 53 ∷ [])
@@ -92,7 +93,7 @@ account-rows : (differences state (with-accounts (with-last-serial 2 accounts)) 
     × (differences state (holds-with (set (set (accounts .holds) 127 (hold 0 0 1)) 0 zero-hold)) ≡ RecordAt 0 ∷ RecordAt 127 ∷ [])
     × (differences state (holds-with (set (set (accounts .holds) 53 (hold 1 0 1)) 0 (hold 1 1 3))) ≡ RecordAt 0 ∷ RecordAt 53 ∷ [])
 unfolding small quotas-with holds-with
-account-rows = (refl, refl, refl, refl, refl, refl, refl, refl, refl)
+account-rows = (refl, refl, refl, refl, refl, refl, refl, refl, refl, refl)
 
 -- everything at once, in an image that is accepted: another serial, a third quota, exchanged records, a byte of the object, two runs in a free block
 other : State
@@ -101,7 +102,7 @@ other =
       heap = set (set (set (set heap 8 9) 30 1) 31 1) 63 1;
       accounts =
           record {
-            quotas = quota 100 84 ∷ quota 1000 984 ∷ quota 5 5 ∷ replicate 5 zero-quota;
+            quotas = quota 100 84 ∷ quota 1000 984 ∷ quota 5 5 ∷ replicate 5 (quota 0 0);
             «last_serial» = 3;
             holds = hold 1 1 3 ∷ replicate 52 zero-hold ++ (hold 1 0 1 ∷ replicate 74 zero-hold);
           };

@@ -21,7 +21,7 @@ state-in i = record { heap = heap-in i; accounts = accounts-in i }
 
 -- two quotas and two records are the same if all their numbers are
 unfoldable pub same-quota : Quota → Quota → Bool
-same-quota x y = eqb (x .grant) (y .grant) && eqb (x .remainder) (y .remainder)
+same-quota x y = eqb (x .grant) (y .grant) && (eqb (x .remainder) (y .remainder) && eqb (x .permissions) (y .permissions))
 
 unfoldable pub same-record : Hold → Hold → Bool
 same-record x y = eqb (x .serial) (y .serial) && (eqb (x .quota) (y .quota) && eqb (x .count) (y .count))

@@ -20,7 +20,10 @@ fn is_same_quota(first: Quota, second: Quota) -> bool
     if first.grant != second.grant {
         return false;
     }
-    first.remainder == second.remainder
+    if first.remainder != second.remainder {
+        return false;
+    }
+    first.permissions == second.permissions
 }
 
 // Whether two hold records have the same numbers.

@@ -22,5 +22,6 @@ pub use performing::perform;
 pub use quotas::AmountResult;
 pub use quotas::Opened;
 pub use quotas::claim;
+pub use quotas::clear_permissions;
 pub use quotas::free_all;
 pub use quotas::open;

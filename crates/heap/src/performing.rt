@@ -94,5 +94,11 @@ pub fn perform(heap: &mut [u8], accounts: Accounts, call: Call) -> Performed
                 Answer::Block(access::list_from(heap, accounts, at)),
             )
         }
+        Call::ClearPermissions { quota, bits } => of_amount(quotas::clear_permissions(
+            heap,
+            accounts,
+            quota,
+            bits,
+        )),
     }
 }

@@ -8,6 +8,7 @@ use native.Mathlib.Omega.{arith}
 use native.Mathlib.Nat.{add-zero, zero-add, suc-add}
 use lib.ListN.{take, drop, getD}
 use lib.Seq.{take-nil, getD-take, getD-drop, take-take, drop-drop}
+use Rattle.accounts.specs.Accounts.{ALL-PERMISSIONS}
 use Rattle.layout.specs.Bytes.{number}
 use Rattle.image_model.specs.declared.Form.{Form}
 use Rattle.image_model.specs.Items.{all-zero}
@@ -59,7 +60,8 @@ module _ (at : ℕ) (t : List ℕ) where
 
   -- an entry and a record, number by number
   pub entry-read : (f : Form)
-      → record { grant = number (take 4 (drop at t)); remainder = number (take 4 (drop (at + 4) t)) } ≡ entry-of f (take (entry-width f) (drop at t))
+      → record { grant = number (take 4 (drop at t)); remainder = number (take 4 (drop (at + 4) t)); permissions = ALL-PERMISSIONS }
+      ≡ entry-of f (take (entry-width f) (drop at t))
   unfolding entry-of tail-of tail-width
   entry-read f = rw (first-part 4 8 (omega arith), later-part 4 4, take-take 4 4 (drop (at + 4) t) (omega arith))
 

@@ -22,11 +22,11 @@ use Rattle.framing.specs.declared.FrameAnswer.{FrameAnswer}
 use Rattle.framing.specs.declared.FrameAnswer.the-variants.{Written as FramesWritten, NoRoom}
 use Rattle.framing.specs.Frames.{frames-for, has-room, Framed, write-frames}
 use Rattle.image_model.specs.declared.Form.{Form}
-use Rattle.image_model.specs.declared.ImageRefusal.the-variants.{Call, Room}
+use Rattle.image_model.specs.declared.ImageRefusal.the-variants.{Call, Room, NotCarried}
 use Rattle.image_model.specs.declared.WriteAnswer.the-variants.{Written, Refused as NotWritten}
-use Rattle.image_model.specs.Stream.{form-1, head-length, head-of, stream, image-of, image-length}
+use Rattle.image_model.specs.Stream.{form-1, carries, head-length, head-of, stream, image-of, image-length}
 use Rattle.image_model.specs.Answers.{Imaged, imaged}
-use Rattle.image_model.specs.Images.{put-lines, write-lines, unless-written, write-image}
+use Rattle.image_model.specs.Images.{line-28, put-lines, write-lines, unless-written, write-image}
 use Rattle.image.specs.Parsing.{FormFits, length-for, put-image}
 use Rattle.image.proofs.Heads.{head-extent}
 
@@ -35,8 +35,13 @@ unfoldable pub as-image : List ℕ → FrameAnswer → Imaged
 as-image o (FramesWritten n) = imaged o (Written n)
 as-image o NoRoom = imaged o (NotWritten Room)
 
-module _ (f : Form) (fits : FormFits f) (o s : List ℕ) (k : Accounts) (short : length s ≤ 32768) (h : List ℕ) (is : h ≡ head-of f (length s) k)
-    (long : length h ≡ head-length f) where
+-- accounts that the form does not carry are refused
+pub put-uncarried : (f : Form) (o s : List ℕ) (k : Accounts) → carries f k ≡ false → imaged o (NotWritten NotCarried) ≡ put-image f o s k
+unfolding imaged put-image put-lines line-28 unless-written first-refusal
+put-uncarried f o s k c = rw c
+
+module _ (f : Form) (fits : FormFits f) (o s : List ℕ) (k : Accounts) (carried : carries f k ≡ true) (short : length s ≤ 32768)
+    (h : List ℕ) (is : h ≡ head-of f (length s) k) (long : length h ≡ head-length f) where
   abbrev count : ℕ
   count = frames-for (head-length f + length s)
 
@@ -59,12 +64,12 @@ module _ (f : Form) (fits : FormFits f) (o s : List ℕ) (k : Accounts) (short :
   framed r = as-image (r .image) (r .answer)
 
   framed-short : length o < 512 * count → framed (write-frames o (stream f s k)) ≡ put-image f o s k
-  unfolding framed as-image write-frames has-room put-image put-lines image-length unless-written first-refusal imaged
-  framed-short l = rw (stream-long, countable, lt-leb (512 * count) (length o) l, lt-ltb (length o) (512 * count) l)
+  unfolding framed as-image write-frames has-room put-image put-lines line-28 image-length unless-written first-refusal imaged
+  framed-short l = rw (carried, stream-long, countable, lt-leb (512 * count) (length o) l, lt-ltb (length o) (512 * count) l)
 
   framed-room : 512 * count ≤ length o → framed (write-frames o (stream f s k)) ≡ put-image f o s k
-  unfolding framed as-image write-frames has-room put-image put-lines image-of image-length unless-written first-refusal imaged
-  framed-room l = rw (stream-long, countable, le-leb (512 * count) (length o) l, le-ltb (length o) (512 * count) l)
+  unfolding framed as-image write-frames has-room put-image put-lines line-28 image-of image-length unless-written first-refusal imaged
+  framed-room l = rw (carried, stream-long, countable, le-leb (512 * count) (length o) l, le-ltb (length o) (512 * count) l)
 
   framed-put : (x : Bool) → ltb (length o) (512 * count) ≡ x → framed (write-frames o (stream f s k)) ≡ put-image f o s k
   framed-put true e = framed-short (ltb-true (length o) (512 * count) e)

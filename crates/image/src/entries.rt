@@ -1,5 +1,6 @@
-// Quotas as entries of an image: grant and remainder.
+// Quotas as entries of an image: grant and remainder, of a quota that has every permission.
 use crate::numbers::read_quad;
+use accounts::ALL_PERMISSIONS;
 use accounts::QUOTAS;
 use accounts::Quota;
 ghost use mathlib.Core.Path.{_≡_};
@@ -8,11 +9,26 @@ ghost use Prim.Native.Nat.{_+_, _*_, _≤_, _<_, _^_};
 ghost use lib.ListN.{length, take, drop};
 ghost use Rattle.accounts.specs.Accounts.{QUOTAS};
 ghost use Rattle.layout.specs.Bytes.{overwrite};
+ghost use Rattle.model.specs.Lists.{all};
 ghost use Rattle.framing.specs.Frames.{stream-of};
 ghost use Rattle.image_model.specs.Items.{many, each};
-ghost use Rattle.image_model.specs.Stream.{entry-bytes, entry-width, entries-at, blank};
+ghost use Rattle.image_model.specs.Stream.{tail-carries, entry-bytes, entry-width, entries-at, blank};
 ghost use Rattle.image_model.specs.Reading.{entry-of};
 ghost use Rattle.image_model.specs.declared.Form.{Form};
+
+// Whether the entries say all of the quotas: whether each quota has every permission.
+pub(crate) fn are_carried(quotas: [Quota; QUOTAS]) -> bool
+    ensures { λ r. ⌜ ((f : Form) → r ≡ all (tail-carries f) quotas) ⌝ }
+{
+    let mut i: usize = 0;
+    while i < QUOTAS {
+        if quotas[i].permissions != ALL_PERMISSIONS {
+            return false;
+        }
+        i += 1;
+    }
+    true
+}
 
 // An entry, written at a place of the head.
 fn write_entry(head: &mut [u8], at: usize, quota: Quota)
@@ -43,6 +59,7 @@ fn read_entry(image: &[u8], at: usize) -> Quota
     Quota {
         grant: read_quad(image, at),
         remainder: read_quad(image, at + 4),
+        permissions: ALL_PERMISSIONS,
     }
 }
 
@@ -55,6 +72,7 @@ pub(crate) fn read_entries(image: &[u8], count: usize) -> [Quota; QUOTAS]
     let blank = Quota {
         grant: 0,
         remainder: 0,
+        permissions: ALL_PERMISSIONS,
     };
     let mut quotas = [blank; QUOTAS];
     let mut i: usize = 0;

@@ -1,4 +1,5 @@
 // The writer.
+use crate::entries::are_carried;
 use crate::forms::HEAD;
 use crate::forms::form_1;
 use crate::forms::heap_at;
@@ -11,8 +12,9 @@ use image_model::WriteAnswer;
 use model::Verdict;
 ghost use mathlib.Core.Path.{_≡_};
 ghost use Prim.Native.Nat.{_+_, _*_, _≤_};
+ghost use mathlib.Core.Bool.{true};
 ghost use lib.ListN.{length};
-ghost use Rattle.image_model.specs.Stream.{form-1};
+ghost use Rattle.image_model.specs.Stream.{form-1, carries};
 ghost use Rattle.image_model.specs.Answers.{imaged};
 ghost use Rattle.image_model.specs.Images.{write-image};
 ghost use Rattle.image.specs.Parsing.{FormFits, length-for, put-image};
@@ -22,7 +24,7 @@ fn head_space() -> [u8; HEAD] {
     [0u8; HEAD]
 }
 
-// The head is made in `head`, and head and heap are written as frames.
+// The head is made in `head`, and head and heap are written as frames; the form says all of the accounts.
 fn put_with(
     image: &mut [u8],
     head: &mut [u8],
@@ -30,7 +32,7 @@ fn put_with(
     heap: &[u8],
     accounts: Accounts,
 ) -> WriteAnswer
-    requires { ⌜ FormFits form × (length (now head) ≡ 12 + form .quotas * 8 + form .records * 8) × (length (now heap) ≤ 32768) ⌝ }
+    requires { ⌜ (carries form accounts ≡ true) × FormFits form × (length (now head) ≡ 12 + form .quotas * 8 + form .records * 8) × (length (now heap) ≤ 32768) ⌝ }
     ensures { λ r. ⌜ imaged (now (image .exit)) r ≡ put-image form (now (image .entry)) (now (heap .entry)) accounts ⌝ }
 {
     write_head(head, form, heap.len() as u32, accounts);
@@ -40,11 +42,15 @@ fn put_with(
     }
 }
 
-// The image of a heap and its accounts in a form, where there is room.
+// The image of a heap and its accounts in a form, where the form says all of the accounts and there is room.
 fn put_image(image: &mut [u8], form: Form, heap: &[u8], accounts: Accounts) -> WriteAnswer
     requires { ⌜ FormFits form × (length (now heap) ≤ 32768) ⌝ }
     ensures { λ r. ⌜ imaged (now (image .exit)) r ≡ put-image form (now (image .entry)) (now (heap .entry)) accounts ⌝ }
 {
+    let quotas = accounts.quotas;
+    if !are_carried(quotas) {
+        return WriteAnswer::Refused(ImageRefusal::NotCarried);
+    }
     let end = heap_at(form.quotas, form.records);
     let mut head = head_space();
     put_with(image, &mut head[..end], form, heap, accounts)

@@ -9,12 +9,12 @@ use mathlib.Core.Option.{Option, none, some}
 use lib.Dec.{ltb, eqb}
 use borrow.Author.Tests.{leb-false, ltb-false, eqb-false}
 use Rattle.accounts.specs.declared.Accounts.{Accounts}
-use Rattle.accounts.specs.Accounts.{QUOTAS, used, remaining}
+use Rattle.accounts.specs.Accounts.{QUOTAS, ALLOCATE, CLAIM, used, remaining}
 use Rattle.model.specs.Lists.{any, all, is-none}
 use Rattle.rounding.specs.Rounding.{object-length}
 use Rattle.model.specs.Objects.{lookup, lookup-whole, found}
 use Rattle.model.specs.Consistent.{charge-of, has-record}
-use Rattle.model.specs.Refusals.{Line, _when_, line-holds, line-1, line-2, line-3, line-4, line-5, line-6, line-7, line-8, line-9, line-10, line-11, only-if, claims-first, base-for, quota-lines, release-lines, claim-lines, allocate-lines, reallocate-lines}
+use Rattle.model.specs.Refusals.{Line, _when_, line-holds, line-1, line-2, line-3, line-4, line-5, line-6, line-7, line-8, line-9, line-10, line-11, line-12, only-if, claims-first, base-for, free-all-lines, release-lines, claim-lines, allocate-lines, reallocate-lines}
 use Rattle.model.specs.declared.Handle.{Handle}
 use Rattle.model.proofs.Bools.{or-neither}
 
@@ -73,10 +73,10 @@ unfolding only-if
 only-passed true (n when t) e p = e
 only-passed false (n when t) e p = absurd (false≢true p)
 
--- what the lines of a quota's call have shown
-pub quota-passed : (unit : ℕ → ℕ) (s : List ℕ) (k : Accounts) (q : ℕ) → any line-holds (quota-lines unit s k q) ≡ false → q < QUOTAS
-unfolding quota-lines
-quota-passed unit s k q e = quota-exists q (passed (line-3 q) [] (passed (line-2 unit s k) _ (passed (line-1 s) _ e .1) .1) .0)
+-- what the lines of free-all have shown
+pub free-all-passed : (unit : ℕ → ℕ) (s : List ℕ) (k : Accounts) (q : ℕ) → any line-holds (free-all-lines unit s k q) ≡ false → q < QUOTAS
+unfolding free-all-lines
+free-all-passed unit s k q e = quota-exists q (passed (line-3 q) _ (passed (line-2 unit s k) _ (passed (line-1 s) _ e .1) .1) .0)
 
 -- those of a release
 pub record Releasable (s : List ℕ) (k : Accounts) (q : ℕ) (h : Handle) : Type 0 where
@@ -108,7 +108,8 @@ claim-passed unit s k q h e =
     let o = found (lookup h s) in
     let first = claims-first k q o in
     let p₃ = passed (line-3 q) _ (passed (line-2 unit s k) _ (passed (line-1 s) _ e .1) .1) in
-    let p₅ = passed (line-5 (lookup h s)) _ (p₃ .1) in
+    let p₁₂ = passed (line-12 CLAIM k q) _ (p₃ .1) in
+    let p₅ = passed (line-5 (lookup h s)) _ (p₁₂ .1) in
     let p₇ = passed (line-7 k q o) _ (p₅ .1) in
     let p₈ = passed (only-if first (line-8 k q (o .length))) _ (p₇ .1) in
     let p₉ = passed (only-if first (line-9 k)) [] (p₈ .1) in
@@ -155,7 +156,8 @@ module _ (unit : ℕ → ℕ) (s : List ℕ) (k : Accounts) where
   unfolding allocate-lines
   allocate-passed q n e =
       let p₃ = passed (line-3 q) _ (passed (line-2 unit s k) _ (passed (line-1 s) _ e .1) .1) in
-      let p₄ = passed (line-4 n) _ (p₃ .1) in
+      let p₁₂ = passed (line-12 ALLOCATE k q) _ (p₃ .1) in
+      let p₄ = passed (line-4 n) _ (p₁₂ .1) in
       rest-passed q n (quota-exists q (p₃ .0)) (p₄ .0) (p₄ .1)
 
   -- of a reallocation: the old object too
@@ -169,7 +171,8 @@ module _ (unit : ℕ → ℕ) (s : List ℕ) (k : Accounts) where
   unfolding reallocate-lines
   reallocate-passed q h n e =
       let p₃ = passed (line-3 q) _ (passed (line-2 unit s k) _ (passed (line-1 s) _ e .1) .1) in
-      let p₄ = passed (line-4 n) _ (p₃ .1) in
+      let p₁₂ = passed (line-12 ALLOCATE k q) _ (p₃ .1) in
+      let p₄ = passed (line-4 n) _ (p₁₂ .1) in
       let p₅ = passed (line-5 (lookup-whole h s)) _ (p₄ .1) in
       let p₆ = passed (line-6 k q (found (lookup-whole h s))) _ (p₅ .1) in
       let f = object-found (lookup-whole h s) (p₅ .0) in

@@ -16,11 +16,11 @@ use Rattle.model.specs.Lists.{all}
 use Rattle.model.specs.Objects.{objects, blocks-of, objects-of, lookup, lookup-whole, found}
 use Rattle.model.specs.Consistent.{long-enough, free-apart, well-cut, charges, has-record}
 use Rattle.model.specs.Space.{body-of}
-use Rattle.model.specs.Calls.{Outcome, State, unless, state-of, allocated, released, freed, copied, new-object, allocate, allocate-array, claim, release, free-all, reallocate, lend, remaining-of, can-release, list-block}
-use Rattle.model.specs.Refusals.{first-refusal, quota-lines, lend-lines, release-lines, claim-lines, check-lines, allocate-lines, reallocate-lines}
+use Rattle.model.specs.Calls.{Outcome, State, unless, state-of, allocated, released, freed, copied, new-object, allocate, allocate-array, claim, release, free-all, reallocate, lend, remaining-of, can-release, list-block, clear}
+use Rattle.model.specs.Refusals.{first-refusal, quota-lines, free-all-lines, lend-lines, release-lines, claim-lines, check-lines, allocate-lines, reallocate-lines}
 use Rattle.model.specs.Step.{step}
 use Rattle.model.specs.declared.Call.{Call}
-use Rattle.model.specs.declared.Call.the-variants.{Allocate, AllocateArray, Claim, Release, FreeAll, Reallocate, Lend, Remaining, CanRelease, ListBlock}
+use Rattle.model.specs.declared.Call.the-variants.{Allocate, AllocateArray, Claim, Release, FreeAll, Reallocate, Lend, Remaining, CanRelease, ListBlock, ClearPermissions}
 use Rattle.model.proofs.Refusals.{accepted-exactly, by-lines}
 use Rattle.model.specs.declared.Handle.{Handle}
 use Rattle.model.proofs.Bools.{and-right}
@@ -33,7 +33,7 @@ use Rattle.invariant.proofs.Heaps.{good-heap}
 use Rattle.ledger.proofs.Contents.{contents-stay}
 use Rattle.ledger.proofs.Staying.{carved-live, settled-live, copied-live}
 use Rattle.invariant.proofs.Transitions.{Room, allocated-good, released-good, freed-good, copied-good}
-use Rattle.invariant.proofs.Passed.{Allocatable, allocate-passed, Releasable, release-passed, quota-passed, Reallocatable, reallocate-passed}
+use Rattle.invariant.proofs.Passed.{Allocatable, allocate-passed, Releasable, release-passed, free-all-passed, Reallocatable, reallocate-passed}
 use Rattle.invariant.proofs.Requested.{still-releasable}
 use Rattle.ledger.proofs.Steps.{good, again, room, fresh-serial, there, old-there}
 
@@ -152,7 +152,7 @@ module _ (unit : ℕ → ℕ) (units : Units unit) (l : Ledger) (s : List ℕ) (
 module _ (unit : ℕ → ℕ) (units : Units unit) where
   pub step-bytes : (c : Call) (l : Ledger) (s : List ℕ) (k : Accounts) → Agrees l s k → (o : Handle) → List·Memᴰ o (objects-of s)
       → List·Memᴰ o (objects-of (step unit c s k .heap)) → contents o (step unit c s k .heap) ≡ contents o s
-  unfolding step allocate allocate-array claim release free-all reallocate lend remaining-of can-release list-block
+  unfolding step allocate allocate-array claim release free-all reallocate lend remaining-of can-release list-block clear
   step-bytes (Allocate q n) l s k a =
       accepted-bytes s k (first-refusal (allocate-lines unit s k q n)) _
       (λ e. allocate-bytes unit units l s k a q n (allocate-passed unit s k q n (accepted-exactly (allocate-lines unit s k q n) (by-lines unit (Allocate q n) s k .numbered) .0 e)))
@@ -164,8 +164,8 @@ module _ (unit : ℕ → ℕ) (units : Units unit) where
       accepted-bytes s k (first-refusal (release-lines unit s k q h)) _
       (λ e. release-bytes unit units l s k a q h (release-passed unit s k q h (accepted-exactly (release-lines unit s k q h) (by-lines unit (Release q h) s k .numbered) .0 e)))
   step-bytes (FreeAll q) l s k a =
-      accepted-bytes s k (first-refusal (quota-lines unit s k q)) _
-      (λ e. free-bytes unit units l s k a q (quota-passed unit s k q (accepted-exactly (quota-lines unit s k q) (by-lines unit (FreeAll q) s k .numbered) .0 e)))
+      accepted-bytes s k (first-refusal (free-all-lines unit s k q)) _
+      (λ e. free-bytes unit units l s k a q (free-all-passed unit s k q (accepted-exactly (free-all-lines unit s k q) (by-lines unit (FreeAll q) s k .numbered) .0 e)))
   step-bytes (Reallocate q h n) l s k a =
       accepted-bytes s k (first-refusal (reallocate-lines unit s k q h n)) _
       (λ e. reallocate-bytes unit units l s k a q h n (reallocate-passed unit s k q h n (accepted-exactly (reallocate-lines unit s k q h n) (by-lines unit (Reallocate q h n) s k .numbered) .0 e)))
@@ -173,3 +173,4 @@ module _ (unit : ℕ → ℕ) (units : Units unit) where
   step-bytes (Remaining q) l s k a = accepted-bytes s k (first-refusal (quota-lines unit s k q)) _ (λ e o m x. refl)
   step-bytes (CanRelease q h) l s k a = accepted-bytes s k (first-refusal (release-lines unit s k q h)) _ (λ e o m x. refl)
   step-bytes (ListBlock at) l s k a = accepted-bytes s k (first-refusal (check-lines unit s k)) _ (λ e o m x. refl)
+  step-bytes (ClearPermissions q n) l s k a = accepted-bytes s k (first-refusal (quota-lines unit s k q)) _ (λ e o m x. refl)

@@ -9,17 +9,19 @@ use mathlib.Core.Bool.{true}
 use mathlib.Core.Logic.{⊎-elim}
 use borrow.Author.Tests.{eq-eqb, ne-eqb}
 use Rattle.accounts.specs.declared.Accounts.{Accounts}
+use Rattle.accounts.specs.Accounts.{permissions, permissible}
 use Rattle.rounding.specs.Rounding.{Units}
 use Rattle.model.specs.Objects.{objects-of}
 use Rattle.model.specs.Consistent.{consistent, in-units, sound}
-use Rattle.model.specs.Refusals.{first-refusal, quota-lines, lend-lines, release-lines, claim-lines, check-lines, allocate-lines, reallocate-lines}
-use Rattle.model.specs.Calls.{Outcome, unless, allocate, allocate-array, claim, release, free-all, reallocate, lend, remaining-of, can-release, list-block}
+use Rattle.model.specs.Refusals.{first-refusal, quota-lines, free-all-lines, lend-lines, release-lines, claim-lines, check-lines, allocate-lines, reallocate-lines}
+use Rattle.model.specs.Calls.{Outcome, unless, allocate, allocate-array, claim, release, free-all, reallocate, lend, remaining-of, can-release, list-block, clear}
 use Rattle.model.specs.Step.{step}
 use Rattle.model.specs.declared.Handle.{Handle}
 use Rattle.model.specs.declared.Call.{Call}
-use Rattle.model.specs.declared.Call.the-variants.{Allocate, AllocateArray, Claim, Release, FreeAll, Reallocate, Lend, Remaining, CanRelease, ListBlock}
+use Rattle.model.specs.declared.Call.the-variants.{Allocate, AllocateArray, Claim, Release, FreeAll, Reallocate, Lend, Remaining, CanRelease, ListBlock, ClearPermissions}
 use Rattle.model.proofs.Bools.{and-both}
 use Rattle.model.proofs.Consistent.{sound-fits}
+use Rattle.model.specs.Lists.{all}
 use Rattle.model.proofs.Lists.{member-all}
 use Rattle.invariant.proofs.Requested.{new-in-units}
 use Rattle.model.proofs.Refusals.{accepted-exactly, by-lines}
@@ -35,10 +37,11 @@ use Rattle.ledger.proofs.Opening.{restored-agrees}
 abbrev pub Fitted : (ℕ → ℕ) → Ledger → Type 0
 Fitted unit l = (o : Handle) → List·Memᴰ o (objects-in l) → in-units unit o ≡ true
 
--- the live objects are
-pub sound-of : (unit : ℕ → ℕ) (l : Ledger) (s : List ℕ) (k : Accounts) → Agrees l s k → Fitted unit l → sound unit s k ≡ true
+-- the live objects are, and a state whose permissions are such is sound
+pub sound-of : (unit : ℕ → ℕ) (l : Ledger) (s : List ℕ) (k : Accounts) → Agrees l s k → Fitted unit l → all permissible (permissions k) ≡ true → sound unit s k ≡ true
 unfolding sound
-sound-of unit l s k a f = and-both (consistent s k) _ (a .sound) (member-all (in-units unit) (objects-of s) (λ o m. f o (a .matches .objects o .0 m)))
+sound-of unit l s k a f p =
+    and-both (consistent s k) _ (a .sound) (and-both (all (in-units unit) (objects-of s)) _ (member-all (in-units unit) (objects-of s) (λ o m. f o (a .matches .objects o .0 m))) p)
 
 -- a beginning has none, or those of a state that was read
 pub restored-fits : (unit : ℕ → ℕ) (s : List ℕ) (k : Accounts) → Restorable unit s k → Fitted unit (read-ledger s k)
@@ -72,7 +75,7 @@ accepted-fits unit c l s k (suc n) done a z f = rw (ne-eqb (suc n) 0 (λ e. omeg
 
 module _ (unit : ℕ → ℕ) (units : Units unit) where
   pub step-fits : (c : Call) (l : Ledger) (s : List ℕ) (k : Accounts) → Fitted unit l → Fitted unit (record-call c (step unit c s k .values) l)
-  unfolding step record-accepted allocate allocate-array claim release free-all reallocate lend remaining-of can-release list-block
+  unfolding step record-accepted allocate allocate-array claim release free-all reallocate lend remaining-of can-release list-block clear
   step-fits (Allocate q n) l s k f =
       accepted-fits unit (Allocate q n) l s k (first-refusal (allocate-lines unit s k q n)) _ f refl
       (λ e. added unit l f q _ (new-in-units unit units s k q n (allocate-passed unit s k q n (accepted-exactly (allocate-lines unit s k q n) (by-lines unit (Allocate q n) s k .numbered) .0 e))))
@@ -81,7 +84,7 @@ module _ (unit : ℕ → ℕ) (units : Units unit) where
       (λ e. added unit l f q _ (new-in-units unit units s k q (count * size) (allocate-passed unit s k q (count * size) (accepted-exactly (allocate-lines unit s k q (count * size)) (by-lines unit (AllocateArray q count size) s k .numbered) .0 e))))
   step-fits (Claim q h) l s k f = accepted-fits unit (Claim q h) l s k (first-refusal (claim-lines unit s k q h)) _ f refl (λ e. raised unit l f q (h .serial))
   step-fits (Release q h) l s k f = accepted-fits unit (Release q h) l s k (first-refusal (release-lines unit s k q h)) _ f refl (λ e. lowered unit l f q (h .serial))
-  step-fits (FreeAll q) l s k f = accepted-fits unit (FreeAll q) l s k (first-refusal (quota-lines unit s k q)) _ f refl (λ e. dropped unit l f q)
+  step-fits (FreeAll q) l s k f = accepted-fits unit (FreeAll q) l s k (first-refusal (free-all-lines unit s k q)) _ f refl (λ e. dropped unit l f q)
   step-fits (Reallocate q h n) l s k f =
       accepted-fits unit (Reallocate q h n) l s k (first-refusal (reallocate-lines unit s k q h n)) _ f refl
       (λ e. lowered unit _ (added unit l f q _ (new-in-units unit units s k q n (reallocate-passed unit s k q h n (accepted-exactly (reallocate-lines unit s k q h n) (by-lines unit (Reallocate q h n) s k .numbered) .0 e) .new))) q (h .serial))
@@ -89,3 +92,4 @@ module _ (unit : ℕ → ℕ) (units : Units unit) where
   step-fits (Remaining q) l s k f = accepted-fits unit (Remaining q) l s k (first-refusal (quota-lines unit s k q)) _ f refl (λ e. f)
   step-fits (CanRelease q h) l s k f = accepted-fits unit (CanRelease q h) l s k (first-refusal (release-lines unit s k q h)) _ f refl (λ e. f)
   step-fits (ListBlock at) l s k f = accepted-fits unit (ListBlock at) l s k (first-refusal (check-lines unit s k)) _ f refl (λ e. f)
+  step-fits (ClearPermissions q n) l s k f = accepted-fits unit (ClearPermissions q n) l s k (first-refusal (quota-lines unit s k q)) _ f refl (λ e. f)

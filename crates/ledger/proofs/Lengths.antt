@@ -13,12 +13,12 @@ use Rattle.model.specs.Lists.{all, total}
 use Rattle.model.specs.Objects.{blocks-of, objects-of, lookup-whole, found}
 use Rattle.model.specs.Consistent.{long-enough, free-apart, well-cut}
 use Rattle.model.specs.Space.{body-of}
-use Rattle.model.specs.Refusals.{first-refusal, quota-lines, lend-lines, release-lines, claim-lines, check-lines, allocate-lines, reallocate-lines}
-use Rattle.model.specs.Calls.{Outcome, State, unless, state-of, allocated, released, freed, copied, new-object, allocate, allocate-array, claim, release, free-all, reallocate, lend, remaining-of, can-release, list-block}
+use Rattle.model.specs.Refusals.{first-refusal, quota-lines, free-all-lines, lend-lines, release-lines, claim-lines, check-lines, allocate-lines, reallocate-lines}
+use Rattle.model.specs.Calls.{Outcome, State, unless, state-of, allocated, released, freed, copied, new-object, allocate, allocate-array, claim, release, free-all, reallocate, lend, remaining-of, can-release, list-block, clear}
 use Rattle.model.specs.Step.{step}
 use Rattle.model.specs.declared.Handle.{Handle}
 use Rattle.model.specs.declared.Call.{Call}
-use Rattle.model.specs.declared.Call.the-variants.{Allocate, AllocateArray, Claim, Release, FreeAll, Reallocate, Lend, Remaining, CanRelease, ListBlock}
+use Rattle.model.specs.declared.Call.the-variants.{Allocate, AllocateArray, Claim, Release, FreeAll, Reallocate, Lend, Remaining, CanRelease, ListBlock, ClearPermissions}
 use Rattle.model.proofs.Bools.{and-right}
 use Rattle.model.proofs.Refusals.{accepted-exactly, by-lines}
 use Rattle.model.proofs.Carve.{carved, carved-total}
@@ -70,7 +70,7 @@ module _ (unit : ℕ → ℕ) (units : Units unit) (l : Ledger) (s : List ℕ) (
   made-total q n p = allocated-total q (new-object unit s k n) (state-of s k) (good l s k a) (room unit units l s k a q n p)
 
   pub step-length : (c : Call) → length (step unit c s k .heap) ≡ length s
-  unfolding step allocate allocate-array claim release free-all reallocate lend remaining-of can-release list-block
+  unfolding step allocate allocate-array claim release free-all reallocate lend remaining-of can-release list-block clear
   step-length (Allocate q n) =
       accepted-length s k (first-refusal (allocate-lines unit s k q n)) _
       (λ e.
@@ -83,7 +83,7 @@ module _ (unit : ℕ → ℕ) (units : Units unit) (l : Ledger) (s : List ℕ) (
       as-long _ (made-total q (count * size) (allocate-passed unit s k q (count * size) p))))
   step-length (Claim q h) = accepted-length s k (first-refusal (claim-lines unit s k q h)) _ (λ e. refl)
   step-length (Release q h) = accepted-length s k (first-refusal (release-lines unit s k q h)) _ (λ e. as-long _ (released-total q _ (state-of s k)))
-  step-length (FreeAll q) = accepted-length s k (first-refusal (quota-lines unit s k q)) _ (λ e. as-long _ (freed-total q _ (state-of s k)))
+  step-length (FreeAll q) = accepted-length s k (first-refusal (free-all-lines unit s k q)) _ (λ e. as-long _ (freed-total q _ (state-of s k)))
   step-length (Reallocate q h n) =
       accepted-length s k (first-refusal (reallocate-lines unit s k q h n)) _
       (λ e.
@@ -96,6 +96,7 @@ module _ (unit : ℕ → ℕ) (units : Units unit) (l : Ledger) (s : List ℕ) (
   step-length (Remaining q) = accepted-length s k (first-refusal (quota-lines unit s k q)) _ (λ e. refl)
   step-length (CanRelease q h) = accepted-length s k (first-refusal (release-lines unit s k q h)) _ (λ e. refl)
   step-length (ListBlock at) = accepted-length s k (first-refusal (check-lines unit s k)) _ (λ e. refl)
+  step-length (ClearPermissions q n) = accepted-length s k (first-refusal (quota-lines unit s k q)) _ (λ e. refl)
 
 -- so the heap is as long as when an image of it was written
 module _ (unit : ℕ → ℕ) (units : Units unit) (begun : Ledger) (early : List Event) (s₁ : List ℕ) (k₁ : Accounts) where

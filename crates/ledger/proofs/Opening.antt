@@ -12,7 +12,7 @@ use lib.Dec.{leb, eqb, lit<}
 use borrow.Author.Tests.{leb-true, eqb-true}
 use Rattle.accounts.specs.declared.Quota.{Quota}
 use Rattle.accounts.specs.declared.Accounts.{Accounts}
-use Rattle.accounts.specs.Accounts.{QUOTAS, HOLDS, zero-quota, zero-hold, granted, opened, used}
+use Rattle.accounts.specs.Accounts.{QUOTAS, HOLDS, ALL-PERMISSIONS, permissible, zero-quota, zero-hold, permissions, granted, opened, used}
 use Rattle.layout.specs.Blocks.{render}
 use Rattle.model.specs.Lists.{all, total}
 use Rattle.model.specs.Answers.{accepted}
@@ -21,7 +21,7 @@ use Rattle.model.specs.Consistent.{allowed, long-enough, starts-free, free-apar
 use Rattle.model.specs.Refusals.{first-refusal, line-1, open-lines}
 use Rattle.model.specs.Calls.{Outcome, unless, fresh, open-heap}
 use Rattle.model.proofs.Bools.{and-left, and-right}
-use Rattle.model.proofs.Consistent.{Tests, balance-exactly, sound-consistent}
+use Rattle.model.proofs.Consistent.{Tests, balance-exactly, sound-consistent, sound-permissible}
 use Rattle.ledger.specs.Ledger.{Ledger, empty, read-ledger}
 use Rattle.ledger.specs.History.{Opened, Restorable, Begins, Opening, Restoring}
 use Rattle.ledger.proofs.Reading.{consistent-agrees}
@@ -137,6 +137,25 @@ opening-agrees : (grants : List ℕ) (s : List ℕ) (k : Accounts) → Opened gr
 opening-agrees grants s k o =
     let f = opened-fresh grants s k o in
     rw (f .heap, f .accounts) at (fresh-agrees (f .extent) (f .fits) grants (o .quotas) (o .narrow))
+
+-- every permission is set
+granted-permissions : (gs : List ℕ) → map (λ (x : Quota). x .permissions) (map granted gs) ≡ replicate (length gs) ALL-PERMISSIONS
+granted-permissions [] = refl
+granted-permissions (g ∷ gs) = ap (λ (ps : List ℕ). ALL-PERMISSIONS ∷ ps) (granted-permissions gs)
+
+pub opening-permissions : (grants s : List ℕ) (k : Accounts) → Opened grants s k → permissions k ≡ replicate QUOTAS ALL-PERMISSIONS
+unfolding opened
+opening-permissions grants s k o =
+    rw (← opened-fresh grants s k o .accounts) (granted-permissions grants ∙ ap (λ (n : ℕ). replicate n ALL-PERMISSIONS) (o .quotas))
+
+opening-permissible : (grants s : List ℕ) (k : Accounts) → Opened grants s k → all permissible (permissions k) ≡ true
+unfolding all
+opening-permissible grants s k o = ap (all permissible) (opening-permissions grants s k o)
+
+-- so every number is a quota's permissions at a beginning
+pub beginning-permissible : (unit : ℕ → ℕ) (begun : Ledger) (s : List ℕ) (k : Accounts) → Begins unit begun s k → all permissible (permissions k) ≡ true
+beginning-permissible unit begun s k (Opening grants e o) = opening-permissible grants s k o
+beginning-permissible unit begun s k (Restoring e r) = sound-permissible unit s k (r .sound)
 
 -- a state that is restored agrees with the ledger that is read off it
 pub restored-agrees : (unit : ℕ → ℕ) (s : List ℕ) (k : Accounts) → Restorable unit s k → Agrees (read-ledger s k) s k

@@ -17,7 +17,7 @@ use Rattle.ledger.specs.Demand3.{objects-in, Holds}
 use Rattle.ledger.proofs.Agreement.{Agrees}
 use Rattle.ledger.proofs.Opening.{restored-agrees}
 use Rattle.ledger.proofs.Fitted.{sound-of}
-use Rattle.ledger.proofs.Theorem.{history-agrees, history-fits, demand-3-of}
+use Rattle.ledger.proofs.Theorem.{history-agrees, history-fits, history-permissible, demand-3-of}
 
 -- of anything that performs calls
 module _ (unit : ℕ → ℕ) (run : Run) (begun : Ledger) (early : List Event) (s₁ : List ℕ) (k₁ : Accounts) where
@@ -58,7 +58,8 @@ module _ (unit : ℕ → ℕ) (units : Units unit) (begun : Ledger) where
   pub history-restorable : (es : List Event) (s : List ℕ) (k : Accounts) → History unit (step unit) begun es s k → Restorable unit s k
   history-restorable es s k h =
       let a = history-agrees unit units begun es s k h in
-      record { extent = a .extent; octets = a .octets; sound = sound-of unit _ s k a (history-fits unit units begun es s k h); quotas = a .quotas; narrow = a .narrow; serial = a .serial }
+      let sound = sound-of unit _ s k a (history-fits unit units begun es s k h) (history-permissible unit units begun es s k h) in
+      record { extent = a .extent; octets = a .octets; sound = sound; quotas = a .quotas; narrow = a .narrow; serial = a .serial }
 
   -- and the ledger read off it says what its ledger says
   pub history-read : (es : List Event) (s : List ℕ) (k : Accounts) → History unit (step unit) begun es s k → Same (read-ledger s k) (ledger-of begun es)

@@ -12,23 +12,24 @@ use lib.Dec.{eqb}
 use borrow.Author.Tests.{eq-eqb, ne-eqb}
 use Rattle.accounts.specs.declared.Quota.{Quota}
 use Rattle.accounts.specs.declared.Accounts.{Accounts}
-use Rattle.accounts.specs.Accounts.{QUOTAS, drop-records}
+use Rattle.accounts.specs.Accounts.{QUOTAS, drop-records, clear-permissions}
 use Rattle.rounding.specs.Rounding.{Units}
 use Rattle.layout.specs.Blocks.{render}
 use Rattle.model.specs.Lists.{keep, or-else}
 use Rattle.model.specs.Objects.{blocks-of, objects, objects-of, lookup, lookup-whole, found}
 use Rattle.model.specs.Consistent.{charges, has-record}
 use Rattle.model.specs.Holds.{count-of, lower-count}
-use Rattle.model.specs.Refusals.{first-refusal, quota-lines, lend-lines, release-lines, claim-lines, check-lines, allocate-lines, reallocate-lines}
-use Rattle.model.specs.Calls.{Outcome, State, unless, state-of, allocated, claimed, released, freed, copied, new-object, allocate, allocate-array, claim, release, free-all, reallocate, lend, remaining-of, can-release, list-block}
+use Rattle.model.specs.Refusals.{first-refusal, quota-lines, free-all-lines, lend-lines, release-lines, claim-lines, check-lines, allocate-lines, reallocate-lines}
+use Rattle.model.specs.Calls.{Outcome, State, unless, state-of, allocated, claimed, released, freed, copied, new-object, allocate, allocate-array, claim, release, free-all, reallocate, lend, remaining-of, can-release, list-block, clear}
 use Rattle.model.specs.Step.{step}
 use Rattle.model.specs.declared.Handle.{Handle}
 use Rattle.model.specs.declared.Call.{Call}
-use Rattle.model.specs.declared.Call.the-variants.{Allocate, AllocateArray, Claim, Release, FreeAll, Reallocate, Lend, Remaining, CanRelease, ListBlock}
+use Rattle.model.specs.declared.Call.the-variants.{Allocate, AllocateArray, Claim, Release, FreeAll, Reallocate, Lend, Remaining, CanRelease, ListBlock, ClearPermissions}
 use Rattle.model.proofs.Refusals.{accepted-exactly, by-lines}
 use Rattle.model.proofs.Lookup.{lookup-exactly, lookup-whole-is}
 use Rattle.model.proofs.Settle.{object-held}
-use Rattle.model.proofs.Frame.{allocated-keeps, claimed-keeps, released-keeps, freed-keeps}
+use Rattle.model.proofs.Permissions.{clear-kept}
+use Rattle.model.proofs.Frame.{clear-keeps, allocated-keeps, claimed-keeps, released-keeps, freed-keeps}
 use Rattle.ledger.specs.Ledger.{Ledger, add-object, add-hold, take-hold, take-all, leave, record-accepted, record-call}
 use Rattle.invariant.proofs.Good.{Ordered, Good}
 use Rattle.ledger.proofs.Agreement.{Matches, Agrees}
@@ -37,7 +38,7 @@ use Rattle.invariant.proofs.Heaps.{good-heap, heap-good, heap-again, good-order
 use Rattle.invariant.proofs.Transitions.{Room, allocated-good, allocated-objects, allocated-fresh, allocated-counts, claimed-good, claimed-counts, released-good, released-objects, freed-good, freed-objects, copied-good, copied-objects}
 use Rattle.invariant.proofs.Requested.{requested-room, requested-fresh, still-releasable}
 use Rattle.ledger.proofs.Matching.{match-added, match-raised, match-lowered, match-dropped}
-use Rattle.invariant.proofs.Passed.{Allocatable, allocate-passed, Claimable, claim-passed, Releasable, release-passed, quota-passed, Reallocatable, reallocate-passed}
+use Rattle.invariant.proofs.Passed.{Allocatable, allocate-passed, Claimable, claim-passed, Releasable, release-passed, free-all-passed, Reallocatable, reallocate-passed}
 
 -- a refused call is not recorded and changes nothing
 accepted-step : (c : Call) (l : Ledger) (s : List ℕ) (k : Accounts) (n : ℕ) (done : Outcome) → Agrees l s k → done .values .refusal ≡ 0
@@ -202,11 +203,26 @@ module _ (unit : ℕ → ℕ) (units : Units unit) (l : Ledger) (s : List ℕ) (
       (reallocate-good l (state-of s k) (good l s k a) (a .grants) (matching l s k a) q old new (room unit units l s k a q n (p .new))
       (fresh-serial unit units l s k a q n (p .new)) (old-there (p .object) (p .names)) (p .recorded))
 
+-- cleared permissions are not in the ledger, and nothing else changes
+clear-agrees : (l : Ledger) (s : List ℕ) (k : Accounts) → Agrees l s k → (q n : ℕ) → Agrees l s (clear-permissions q n k)
+clear-agrees l s k a q n =
+    let c = clear-kept q n k in
+    record {
+      extent = a .extent;
+      octets = a .octets;
+      sound = c .same-consistent s ∙ a .sound;
+      quotas = c .same-count ∙ a .quotas;
+      narrow = λ j. rw (c .same-grants j) (a .narrow j);
+      serial = rw (c .same-last) (a .serial);
+      grants = clear-keeps q n (λ x. true) k .grants ∙ a .grants;
+      matches = rw (c .same-holds) (a .matches);
+    }
+
 -- every call keeps agreement
 module _ (unit : ℕ → ℕ) (units : Units unit) where
   pub step-agrees : (c : Call) (l : Ledger) (s : List ℕ) (k : Accounts) → Agrees l s k
       → Agrees (record-call c (step unit c s k .values) l) (step unit c s k .heap) (step unit c s k .accounts)
-  unfolding step record-accepted allocate allocate-array claim release free-all reallocate lend remaining-of can-release list-block
+  unfolding step record-accepted allocate allocate-array claim release free-all reallocate lend remaining-of can-release list-block clear
   step-agrees (Allocate q n) l s k a =
       accepted-step (Allocate q n) l s k (first-refusal (allocate-lines unit s k q n)) _ a refl
       (λ e. allocates unit units l s k a q n (allocate-passed unit s k q n (accepted-exactly (allocate-lines unit s k q n) (by-lines unit (Allocate q n) s k .numbered) .0 e)))
@@ -220,8 +236,8 @@ module _ (unit : ℕ → ℕ) (units : Units unit) where
       accepted-step (Release q h) l s k (first-refusal (release-lines unit s k q h)) _ a refl
       (λ e. releases l s k a q h (release-passed unit s k q h (accepted-exactly (release-lines unit s k q h) (by-lines unit (Release q h) s k .numbered) .0 e)))
   step-agrees (FreeAll q) l s k a =
-      accepted-step (FreeAll q) l s k (first-refusal (quota-lines unit s k q)) _ a refl
-      (λ e. frees l s k a q (quota-passed unit s k q (accepted-exactly (quota-lines unit s k q) (by-lines unit (FreeAll q) s k .numbered) .0 e)))
+      accepted-step (FreeAll q) l s k (first-refusal (free-all-lines unit s k q)) _ a refl
+      (λ e. frees l s k a q (free-all-passed unit s k q (accepted-exactly (free-all-lines unit s k q) (by-lines unit (FreeAll q) s k .numbered) .0 e)))
   step-agrees (Reallocate q h n) l s k a =
       accepted-step (Reallocate q h n) l s k (first-refusal (reallocate-lines unit s k q h n)) _ a refl
       (λ e. reallocates unit units l s k a q h n (reallocate-passed unit s k q h n (accepted-exactly (reallocate-lines unit s k q h n) (by-lines unit (Reallocate q h n) s k .numbered) .0 e)))
@@ -229,3 +245,4 @@ module _ (unit : ℕ → ℕ) (units : Units unit) where
   step-agrees (Remaining q) l s k a = accepted-step (Remaining q) l s k (first-refusal (quota-lines unit s k q)) _ a refl (λ e. a)
   step-agrees (CanRelease q h) l s k a = accepted-step (CanRelease q h) l s k (first-refusal (release-lines unit s k q h)) _ a refl (λ e. a)
   step-agrees (ListBlock at) l s k a = accepted-step (ListBlock at) l s k (first-refusal (check-lines unit s k)) _ a refl (λ e. a)
+  step-agrees (ClearPermissions q n) l s k a = accepted-step (ClearPermissions q n) l s k (first-refusal (quota-lines unit s k q)) _ a refl (λ e. clear-agrees l s k a q n)

@@ -10,22 +10,25 @@ use mathlib.Core.Bool.{Bool, true, false, cond, false≢true}
 use lib.ListN.{length, getD}
 use lib.Dec.{eqb}
 use Rattle.accounts.specs.declared.Accounts.{Accounts}
+use Rattle.accounts.specs.Accounts.{permissions, permissible}
 use Rattle.rounding.specs.Rounding.{unit, Units}
 use Rattle.rounding.proofs.Rounding.{unit-is}
+use Rattle.model.specs.Lists.{all}
 use Rattle.model.specs.Answers.{zero-handle}
 use Rattle.model.specs.Calls.{Outcome}
 use Rattle.model.specs.Step.{step}
 use Rattle.model.specs.declared.Handle.{Handle}
 use Rattle.model.proofs.Lists.{getD-member}
-use Rattle.model.proofs.Consistent.{serials-exactly}
+use Rattle.model.proofs.Consistent.{serials-exactly, sound-permissible}
+use Rattle.model.proofs.Permissions.{step-permissible}
 use Rattle.model.specs.Answers.{Values}
 use Rattle.model.specs.declared.Call.{Call}
-use Rattle.model.specs.declared.Call.the-variants.{Allocate, AllocateArray, Claim, Release, FreeAll, Reallocate, Lend, Remaining, CanRelease, ListBlock}
+use Rattle.model.specs.declared.Call.the-variants.{Allocate, AllocateArray, Claim, Release, FreeAll, Reallocate, Lend, Remaining, CanRelease, ListBlock, ClearPermissions}
 use Rattle.ledger.specs.Ledger.{Ledger, Event, Called, Wrote, Saved, Restored, leave, add-object, add-hold, take-hold, take-all, record-accepted, record-call, record-event, unrestored, ledger-of}
 use Rattle.ledger.specs.History.{History}
 use Rattle.ledger.specs.Demand3.{Within, objects-in, HeldIn, Holds, Demand3}
 use Rattle.ledger.proofs.Agreement.{Agrees}
-use Rattle.ledger.proofs.Opening.{restored-agrees, beginning-agrees}
+use Rattle.ledger.proofs.Opening.{restored-agrees, beginning-agrees, beginning-permissible}
 use Rattle.ledger.proofs.Writing.{written-agrees}
 use Rattle.ledger.proofs.Steps.{step-agrees}
 use Rattle.ledger.proofs.Fields.{live-once-of, apart-of, off-headers-of, inside-of, record-held-of, hold-recorded-of, records-once-of, balanced-of, answered-of}
@@ -57,6 +60,7 @@ accepted-grants (Lend h) v l = refl
 accepted-grants (Remaining q) v l = refl
 accepted-grants (CanRelease q h) v l = refl
 accepted-grants (ListBlock at) v l = refl
+accepted-grants (ClearPermissions q n) v l = refl
 
 recorded-grants : (t : Bool) (c : Call) (v : Values) (l : Ledger) → cond t (record-accepted c v l) l .grants ≡ l .grants
 recorded-grants true c v l = accepted-grants c v l
@@ -107,6 +111,17 @@ module _ (unit : ℕ → ℕ) (units : Units unit) where
   history-fits begun (Saved s₀ k₀ ∷ es) s k h = history-fits begun es s k (h .0)
   history-fits begun (Restored s₁ k₁ ∷ es) s k h = rw (← h .5, ← h .6) (restored-fits unit s k (h .4))
 
+  -- along a history every quota's number is permissions
+  pub history-permissible : (begun : Ledger) (es : List Event) (s : List ℕ) (k : Accounts) → History unit (step unit) begun es s k
+      → all permissible (permissions k) ≡ true
+  history-permissible begun [] s k h = beginning-permissible unit begun s k h
+  history-permissible begun (Called c v ∷ es) s k h =
+      subst (λ (t : Outcome). all permissible (permissions (t .accounts)) ≡ true) (h .3)
+      (step-permissible unit c (h .0) (h .1) (history-permissible begun es (h .0) (h .1) (h .2)))
+  history-permissible begun (Wrote ∷ es) s k h = history-permissible begun es (h .0) k (h .1)
+  history-permissible begun (Saved s₀ k₀ ∷ es) s k h = history-permissible begun es s k (h .0)
+  history-permissible begun (Restored s₁ k₁ ∷ es) s k h = sound-permissible unit s k (h .4 .sound)
+
   -- an event takes away no object whose serial is held after it
   history-lasts : (begun : Ledger) (front back : List Event) (s : List ℕ) (k : Accounts) → History unit (step unit) begun (back ++ front) s k
       → Lasts begun front back
@@ -123,8 +138,9 @@ module _ (unit : ℕ → ℕ) (units : Units unit) where
 
   -- what demand 3 says of a history is what agreement says of its end
   holds-after : (begun : Ledger) (front back : List Event) (s : List ℕ) (k : Accounts) → Lasts begun front back
-      → Agrees (ledger-of begun (back ++ front)) s k → Fitted unit (ledger-of begun (back ++ front)) → Holds unit (step unit) begun front back s k
-  holds-after begun front back s k lasts a f =
+      → Agrees (ledger-of begun (back ++ front)) s k → Fitted unit (ledger-of begun (back ++ front)) → all permissible (permissions k) ≡ true
+      → Holds unit (step unit) begun front back s k
+  holds-after begun front back s k lasts a f p =
       let l = ledger-of begun (back ++ front) in
       record {
         as-defined = λ c. refl;
@@ -142,11 +158,11 @@ module _ (unit : ℕ → ℕ) (units : Units unit) where
         grants-kept = a .grants;
         grants-begun = ledger-grants begun (back ++ front);
         balanced = balanced-of l s k a;
-        answered = answered-of l s k a unit (sound-of unit l s k a f);
-        no-space = λ c r e p. space-decided unit units s k c r e p .no-space;
-        space = λ c r e p. space-decided unit units s k c r e p .space;
+        answered = answered-of l s k a unit (sound-of unit l s k a f p);
+        no-space = λ c r e x. space-decided unit units s k c r e x .no-space;
+        space = λ c r e x. space-decided unit units s k c r e x .space;
         length-allowed = a .extent;
-        kept-sound = sound-of unit l s k a f;
+        kept-sound = sound-of unit l s k a f p;
       }
 
   -- THE THEOREM
@@ -156,7 +172,7 @@ module _ (unit : ℕ → ℕ) (units : Units unit) where
         always =
             λ begun front back s k h.
             holds-after begun front back s k (history-lasts begun front back s k h) (history-agrees begun (back ++ front) s k h)
-            (history-fits begun (back ++ front) s k h);
+            (history-fits begun (back ++ front) s k h) (history-permissible begun (back ++ front) s k h);
       }
 
 -- and so of the table of rule 6.1

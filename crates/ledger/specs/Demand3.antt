@@ -22,7 +22,7 @@ use Rattle.model.specs.Step.{step}
 use Rattle.model.specs.declared.Handle.{Handle}
 use Rattle.model.specs.declared.ListedBlock.{ListedBlock}
 use Rattle.model.specs.declared.Call.{Call}
-use Rattle.model.specs.declared.Call.the-variants.{Allocate, AllocateArray, Claim, Release, FreeAll, Reallocate, Lend, Remaining, CanRelease, ListBlock}
+use Rattle.model.specs.declared.Call.the-variants.{Allocate, AllocateArray, Claim, Release, FreeAll, Reallocate, Lend, Remaining, CanRelease, ListBlock, ClearPermissions}
 use Rattle.ledger.specs.Ledger.{Entry, Ledger, Event, holds-of, cost-to, unrestored, ledger-of}
 use Rattle.ledger.specs.History.{Run, History}
 
@@ -65,6 +65,7 @@ request-of unit (Lend h) s k = none
 request-of unit (Remaining q) s k = none
 request-of unit (CanRelease q h) s k = none
 request-of unit (ListBlock at) s k = none
+request-of unit (ClearPermissions q n) s k = none
 
 -- no line other than 11 holds
 unfoldable pub passes-others : List Line → Bool

@@ -14,7 +14,7 @@ use Rattle.model.specs.Lists.{any, keep}
 use Rattle.model.specs.Answers.{Values}
 use Rattle.model.specs.declared.Handle.{Handle}
 use Rattle.model.specs.declared.Call.{Call}
-use Rattle.model.specs.declared.Call.the-variants.{Allocate, AllocateArray, Claim, Release, FreeAll, Reallocate, Lend, Remaining, CanRelease, ListBlock}
+use Rattle.model.specs.declared.Call.the-variants.{Allocate, AllocateArray, Claim, Release, FreeAll, Reallocate, Lend, Remaining, CanRelease, ListBlock, ClearPermissions}
 
 -- an object of the ledger: its base, length and serial, and each quota's holds on it, by the quota's number
 pub record Entry : Type 0 where
@@ -64,7 +64,7 @@ take-hold q serial l = leave (with-entries (at-serial serial (change-holds q (λ
 unfoldable pub take-all : ℕ → Ledger → Ledger
 take-all q l = leave (with-entries (map (change-holds q (λ n. 0)) (l .entries)) l)
 
--- rules 9.3 and 9.5: an accepted call with its answer
+-- rules 9.3, 9.5 and 15.9: an accepted call with its answer
 unfoldable pub record-accepted : Call → Values → Ledger → Ledger
 record-accepted (Allocate q n) v l = add-object q (v .handle) l
 record-accepted (AllocateArray q count size) v l = add-object q (v .handle) l
@@ -76,6 +76,7 @@ record-accepted (Lend h) v l = l
 record-accepted (Remaining q) v l = l
 record-accepted (CanRelease q h) v l = l
 record-accepted (ListBlock at) v l = l
+record-accepted (ClearPermissions q n) v l = l
 
 -- rule 9.5: a call whose answer has a refusal's number, which is not 0, leaves the ledger as it is
 unfoldable pub record-call : Call → Values → Ledger → Ledger

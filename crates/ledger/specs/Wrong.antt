@@ -11,7 +11,7 @@ use Rattle.model.specs.Calls.{Outcome, unchanged}
 use Rattle.model.specs.Step.{step}
 use Rattle.model.specs.declared.Handle.{Handle}
 use Rattle.model.specs.declared.Call.{Call}
-use Rattle.model.specs.declared.Call.the-variants.{Allocate, AllocateArray, Claim, Release, FreeAll, Reallocate, Lend, Remaining, CanRelease, ListBlock}
+use Rattle.model.specs.declared.Call.the-variants.{Allocate, AllocateArray, Claim, Release, FreeAll, Reallocate, Lend, Remaining, CanRelease, ListBlock, ClearPermissions}
 
 -- every call is refused, for want of space
 unfoldable pub refuses-all : Call → List ℕ → Accounts → Outcome
@@ -29,6 +29,7 @@ at-allocate f (Lend h) t = t
 at-allocate f (Remaining q) t = t
 at-allocate f (CanRelease q h) t = t
 at-allocate f (ListBlock at) t = t
+at-allocate f (ClearPermissions q n) t = t
 
 unfoldable pub at-release : (ℕ → Handle → Outcome) → Call → Outcome → Outcome
 at-release f (Allocate q n) t = t
@@ -41,6 +42,7 @@ at-release f (Lend h) t = t
 at-release f (Remaining q) t = t
 at-release f (CanRelease q h) t = t
 at-release f (ListBlock at) t = t
+at-release f (ClearPermissions q n) t = t
 
 unfoldable pub at-remaining : (ℕ → Outcome) → Call → Outcome → Outcome
 at-remaining f (Allocate q n) t = t
@@ -53,6 +55,7 @@ at-remaining f (Lend h) t = t
 at-remaining f (Remaining q) t = f q
 at-remaining f (CanRelease q h) t = t
 at-remaining f (ListBlock at) t = t
+at-remaining f (ClearPermissions q n) t = t
 
 -- every allocate answers the same handle
 unfoldable pub fixed-handle : Call → List ℕ → Accounts → Outcome

@@ -1,7 +1,7 @@
 -- A claim by the places of the records is that of rules 8.13 to 8.15: where the quota has a record for the object, its count decides and is raised at
 -- its place; where it has none, its remainder and then the unused records decide, and the lowest unused place takes the new record.
 -- Assumes nothing.
-use Prim.Native.Nat.{ℕ, _+_, _%_, _≤_, _<_}
+use Prim.Native.Nat.{ℕ, _+_, _/_, _%_, _≤_, _<_}
 use mathlib.Core.Path.{_≡_, refl, ap, sym, _∙_}
 use mathlib.Core.List.{List, [], _∷_}
 use mathlib.Core.Bool.{Bool, true, false, not, _&&_, _||_}
@@ -12,17 +12,17 @@ use Rattle.accounts.specs.declared.Accounts.{Accounts}
 use Rattle.accounts.specs.declared.Hold.{Hold}
 use Rattle.accounts.specs.declared.Place.{Place}
 use Rattle.accounts.specs.declared.Place.the-variants.{At, Nothing}
-use Rattle.accounts.specs.Accounts.{QUOTAS, zero-hold, with-holds, remaining, charge, used, unused, is-for, find-hold, lowest-unused, hold-at, put-hold}
+use Rattle.accounts.specs.Accounts.{QUOTAS, CLAIM, quota-at, permits, zero-hold, with-holds, remaining, charge, used, unused, is-for, find-hold, lowest-unused, hold-at, put-hold}
 use Rattle.accounts.proofs.Laws.{charge-kept}
 use Rattle.finder.specs.declared.Met.{Met}
-use Rattle.finder.specs.declared.Lookup.the-variants.{Found}
+use Rattle.finder.specs.declared.Lookup.the-variants.{Found, Missing}
 use Rattle.finder.specs.Walk.{object-met, find-object}
 use Rattle.model.specs.Answers.{verdict-values, amount-values, amount-of}
 use Rattle.model.specs.Lists.{all, any, or-else}
 use Rattle.model.specs.Objects.{lookup, found}
 use Rattle.model.specs.Consistent.{charge-of}
 use Rattle.model.specs.Holds.{with-count, count-of, take-record, raise-count}
-use Rattle.model.specs.Refusals.{Line, _when_, first-refusal, line-7, line-8, line-9, only-if, claims-first, claim-lines, greatest-count}
+use Rattle.model.specs.Refusals.{Line, _when_, first-refusal, line-5, line-7, line-8, line-9, line-12, only-if, claims-first, claim-lines, greatest-count}
 use Rattle.model.specs.Calls.{Outcome, unless, unchanged, claimed, check, claim}
 use Rattle.model.specs.declared.Handle.{Handle}
 use Rattle.model.specs.declared.Refusal.the-variants.{CountLimit, QuotaExceeded, HoldsExhausted}
@@ -31,9 +31,9 @@ use Rattle.model.specs.declared.Verdict.the-variants.{Accepted}
 use Rattle.model.proofs.Lists.{first-none}
 use Rattle.quotas.specs.Results.{amount-outcome}
 use Rattle.quotas.specs.Claims.{not-claimed, claimed-length, claim-again, claim-in, claim-first}
-use Rattle.access.proofs.Lines.{refused-is, accepted-is, line-refuses, line-passes}
+use Rattle.access.proofs.Lines.{refused-is, accepted-is, line-refuses, line-passes, line-12-refuses, line-12-passes}
 use Rattle.access.proofs.Records.{found-some, found-record, found-change, nothing-some}
-use Rattle.access.proofs.Lookups.{byte-quota, located, quota-found, record-found, record-missing}
+use Rattle.access.proofs.Lookups.{byte-quota, located, unnamed, quota-passes, line-5-refuses, line-5-passes, record-found, record-missing}
 
 -- a line that is given only where a test holds
 only-passes : (c : Bool) (a b : Line) → c ≡ false → first-refusal (only-if c a ∷ only-if c b ∷ []) ≡ 0
@@ -181,15 +181,41 @@ module _ (s : List ℕ) (k : Accounts) (q : ℕ) (l : q < QUOTAS) (o : Handle) w
         go true x = rw x (short-is x)
         go false x = rw x (paid-is x (lowest-unused k) refl)
 
+-- lines 1, 2, 3, 12 and 5 do not hold, or one of the last two does
+module _ (unit : ℕ → ℕ) (s : List ℕ) (k : Accounts) (v : Verdict) (told : verdict-values v ≡ check unit s k .values) (accepts : v ≡ Accepted) (h : Handle) where
+  pub claim-found : (m : Met) → find-object h s ≡ Found m → (q : ℕ) → q < QUOTAS → permits CLAIM q k ≡ true
+      → first-refusal (claim-lines unit s k q h) ≡ first-refusal (claim-rest k q (found (lookup h s)))
+  unfolding claim-lines
+  claim-found m e q l p =
+      let rest = claim-rest k q (found (lookup h s)) in
+      quota-passes unit s k v told accepts q (line-12 CLAIM k q ∷ line-5 (lookup h s) ∷ rest) l
+      ∙ line-12-passes CLAIM q k (line-5 (lookup h s) ∷ rest) p
+      ∙ line-5-passes (lookup h s) (object-met m) rest (located unit s k v told accepts h m e .named)
+
+  pub claim-missing : find-object h s ≡ Missing → (q : ℕ) → q < QUOTAS → permits CLAIM q k ≡ true → first-refusal (claim-lines unit s k q h) ≡ 5
+  unfolding claim-lines
+  claim-missing e q l p =
+      let rest = claim-rest k q (found (lookup h s)) in
+      quota-passes unit s k v told accepts q (line-12 CLAIM k q ∷ line-5 (lookup h s) ∷ rest) l
+      ∙ line-12-passes CLAIM q k (line-5 (lookup h s) ∷ rest) p
+      ∙ line-5-refuses (lookup h s) rest (unnamed unit s k v told accepts h e)
+
+  pub claim-forbidden : (q : ℕ) → q < QUOTAS → quota-at q k .permissions / CLAIM % 2 ≡ 0 → first-refusal (claim-lines unit s k q h) ≡ 12
+  unfolding claim-lines
+  claim-forbidden q l z =
+      let rest = line-5 (lookup h s) ∷ claim-rest k q (found (lookup h s)) in
+      quota-passes unit s k v told accepts q (line-12 CLAIM k q ∷ rest) l ∙ line-12-refuses CLAIM q k rest z
+
 -- so the call's outcome is the definition's
-module _ (unit : ℕ → ℕ) (s : List ℕ) (k : Accounts) (v : Verdict) (told : verdict-values v ≡ check unit s k .values) (accepts : v ≡ Accepted) (h : Handle) (m : Met) (e : find-object h s ≡ Found m) (q : ℕ) (l : q < QUOTAS) where
+module _ (unit : ℕ → ℕ) (s : List ℕ) (k : Accounts) (v : Verdict) (told : verdict-values v ≡ check unit s k .values) (accepts : v ≡ Accepted) (h : Handle) (m : Met)
+    (e : find-object h s ≡ Found m) (q : ℕ) (l : q < QUOTAS) (permitted : permits CLAIM q k ≡ true) where
   due : unless (first-refusal (claim-rest k q (object-met m))) s k (claim-done s k q (object-met m)) ≡ claim unit s k q h
-  unfolding claim claim-lines
+  unfolding claim
   due =
       let p = located unit s k v told accepts h m e .object in
       ap (λ (o : Handle). unless (first-refusal (claim-rest k q o)) s k (claim-done s k q o)) (sym p)
       ∙ ap (λ (n : ℕ). unless n s k (claim-done s k q (found (lookup h s))))
-      (sym (quota-found unit s k v told accepts q h m (claim-rest k q (found (lookup h s))) l e))
+      (sym (claim-found unit s k v told accepts h m e q l permitted))
 
   pub claims-again : (i : ℕ) → find-hold (m .serial) (q % 256) k ≡ At i → amount-outcome s (claim-again i (object-met m .length) k) ≡ claim unit s k q h
   claims-again i f = again-is s k q l (object-met m) i f ∙ due

@@ -1,7 +1,7 @@
 -- Free-all among records, blocks and accounts. The refund changes no record, so the records that are left are those of the definition, and the flags are
 -- asked for them. The heap is that of its blocks, so the walk may start on it, and leaves the settled blocks. What is given back is what the quota had spent.
 -- Assumes nothing.
-use Prim.Native.Nat.{ℕ, _≤_, _<_}
+use Prim.Native.Nat.{ℕ, _/_, _%_, _≤_, _<_}
 use native.Mathlib.Omega.{arith}
 use mathlib.Core.Path.{_≡_, ap, sym, _∙_}
 use mathlib.Core.List.{List, [], _∷_}
@@ -9,7 +9,7 @@ use mathlib.Core.Bool.{Bool, true, false}
 use lib.ListN.{length, getD}
 use Rattle.accounts.specs.declared.Hold.{Hold}
 use Rattle.accounts.specs.declared.Accounts.{Accounts}
-use Rattle.accounts.specs.Accounts.{QUOTAS, spent, refund, with-holds, drop-records}
+use Rattle.accounts.specs.Accounts.{QUOTAS, FREE-ALL, quota-at, permits, spent, refund, with-holds, drop-records}
 use Rattle.accounts.proofs.Laws.{Sized, refund-kept}
 use Rattle.layout.specs.Bytes.{Octets}
 use Rattle.layout.specs.Blocks.{render}
@@ -18,7 +18,7 @@ use Rattle.model.specs.Answers.{refusal-number, verdict-values, amount-of, amou
 use Rattle.model.specs.Objects.{blocks-of, objects-of}
 use Rattle.model.specs.Consistent.{consistent, held, charges}
 use Rattle.model.specs.Space.{settle}
-use Rattle.model.specs.Refusals.{first-refusal, line-3, quota-lines}
+use Rattle.model.specs.Refusals.{Line, first-refusal, line-3, line-12, free-all-lines}
 use Rattle.model.specs.Calls.{check, freed, free-all}
 use Rattle.model.specs.declared.Refusal.{Refusal}
 use Rattle.model.specs.declared.Verdict.{Verdict}
@@ -30,7 +30,7 @@ use Rattle.checker.specs.Holders.{held-each}
 use Rattle.checker.proofs.Holders.{each-at, consistent-well, drop-well}
 use Rattle.finder.proofs.Parsed.{total-parsed}
 use Rattle.access.specs.Results.{outcome}
-use Rattle.access.proofs.Lines.{check-refuses, check-accepts, refused-is, accepted-is, line-3-refuses, line-3-passes}
+use Rattle.access.proofs.Lines.{check-refuses, check-accepts, refused-is, accepted-is, line-3-refuses, line-3-passes, line-12-refuses, line-12-passes}
 use Rattle.quotas.specs.declared.AmountResult.{AmountResult}
 use Rattle.quotas.specs.Results.{amount-outcome}
 use Rattle.quotas.specs.Emptying.{live-serials, Emptying, Emptiable, Emptied}
@@ -40,23 +40,31 @@ use Rattle.quotas.proofs.Emptied.{emptying-start}
 
 -- the lines, where the check has answered v
 module _ (unit : ℕ → ℕ) (s : List ℕ) (k : Accounts) (q : ℕ) (v : Verdict) (told : verdict-values v ≡ check unit s k .values) where
-  pub all-by-check : (x : Refusal) → v ≡ NotAccepted x → first-refusal (quota-lines unit s k q) ≡ refusal-number x
-  unfolding quota-lines
-  all-by-check x e = check-refuses unit s k v told (line-3 q ∷ []) x e
+  abbrev last-lines : List Line
+  last-lines = line-12 FREE-ALL k q ∷ []
 
-  pub all-by-quota : v ≡ Accepted → QUOTAS ≤ q → first-refusal (quota-lines unit s k q) ≡ 3
-  unfolding quota-lines
-  all-by-quota e l = check-accepts unit s k v told (line-3 q ∷ []) e ∙ line-3-refuses q [] l
+  pub all-by-check : (x : Refusal) → v ≡ NotAccepted x → first-refusal (free-all-lines unit s k q) ≡ refusal-number x
+  unfolding free-all-lines
+  all-by-check x e = check-refuses unit s k v told (line-3 q ∷ last-lines) x e
 
-  pub all-passes : v ≡ Accepted → q < QUOTAS → first-refusal (quota-lines unit s k q) ≡ 0
-  unfolding quota-lines first-refusal
-  all-passes e l = check-accepts unit s k v told (line-3 q ∷ []) e ∙ line-3-passes q [] l
+  pub all-by-quota : v ≡ Accepted → QUOTAS ≤ q → first-refusal (free-all-lines unit s k q) ≡ 3
+  unfolding free-all-lines
+  all-by-quota e l = check-accepts unit s k v told (line-3 q ∷ last-lines) e ∙ line-3-refuses q last-lines l
+
+  pub all-by-permission : v ≡ Accepted → q < QUOTAS → quota-at q k .permissions / FREE-ALL % 2 ≡ 0 → first-refusal (free-all-lines unit s k q) ≡ 12
+  unfolding free-all-lines
+  all-by-permission e l z =
+      check-accepts unit s k v told (line-3 q ∷ last-lines) e ∙ line-3-passes q last-lines l ∙ line-12-refuses FREE-ALL q k [] z
+
+  pub all-passes : v ≡ Accepted → q < QUOTAS → permits FREE-ALL q k ≡ true → first-refusal (free-all-lines unit s k q) ≡ 0
+  unfolding free-all-lines first-refusal
+  all-passes e l p = check-accepts unit s k v told (line-3 q ∷ last-lines) e ∙ line-3-passes q last-lines l ∙ line-12-passes FREE-ALL q k [] p
 
 -- a refusal as a result
 pub all-refuses : (unit : ℕ → ℕ) (s : List ℕ) (k : Accounts) (q : ℕ) (r : AmountResult) (x : Refusal) → r ≡ record { accounts = k; answer = Refused x }
-    → first-refusal (quota-lines unit s k q) ≡ refusal-number x → amount-outcome s r ≡ free-all unit s k q
+    → first-refusal (free-all-lines unit s k q) ≡ refusal-number x → amount-outcome s r ≡ free-all unit s k q
 unfolding free-all amount-values
-all-refuses unit s k q r x e n = ap (amount-outcome s) e ∙ refused-is (first-refusal (quota-lines unit s k q)) s k _ x n
+all-refuses unit s k q r x e n = ap (amount-outcome s) e ∙ refused-is (first-refusal (free-all-lines unit s k q)) s k _ x n
 
 -- heap and accounts are consistent, and the records of the quota q are dropped: k₁ are the accounts after the refund, and k₂ those that are left
 module _ (unit : ℕ → ℕ) (s : List ℕ) (k : Accounts) (o : Octets s) (short : length s ≤ 32768) (ok : consistent s k ≡ true) (sized : Sized k) (q : ℕ) (below : q < QUOTAS) (back : ℕ) (be : back ≡ spent q k)
@@ -90,7 +98,7 @@ module _ (unit : ℕ → ℕ) (s : List ℕ) (k : Accounts) (o : Octets s) (shor
         (flagged (drop-records q (k .holds)) kept serials told s k ok (sized .holds-long) se)
 
     -- so the walk may start, and what it leaves is the definition's
-    pub all-freed : first-refusal (quota-lines unit s k q) ≡ 0
+    pub all-freed : first-refusal (free-all-lines unit s k q) ≡ 0
         → Emptiable kept s
         × ((s′ : List ℕ) → Emptied kept s s′ → (r : AmountResult) → r ≡ record { accounts = k₂; answer = Amount back } → amount-outcome s′ r ≡ free-all unit s k q)
     unfolding free-all freed
@@ -99,4 +107,4 @@ module _ (unit : ℕ → ℕ) (s : List ℕ) (k : Accounts) (o : Octets s) (shor
         leaves-all : (s′ : List ℕ) → Emptied kept s s′ → (r : AmountResult) → r ≡ record { accounts = k₂; answer = Amount back } → amount-outcome s′ r ≡ free-all unit s k q
         leaves-all s′ f r re =
             let heap : s′ ≡ render (settle (drop-records q (k .holds)) (blocks-of s)) = f (drop-records q (k .holds)) (blocks-of s) emptying in
-            gives s′ k₂ back r re ∙ (λ i. outcome (heap i) (left i) (amount-of (paid i))) ∙ accepted-is (first-refusal (quota-lines unit s k q)) s k _ z
+            gives s′ k₂ back r re ∙ (λ i. outcome (heap i) (left i) (amount-of (paid i))) ∙ accepted-is (first-refusal (free-all-lines unit s k q)) s k _ z

@@ -1,6 +1,7 @@
 // The call that lets a quota hold an object, or hold it once more.
 use crate::AmountResult;
 use accounts::Accounts;
+use accounts::CLAIM;
 use accounts::Hold;
 use accounts::Place;
 use accounts::QUOTAS;
@@ -57,7 +58,7 @@ fn claim_first(accounts: Accounts, quota: u32, hold: Hold, length: u32) -> Amoun
     }
 }
 
-// Rules 8.13 to 8.15: a quota holds an object once more, or pays and holds it for the first time. The answer is the object's length.
+// Rules 8.13 to 8.15 and 15.5: a quota holds an object once more, or pays and holds it for the first time. The answer is the object's length.
 pub fn claim(heap: &[u8], accounts: Accounts, quota: u32, handle: Handle) -> AmountResult
     ensures { λ r. ⌜ amount-outcome (now (heap .entry)) r ≡ claim-of unit (now (heap .entry)) accounts quota handle ⌝ }
 {
@@ -66,6 +67,9 @@ pub fn claim(heap: &[u8], accounts: Accounts, quota: u32, handle: Handle) -> Amo
     }
     if QUOTAS <= quota as usize {
         return AmountResult::refused(accounts, Refusal::QuotaNumber);
+    }
+    if accounts.quotas[quota as usize].permissions / CLAIM % 2 == 0 {
+        return AmountResult::refused(accounts, Refusal::NotPermitted);
     }
     let Lookup::Found(block) = finder::find_object(heap, handle) else {
         return AmountResult::refused(accounts, Refusal::NoSuchObject);

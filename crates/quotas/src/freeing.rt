@@ -2,6 +2,7 @@
 // One walk collects the serials of the live blocks, one pass over the records says which of them are still held, and one walk frees the others.
 use crate::AmountResult;
 use accounts::Accounts;
+use accounts::FREE_ALL;
 use accounts::HOLDS;
 use accounts::QUOTAS;
 use finder::Met;
@@ -90,6 +91,9 @@ pub fn free_all(heap: &mut [u8], accounts: Accounts, quota: u32) -> AmountResult
     }
     if QUOTAS <= quota as usize {
         return AmountResult::refused(accounts, Refusal::QuotaNumber);
+    }
+    if accounts.quotas[quota as usize].permissions / FREE_ALL % 2 == 0 {
+        return AmountResult::refused(accounts, Refusal::NotPermitted);
     }
     let back = accounts.spent(quota);
     let left = accounts.refund(quota, back).drop_holds(quota as u8);

@@ -1,5 +1,5 @@
-// The calls that change what quotas hold and make no object: open, claim and free-all. Each checks heap and accounts for itself and answers, or gives one
-// refusal and changes nothing.
+// The calls that change what quotas hold or may do and make no object: open, claim, free-all and clear permissions. Each checks heap and accounts for itself
+// and answers, or gives one refusal and changes nothing.
 use accounts::Accounts;
 use model::AmountAnswer;
 use model::Refusal;
@@ -9,10 +9,12 @@ ghost use mathlib.Core.Path.{_≡_};
 mod claiming;
 mod freeing;
 mod opening;
+mod permissions;
 
 pub use claiming::claim;
 pub use freeing::free_all;
 pub use opening::open;
+pub use permissions::clear_permissions;
 
 // What open gives: the accounts, all zero where it is refused, and the verdict.
 pub struct Opened {
@@ -20,7 +22,7 @@ pub struct Opened {
     pub verdict: Verdict,
 }
 
-// What claim, release and free-all give.
+// What claim, release, free-all and clear permissions give.
 pub struct AmountResult {
     pub accounts: Accounts,
     pub answer: AmountAnswer,

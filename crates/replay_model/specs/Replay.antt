@@ -14,7 +14,7 @@ use Rattle.model.specs.Step.{step}
 use Rattle.model.specs.declared.Handle.{Handle}
 use Rattle.model.specs.declared.ListedBlock.{ListedBlock}
 use Rattle.model.specs.declared.Call.{Call}
-use Rattle.model.specs.declared.Call.the-variants.{Allocate, AllocateArray, Claim, Release, FreeAll, Reallocate, Lend, Remaining, CanRelease, ListBlock}
+use Rattle.model.specs.declared.Call.the-variants.{Allocate, AllocateArray, Claim, Release, FreeAll, Reallocate, Lend, Remaining, CanRelease, ListBlock, ClearPermissions}
 use Rattle.replay_model.specs.Text.{text, decimal, SPACE, LINE-FEED}
 use Rattle.replay_model.specs.Lines.{lines}
 use Rattle.replay_model.specs.Commands.{Opening, line-opening, line-call}
@@ -50,6 +50,7 @@ gives-handle (Lend h) = false
 gives-handle (Remaining q) = false
 gives-handle (CanRelease q h) = false
 gives-handle (ListBlock at) = false
+gives-handle (ClearPermissions q n) = false
 
 -- rule 11.4, the numbers of an accepted call's answer: base, length and serial, or the amount
 unfoldable pub handle-numbers : Handle → List ℕ

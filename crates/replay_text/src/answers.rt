@@ -175,6 +175,7 @@ fn answers_handle(call: Call) -> bool
             handle: _,
         } => false,
         Call::ListBlock { at: _ } => false,
+        Call::ClearPermissions { quota: _, bits: _ } => false,
     }
 }
 

@@ -1,5 +1,5 @@
--- `checker::owing` meets its contract. The loop's invariant: the quotas before place i are solvent, and what each owes stands at its place. So a
--- remainder above its grant fails the test, and at the end every quota is solvent and the table is whole. The measure is what is left of it.
+-- `checker::owing` meets its contract. The loop's invariant: the quotas before place i are solvent and their permissions are such, and what each owes stands at its place. So a
+-- remainder above its grant or a number above 7 fails the test, and at the end every quota is solvent and the table is whole. The measure is what is left of it.
 -- Assumes nothing.
 use Prim.Native.Nat.{ℕ, _≤_, _<_, _-_}
 use native.Mathlib.Omega.{arith}
@@ -10,7 +10,9 @@ use mathlib.Core.Path.{_≡_, sym, _∙_}
 use mathlib.Core.Bool.{true, false≢true}
 use lib.ListN.{length, getD, length-set}
 use Rattle.accounts.specs.Accounts.{QUOTAS, zero-quota}
-use Rattle.checker.specs.Audit.{owes, solvent}
+use lib.Dec.{leb}
+use Rattle.model.proofs.Bools.{and-both, and-no}
+use Rattle.checker.specs.Audit.{owes, solvent, entry-valid}
 use Rattle.checker.proofs.Tables.{all-places, all-fails, owed-more, owed-all}
 use Rattle.checker.proofs.owing.Statement.{statement}
 use Rattle.checker.proofs.owing.Tie as tie
@@ -19,7 +21,7 @@ abbrev Inv-loop : tie.InvT-loop
 Inv-loop owed₀ quotas i₀ owed i =
     (i ≤ QUOTAS)
     × (length owed ≡ QUOTAS)
-    × ((j : ℕ) → j < i → solvent (getD quotas j zero-quota) ≡ true)
+    × ((j : ℕ) → j < i → entry-valid (getD quotas j zero-quota) ≡ true)
     × ((j : ℕ) → j < i → getD owed j 0 ≡ owes (getD quotas j zero-quota))
 
 abbrev μ-loop : tie.MeasureT-loop
@@ -42,7 +44,13 @@ returns : tie.Need-returns Inv-loop μ-loop
 returns c =
     let l = c .before .before .before .before in
     let x = getD (l .before .args .t1) (l .loop .i) zero-quota in
-    (sym (all-fails solvent zero-quota (l .before .args .t1) (l .loop .i) (omega (arith, long (l .before))) (lt-leb (x .remainder) (x .grant) (omega arith))), λ e. absurd (false≢true e))
+    (sym (all-fails entry-valid zero-quota (l .before .args .t1) (l .loop .i) (omega (arith, long (l .before))) (rw (lt-leb (x .remainder) (x .grant) (omega arith)))), λ e. absurd (false≢true e))
+
+returns-2 : tie.Need-returns-2 Inv-loop μ-loop
+returns-2 c =
+    let l = c .before .before .before .before .before .before in
+    let x = getD (l .before .args .t1) (l .loop .i) zero-quota in
+    (sym (all-fails entry-valid zero-quota (l .before .args .t1) (l .loop .i) (omega (arith, long (l .before))) (and-no (solvent x) (leb (x .permissions) 7) (lt-leb (x .permissions) 7 (omega arith)))), λ e. absurd (false≢true e))
 
 cast-owed : tie.Need-cast-owed Inv-loop μ-loop
 cast-owed c = search needs
@@ -61,20 +69,20 @@ loop-less c = search needs
 
 loop-again : tie.Need-loop-again Inv-loop μ-loop
 loop-again c =
-    let l = c .before .before .before .before .before in
+    let l = c .before .before .before .before .before .before .before in
     let qs = l .before .args .t1 in
     let x = getD qs (l .loop .i) zero-quota in (
       search needs,
       simp length-set (l .loop .inv .1),
-      below-more _ _ (l .loop .inv .2) (le-leb (x .remainder) (x .grant) (omega arith)),
+      below-more _ _ (l .loop .inv .2) (and-both (solvent x) _ (le-leb (x .remainder) (x .grant) (omega arith)) (le-leb (x .permissions) 7 (omega arith))),
       owed-more qs (l .loop .owed) (l .loop .i) (l .loop .inv .3) (omega arith),
     )
 
-returns-2 : tie.Need-returns-2 Inv-loop μ-loop
-returns-2 c =
+returns-3 : tie.Need-returns-3 Inv-loop μ-loop
+returns-3 c =
     let l = c .before in
     let qs = l .before .args .t1 in (
-      sym (all-places solvent zero-quota qs (λ j h. l .loop .inv .2 j (omega (arith, long (l .before))))),
+      sym (all-places entry-valid zero-quota qs (λ j h. l .loop .inv .2 j (omega (arith, long (l .before))))),
       λ e. owed-all qs (l .loop .owed) (l .loop .i) (l .loop .inv .3) (l .loop .inv .1 ∙ sym (long (l .before))) (omega arith),
     )
 
@@ -88,10 +96,11 @@ owing-spec =
     mul-quota
     array-copy-out-quota
     returns
+    returns-2
     cast-owed
     mul-owed
     element-write-owed
     add-i
     loop-less
     loop-again
-    returns-2)
+    returns-3)

@@ -1,13 +1,16 @@
--- `calls::reallocate` meets its contract: each test is one of the definition's first four lines, in their order, and past them `exchange` gives the
+-- `calls::reallocate` meets its contract: each test is one of the definition's first five lines, in their order, and past them `exchange` gives the
 -- definition's outcome.
 -- Assumes nothing.
 use mathlib.Core.Path.{_≡_}
 use native.Mathlib.Omega.{arith}
+use mathlib.Core.Bool.{true}
+use Rattle.accounts.specs.Accounts.{ALLOCATE, permits}
 use Rattle.rounding.specs.Rounding.{unit}
-use Rattle.model.specs.declared.Refusal.the-variants.{QuotaNumber, ObjectLength}
+use Rattle.model.specs.declared.Refusal.the-variants.{QuotaNumber, ObjectLength, NotPermitted}
+use Rattle.access.proofs.Lines.{permitted}
 use Rattle.calls.specs.Ready.{Checked}
 use Rattle.calls.proofs.Ready.{checked-is, line-4-zero, line-4-long}
-use Rattle.calls.proofs.ReallocateAnswers.{from-5, refuses, by-check, by-quota, by-length}
+use Rattle.calls.proofs.ReallocateAnswers.{from-5, refuses, by-check, by-quota, by-permission, by-length}
 use borrow.Author.Needs.{needs}
 use Rattle.calls.proofs.reallocating.reallocate.Statement.{statement}
 use Rattle.calls.proofs.reallocating.reallocate.Tie as tie
@@ -29,8 +32,8 @@ returns c =
     let x = c .before .before in
     let k = x .before .before in
     let a = k .before .before .before .args in
-    refuses unit (a .heap .now) (a .accounts) (a .quota) (a .handle) (a .length) (c .refused .result) (x .refusal .given .0 .0) (c .refused .ensures)
-    (by-check unit (a .heap .now) (a .accounts) (a .quota) (a .handle) (a .length) (k .check .result) (k .check .ensures) (x .refusal .given .0 .0) (x .refusal .given .1))
+    refuses unit (a .heap .now) (a .t2) (a .quota) (a .handle) (a .length) (c .refused .result) (x .refusal .given .0 .0) (c .refused .ensures)
+    (by-check unit (a .heap .now) (a .t2) (a .quota) (a .handle) (a .length) (k .check .result) (k .check .ensures) (x .refusal .given .0 .0) (x .refusal .given .1))
 
 enum-told : tie.Need-enum-told
 enum-told c = search needs
@@ -46,16 +49,22 @@ returns-2 c =
     let t = c .before .before in
     let k = t .before .before in
     let a = k .before .before .before .args in
-    refuses unit (a .heap .now) (a .accounts) (a .quota) (a .handle) (a .length) (c .refused2 .result) QuotaNumber (c .refused2 .ensures)
-    (by-quota unit (a .heap .now) (a .accounts) (a .quota) (a .handle) (a .length) (k .check .result) (k .check .ensures) (t .enum-told .given .1) (c .before .if1 .taken))
+    refuses unit (a .heap .now) (a .t2) (a .quota) (a .handle) (a .length) (c .refused2 .result) QuotaNumber (c .refused2 .ensures)
+    (by-quota unit (a .heap .now) (a .t2) (a .quota) (a .handle) (a .length) (k .check .result) (k .check .ensures) (t .enum-told .given .1) (c .before .if1 .taken))
 
 -- what is known once the quota's number was tested
-checked : (e : tie.Else1) → let a = e .before .before .before .before .before .before .args in Checked unit (a .heap .now) (a .accounts) (a .quota)
+checked : (e : tie.Else1) → let a = e .before .before .before .before .before .before .args in Checked unit (a .heap .now) (a .t2) (a .quota)
 checked e =
     let t = e .before in
     let k = t .before .before in
     let a = k .before .before .before .args in
-    checked-is unit (a .heap .now) (a .accounts) (k .check .result) (k .check .ensures) (t .enum-told .given .1) (a .quota) (e .if1 .left)
+    checked-is unit (a .heap .now) (a .t2) (k .check .result) (k .check .ensures) (t .enum-told .given .1) (a .quota) (e .if1 .left)
+
+mul-if2 : tie.Need-mul-if2
+mul-if2 c = search needs
+
+element-copy-out-if2 : tie.Need-element-copy-out-if2
+element-copy-out-if2 c = search needs
 
 refused-requires-3 : tie.Need-refused-requires-3
 refused-requires-3 c κs = search needs
@@ -67,9 +76,12 @@ returns-3 : tie.Need-returns-3
 returns-3 c =
     let e = c .before .before in
     let a = e .before .before .before .before .before .before .args in
-    refuses unit (a .heap .now) (a .accounts) (a .quota) (a .handle) (a .length) (c .refused3 .result) ObjectLength (c .refused3 .ensures)
-    (by-length unit (a .heap .now) (a .accounts) (a .quota) (a .handle) (a .length) (checked e)
-    (line-4-zero (a .length) (from-5 unit (a .heap .now) (a .accounts) (a .quota) (a .handle) (a .length)) (c .before .if2 .taken)))
+    refuses unit (a .heap .now) (a .t2) (a .quota) (a .handle) (a .length) (c .refused3 .result) NotPermitted (c .refused3 .ensures)
+    (by-permission unit (a .heap .now) (a .t2) (a .quota) (a .handle) (a .length) (checked e) (c .before .if2 .taken))
+
+-- what is known once its permission was tested
+may : (e : tie.Else2) → let a = e .before .before .before .before .before .before .before .args in permits ALLOCATE (a .quota) (a .t2) ≡ true
+may e = let a = e .before .before .before .before .before .before .before .args in permitted ALLOCATE (a .quota) (a .t2) (e .if2 .left)
 
 refused-requires-4 : tie.Need-refused-requires-4
 refused-requires-4 c κs = search needs
@@ -79,25 +91,42 @@ same-length-4 c = search needs
 
 returns-4 : tie.Need-returns-4
 returns-4 c =
-    let e = c .before .before .before in
+    let m = c .before .before in
+    let e = m .before in
     let a = e .before .before .before .before .before .before .args in
-    refuses unit (a .heap .now) (a .accounts) (a .quota) (a .handle) (a .length) (c .refused4 .result) ObjectLength (c .refused4 .ensures)
-    (by-length unit (a .heap .now) (a .accounts) (a .quota) (a .handle) (a .length) (checked e)
-    (line-4-long (a .length) (from-5 unit (a .heap .now) (a .accounts) (a .quota) (a .handle) (a .length)) (c .before .if3 .taken)))
+    refuses unit (a .heap .now) (a .t2) (a .quota) (a .handle) (a .length) (c .refused4 .result) ObjectLength (c .refused4 .ensures)
+    (by-length unit (a .heap .now) (a .t2) (a .quota) (a .handle) (a .length) (checked e) (may m)
+    (line-4-zero (a .length) (from-5 unit (a .heap .now) (a .t2) (a .quota) (a .handle) (a .length)) (c .before .if3 .taken)))
 
-exchange-requires : tie.Need-exchange-requires
-exchange-requires c κs =
-    let f = c .before .before in
-    let e = f .before in
-    let n = e .before .before .before .before .before .before .args .length in
-    let z : n ≡ 0 → ⊥ = f .if2 .left in
-    record { checked = checked e; some = omega (arith, z); short = c .before .if3 .left }
+refused-requires-5 : tie.Need-refused-requires-5
+refused-requires-5 c κs = search needs
 
 same-length-5 : tie.Need-same-length-5
 same-length-5 c = search needs
 
 returns-5 : tie.Need-returns-5
-returns-5 c = search needs
+returns-5 c =
+    let m = c .before .before .before in
+    let e = m .before in
+    let a = e .before .before .before .before .before .before .args in
+    refuses unit (a .heap .now) (a .t2) (a .quota) (a .handle) (a .length) (c .refused5 .result) ObjectLength (c .refused5 .ensures)
+    (by-length unit (a .heap .now) (a .t2) (a .quota) (a .handle) (a .length) (checked e) (may m)
+    (line-4-long (a .length) (from-5 unit (a .heap .now) (a .t2) (a .quota) (a .handle) (a .length)) (c .before .if4 .taken)))
+
+exchange-requires : tie.Need-exchange-requires
+exchange-requires c κs =
+    let f = c .before .before in
+    let m = f .before in
+    let e = m .before in
+    let n = e .before .before .before .before .before .before .args .length in
+    let z : n ≡ 0 → ⊥ = f .if3 .left in
+    record { checked = checked e; permitted = may m; some = omega (arith, z); short = c .before .if4 .left }
+
+same-length-6 : tie.Need-same-length-6
+same-length-6 c = search needs
+
+returns-6 : tie.Need-returns-6
+returns-6 c = search needs
 
 pub reallocate-spec : {M : Type 1} → statement M
 reallocate-spec =
@@ -112,12 +141,17 @@ reallocate-spec =
     refused-requires-2
     same-length-2
     returns-2
+    mul-if2
+    element-copy-out-if2
     refused-requires-3
     same-length-3
     returns-3
     refused-requires-4
     same-length-4
     returns-4
-    exchange-requires
+    refused-requires-5
     same-length-5
-    returns-5)
+    returns-5
+    exchange-requires
+    same-length-6
+    returns-6)

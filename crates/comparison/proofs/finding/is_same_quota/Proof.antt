@@ -1,7 +1,7 @@
 -- The tests are the definition's, in its order.
 -- Assumes nothing.
-use mathlib.Core.Path.{ap, sym}
-use mathlib.Core.Bool.{Bool, _&&_}
+use mathlib.Core.Path.{sym}
+use mathlib.Core.Bool.{_&&_}
 use lib.Dec.{eqb}
 use borrow.Author.Tests.{eq-eqb, ne-eqb}
 use Rattle.comparison.specs.Differences.{same-quota}
@@ -15,8 +15,19 @@ returns c = let a = c .before .before .before .args in rw (ne-eqb (a .first .gra
 returns-2 : tie.Need-returns-2
 unfolding same-quota
 returns-2 c =
-    let a = c .before .before .before .before .before .args in
-    ap (λ (b : Bool). b && eqb (a .first .remainder) (a .second .remainder)) (sym (eq-eqb (a .first .grant) (a .second .grant) (c .before .before .if1 .left)))
+    let e = c .before .before .before in
+    let a = e .before .before .before .args in
+    rw (eq-eqb (a .first .grant) (a .second .grant) (e .if1 .left), ne-eqb (a .first .remainder) (a .second .remainder) (c .if2 .taken))
+
+returns-3 : tie.Need-returns-3
+unfolding same-quota
+returns-3 c =
+    let f = c .before .before in
+    let e = f .before .before .before in
+    let a = e .before .before .before .args in
+    let g = eq-eqb (a .first .grant) (a .second .grant) (e .if1 .left) in
+    let r = eq-eqb (a .first .remainder) (a .second .remainder) (f .if2 .left) in
+    sym (λ i. g i && (r i && eqb (a .first .permissions) (a .second .permissions)))
 
 pub is-same-quota-spec : {M : Type 1} → statement M
-is-same-quota-spec = tie.close (tie.spec returns returns-2)
+is-same-quota-spec = tie.close (tie.spec returns returns-2 returns-3)

@@ -100,6 +100,15 @@ list-from-requires c κs = search needs
 unchanged-requires-4 : tie.Need-unchanged-requires-4
 unchanged-requires-4 c κs = search needs
 
+enum-known-call-11 : tie.Need-enum-known-call-11
+enum-known-call-11 c = search needs
+
+clear-permissions-requires : tie.Need-clear-permissions-requires
+clear-permissions-requires c κs = search needs
+
+of-amount-requires-4 : tie.Need-of-amount-requires-4
+of-amount-requires-4 c κs = search needs
+
 same-length : tie.Need-same-length
 same-length c = search needs
 
@@ -214,6 +223,17 @@ returns-10 c =
     (by-answer _ _ _ (λ v. OfBlock (block-from v)) _ _ _
     (c .unchanged4 .ensures) (ap OfBlock (block-back (made .list-from .result))) (made .list-from .ensures))
 
+same-length-11 : tie.Need-same-length-11
+same-length-11 c = search needs
+
+returns-11 : tie.Need-returns-11
+unfolding step performed answer-of
+returns-11 c =
+    let made = c .before in
+    let a = made .before .before .before .before .before .before .args in
+    by-call (a .heap .now) (a .accounts) _ _ _ (made .before .before .before .call11 .given .1)
+    (by-amount _ _ _ _ (c .of-amount4 .ensures) (made .clear-permissions .ensures))
+
 pub perform-spec : {M : Type 1} → statement M
 perform-spec =
     tie.close
@@ -248,6 +268,9 @@ perform-spec =
     enum-known-call-10
     list-from-requires
     unchanged-requires-4
+    enum-known-call-11
+    clear-permissions-requires
+    of-amount-requires-4
     same-length
     returns
     same-length-2
@@ -267,4 +290,6 @@ perform-spec =
     same-length-9
     returns-9
     same-length-10
-    returns-10)
+    returns-10
+    same-length-11
+    returns-11)

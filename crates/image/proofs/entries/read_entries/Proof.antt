@@ -6,7 +6,7 @@ use Prim.Native.Nat.{ℕ, _*_, _-_, _≤_}
 use mathlib.Core.List.{List, _++_}
 use lib.ListN.{length, take, drop, length-set}
 use lib.Seq.{drop-drop}
-use Rattle.accounts.specs.Accounts.{QUOTAS, zero-quota}
+use Rattle.accounts.specs.Accounts.{QUOTAS, zero-quota, opened}
 use Rattle.framing.specs.Frames.{stream-of}
 use Rattle.image_model.specs.declared.Form.{Form}
 use Rattle.image_model.specs.Items.{each}
@@ -26,7 +26,7 @@ abbrev μ-loop : tie.MeasureT-loop
 μ-loop image count quotas₀ i₀ quotas i = count - i
 
 loop-holds : tie.Need-loop-holds Inv-loop μ-loop
-unfolding each blank
+unfolding each blank opened
 loop-holds c = (omega arith, refl, λ (f : Form). refl)
 
 mul-read-entry : tie.Need-mul-read-entry Inv-loop μ-loop
@@ -51,7 +51,7 @@ loop-less : tie.Need-loop-less Inv-loop μ-loop
 loop-less c = omega arith
 
 loop-again : tie.Need-loop-again Inv-loop μ-loop
-unfolding blank tail-width
+unfolding blank opened tail-width
 loop-again c =
     let at = c .before .before in
     let a = at .before .before .args in

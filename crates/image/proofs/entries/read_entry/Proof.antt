@@ -1,7 +1,8 @@
--- Grant and remainder stand at 0 and 4 of an entry (`entry-read`).
+-- Grant and remainder stand at 0 and 4 of an entry, and every permission is set (`entry-read`).
 -- Assumes nothing.
 use mathlib.Core.Path.{_∙_}
 use borrow.Author.Needs.{needs}
+use Rattle.accounts.specs.Accounts.{ALL-PERMISSIONS}
 use Rattle.framing.specs.Frames.{stream-of}
 use Rattle.image_model.specs.declared.Form.{Form}
 use Rattle.image.proofs.Decoding.{entry-read}
@@ -20,7 +21,7 @@ read-quad-requires-2 c κs = search needs
 returns : tie.Need-returns
 returns c =
     let a = c .before .before .before .args in
-    λ (f : Form). (λ i. record { grant = c .before .read-quad .ensures i; remainder = c .read-quad2 .ensures i })
+    λ (f : Form). (λ i. record { grant = c .before .read-quad .ensures i; remainder = c .read-quad2 .ensures i; permissions = ALL-PERMISSIONS })
     ∙ entry-read (a .at) (stream-of (a .image .now)) f
 
 pub read-entry-spec : {M : Type 1} → statement M

@@ -7,7 +7,7 @@ use mathlib.Core.List.{List, _++_}
 use lib.ListN.{length, take, drop, replicate, length-set}
 use lib.Seq.{drop-drop}
 use Rattle.accounts.specs.declared.Hold.{Hold}
-use Rattle.accounts.specs.Accounts.{HOLDS, zero-hold}
+use Rattle.accounts.specs.Accounts.{HOLDS, zero-hold, opened}
 use Rattle.framing.specs.Frames.{stream-of}
 use Rattle.image_model.specs.declared.Form.{Form}
 use Rattle.image_model.specs.Items.{each}
@@ -29,7 +29,7 @@ zero-requires : tie.Need-zero-requires Inv-loop μ-loop
 zero-requires c κs = search needs
 
 loop-holds : tie.Need-loop-holds Inv-loop μ-loop
-unfolding each blank
+unfolding each blank opened
 loop-holds c = (omega arith, refl, λ (f : Form). ap (λ (h : Hold). replicate HOLDS h) (c .zero .ensures))
 
 mul-read-record : tie.Need-mul-read-record Inv-loop μ-loop
@@ -54,7 +54,7 @@ loop-less : tie.Need-loop-less Inv-loop μ-loop
 loop-less c = omega arith
 
 loop-again : tie.Need-loop-again Inv-loop μ-loop
-unfolding blank
+unfolding blank opened
 loop-again c =
     let at = c .before .before in
     let a = at .before .before .before .args in

@@ -1,4 +1,4 @@
--- `quotas::free_all` meets its contract. Each refusal is the first line that holds: the check's, and the quota's number. Past them the accounts are those
+-- `quotas::free_all` meets its contract. Each refusal is the first line that holds: the check's, the quota's number, and its permission. Past them the accounts are those
 -- that the definition leaves, the flags are asked for the records that are left, and the walk leaves the settled blocks (`all-freed`).
 -- Assumes nothing.
 use borrow.Author.Needs.{needs}
@@ -7,17 +7,18 @@ use mathlib.Core.List.{List}
 use lib.ListN.{length-map}
 use Prim.Native.Nat.{ℕ}
 use Rattle.rounding.specs.Rounding.{unit}
+use Rattle.accounts.specs.Accounts.{FREE-ALL}
 use Rattle.accounts.proofs.Laws.{Sized}
 use Rattle.layout.specs.Bytes.{Octets}
 use Rattle.model.specs.Calls.{free-all}
-use Rattle.model.specs.declared.Refusal.the-variants.{QuotaNumber}
+use Rattle.model.specs.declared.Refusal.the-variants.{QuotaNumber, NotPermitted}
 use Rattle.model.specs.declared.AmountAnswer.the-variants.{Amount}
-use Rattle.access.proofs.Lines.{check-consistent}
+use Rattle.access.proofs.Lines.{check-consistent, permitted}
 use Rattle.quotas.specs.declared.AmountResult.{AmountResult}
 use Rattle.quotas.specs.Results.{amount-outcome}
 use Rattle.quotas.specs.Emptying.{Emptiable, Emptied}
 use Rattle.invariant.proofs.Laid.{allowed-most}
-use Rattle.quotas.proofs.FreedAll.{all-by-check, all-by-quota, all-passes, all-refuses, all-freed}
+use Rattle.quotas.proofs.FreedAll.{all-by-check, all-by-quota, all-by-permission, all-passes, all-refuses, all-freed}
 use Rattle.quotas.proofs.freeing.free_all.Statement.{statement}
 use Rattle.quotas.proofs.freeing.free_all.Tie as tie
 
@@ -25,7 +26,7 @@ use Rattle.quotas.proofs.freeing.free_all.Tie as tie
 octets : (c : tie.After-slice-known) → Octets (c .before .args .heap .now)
 octets c i = c .slice-known .given i .fits
 
-sized : (c : tie.Start) → Sized (c .args .accounts)
+sized : (c : tie.Start) → Sized (c .args .t2)
 sized c =
     record {
       quotas-long = simp length-map at (c .good .1 .0 .1 .1 .0 .1 .0 .1);
@@ -49,8 +50,8 @@ returns c =
     let a = c .before .before .before .before .before .before .before .args in
     let k = c .before .before .before .before .check in
     let x = c .before .before .refusal .given in
-    all-refuses unit (a .heap .now) (a .accounts) (a .quota) (c .refused .result) (x .0 .0) (c .refused .ensures)
-    (all-by-check unit (a .heap .now) (a .accounts) (a .quota) (k .result) (k .ensures) (x .0 .0) (x .1))
+    all-refuses unit (a .heap .now) (a .t2) (a .quota) (c .refused .result) (x .0 .0) (c .refused .ensures)
+    (all-by-check unit (a .heap .now) (a .t2) (a .quota) (k .result) (k .ensures) (x .0 .0) (x .1))
 
 enum-told : tie.Need-enum-told
 enum-told c = search needs
@@ -65,8 +66,28 @@ returns-2 : tie.Need-returns-2
 returns-2 c =
     let a = c .before .before .before .before .before .before .before .args in
     let k = c .before .before .before .before .check in
-    all-refuses unit (a .heap .now) (a .accounts) (a .quota) (c .refused2 .result) QuotaNumber (c .refused2 .ensures)
-    (all-by-quota unit (a .heap .now) (a .accounts) (a .quota) (k .result) (k .ensures) (c .before .before .enum-told .given .1) (c .before .if1 .taken))
+    all-refuses unit (a .heap .now) (a .t2) (a .quota) (c .refused2 .result) QuotaNumber (c .refused2 .ensures)
+    (all-by-quota unit (a .heap .now) (a .t2) (a .quota) (k .result) (k .ensures) (c .before .before .enum-told .given .1) (c .before .if1 .taken))
+
+mul-if2 : tie.Need-mul-if2
+mul-if2 c = search needs
+
+element-copy-out-if2 : tie.Need-element-copy-out-if2
+element-copy-out-if2 c = search needs
+
+refused-requires-3 : tie.Need-refused-requires-3
+refused-requires-3 c κs = search needs
+
+same-length-3 : tie.Need-same-length-3
+same-length-3 c = search needs
+
+returns-3 : tie.Need-returns-3
+returns-3 c =
+    let f = c .before .before in
+    let a = f .before .before .before .before .before .before .args in
+    let k = f .before .before .before .check in
+    all-refuses unit (a .heap .now) (a .t2) (a .quota) (c .refused3 .result) NotPermitted (c .refused3 .ensures)
+    (all-by-permission unit (a .heap .now) (a .t2) (a .quota) (k .result) (k .ensures) (f .before .enum-told .given .1) (f .if1 .left) (c .before .if2 .taken))
 
 spent-requires : tie.Need-spent-requires
 spent-requires c κs = search needs
@@ -88,25 +109,25 @@ held-each-requires c κs = search needs
 
 -- what is known once the flags are there: the walk may start, and what it leaves is the definition's
 abbrev start : tie.After-held-each → tie.Start
-start c = c .before .before .before .before .before .before .before .before .before .before .before .before .before
+start c = c .before .before .before .before .before .before .before .before .before .before .before .before .before .before
 
 walked : (c : tie.After-held-each)
     → Emptiable (c .held-each .result) (start c .args .heap .now)
     × ((s : List ℕ) → Emptied (c .held-each .result) (start c .args .heap .now) s
     → (r : AmountResult) → r ≡ record { accounts = c .before .before .before .before .drop-holds .result; answer = Amount (c .before .before .before .before .before .before .spent .result) }
-    → amount-outcome s r ≡ free-all unit (start c .args .heap .now) (start c .args .accounts) (start c .args .quota))
+    → amount-outcome s r ≡ free-all unit (start c .args .heap .now) (start c .args .t2) (start c .args .quota))
 walked c =
     let a = start c .args in
     let l = c .before .before .before .before in
     let p = l .before .before in
-    let k = p .before .before .before .before .check in
-    let yes = p .before .before .enum-told .given .1 in
-    let sound = check-consistent unit (a .heap .now) (a .accounts) (k .result) (k .ensures) yes in
-    let below = p .before .if1 .left in
-    all-freed unit (a .heap .now) (a .accounts) (octets (p .before .before .before .before .before .before)) (allowed-most _ (sound .0)) (sound .1) (sized (start c)) (a .quota) below (p .spent .result) (p .spent .ensures)
+    let k = p .before .before .before .before .before .check in
+    let yes = p .before .before .before .enum-told .given .1 in
+    let sound = check-consistent unit (a .heap .now) (a .t2) (k .result) (k .ensures) yes in
+    let below = p .before .before .if1 .left in
+    all-freed unit (a .heap .now) (a .t2) (octets (p .before .before .before .before .before .before .before)) (allowed-most _ (sound .0)) (sound .1) (sized (start c)) (a .quota) below (p .spent .result) (p .spent .ensures)
     (l .before .refund .result) (l .drop-holds .result) (l .before .refund .ensures) (l .drop-holds .ensures)
     (c .before .live-serials .result) (c .before .live-serials .ensures) (c .held-each .result) (c .held-each .ensures)
-    (all-passes unit (a .heap .now) (a .accounts) (a .quota) (k .result) (k .ensures) yes below)
+    (all-passes unit (a .heap .now) (a .t2) (a .quota) (k .result) (k .ensures) yes below (permitted FREE-ALL (a .quota) (a .t2) (p .before .if2 .left)))
 
 free-unkept-requires : tie.Need-free-unkept-requires
 free-unkept-requires c κs = walked (c .before) .0
@@ -114,11 +135,11 @@ free-unkept-requires c κs = walked (c .before) .0
 given-requires : tie.Need-given-requires
 given-requires c κs = search needs
 
-same-length-3 : tie.Need-same-length-3
-same-length-3 c = search needs
+same-length-4 : tie.Need-same-length-4
+same-length-4 c = search needs
 
-returns-3 : tie.Need-returns-3
-returns-3 c =
+returns-4 : tie.Need-returns-4
+returns-4 c =
     let w = c .before .before .before in
     walked (w .before .before) .1 _ (w .free-unkept .ensures) (c .given .result) (c .given .ensures)
 
@@ -135,6 +156,11 @@ free-all-spec =
     refused-requires-2
     same-length-2
     returns-2
+    mul-if2
+    element-copy-out-if2
+    refused-requires-3
+    same-length-3
+    returns-3
     spent-requires
     refund-requires
     cast-drop-holds
@@ -143,5 +169,5 @@ free-all-spec =
     held-each-requires
     free-unkept-requires
     given-requires
-    same-length-3
-    returns-3)
+    same-length-4
+    returns-4)

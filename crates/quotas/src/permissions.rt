@@ -1,0 +1,25 @@
+// The call that takes permissions away from a quota (rules, section 15).
+use crate::AmountResult;
+use accounts::Accounts;
+use accounts::QUOTAS;
+use model::Refusal;
+use model::Verdict;
+ghost use mathlib.Core.Path.{_≡_};
+ghost use Rattle.rounding.specs.Rounding.{unit};
+ghost use Rattle.model.specs.Calls.{clear as clear-of};
+ghost use Rattle.quotas.specs.Results.{amount-outcome};
+
+// Rule 15.4: those permissions of a quota are cleared whose bit is set in a number, 0 for allocate, 1 for claim and 2 for free-all. The answer is what is left of them.
+pub fn clear_permissions(heap: &[u8], accounts: Accounts, quota: u32, bits: u32) -> AmountResult
+    ensures { λ r. ⌜ amount-outcome (now (heap .entry)) r ≡ clear-of unit (now (heap .entry)) accounts quota bits ⌝ }
+{
+    if let Verdict::Refused(refusal) = checker::check(heap, accounts) {
+        return AmountResult::refused(accounts, refusal);
+    }
+    if QUOTAS <= quota as usize {
+        return AmountResult::refused(accounts, Refusal::QuotaNumber);
+    }
+    let left = accounts.left_permissions(quota, bits);
+    let cleared = accounts.clear_permissions(quota, bits);
+    AmountResult::given(cleared, left as u32)
+}
