@@ -5,6 +5,7 @@ pub mod Refusals
 pub mod Items
 pub mod Parts
 pub mod Places
+pub mod Solvent
 pub mod Entries
 pub mod Cuts
 pub mod Heads

@@ -3,27 +3,27 @@
 -- Assumes nothing.
 use mathlib.Core.Path.{_≡_, refl, ap, sym, _∙_}
 use mathlib.Core.List.{List, [], _∷_, _++_}
-use mathlib.Core.Bool.{Bool, true, false, cond, not, _&&_, _||_}
-use mathlib.Core.Option.{Option, none, some}
+use mathlib.Core.Bool.{Bool, true, false, cond, not, _&&_, _||_, true≢false}
+use mathlib.Core.Option.{none, some}
 use Prim.Native.Nat.{ℕ, _≤_, _<_, _^_}
 use native.Mathlib.Omega.{arith}
 use native.Mathlib.Nat.{mod-eq-of-lt}
 use lib.ListN.{length, take, drop, replicate, getD, length-drop}
-use lib.Dec.{eqb, leb, lit<}
-use borrow.Author.Tests.{eqb-true, leb-true}
+use lib.Dec.{eqb, lit<}
+use borrow.Author.Tests.{eqb-true, not-true, not-false}
 use Rattle.accounts.specs.declared.Quota.{Quota}
 use Rattle.accounts.specs.declared.Hold.{Hold}
 use Rattle.accounts.specs.declared.Accounts.{Accounts}
 use Rattle.accounts.specs.Accounts.{QUOTAS, HOLDS, ALL-PERMISSIONS, permissible, zero-hold, with-permissions, granted, opened, used, unused}
 use Rattle.layout.specs.Bytes.{bytes, Octets}
 use Rattle.model.specs.Lists.{all}
-use Rattle.model.proofs.Bools.{and-left, and-right, and-both}
+use Rattle.model.proofs.Bools.{and-left, and-right}
 use Rattle.image_model.specs.Items.{all-zero}
 use Rattle.image_model.specs.Stream.{form-1, form-2, form-numbered, entry-tail, tail-width, tail-of, tail-right, marks-of, marks-right, with-marks}
 use Rattle.image_model.specs.Stream.{no-grant, all-permitted, carries, blank, head-length, Typed}
 use Rattle.image_model.specs.declared.Form.{Form}
 use Rattle.image_model.proofs.Rows.{head-rows}
-use Rattle.image_model.proofs.Items.{All, all-drop, all-map, all-are, tested-all, all-both-of, none-behind, filled-behind, zeros-are, are-zeros}
+use Rattle.image_model.proofs.Items.{All, all-drop, all-map, all-tested, tested-all, all-two, all-of, none-behind, filled-behind, zeros-are, are-zeros}
 use Rattle.image_model.proofs.Parts.{bytes-split-here, one-at}
 
 -- f is a form that has a number
@@ -80,6 +80,10 @@ shaped-2 =
 pub known-shaped : (f : Form) → Known f → Shaped f
 known-shaped f e = by-number (λ n g. Shaped g) shaped-1 shaped-2 (f .number) f e
 
+no-bytes : (s : List ℕ) → length s ≡ 0 → s ≡ []
+no-bytes [] l = refl
+no-bytes (x ∷ s) l = absurd (omega arith)
+
 -- First place. The tail's bytes are as many as its width, they are right, and they say the quota that they were written of
 module _ (f : Form) where
   pub tail-length : (q : Quota) → length (entry-tail f q) ≡ tail-width f
@@ -128,7 +132,7 @@ module _ (f : Form) where
           let n : length (drop 1 s) ≡ 3 = simp length-drop (omega arith) in
           let z : replicate 3 0 ≡ drop 1 s = sym (rw n at (zeros-are (drop 1 s) (and-right (permissible (getD s 0 0)) _ e))) in
           rw (z, ← one-at 0 s (omega arith)) (bytes-split-here 1 0 s o (omega arith))
-      go false l e = sym (length-none s l)
+      go false l e = sym (no-bytes s l)
 
   pub tail-keeps : (s : List ℕ) (q : Quota) → (tail-of f s q .grant ≡ q .grant) × (tail-of f s q .remainder ≡ q .remainder)
   unfolding tail-of
@@ -176,33 +180,113 @@ module _ (f : Form) where
   unfolding marks-of
   marks-blank m k e = are-zeros 2
 
--- Third place. What a form that is not full says of accounts that it carries
-module _ (f : Form) (k : Accounts) (lean : f .full ≡ false) where
-  pub record Carried : Type 0 where
-    pub grants : All (λ (q : Quota). no-grant q ≡ true) (drop (f .quotas) (k .quotas))
-    pub records : All (λ (h : Hold). unused h ≡ true) (drop (f .records) (k .holds))
-    pub permissions : All (λ (q : Quota). all-permitted q ≡ true) (k .quotas)
-    pub marks : all-zero (marks-of form-2 k) ≡ true
-
-  pub carried-facts : carries f k ≡ true → Carried
-  unfolding carries
-  carried-facts c =
-      let e : (all no-grant (drop (f .quotas) (k .quotas)) && (all unused (drop (f .records) (k .holds)) && (all all-permitted (k .quotas) && all-zero (marks-of form-2 k)))) ≡ true = rw lean at c in
-      let a = and-right (all no-grant (drop (f .quotas) (k .quotas))) _ e in
-      let b = and-right (all unused (drop (f .records) (k .holds))) _ a in
-      record {
-        grants = tested-all no-grant (drop (f .quotas) (k .quotas)) (and-left (all no-grant (drop (f .quotas) (k .quotas))) _ e);
-        records = tested-all unused (drop (f .records) (k .holds)) (and-left (all unused (drop (f .records) (k .holds))) _ a);
-        permissions = tested-all all-permitted (k .quotas) (and-left (all all-permitted (k .quotas)) _ b);
-        marks = and-right (all all-permitted (k .quotas)) _ b;
-      }
-
-  pub facts-carried : Carried → carries f k ≡ true
-  unfolding carries
-  facts-carried c =
-      rw (lean, all-tested no-grant (drop (f .quotas) (k .quotas)) (c .grants), all-tested unused (drop (f .records) (k .holds)) (c .records), all-tested all-permitted (k .quotas) (c .permissions)) (c .marks)
-
--- a full form carries all accounts
+-- Third place. A full form carries all accounts; of another one these are the facts
 pub full-carries : (f : Form) (k : Accounts) → f .full ≡ true → carries f k ≡ true
 unfolding carries
 full-carries f k e = rw e
+
+pub record Carried (f : Form) (k : Accounts) : Type 0 where
+  pub grants : All (λ (q : Quota). no-grant q ≡ true) (drop (f .quotas) (k .quotas))
+  pub records : All (λ (h : Hold). unused h ≡ true) (drop (f .records) (k .holds))
+  pub permissions : All (λ (q : Quota). all-permitted q ≡ true) (k .quotas)
+  pub marks : all-zero (marks-of form-2 k) ≡ true
+
+module _ (f : Form) (k : Accounts) (lean : f .full ≡ false) where
+  abbrev grants-test : Bool
+  grants-test = all no-grant (drop (f .quotas) (k .quotas))
+
+  abbrev records-test : Bool
+  records-test = all unused (drop (f .records) (k .holds))
+
+  abbrev permissions-test : Bool
+  permissions-test = all all-permitted (k .quotas)
+
+  pub carried-facts : carries f k ≡ true → Carried f k
+  unfolding carries
+  carried-facts c =
+      let e : (grants-test && (records-test && (permissions-test && all-zero (marks-of form-2 k)))) ≡ true = rw lean at c in
+      let a = and-right grants-test _ e in
+      let b = and-right records-test _ a in
+      record {
+        grants = tested-all no-grant (drop (f .quotas) (k .quotas)) (and-left grants-test _ e);
+        records = tested-all unused (drop (f .records) (k .holds)) (and-left records-test _ a);
+        permissions = tested-all all-permitted (k .quotas) (and-left permissions-test _ b);
+        marks = and-right permissions-test _ b;
+      }
+
+  pub facts-carried : Carried f k → carries f k ≡ true
+  unfolding carries
+  facts-carried c =
+      let g = all-tested no-grant (drop (f .quotas) (k .quotas)) (c .grants) in
+      let r = all-tested unused (drop (f .records) (k .holds)) (c .records) in
+      let p = all-tested all-permitted (k .quotas) (c .permissions) in
+      rw (lean, g, r, p) (c .marks)
+
+-- what the form says of the quotas' permissions is all that there is to say
+pub all-carried : (f : Form) (k : Accounts) → carries f k ≡ true → All (λ (q : Quota). (f .full || all-permitted q) ≡ true) (k .quotas)
+all-carried f k c = go (f .full) refl
+  where
+    go : (x : Bool) → f .full ≡ x → All (λ (q : Quota). (f .full || all-permitted q) ≡ true) (k .quotas)
+    go true e = all-of (λ (q : Quota). (f .full || all-permitted q) ≡ true) (λ q. rw e) (k .quotas)
+    go false e =
+        all-map (λ (q : Quota). all-permitted q ≡ true) (λ (q : Quota). (f .full || all-permitted q) ≡ true) (λ q p. rw (e, p)) (k .quotas)
+        (carried-facts f k e c .permissions)
+
+-- Fourth place. What the form lacks is as long as the accounts are; its quotas have every permission, and all its other numbers are zero
+pub blank-lengths : (f : Form) → (length (blank f .quotas) ≡ QUOTAS) × (length (blank f .holds) ≡ HOLDS)
+unfolding blank opened
+blank-lengths f = (refl, refl)
+
+pub blank-is : (f : Form) → (blank f .quotas ≡ replicate QUOTAS (granted 0)) × (blank f .holds ≡ replicate HOLDS zero-hold)
+unfolding blank opened
+blank-is f = (refl, refl)
+
+-- a quota of a sound state has no more left than was granted, and its permissions are such
+abbrev pub QuotaSound : Quota → Type 0
+QuotaSound q = (q .remainder ≤ q .grant) × (permissible (q .permissions) ≡ true)
+
+blank-quota : (q : Quota) → q .remainder ≤ q .grant → no-grant q ≡ true → all-permitted q ≡ true → q ≡ granted 0
+blank-quota q l g p =
+    let a = eqb-true (q .grant) 0 g in
+    let b : q .remainder ≡ 0 = omega arith in
+    let c = eqb-true (q .permissions) ALL-PERMISSIONS p in
+    λ i. record { grant = a i; remainder = b i; permissions = c i }
+
+blank-hold : (h : Hold) → unused h ≡ true → h ≡ zero-hold
+unfolding unused used
+blank-hold h e =
+    let t = not-false _ (not-true _ e) in
+    let a = and-left (eqb (h .serial) 0 && eqb (h .quota) 0) (eqb (h .count) 0) t in
+    let s = eqb-true (h .serial) 0 (and-left (eqb (h .serial) 0) (eqb (h .quota) 0) a) in
+    let q = eqb-true (h .quota) 0 (and-right (eqb (h .serial) 0) (eqb (h .quota) 0) a) in
+    let n = eqb-true (h .count) 0 (and-right (eqb (h .serial) 0 && eqb (h .quota) 0) (eqb (h .count) 0) t) in
+    λ i. record { serial = s i; quota = q i; count = n i }
+
+-- accounts of a sound state that the form carries are what it carries of them, with what it lacks behind
+module _ (f : Form) (e : Known f) (k : Accounts) (y : Typed k) (c : carries f k ≡ true) where
+  quotas-blank : All QuotaSound (k .quotas) → (x : Bool) → f .full ≡ x → All (λ (q : Quota). q ≡ granted 0) (drop (f .quotas) (k .quotas))
+  quotas-blank b true t =
+      let w = known-shaped f e .whole t .0 in
+      let n = y .quotas in
+      none-behind (λ (q : Quota). q ≡ granted 0) (f .quotas) (k .quotas) (omega arith)
+  quotas-blank b false t =
+      let d = carried-facts f k t c in
+      let G : Quota → Type 0 = λ (q : Quota). no-grant q ≡ true in
+      let P : Quota → Type 0 = λ (q : Quota). all-permitted q ≡ true in
+      let z = all-drop (λ (q : Quota). QuotaSound q × P q) (f .quotas) (k .quotas) (all-two QuotaSound P (k .quotas) b (d .permissions)) in
+      all-map (λ (q : Quota). G q × (QuotaSound q × P q)) (λ (q : Quota). q ≡ granted 0) (λ q x. blank-quota q (x .1 .0 .0) (x .0) (x .1 .1))
+      (drop (f .quotas) (k .quotas)) (all-two G (λ (q : Quota). QuotaSound q × P q) (drop (f .quotas) (k .quotas)) (d .grants) z)
+
+  pub quotas-whole : All QuotaSound (k .quotas) → take (f .quotas) (k .quotas) ++ drop (f .quotas) (blank f .quotas) ≡ k .quotas
+  quotas-whole b = rw (blank-is f .0) (rw (y .quotas) at (filled-behind (granted 0) (f .quotas) (k .quotas) (quotas-blank b (f .full) refl)))
+
+  holds-blank : (x : Bool) → f .full ≡ x → All (λ (h : Hold). h ≡ zero-hold) (drop (f .records) (k .holds))
+  holds-blank true t =
+      let w = known-shaped f e .whole t .1 in
+      let n = y .holds in
+      none-behind (λ (h : Hold). h ≡ zero-hold) (f .records) (k .holds) (omega arith)
+  holds-blank false t =
+      all-map (λ (h : Hold). unused h ≡ true) (λ (h : Hold). h ≡ zero-hold) blank-hold (drop (f .records) (k .holds)) (carried-facts f k t c .records)
+
+  pub holds-whole : take (f .records) (k .holds) ++ drop (f .records) (blank f .holds) ≡ k .holds
+  holds-whole = rw (blank-is f .1) (rw (y .holds) at (filled-behind zero-hold (f .records) (k .holds) (holds-blank (f .full) refl)))
