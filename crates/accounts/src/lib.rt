@@ -16,8 +16,11 @@ pub const GREATEST_NUMBER: u32 = 4294967295;
 
 // The three permissions of a quota, by their bits, and the number of a quota that has all of them (rule 15.1).
 pub const ALLOCATE: u8 = 1;
+
 pub const CLAIM: u8 = 2;
+
 pub const FREE_ALL: u8 = 4;
+
 pub const ALL_PERMISSIONS: u8 = 7;
 
 // What a quota was granted at the opening, what remains of it, and its permissions by their bits (rules, section 15).
@@ -254,9 +257,9 @@ impl Accounts {
     pub fn left_permissions(self, quota: u32, bits: u32) -> u8
         ensures { λ r. ⌜ r ≡ left-permissions quota bits self ⌝ }
     {
-        let number = quota as usize;
-        if number < QUOTAS {
-            return cleared(bits, self.quotas[number].permissions);
+        let at = quota as usize;
+        if at < QUOTAS {
+            return cleared(bits, self.quotas[at].permissions);
         }
         0
     }

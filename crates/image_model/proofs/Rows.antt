@@ -81,14 +81,24 @@ written o n = record { image = o; refusal = 0; length = n }
 pub not-written : List ℕ → ℕ → Imaged
 not-written o n = record { image = o; refusal = n; length = 0 }
 
--- the writer: into as many bytes as the image has, into more, into fewer; and 1 and 2 before 25
+-- the same accounts without a permission of the first quota, and of the last that form 1 carries
+cleared-first : Accounts
+cleared-first = with-quotas (set (accounts .quotas) 0 (with-permissions 3 (quota 100 84))) accounts
+
+cleared-last : Accounts
+cleared-last = with-quotas (set (accounts .quotas) 7 (with-permissions 6 (quota 0 0))) accounts
+
+-- the writer: into as many bytes as the image has, into more, into fewer; 28 for a permission that is cleared; and 1 and 2 before 28 before 25
 write-rows : (write-image form-1 (lent 1536) heap accounts ≡ written (image-of form-1 heap accounts) 1536)
     × (write-image form-1 (lent 1540) heap accounts ≡ written (image-of form-1 heap accounts ++ lent 4) 1536)
     × (write-image form-1 (lent 1535) heap accounts ≡ not-written (lent 1535) 25)
-    × (write-image form-1 [] (replicate 56 0) accounts ≡ not-written [] 1)
-    × (write-image form-1 [] (replicate 64 0) accounts ≡ not-written [] 2)
-unfolding small lent written not-written
-write-rows = (refl, refl, refl, refl, refl)
+    × (write-image form-1 (lent 1536) heap cleared-first ≡ not-written (lent 1536) 28)
+    × (write-image form-1 (lent 1536) heap cleared-last ≡ not-written (lent 1536) 28)
+    × (write-image form-1 [] heap cleared-last ≡ not-written [] 28)
+    × (write-image form-1 [] (replicate 56 0) cleared-last ≡ not-written [] 1)
+    × (write-image form-1 [] (replicate 64 0) cleared-last ≡ not-written [] 2)
+unfolding small lent written not-written cleared-first cleared-last
+write-rows = (refl, refl, refl, refl, refl, refl, refl, refl)
 
 -- 28 for a grant from quota 8 on, for a record from place 128 on, and for a permission that any quota lacks, right before 25 and behind 2
 quotas-with : List Quota → Accounts

@@ -1,4 +1,4 @@
--- The ledger of short lists of events, computed: what rules 9.2 to 9.5 and 13.15 to 13.18 make of them.
+-- The ledger of short lists of events, computed: what rules 9.2 to 9.5, 13.15 to 13.18 and 15.9 make of them.
 -- Assumes nothing.
 use Prim.Native.Nat.{ℕ, _-_}
 use mathlib.Core.Path.{_≡_, refl}
@@ -13,7 +13,7 @@ use Rattle.model.specs.Calls.{Outcome, open-heap}
 use Rattle.model.specs.Step.{step}
 use Rattle.model.specs.declared.Handle.{Handle}
 use Rattle.model.specs.declared.Call.{Call}
-use Rattle.model.specs.declared.Call.the-variants.{Allocate, AllocateArray, Claim, Release, FreeAll, Reallocate, Lend}
+use Rattle.model.specs.declared.Call.the-variants.{Allocate, AllocateArray, Claim, Release, FreeAll, Reallocate, Lend, ClearPermissions}
 use Rattle.model.proofs.Computing.{computing}
 use Rattle.ledger.specs.Ledger.{Entry, Event, Called, Wrote, Saved, Restored, empty, change-holds, at-serial, is-held, leave, add-object, add-hold, take-hold, take-all, record-accepted, record-call, values-from, read-entry, read-ledger, record-event, unrestored, ledger-of}
 
@@ -45,6 +45,7 @@ shared = Called (AllocateArray 1 12 8) (given b) ∷ claimed
 
 pub ledger-rows : (entries made ≡ entry a 1 0 ∷ [])
     × (entries (Called (Allocate 0 68) (refused 8) ∷ Called (Lend a) accepted ∷ Wrote ∷ made) ≡ entry a 1 0 ∷ [])
+    × (entries (Called (ClearPermissions 0 7) (amount-of 0) ∷ Called (FreeAll 0) (refused 12) ∷ made) ≡ entry a 1 0 ∷ [])
     × (entries claimed ≡ entry a 1 2 ∷ [])
     × (entries (Called (Release 0 a) (amount-of 24) ∷ claimed) ≡ entry a 0 2 ∷ [])
     × (entries (Called (Release 1 a) (amount-of 0) ∷ claimed) ≡ entry a 1 1 ∷ [])
@@ -53,7 +54,7 @@ pub ledger-rows : (entries made ≡ entry a 1 0 ∷ [])
     × (entries (Called (Reallocate 0 a 90) (given b) ∷ claimed) ≡ entry b 1 0 ∷ entry a 0 2 ∷ [])
     × (entries (Called (Reallocate 0 a 90) (given b) ∷ made) ≡ entry b 1 0 ∷ [])
 unfolding any keep empty change-holds at-serial is-held leave add-object add-hold take-hold take-all record-accepted record-call record-event ledger-of entries grants a b entry made claimed shared
-ledger-rows = (refl, refl, refl, refl, refl, refl, refl, refl, refl)
+ledger-rows = (refl, refl, refl, refl, refl, refl, refl, refl, refl, refl)
 
 -- a state of two objects, the first held once by quota 0 and twice by quota 1, and the ledger after images of it
 pub after : List Call → Outcome

@@ -32,13 +32,13 @@ loop-holds c = (search needs, below-none _)
 mul-if1 : tie.Need-mul-if1 Inv-loop μ-loop
 mul-if1 c = search needs
 
-array-copy-out-if1 : tie.Need-array-copy-out-if1 Inv-loop μ-loop
-array-copy-out-if1 c = search needs
+element-copy-out-if1 : tie.Need-element-copy-out-if1 Inv-loop μ-loop
+element-copy-out-if1 c = search needs
 
 returns : tie.Need-returns Inv-loop μ-loop
 unfolding tail-carries
 returns c =
-    let l = c .before .before .before in
+    let l = c .before .before in
     let qs = l .before .args .t1 in
     λ (f : Form). sym (all-fails (tail-carries f) zero-quota qs (l .loop .i) (omega (arith, long (l .before))) (ne-eqb _ _ (c .if1 .taken)))
 
@@ -50,7 +50,7 @@ loop-less c = search needs
 
 loop-again : tie.Need-loop-again Inv-loop μ-loop
 loop-again c =
-    let l = c .before .before .before in
+    let l = c .before .before in
     (search needs, below-more _ _ (l .loop .inv .1) (eq-eqb _ _ (c .if1 .left)))
 
 returns-2 : tie.Need-returns-2 Inv-loop μ-loop
@@ -67,7 +67,7 @@ are-carried-spec =
     μ-loop
     loop-holds
     mul-if1
-    array-copy-out-if1
+    element-copy-out-if1
     returns
     add-i
     loop-less
