@@ -14,8 +14,8 @@ use Rattle.accounts.specs.Accounts.{QUOTAS, ALL-PERMISSIONS, zero-quota}
 use Rattle.checker.proofs.Tables.{all-places, all-fails}
 use Rattle.image_model.specs.declared.Form.{Form}
 use Rattle.image_model.specs.Stream.{tail-carries}
-use Rattle.image.proofs.entries.are_carried.Statement.{statement}
-use Rattle.image.proofs.entries.are_carried.Tie as tie
+use Rattle.image.proofs.entries.are_permitted.Statement.{statement}
+use Rattle.image.proofs.entries.are_permitted.Tie as tie
 
 abbrev Inv-loop : tie.InvT-loop
 Inv-loop quotas i₀ i = (i ≤ QUOTAS) × ((j : ℕ) → j < i → eqb (getD quotas j zero-quota .permissions) ALL-PERMISSIONS ≡ true)
@@ -59,8 +59,8 @@ returns-2 c =
     let l = c .before in
     λ (f : Form). sym (all-places (tail-carries f) zero-quota (l .before .args .t1) (λ j h. l .loop .inv .1 j (omega (arith, long (l .before)))))
 
-pub are-carried-spec : {M : Type 1} → statement M
-are-carried-spec =
+pub are-permitted-spec : {M : Type 1} → statement M
+are-permitted-spec =
     tie.close
     (tie.spec
     Inv-loop
