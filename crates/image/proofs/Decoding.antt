@@ -8,6 +8,7 @@ use native.Mathlib.Omega.{arith}
 use native.Mathlib.Nat.{add-zero, zero-add, suc-add}
 use lib.ListN.{take, drop, getD}
 use lib.Seq.{take-nil, getD-take, getD-drop, take-take, drop-drop}
+use Rattle.accounts.specs.declared.Quota.{Quota}
 use Rattle.accounts.specs.Accounts.{ALL-PERMISSIONS}
 use Rattle.layout.specs.Bytes.{number}
 use Rattle.image_model.specs.declared.Form.{Form}
@@ -62,30 +63,34 @@ module _ (at : ℕ) (t : List ℕ) where
   byte-at n = getD-take 4 (drop n t) 0 0 (omega arith) ∙ getD-drop n t 0 0 ∙ ap (λ (m : ℕ). getD t m 0) (add-zero n)
 
   -- an entry and a record, number by number
-  pub entry-read : (f : Form) (full : Bool) → f .full ≡ full
-      → record {
+  entry-here : Bool → Quota
+  entry-here x =
+      record {
+        grant = number (take 4 (drop at t));
+        remainder = number (take 4 (drop (at + 4) t));
+        permissions = cond x (getD t (at + 8) 0) ALL-PERMISSIONS;
+      }
+
+  entry-in : Bool → List ℕ → Quota
+  entry-in x s =
+      record { grant = number (take 4 s); remainder = number (take 4 (drop 4 s)); permissions = cond x (getD (drop 8 s) 0 0) ALL-PERMISSIONS }
+
+  same-entry : (x : Bool) → entry-here x ≡ entry-in x (take (8 + cond x 4 0) (drop at t))
+  unfolding entry-here entry-in
+  same-entry true =
+      rw (first-part 4 12 (omega arith), later-part 4 8, take-take 4 8 (drop (at + 4) t) (omega arith), later-part 8 4, byte-at (at + 8))
+  same-entry false = rw (first-part 4 8 (omega arith), later-part 4 4, take-take 4 4 (drop (at + 4) t) (omega arith))
+
+  pub entry-read : (f : Form) (full : Bool) → f .full ≡ full → (q : Quota)
+      → q
+      ≡ record {
         grant = number (take 4 (drop at t));
         remainder = number (take 4 (drop (at + 4) t));
         permissions = cond full (getD t (at + 8) 0) ALL-PERMISSIONS;
       }
-      ≡ entry-of f (take (entry-width f) (drop at t))
-  unfolding entry-of tail-of tail-width
-  entry-read f full e = rw (← e) (go (f .full))
-    where
-      go : (x : Bool)
-          → record {
-            grant = number (take 4 (drop at t));
-            remainder = number (take 4 (drop (at + 4) t));
-            permissions = cond x (getD t (at + 8) 0) ALL-PERMISSIONS;
-          }
-          ≡ record {
-            grant = number (take 4 (take (8 + cond x 4 0) (drop at t)));
-            remainder = number (take 4 (drop 4 (take (8 + cond x 4 0) (drop at t))));
-            permissions = cond x (getD (drop 8 (take (8 + cond x 4 0) (drop at t))) 0 0) ALL-PERMISSIONS;
-          }
-      go true =
-          rw (first-part 4 12 (omega arith), later-part 4 8, take-take 4 8 (drop (at + 4) t) (omega arith), later-part 8 4, byte-at (at + 8))
-      go false = rw (first-part 4 8 (omega arith), later-part 4 4, take-take 4 4 (drop (at + 4) t) (omega arith))
+      → q ≡ entry-of f (take (entry-width f) (drop at t))
+  unfolding entry-here entry-in entry-of tail-of tail-width
+  entry-read f full e q g = g ∙ ap entry-here (sym e) ∙ same-entry (f .full)
 
   pub record-read : record { serial = number (take 4 (drop at t)); quota = getD t (at + 4) 0; count = getD t (at + 5) 0 }
       ≡ record-of (take record-width (drop at t))

@@ -5,9 +5,9 @@ use mathlib.Core.List.{List, _++_, append-assoc, append-nil}
 use mathlib.Core.Bool.{Bool, true, false, cond}
 use Prim.Native.Nat.{ℕ, _+_, _*_, _/_, _≤_, _<_}
 use native.Mathlib.Omega.{arith}
-use native.Mathlib.Nat.{mod-eq-of-lt, zero-add}
-use lib.ListN.{length, take, set, replicate, length-append}
-use lib.Seq.{length-take-le, drop-length}
+use native.Mathlib.Nat.{mod-eq-of-lt, zero-add, suc-mul, mul-le-mul-right}
+use lib.ListN.{length, take, drop, set, replicate, length-append}
+use lib.Seq.{length-take-le, drop-length, drop-drop}
 use Rattle.accounts.specs.Accounts.{QUOTAS, HOLDS}
 use Rattle.accounts.specs.declared.Quota.{Quota}
 use Rattle.accounts.specs.declared.Hold.{Hold}
@@ -17,7 +17,7 @@ use Rattle.layout.proofs.Numbers.{bytes-length}
 use Rattle.layout.proofs.Overwrite.{overwrite-two, overwrite-fits, overwrite-one}
 use Rattle.image_model.specs.declared.Form.{Form}
 use Rattle.image_model.specs.Items.{many}
-use Rattle.image.specs.Parsing.{FormFits}
+use Rattle.image.specs.Parsing.{FormFits, width-of}
 use Rattle.image_model.specs.Stream.{entry-tail, tail-width, marks-of, record-bytes, entry-bytes, entry-width, head-length, head-of}
 use Rattle.image_model.proofs.Items.{many-length}
 use Rattle.image_model.proofs.Entries.{entry-length, record-length}
@@ -81,6 +81,23 @@ module _ (at : ℕ) (s₀ s₁ s₂ : List ℕ) (h : at + 8 ≤ length s₀) whe
       let three = beside at 5 (bytes 4 (r .serial) ++ bytes 1 (r .quota)) (bytes 1 (r .count)) s₀ s₂ s₃ ab (omega arith) two e₃ in
       let four = beside at 6 ((bytes 4 (r .serial) ++ bytes 1 (r .quota)) ++ bytes 1 (r .count)) (bytes 2 0) s₀ s₃ s₄ abc (omega arith) three e₄ in
       four ∙ rw (append-assoc, append-assoc, two-zeros)
+
+-- an entry lies in front of those behind it
+pub entry-inside : (i count w n : ℕ) → i < count → 12 + count * w ≤ n → 12 + (i * w + w) ≤ n
+entry-inside i count w n h l = omega (arith, mul-le-mul-right w h, suc-mul i w)
+
+-- a form that is full or not
+unfoldable pub some-form : Bool → Form
+some-form x = record { number = 0; quotas = 0; records = 0; full = x }
+
+-- an entry's width by whether the form is full, and the place of an entry
+pub width-is : (f : Form) (full : Bool) → f .full ≡ full → width-of full ≡ entry-width f
+unfolding tail-width
+width-is f full e = ap width-of (sym e)
+
+pub entry-place : (f : Form) (full : Bool) → f .full ≡ full → (t : List ℕ) (i r : ℕ) → r ≡ 12 + i * width-of full
+    → drop r t ≡ drop (i * entry-width f) (drop 12 t)
+entry-place f full e t i r g = ap (λ (n : ℕ). drop n t) (g ∙ ap (λ (w : ℕ). 12 + i * w) (width-is f full e)) ∙ sym (drop-drop (i * entry-width f) 12 t)
 
 -- a head is never longer than the longest
 pub head-short : (f : Form) → FormFits f → head-length f ≤ 4492

@@ -93,7 +93,8 @@ module _ (i : List ℕ) (f : Form) (n : ℕ) (ef : f ≡ form-of i) (en : n ≡ 
         pub by-spares : t ≡ true → (r : Bool) (at : ℕ) → at ≡ records-at f
             → r ≡ every record-right record-width (f .records) (drop at (stream-of i)) → r ≡ contents-right i
         unfolding items-right
-        by-spares g r at l s = s ∙ rw l ∙ sym (rw (sym te ∙ g)) ∙ by-items
+        by-spares g r at l s =
+            s ∙ ap (λ (x : ℕ). every record-right record-width (f .records) (drop x (stream-of i))) l ∙ sym (rw (sym te ∙ g)) ∙ by-items
 
 -- the first line that holds, as the tests find it
 module _ (i : List ℕ) where
