@@ -1,6 +1,7 @@
 -- The rows that the definitions are held to, and laws of images.
 pub mod Computing
 pub mod Rows
+pub mod FullRows
 pub mod Refusals
 pub mod Items
 pub mod Parts

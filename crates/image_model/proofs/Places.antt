@@ -23,6 +23,7 @@ use Rattle.image_model.specs.Stream.{form-1, form-2, form-numbered, entr
 use Rattle.image_model.specs.Stream.{no-grant, all-permitted, carries, blank, head-length, Typed}
 use Rattle.image_model.specs.declared.Form.{Form}
 use Rattle.image_model.proofs.Rows.{head-rows}
+use Rattle.image_model.proofs.FullRows
 use Rattle.image_model.proofs.Items.{All, all-drop, all-map, all-tested, tested-all, all-two, all-of, none-behind, filled-behind, zeros-are, are-zeros}
 use Rattle.image_model.proofs.Parts.{bytes-split-here, one-at}
 

@@ -16,23 +16,23 @@ use Rattle.image_model.specs.Images.{write-image, read-image}
 use Rattle.image_model.proofs.Computing.{computing}
 
 -- a fresh heap
-pub fresh : List ℕ
+fresh : List ℕ
 fresh = 8 ∷ replicate 63 0
 
-pub fresh-accounts : Accounts
+fresh-accounts : Accounts
 fresh-accounts = opened (100 ∷ 1000 ∷ replicate (QUOTAS - 2) 0)
 
 -- an object of 8 bytes with the serial 1, which quotas 0 and 1 hold, in the records 0 and 53; the free block behind it ends with bytes that are not zero
-pub heap : List ℕ
+unfoldable pub heap : List ℕ
 heap = 2 ∷ 0 ∷ 0 ∷ 0 ∷ 1 ∷ 0 ∷ 0 ∷ 0 ∷ 1 ∷ 2 ∷ 3 ∷ 4 ∷ 5 ∷ 6 ∷ 7 ∷ 8 ∷ 6 ∷ 0 ∷ 2 ∷ replicate 37 0 ++ replicate 8 255
 
-pub quota : ℕ → ℕ → Quota
+unfoldable pub quota : ℕ → ℕ → Quota
 quota g r = record { grant = g; remainder = r; permissions = 7 }
 
-pub hold : ℕ → ℕ → ℕ → Hold
+unfoldable pub hold : ℕ → ℕ → ℕ → Hold
 hold s q c = record { serial = s; quota = q; count = c }
 
-pub accounts : Accounts
+accounts : Accounts
 accounts =
     record {
       quotas = quota 100 84 ∷ quota 1000 984 ∷ replicate (QUOTAS - 2) (quota 0 0);
@@ -40,7 +40,7 @@ accounts =
       holds = hold 1 0 1 ∷ replicate 52 zero-hold ++ (hold 1 1 3 ∷ replicate (HOLDS - 54) zero-hold);
     }
 
-pub small : Unit {0}
+unfoldable pub small : Unit {0}
 unfolding computing fresh fresh-accounts heap quota hold accounts
 small = tt
 
@@ -72,13 +72,13 @@ unfolding small
 lengths = (refl, refl, refl, refl, refl, refl, refl, refl)
 
 -- a lent buffer with bytes of its own
-pub lent : ℕ → List ℕ
+unfoldable pub lent : ℕ → List ℕ
 lent n = replicate n 170
 
-pub written : List ℕ → ℕ → Imaged
+unfoldable pub written : List ℕ → ℕ → Imaged
 written o n = record { image = o; refusal = 0; length = n }
 
-pub not-written : List ℕ → ℕ → Imaged
+unfoldable pub not-written : List ℕ → ℕ → Imaged
 not-written o n = record { image = o; refusal = n; length = 0 }
 
 -- the same accounts without a permission of the first quota, and of the last that form 1 carries
@@ -132,11 +132,11 @@ pub data Refused : Type 0 where
   _into_is_ : List ℕ → ℕ → ℕ → Refused
 
 infix 5 _into_is_
-pub got : Refused → Restored-to
+unfoldable pub got : Refused → Restored-to
 got (i into n is r) = read-image i (lent n)
 
 -- the lent heap as it was, and accounts of zeros
-pub wanted : Refused → Restored-to
+unfoldable pub wanted : Refused → Restored-to
 wanted (i into n is r) = record { heap = lent n; accounts = zero-accounts; refusal = r }
 
 -- the image and its stream; and the image of a stream with another byte at a place
