@@ -4,12 +4,12 @@ use Prim.Native.Nat.{ℕ, _+_, _*_, _/_, _%_, _≤_, _<_}
 use native.Mathlib.Omega.{arith}
 use mathlib.Core.Path.{_≡_, ap, _∙_}
 use mathlib.Core.Bool.{Bool, true, false, cond}
-use lib.ListN.{length, set, List·getD-eq-default}
-use lib.Dec.{ltb, eqb}
+use lib.ListN.{length, List·getD-eq-default}
+use lib.Dec.{eqb}
 use borrow.Author.Tests.{lt-ltb, le-ltb, ne-eqb, eq-eqb}
 use Rattle.accounts.specs.declared.Quota.{Quota}
 use Rattle.accounts.specs.declared.Accounts.{Accounts}
-use Rattle.accounts.specs.Accounts.{QUOTAS, zero-quota, with-quotas, quota-at, with-permissions, bit-left, cleared, left-permissions, clear-permissions}
+use Rattle.accounts.specs.Accounts.{QUOTAS, zero-quota, bit-left, cleared, left-permissions, clear-at, clear-permissions}
 use Rattle.accounts.proofs.Rows
 
 -- a bit is left where the number's bit is not set
@@ -29,8 +29,10 @@ left-most n p = go (eqb (n % 2) 0)
 
 -- the three bits of what is left, and no others
 pub cleared-bits : (n p : ℕ)
-    → (cleared n p / 1 % 2 ≡ bit-left n p) × (cleared n p / 2 % 2 ≡ bit-left (n / 2) (p / 2)) × (cleared n p / 4 % 2 ≡ bit-left (n / 4) (p / 4)) × (cleared n p ≤ 7)
-cleared-bits n p = go (bit-left n p) (bit-left (n / 2) (p / 2)) (bit-left (n / 4) (p / 4)) (left-most n p) (left-most (n / 2) (p / 2)) (left-most (n / 4) (p / 4))
+    → (cleared n p / 1 % 2 ≡ bit-left n p) × (cleared n p / 2 % 2 ≡ bit-left (n / 2) (p / 2)) × (cleared n p / 4 % 2 ≡ bit-left (n / 4) (p / 4))
+    × (cleared n p ≤ 7)
+cleared-bits n p =
+    go (bit-left n p) (bit-left (n / 2) (p / 2)) (bit-left (n / 4) (p / 4)) (left-most n p) (left-most (n / 2) (p / 2)) (left-most (n / 4) (p / 4))
   where
     go : (a b c : ℕ) → a ≤ p % 2 → b ≤ p / 2 % 2 → c ≤ p / 4 % 2
         → ((a + (2 * b + 4 * c)) / 1 % 2 ≡ a) × ((a + (2 * b + 4 * c)) / 2 % 2 ≡ b) × ((a + (2 * b + 4 * c)) / 4 % 2 ≡ c) × (a + (2 * b + 4 * c) ≤ 7)
@@ -38,7 +40,7 @@ cleared-bits n p = go (bit-left n p) (bit-left (n / 2) (p / 2)) (bit-left (n / 4
 
 -- where the quota is there, and where it is not
 module _ (q n : ℕ) (k : Accounts) where
-  pub clear-there : q < QUOTAS → clear-permissions q n k ≡ with-quotas (set (k .quotas) q (with-permissions (left-permissions q n k) (quota-at q k))) k
+  pub clear-there : q < QUOTAS → clear-permissions q n k ≡ clear-at q n k
   unfolding clear-permissions
   clear-there h = rw (lt-ltb q QUOTAS h)
 

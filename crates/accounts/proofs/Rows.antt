@@ -90,7 +90,7 @@ pub clear-rows : (map (λ n. left-permissions 1 n five) (0 ∷ 1 ∷ 2 ∷ 3 ∷
     × (map (cleared 2) (0 ∷ 1 ∷ 2 ∷ 3 ∷ 4 ∷ 5 ∷ 6 ∷ 7 ∷ []) ≡ 0 ∷ 1 ∷ 0 ∷ 1 ∷ 4 ∷ 5 ∷ 4 ∷ 5 ∷ [])
     × (permissions (clear-permissions (QUOTAS - 1) 5 five) ≡ replicate (QUOTAS - 1) 7 ++ (2 ∷ []))
     × (clear-permissions 1 5 five
-    ≡ with-quotas (record { grant = 5; remainder = 5; permissions = 7 } ∷ record { grant = 5; remainder = 5; permissions = 2 } ∷ replicate (QUOTAS - 2) (granted 5)) five)
+    ≡ with-quotas (granted 5 ∷ record { grant = 5; remainder = 5; permissions = 2 } ∷ replicate (QUOTAS - 2) (granted 5)) five)
     × (left-permissions QUOTAS 0 five ≡ 0) × (clear-permissions QUOTAS 7 five ≡ five) × (clear-permissions QUOTAS 7 too-many ≡ too-many)
     × (map permissible (0 ∷ 7 ∷ 8 ∷ 255 ∷ []) ≡ true ∷ true ∷ false ∷ false ∷ [])
 unfolding five too-many opened clear-permissions

@@ -124,8 +124,11 @@ cleared n p = bit-left n p + (2 * bit-left (n / 2) (p / 2) + 4 * bit-left (n / 4
 abbrev pub left-permissions : ℕ → ℕ → Accounts → ℕ
 left-permissions q n k = cleared n (quota-at q k .permissions)
 
+abbrev pub clear-at : ℕ → ℕ → Accounts → Accounts
+clear-at q n k = with-quotas (set (k .quotas) q (with-permissions (left-permissions q n k) (quota-at q k))) k
+
 unfoldable pub clear-permissions : ℕ → ℕ → Accounts → Accounts
-clear-permissions q n k = cond (ltb q QUOTAS) (with-quotas (set (k .quotas) q (with-permissions (left-permissions q n k) (quota-at q k))) k) k
+clear-permissions q n k = cond (ltb q QUOTAS) (clear-at q n k) k
 
 -- rule 3.3: a record is used if one of its numbers is not 0
 unfoldable pub used : Hold → Bool

@@ -113,8 +113,8 @@ module _ (unit : ℕ → ℕ) (s : List ℕ) (k : Accounts) (q n : ℕ) where
   unfolding allocate-lines
   refused-3 v told a h r e = refused-by r QuotaNumber e (check-accepts unit s k v told from-3 a ∙ line-3-refuses q from-12 h)
 
-  pub refused-12 : Checked unit s k q → quota-at q k .permissions / ALLOCATE % 2 ≡ 0 → (r : HandleResult) → r ≡ record { accounts = k; answer = NotGiven NotPermitted }
-      → handle-outcome s r ≡ allocate unit s k q n
+  pub refused-12 : Checked unit s k q → quota-at q k .permissions / ALLOCATE % 2 ≡ 0
+      → (r : HandleResult) → r ≡ record { accounts = k; answer = NotGiven NotPermitted } → handle-outcome s r ≡ allocate unit s k q n
   unfolding allocate-lines
   refused-12 c z r e = refused-by r NotPermitted e (checked-passes unit s k q from-12 c ∙ line-12-refuses ALLOCATE q k from-4 z)
 

@@ -169,7 +169,7 @@ module _ (unit : ℕ → ℕ) (units : Units unit) (s : List ℕ) (k : Accounts)
     filled-fits : is-sound unit (render (filled .blocks)) (filled .accounts) ≡ true
     unfolding is-sound objects-of
     filled-fits =
-        let may : all permissible (permissions (filled .accounts)) ≡ true = ap (all permissible) filled-permissions ∙ sound-permissible unit s k (r .checked .sound) in
+        let may = ap (all permissible) filled-permissions ∙ sound-permissible unit s k (r .checked .sound) in
         let d = allocated-objects q new (state-of s k) start room in
         and-both _ _ (written .sound)
         (and-both _ _

@@ -38,11 +38,13 @@ fitting-front unit at b (some bs) = go (eqb (b .serial) 0)
     go false = rw (own-length b, own-base at b)
 
 -- the test of a heap and its permissions is consistency with that
-pub fitting-sound : (unit : ℕ → ℕ) (s : List ℕ) (k : Accounts) → (consistent s k && (fitting unit 0 (parse s) && all permissible (permissions k))) ≡ sound unit s k
+pub fitting-sound : (unit : ℕ → ℕ) (s : List ℕ) (k : Accounts)
+    → (consistent s k && (fitting unit 0 (parse s) && all permissible (permissions k))) ≡ sound unit s k
 unfolding sound consistent consistent-parsed fitting objects-of objects blocks-of or-else
 fitting-sound unit s k = go (parse s)
   where
-    go : (o : Option (List Block)) → (consistent-parsed o k && (fitting unit 0 o && all permissible (permissions k))) ≡ (consistent-parsed o k && (all (in-units unit) (objects-from 0 (or-else [] o)) && all permissible (permissions k)))
+    go : (o : Option (List Block)) → (consistent-parsed o k && (fitting unit 0 o && all permissible (permissions k)))
+        ≡ (consistent-parsed o k && (all (in-units unit) (objects-from 0 (or-else [] o)) && all permissible (permissions k)))
     go none = refl
     go (some bs) = refl
 

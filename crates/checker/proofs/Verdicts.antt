@@ -42,7 +42,8 @@ fresh =
 valid-parts : (xs : List Quota) → all entry-valid xs ≡ (all solvent xs && all permissible (map (λ (x : Quota). x .permissions) xs))
 unfolding all
 valid-parts [] = refl
-valid-parts (x ∷ xs) = rw (valid-parts xs) (go (solvent x) (permissible (x .permissions)) (all solvent xs) (all permissible (map (λ (y : Quota). y .permissions) xs)))
+valid-parts (x ∷ xs) =
+    rw (valid-parts xs) (go (solvent x) (permissible (x .permissions)) (all solvent xs) (all permissible (map (λ (y : Quota). y .permissions) xs)))
   where
     go : (a b c d : Bool) → ((a && b) && (c && d)) ≡ ((a && c) && (b && d))
     go false b c d = refl
@@ -60,15 +61,19 @@ module _ (unit : ℕ → ℕ) (s : List ℕ) (k : Accounts) where
   verdict-length e = rw e
 
   module _ (fits : allowed (length s) ≡ true) (long : length (k .quotas) ≡ QUOTAS) where
-    same-verdict : (audited (parse s) k && (fitting unit 0 (parse s) && all permissible (permissions k))) ≡ sound unit s k
-    same-verdict = ap (λ (x : Bool). x && (fitting unit 0 (parse s) && all permissible (permissions k))) (audited-is-consistent s k long) ∙ fitting-sound unit s k
+    -- what is tested beside the audit, and all of it
+    abbrev beside : Bool
+    beside = fitting unit 0 (parse s) && all permissible (permissions k)
+
+    same-verdict : (audited (parse s) k && beside) ≡ sound unit s k
+    same-verdict = ap (λ (x : Bool). x && beside) (audited-is-consistent s k long) ∙ fitting-sound unit s k
 
     -- an audit that fails, and one that passes
-    verdict-fails : (audited (parse s) k && (fitting unit 0 (parse s) && all permissible (permissions k))) ≡ false → verdict-values (Refused Inconsistent) ≡ check unit s k .values
+    verdict-fails : (audited (parse s) k && beside) ≡ false → verdict-values (Refused Inconsistent) ≡ check unit s k .values
     unfolding verdict-values check unless first-refusal check-lines line-1 line-2
     verdict-fails e = rw (fits, sym same-verdict ∙ e)
 
-    verdict-passes : (audited (parse s) k && (fitting unit 0 (parse s) && all permissible (permissions k))) ≡ true → verdict-values Accepted ≡ check unit s k .values
+    verdict-passes : (audited (parse s) k && beside) ≡ true → verdict-values Accepted ≡ check unit s k .values
     unfolding verdict-values check unless first-refusal check-lines line-1 line-2
     verdict-passes e = rw (fits, sym same-verdict ∙ e)
 
@@ -80,18 +85,24 @@ module _ (unit : ℕ → ℕ) (s : List ℕ) (k : Accounts) where
     -- a remainder above its grant, or a number that is no permissions
     pub verdict-insolvent : {owed : List ℕ} → Owing (k .quotas) false owed → verdict-values (Refused Inconsistent) ≡ check unit s k .values
     unfolding audited
-    verdict-insolvent w = verdict-fails (one-fails (all well-formed (k .holds)) (all solvent (k .quotas)) _ (fitting unit 0 (parse s)) (all permissible (permissions k)) (sym (valid-parts (k .quotas)) ∙ sym (w .0)))
+    verdict-insolvent w =
+        verdict-fails
+        (one-fails (all well-formed (k .holds)) (all solvent (k .quotas)) _ (fitting unit 0 (parse s)) (all permissible (permissions k))
+        (sym (valid-parts (k .quotas)) ∙ sym (w .0)))
 
     -- the walk
     module _ {keys next heads owed : List ℕ} (i : Index (k .holds) keys next heads) (w : Owing (k .quotas) true owed) where
       pub ready : Ready keys next heads owed
       ready = record { long = i .long; owed-long = ap length (w .1 refl) ∙ length-map (k .quotas) owes ∙ long; up = i .up; linked = i .linked; heads-inside = i .heads-inside }
 
-      audited-walk : (audited (parse s) k && (fitting unit 0 (parse s) && all permissible (permissions k))) ≡ (audit-parsed (k .«last_serial») (parse s) (some (begin keys owed)) && fitting unit 0 (parse s))
+      audited-walk : (audited (parse s) k && beside)
+          ≡ (audit-parsed (k .«last_serial») (parse s) (some (begin keys owed)) && fitting unit 0 (parse s))
       unfolding audited
       audited-walk =
           let both = sym (valid-parts (k .quotas)) ∙ sym (w .0) in
-          rw (i .well, and-left (all solvent (k .quotas)) _ both, w .1 refl, i .keyed, and-right (all solvent (k .quotas)) _ both, and-yes (fitting unit 0 (parse s)))
+          let paid = and-left (all solvent (k .quotas)) _ both in
+          let may = and-right (all solvent (k .quotas)) _ both in
+          rw (i .well, paid, w .1 refl, i .keyed, may, and-yes (fitting unit 0 (parse s)))
 
       pub verdict-walk : (t : Bool) → t ≡ (audit-parsed (k .«last_serial») (parse s) (some (begin keys owed)) && fitting unit 0 (parse s)) → verdict-values (cond t Accepted (Refused Inconsistent)) ≡ check unit s k .values
       verdict-walk true e = verdict-passes (audited-walk ∙ sym e)

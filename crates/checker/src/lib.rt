@@ -1,7 +1,7 @@
 // The check of a whole heap and its accounting state: one pass over the hold records and one walk over the blocks.
 // Each used record becomes a key, in the chain of its serial's slot. Each live block strikes its serial's keys, and their quotas pay for it. At the
 // end every key is struck and no quota owes anything. Serials that share a slot make its chain long, so serials picked on purpose cost more.
-// `held_each` follows the same chains to say which serials have a record.
+// `held_each`, in a module of its own, follows the same chains to say which serials have a record.
 use accounts::ALL_PERMISSIONS;
 use accounts::Accounts;
 use accounts::HOLDS;
@@ -14,7 +14,6 @@ use model::Verdict;
 use std::num::wrapping_sub_usize;
 ghost use mathlib.Core.Path.{_≡_};
 ghost use mathlib.Core.Option.{some};
-ghost use mathlib.Core.List.{map};
 ghost use Prim.Native.Nat.{_+_, _*_, _-_, _%_, _^_, _<_, _≤_};
 ghost use mathlib.Core.Bool.{true, _&&_};
 ghost use lib.Dec.{eqb, ltb, leb};
@@ -28,9 +27,15 @@ ghost use Rattle.accounts.specs.Accounts.{QUOTAS, HOLDS};
 ghost use Rattle.layout.specs.Blocks.{parse};
 ghost use Rattle.checker.specs.Keys.{quota-of, for-serial, paid-by};
 ghost use Rattle.checker.specs.Chains.{SLOTS, slot, search-from};
-ghost use Rattle.checker.specs.Audit.{all-zero, begin, audit-parsed};
+ghost use Rattle.checker.specs.Audit.{begin, audit-parsed};
 ghost use Rattle.checker.specs.Contracts.{Findable, Fresh, Indexed, Owing, Charged, Payable, Paid, Settled, Ready, Visited};
-ghost use Rattle.checker.specs.Holders.{held-each, has-key, Chained};
+
+mod closing;
+mod holding;
+
+use closing::is_paid;
+use closing::is_struck;
+pub use holding::held_each;
 
 // The number of slots: as many as records, so that a chain is seldom longer than two records and the index stays small.
 const SLOTS: usize = HOLDS;
@@ -302,35 +307,6 @@ fn visit(
     settle(keys, next, owed, from, serial, size)
 }
 
-// Whether every key is struck: whether they have no bit between them.
-fn is_struck(keys: &[usize; HOLDS]) -> bool
-    requires { ⌜ length (now keys) ≡ HOLDS ⌝ }
-    ensures { λ r. ⌜ r ≡ all-zero (now (keys .entry)) ⌝ }
-{
-    let mut bits: usize = 0;
-    let mut i: usize = 0;
-    while i < HOLDS {
-        bits = bits | keys[i];
-        i += 1;
-    }
-    bits == 0
-}
-
-// Whether nothing is owed.
-fn is_paid(owed: &[usize; QUOTAS]) -> bool
-    requires { ⌜ length (now owed) ≡ QUOTAS ⌝ }
-    ensures { λ r. ⌜ r ≡ all-zero (now (owed .entry)) ⌝ }
-{
-    let mut i: usize = 0;
-    while i < QUOTAS {
-        if owed[i] != 0 {
-            return false;
-        }
-        i += 1;
-    }
-    true
-}
-
 // The walk over the blocks: whether the heap is cut into blocks, each as it must be and with an object that fits its unit, and at the end every key is
 // struck and nothing is owed.
 fn walk(
@@ -400,52 +376,4 @@ pub fn check(heap: &[u8], accounts: Accounts) -> Verdict
         return Verdict::Refused(Refusal::Inconsistent);
     }
     Verdict::Accepted
-}
-
-// Whether a used record's key has the serial: the chain of the serial's slot leads to one.
-fn is_held(keys: &[usize; HOLDS], next: &[u16; HOLDS], heads: &[u16; SLOTS], serial: u32) -> bool
-    requires { ⌜ Chained (now keys) (now next) (now heads) ⌝ }
-    ensures { λ r. ⌜ r ≡ has-key (now (keys .entry)) serial ⌝ }
-{
-    if serial == 0 {
-        return false;
-    }
-    let slot = slot_of(serial);
-    let from = place(heads[slot]);
-    find(keys, next, from, serial) < HOLDS
-}
-
-// For each of the serials whether a key has it.
-fn are_held(
-    keys: &[usize; HOLDS],
-    next: &[u16; HOLDS],
-    heads: &[u16; SLOTS],
-    serials: [u32; HOLDS],
-) -> [bool; HOLDS]
-    requires { ⌜ Chained (now keys) (now next) (now heads) ⌝ }
-    ensures { λ r. ⌜ r ≡ map (has-key (now (keys .entry))) serials ⌝ }
-{
-    let mut answers = [false; HOLDS];
-    let mut i: usize = 0;
-    while i < HOLDS {
-        let serial = serials[i];
-        answers[i] = is_held(keys, next, heads, serial);
-        i += 1;
-    }
-    answers
-}
-
-// For each of the serials whether a used record has it, by one pass over the records and one over the serials. Where a record is not well-formed,
-// every serial counts as held.
-pub fn held_each(holds: [Hold; HOLDS], serials: [u32; HOLDS]) -> [bool; HOLDS]
-    ensures { λ r. ⌜ r ≡ held-each holds serials ⌝ }
-{
-    let end = HOLDS as u16;
-    let mut keys = [0usize; HOLDS];
-    let mut next = [end; HOLDS];
-    let mut heads = [end; SLOTS];
-    if !index(holds, &mut keys, &mut next, &mut heads) {
-        return [true; HOLDS];
-    }
-    are_held(&keys, &next, &heads, serials)
 }

@@ -17,5 +17,6 @@ unfolding computing-calls bytes number overwrite
     form-1 form-2 form-numbered entry-tail tail-width tail-of tail-right marks-of marks-right with-marks carries blank
     record-bytes entry-bytes head-length head-of stream image-of image-length
     entry-of entry-right record-of record-right accounts-of heap-of items-right form-in form-of size-in accounts-in heap-in contents-right
-    line-28 put-lines write-lines line-21 line-22 line-23 line-24 line-25 line-26 shape-lines read-lines examine-lines unless-written unless-read write-image read-image
+    line-28 put-lines write-lines line-21 line-22 line-23 line-24 line-25 line-26 shape-lines read-lines examine-lines
+    unless-written unless-read write-image read-image
 computing = tt

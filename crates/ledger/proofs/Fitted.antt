@@ -38,10 +38,12 @@ abbrev pub Fitted : (ℕ → ℕ) → Ledger → Type 0
 Fitted unit l = (o : Handle) → List·Memᴰ o (objects-in l) → in-units unit o ≡ true
 
 -- the live objects are, and a state whose permissions are such is sound
-pub sound-of : (unit : ℕ → ℕ) (l : Ledger) (s : List ℕ) (k : Accounts) → Agrees l s k → Fitted unit l → all permissible (permissions k) ≡ true → sound unit s k ≡ true
+pub sound-of : (unit : ℕ → ℕ) (l : Ledger) (s : List ℕ) (k : Accounts) → Agrees l s k → Fitted unit l → all permissible (permissions k) ≡ true
+    → sound unit s k ≡ true
 unfolding sound
 sound-of unit l s k a f p =
-    and-both (consistent s k) _ (a .sound) (and-both (all (in-units unit) (objects-of s)) _ (member-all (in-units unit) (objects-of s) (λ o m. f o (a .matches .objects o .0 m))) p)
+    let fits = member-all (in-units unit) (objects-of s) (λ o m. f o (a .matches .objects o .0 m)) in
+    and-both (consistent s k) _ (a .sound) (and-both (all (in-units unit) (objects-of s)) _ fits p)
 
 -- a beginning has none, or those of a state that was read
 pub restored-fits : (unit : ℕ → ℕ) (s : List ℕ) (k : Accounts) → Restorable unit s k → Fitted unit (read-ledger s k)

@@ -91,7 +91,9 @@ module _ (H : ℕ) (fits : allowed H ≡ true) (grants : List ℕ) where
         valid = unused-valid HOLDS;
         unique = unused-differ HOLDS;
         recorded = refl;
-        balance = balance-exactly [] (replicate HOLDS zero-hold) (map granted grants) .1 (λ q h. rw (add-zero) (granted-at grants q .0 ∙ sym (granted-at grants q .1)));
+        balance =
+            balance-exactly [] (replicate HOLDS zero-hold) (map granted grants) .1
+            (λ q h. rw (add-zero) (granted-at grants q .0 ∙ sym (granted-at grants q .1)));
       }
 
   -- the fresh state is good

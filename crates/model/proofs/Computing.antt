@@ -21,8 +21,10 @@ unfolding opened remaining set-remaining less-paid paid-back charge refund used 
     allowed long-enough starts-free free-apart well-cut serials-differ serials-given record-valid records-differ is-of held has-record charged-for charges balanced-from consistent-blocks consistent-parsed consistent in-units
     outside-occupied suitable first-candidate lowest-base left-over cut-block carve-from carve vacate vacate-unheld join-front join-free settle body-of copy-into
     count-of take-record raise-count less-one lower-count drop-records
-    first-refusal line-1 line-2 line-3 line-4 line-5 line-6 line-7 line-8 line-9 line-10 line-12 only-if claims-first open-lines check-lines quota-lines free-all-lines lend-lines release-lines claim-lines base-for line-11 allocate-lines reallocate-lines
-    unless fresh open-heap allocated claimed given-back released freed copied new-object allocate allocate-array claim release free-all reallocate lend remaining-of can-release check listing-from list-block clear
+    first-refusal line-1 line-2 line-3 line-4 line-5 line-6 line-7 line-8 line-9 line-10 line-12 only-if claims-first
+    open-lines check-lines quota-lines free-all-lines lend-lines release-lines claim-lines base-for line-11 allocate-lines reallocate-lines
+    unless fresh open-heap allocated claimed given-back released freed copied new-object
+    allocate allocate-array claim release free-all reallocate lend remaining-of can-release check listing-from list-block clear
     step
 computing-but-sound = tt
 

@@ -8,7 +8,7 @@ use native.Mathlib.Omega.{arith}
 use mathlib.Core.List.{List, [], _∷_, map}
 use mathlib.Core.Bool.{Bool, true, false, not, cond, _&&_, false≢true}
 use mathlib.Core.Logic.{_↔_}
-use lib.ListN.{length, getD, set, List·getD-map, length-map}
+use lib.ListN.{length, getD, List·getD-map, length-map}
 use lib.Seq.{getD-set-other, map-set-same}
 use lib.Dec.{ltb, eqb}
 use borrow.Author.Tests.{not-true, eqb-false}
@@ -16,7 +16,7 @@ use Rattle.accounts.specs.declared.Quota.{Quota}
 use Rattle.accounts.specs.declared.Hold.{Hold}
 use Rattle.accounts.specs.declared.Accounts.{Accounts}
 use Rattle.accounts.specs.Accounts.{QUOTAS, zero-quota, zero-hold, with-remainder, quota-at, remaining, set-remaining, less-paid, paid-back, charge, refund, with-holds, used, unused, is-for, drop-records}
-use Rattle.accounts.specs.Accounts.{with-quotas, with-permissions, left-permissions, clear-permissions}
+use Rattle.accounts.specs.Accounts.{with-permissions, left-permissions, clear-at, clear-permissions}
 use Rattle.model.specs.Lists.{change-first}
 use Rattle.model.specs.Holds.{with-count, take-record, raise-count, less-one, lower-count}
 use Rattle.model.specs.Refusals.{claims-first}
@@ -81,7 +81,7 @@ pub clear-keeps : (q n : ℕ) (p : ℕ → Bool) (k : Accounts) → Kept (eqb q)
 unfolding clear-permissions
 clear-keeps q n p k = go (ltb q QUOTAS)
   where
-    go : (t : Bool) → Kept (eqb q) p k (cond t (with-quotas (set (k .quotas) q (with-permissions (left-permissions q n k) (quota-at q k))) k) k)
+    go : (t : Bool) → Kept (eqb q) p k (cond t (clear-at q n k) k)
     go false = kept-same (eqb q) p k
     go true =
         record {

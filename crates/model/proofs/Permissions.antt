@@ -7,19 +7,21 @@ use mathlib.Core.Path.{_≡_, refl, ap, sym, _∙_}
 use mathlib.Core.List.{List, [], _∷_, map}
 use mathlib.Core.Bool.{Bool, true, false, cond, _&&_, true≢false, false≢true}
 use mathlib.Core.Logic.{_⊎_, inl, inr, ⊎-elim}
+use mathlib.Core.Option.{Option, none, some}
 use lib.ListN.{length, getD, set, length-set, List·getD-map}
 use lib.Seq.{map-set-same, getD-set-same}
 use lib.Dec.{ltb, eqb}
 use borrow.Author.Tests.{le-leb, lt-ltb}
 use Rattle.accounts.specs.declared.Quota.{Quota}
+use Rattle.accounts.specs.declared.Hold.{Hold}
 use Rattle.accounts.specs.declared.Accounts.{Accounts}
-use Rattle.accounts.specs.Accounts.{QUOTAS, ALLOCATE, CLAIM, FREE-ALL, zero-quota, with-remainder, with-quotas, with-holds, with-permissions, quota-at, remaining, set-remaining, less-paid, paid-back, charge, refund, permissions, permissible, permits, bit-left, cleared, left-permissions, clear-permissions}
+use Rattle.accounts.specs.Accounts.{QUOTAS, ALLOCATE, CLAIM, FREE-ALL, zero-quota, with-remainder, with-holds, quota-at, remaining, set-remaining}
+use Rattle.accounts.specs.Accounts.{less-paid, paid-back, charge, refund}
+use Rattle.accounts.specs.Accounts.{with-permissions, permissions, permissible, permits, bit-left, cleared, left-permissions, clear-at, clear-permissions}
 use Rattle.accounts.proofs.Permissions.{cleared-bits}
+use Rattle.layout.specs.Blocks.{Block, parse}
 use Rattle.model.specs.Lists.{all}
 use Rattle.model.specs.Objects.{objects, objects-of, lookup, lookup-whole, found}
-use Rattle.layout.specs.Blocks.{Block, parse}
-use mathlib.Core.Option.{Option, none, some}
-use Rattle.accounts.specs.declared.Hold.{Hold}
 use Rattle.model.specs.Consistent.{charge-of, charges, balanced-from, consistent-blocks, consistent-parsed, consistent}
 use Rattle.model.specs.Holds.{take-record, raise-count}
 use Rattle.model.specs.Refusals.{first-refusal, claims-first, quota-lines, free-all-lines, release-lines, claim-lines, allocate-lines, reallocate-lines, lend-lines, check-lines}
@@ -49,7 +51,8 @@ unfolding claimed
 claimed-permissions q o k = go (claims-first k q o)
   where
     go : (t : Bool)
-        → permissions (cond t (with-holds (take-record (o .serial) q (k .holds)) (charge q (charge-of (o .length)) k)) (with-holds (raise-count (o .serial) q (k .holds)) k)) ≡ permissions k
+        → permissions (cond t (with-holds (take-record (o .serial) q (k .holds)) (charge q (charge-of (o .length)) k))
+        (with-holds (raise-count (o .serial) q (k .holds)) k)) ≡ permissions k
     go true = charge-permissions q (charge-of (o .length)) k
     go false = refl
 
@@ -69,7 +72,8 @@ freed-permissions : (q back : ℕ) (t : State) → permissions (freed q back t .
 unfolding freed
 freed-permissions q back t = refund-permissions q back (t .accounts)
 
-unless-permissions : (n : ℕ) (s : List ℕ) (k : Accounts) (done : Outcome) → permissions (done .accounts) ≡ permissions k → permissions (unless n s k done .accounts) ≡ permissions k
+unless-permissions : (n : ℕ) (s : List ℕ) (k : Accounts) (done : Outcome) → permissions (done .accounts) ≡ permissions k
+    → permissions (unless n s k done .accounts) ≡ permissions k
 unfolding unless
 unless-permissions zero s k done e = e
 unless-permissions (suc n) s k done e = refl
@@ -92,12 +96,16 @@ module _ (unit : ℕ → ℕ) where
   -- every other call keeps each quota's permissions
   pub step-permissions : (c : Call) (s : List ℕ) (k : Accounts) → clears c ≡ false → permissions (step unit c s k .accounts) ≡ permissions k
   unfolding step allocate allocate-array claim release free-all reallocate lend remaining-of can-release list-block
-  step-permissions (Allocate q n) s k e = unless-permissions (first-refusal (allocate-lines unit s k q n)) s k _ (allocated-permissions q (new-object unit s k n) (state-of s k))
+  step-permissions (Allocate q n) s k e =
+      unless-permissions (first-refusal (allocate-lines unit s k q n)) s k _ (allocated-permissions q (new-object unit s k n) (state-of s k))
   step-permissions (AllocateArray q count size) s k e =
-      unless-permissions (first-refusal (allocate-lines unit s k q (count * size))) s k _ (allocated-permissions q (new-object unit s k (count * size)) (state-of s k))
+      unless-permissions (first-refusal (allocate-lines unit s k q (count * size))) s k _
+      (allocated-permissions q (new-object unit s k (count * size)) (state-of s k))
   step-permissions (Claim q h) s k e = unless-permissions (first-refusal (claim-lines unit s k q h)) s k _ (claimed-permissions q (found (lookup h s)) k)
-  step-permissions (Release q h) s k e = unless-permissions (first-refusal (release-lines unit s k q h)) s k _ (released-permissions q (found (lookup h s)) (state-of s k))
-  step-permissions (FreeAll q) s k e = unless-permissions (first-refusal (free-all-lines unit s k q)) s k _ (freed-permissions q (charges (k .holds) q (objects-of s)) (state-of s k))
+  step-permissions (Release q h) s k e =
+      unless-permissions (first-refusal (release-lines unit s k q h)) s k _ (released-permissions q (found (lookup h s)) (state-of s k))
+  step-permissions (FreeAll q) s k e =
+      unless-permissions (first-refusal (free-all-lines unit s k q)) s k _ (freed-permissions q (charges (k .holds) q (objects-of s)) (state-of s k))
   step-permissions (Reallocate q h n) s k e =
       let old = found (lookup-whole h s) in
       let new = new-object unit s k n in
@@ -111,7 +119,8 @@ module _ (unit : ℕ → ℕ) where
   step-permissions (ClearPermissions q n) s k e = absurd (true≢false e)
 
 -- a stored element is at its own place alone, if anywhere
-set-at : (xs : List Quota) (i j : ℕ) (y : Quota) → (getD (set xs i y) j zero-quota ≡ getD xs j zero-quota) ⊎ ((i ≡ j) × (getD (set xs i y) j zero-quota ≡ y))
+set-at : (xs : List Quota) (i j : ℕ) (y : Quota)
+    → (getD (set xs i y) j zero-quota ≡ getD xs j zero-quota) ⊎ ((i ≡ j) × (getD (set xs i y) j zero-quota ≡ y))
 set-at [] i j y = inl refl
 set-at (x ∷ xs) zero zero y = inr (refl, refl)
 set-at (x ∷ xs) zero (suc j) y = inl refl
@@ -126,7 +135,8 @@ bit-is : (bit n p : ℕ) → IsBit bit → cleared n p / bit % 2 ≡ bit-left (n
 bit-is bit n p b =
     let c = cleared-bits n p in
     let whole : (x : ℕ) → x ≡ x / 1 = λ x. omega arith in
-    ⊎-elim (λ (e : bit ≡ 1). rw e (c .0 ∙ (λ i. bit-left (whole n i) (whole p i)))) (λ d. ⊎-elim (λ (e : bit ≡ 2). rw e (c .1)) (λ (e : bit ≡ 4). rw e (c .2)) d) b
+    ⊎-elim (λ (e : bit ≡ 1). rw e (c .0 ∙ (λ i. bit-left (whole n i) (whole p i))))
+    (λ d. ⊎-elim (λ (e : bit ≡ 2). rw e (c .1)) (λ (e : bit ≡ 4). rw e (c .2)) d) b
 
 -- a permission is left exactly if it was there and its bit is not set in the number
 left-exactly : (bit n p : ℕ) → IsBit bit → eqb (cleared n p / bit % 2) 1 ≡ (eqb (p / bit % 2) 1 && eqb (n / bit % 2) 0)
@@ -149,15 +159,18 @@ clear-sets-none : (q n : ℕ) (k : Accounts) (j bit : ℕ) → IsBit bit → per
 unfolding clear-permissions permits
 clear-sets-none q n k j bit b = go (ltb q QUOTAS)
   where
-    at : (x : Quota) → (x ≡ quota-at j k) ⊎ ((q ≡ j) × (x ≡ with-permissions (left-permissions q n k) (quota-at q k))) → eqb (x .permissions / bit % 2) 1 ≡ true → eqb (quota-at j k .permissions / bit % 2) 1 ≡ true
+    at : (x : Quota) → (x ≡ quota-at j k) ⊎ ((q ≡ j) × (x ≡ with-permissions (left-permissions q n k) (quota-at q k)))
+        → eqb (x .permissions / bit % 2) 1 ≡ true → eqb (quota-at j k .permissions / bit % 2) 1 ≡ true
     at x c e =
         ⊎-elim (λ (h : x ≡ quota-at j k). rw h at e)
         (λ h.
-        let own : x .permissions ≡ cleared n (quota-at j k .permissions) = ap (λ (y : Quota). y .permissions) (h .1) ∙ ap (λ (i : ℕ). cleared n (quota-at i k .permissions)) (h .0) in
+        let own : x .permissions ≡ cleared n (quota-at j k .permissions) =
+        ap (λ (y : Quota). y .permissions) (h .1) ∙ ap (λ (i : ℕ). cleared n (quota-at i k .permissions)) (h .0) in
         and-left (eqb (quota-at j k .permissions / bit % 2) 1) _ (sym (left-exactly bit n (quota-at j k .permissions) b) ∙ rw own at e))
         c
 
-    go : (t : Bool) → eqb (quota-at j (cond t (with-quotas (set (k .quotas) q (with-permissions (left-permissions q n k) (quota-at q k))) k) k) .permissions / bit % 2) 1 ≡ true → eqb (quota-at j k .permissions / bit % 2) 1 ≡ true
+    go : (t : Bool) → eqb (quota-at j (cond t (clear-at q n k) k) .permissions / bit % 2) 1 ≡ true
+        → eqb (quota-at j k .permissions / bit % 2) 1 ≡ true
     go false e = e
     go true e = at _ (set-at (k .quotas) q j (with-permissions (left-permissions q n k) (quota-at q k))) e
 
@@ -169,44 +182,50 @@ same-permits : (bit j : ℕ) (k l : Accounts) → permissions l ≡ permissions 
 unfolding permits
 same-permits bit j k l e = ap (λ (p : ℕ). eqb (p / bit % 2) 1) (sym (listed-at j l) ∙ ap (λ (ps : List ℕ). getD ps j 0) e ∙ listed-at j k)
 
-unless-sets-none : (n : ℕ) (s : List ℕ) (k : Accounts) (done : Outcome) (bit j : ℕ) → (permits bit j (done .accounts) ≡ true → permits bit j k ≡ true)
+unless-sets-none : (n : ℕ) (s : List ℕ) (k : Accounts) (done : Outcome) (bit j : ℕ)
+    → (permits bit j (done .accounts) ≡ true → permits bit j k ≡ true)
     → permits bit j (unless n s k done .accounts) ≡ true → permits bit j k ≡ true
 unfolding unless
 unless-sets-none zero s k done bit j f e = f e
 unless-sets-none (suc n) s k done bit j f e = e
 
 -- clearing leaves numbers of three bits
-permissible-after : (xs : List Quota) (i : ℕ) (y : Quota) → permissible (y .permissions) ≡ true → all permissible (map (λ (x : Quota). x .permissions) xs) ≡ true
+permissible-after : (xs : List Quota) (i : ℕ) (y : Quota) → permissible (y .permissions) ≡ true
+    → all permissible (map (λ (x : Quota). x .permissions) xs) ≡ true
     → all permissible (map (λ (x : Quota). x .permissions) (set xs i y)) ≡ true
 unfolding all
 permissible-after [] i y p a = a
 permissible-after (x ∷ xs) zero y p a = and-both (permissible (y .permissions)) _ p (and-right (permissible (x .permissions)) _ a)
 permissible-after (x ∷ xs) (suc i) y p a =
-    and-both (permissible (x .permissions)) _ (and-left (permissible (x .permissions)) _ a) (permissible-after xs i y p (and-right (permissible (x .permissions)) _ a))
+    and-both (permissible (x .permissions)) _ (and-left (permissible (x .permissions)) _ a)
+    (permissible-after xs i y p (and-right (permissible (x .permissions)) _ a))
 
 clear-permissible : (q n : ℕ) (k : Accounts) → all permissible (permissions k) ≡ true → all permissible (permissions (clear-permissions q n k)) ≡ true
 unfolding clear-permissions
 clear-permissible q n k a = go (ltb q QUOTAS)
   where
-    go : (t : Bool) → all permissible (permissions (cond t (with-quotas (set (k .quotas) q (with-permissions (left-permissions q n k) (quota-at q k))) k) k)) ≡ true
+    go : (t : Bool) → all permissible (permissions (cond t (clear-at q n k) k)) ≡ true
     go false = a
     go true =
         permissible-after (k .quotas) q (with-permissions (left-permissions q n k) (quota-at q k))
         (le-leb (cleared n (quota-at q k .permissions)) 7 (cleared-bits n (quota-at q k .permissions) .3)) a
 
-unless-permissible : (n : ℕ) (s : List ℕ) (k : Accounts) (done : Outcome) → all permissible (permissions k) ≡ true → all permissible (permissions (done .accounts)) ≡ true
+unless-permissible : (n : ℕ) (s : List ℕ) (k : Accounts) (done : Outcome) → all permissible (permissions k) ≡ true
+    → all permissible (permissions (done .accounts)) ≡ true
     → all permissible (permissions (unless n s k done .accounts)) ≡ true
 unfolding unless
 unless-permissible zero s k done a d = d
 unless-permissible (suc n) s k done a d = a
 
-after-clearing : (unit : ℕ → ℕ) (q n : ℕ) (s : List ℕ) (k : Accounts) → all permissible (permissions k) ≡ true → all permissible (permissions (step unit (ClearPermissions q n) s k .accounts)) ≡ true
+after-clearing : (unit : ℕ → ℕ) (q n : ℕ) (s : List ℕ) (k : Accounts) → all permissible (permissions k) ≡ true
+    → all permissible (permissions (step unit (ClearPermissions q n) s k .accounts)) ≡ true
 unfolding step clear
 after-clearing unit q n s k a = unless-permissible (first-refusal (quota-lines unit s k q)) s k _ a (clear-permissible q n k a)
 
 module _ (unit : ℕ → ℕ) where
   -- no call sets one
-  pub step-sets-none : (c : Call) (s : List ℕ) (k : Accounts) (j bit : ℕ) → IsBit bit → permits bit j (step unit c s k .accounts) ≡ true → permits bit j k ≡ true
+  pub step-sets-none : (c : Call) (s : List ℕ) (k : Accounts) (j bit : ℕ) → IsBit bit
+      → permits bit j (step unit c s k .accounts) ≡ true → permits bit j k ≡ true
   unfolding step clear
   step-sets-none (Allocate q n) s k j bit b e = sym (same-permits bit j k _ (step-permissions unit (Allocate q n) s k refl)) ∙ e
   step-sets-none (AllocateArray q count size) s k j bit b e = sym (same-permits bit j k _ (step-permissions unit (AllocateArray q count size) s k refl)) ∙ e
@@ -221,7 +240,8 @@ module _ (unit : ℕ → ℕ) where
   step-sets-none (ClearPermissions q n) s k j bit b e = unless-sets-none (first-refusal (quota-lines unit s k q)) s k _ bit j (clear-sets-none q n k j bit b) e
 
   -- so numbers that are permissions stay such
-  pub step-permissible : (c : Call) (s : List ℕ) (k : Accounts) → all permissible (permissions k) ≡ true → all permissible (permissions (step unit c s k .accounts)) ≡ true
+  pub step-permissible : (c : Call) (s : List ℕ) (k : Accounts) → all permissible (permissions k) ≡ true
+      → all permissible (permissions (step unit c s k .accounts)) ≡ true
   step-permissible c s k a = go (clears c) refl
     where
       cleared-by : (d : Call) → clears d ≡ true → all permissible (permissions (step unit d s k .accounts)) ≡ true
@@ -242,13 +262,16 @@ module _ (unit : ℕ → ℕ) where
       go false e = ap (all permissible) (step-permissions unit c s k e) ∙ a
 
 -- grants and remainders stay, and so consistency does
-balanced-after : (os : List Handle) (hs : List Hold) (from : ℕ) (xs : List Quota) (i p : ℕ) → balanced-from os hs from (set xs i (with-permissions p (getD xs i zero-quota))) ≡ balanced-from os hs from xs
+balanced-after : (os : List Handle) (hs : List Hold) (from : ℕ) (xs : List Quota) (i p : ℕ)
+    → balanced-from os hs from (set xs i (with-permissions p (getD xs i zero-quota))) ≡ balanced-from os hs from xs
 unfolding balanced-from
 balanced-after os hs from [] i p = refl
 balanced-after os hs from (x ∷ xs) zero p = refl
-balanced-after os hs from (x ∷ xs) (suc i) p = ap (λ (t : Bool). eqb (x .grant) (x .remainder + charges hs from os) && t) (balanced-after os hs (suc from) xs i p)
+balanced-after os hs from (x ∷ xs) (suc i) p =
+    ap (λ (t : Bool). eqb (x .grant) (x .remainder + charges hs from os) && t) (balanced-after os hs (suc from) xs i p)
 
-grant-after : (xs : List Quota) (i j p : ℕ) → getD (set xs i (with-permissions p (getD xs i zero-quota))) j zero-quota .grant ≡ getD xs j zero-quota .grant
+grant-after : (xs : List Quota) (i j p : ℕ)
+    → getD (set xs i (with-permissions p (getD xs i zero-quota))) j zero-quota .grant ≡ getD xs j zero-quota .grant
 grant-after [] i j p = refl
 grant-after (x ∷ xs) zero zero p = refl
 grant-after (x ∷ xs) zero (suc j) p = refl
@@ -264,7 +287,7 @@ module _ (q n : ℕ) (k : Accounts) where
     pub same-count : length (k′ .quotas) ≡ length (k .quotas)
     pub same-consistent : (s : List ℕ) → consistent s k′ ≡ consistent s k
 
-  same-parsed : (b : Option (List Block)) → consistent-parsed b (with-quotas (set (k .quotas) q (with-permissions (left-permissions q n k) (quota-at q k))) k) ≡ consistent-parsed b k
+  same-parsed : (b : Option (List Block)) → consistent-parsed b (clear-at q n k) ≡ consistent-parsed b k
   unfolding consistent-parsed consistent-blocks
   same-parsed none = refl
   same-parsed (some bs) = rw (balanced-after (objects bs) (k .holds) 0 (k .quotas) q (left-permissions q n k))
@@ -273,7 +296,7 @@ module _ (q n : ℕ) (k : Accounts) where
   unfolding clear-permissions consistent
   clear-kept = go (ltb q QUOTAS)
     where
-      go : (t : Bool) → Cleared (cond t (with-quotas (set (k .quotas) q (with-permissions (left-permissions q n k) (quota-at q k))) k) k)
+      go : (t : Bool) → Cleared (cond t (clear-at q n k) k)
       go false = record { same-holds = refl; same-last = refl; same-grants = λ j. refl; same-count = refl; same-consistent = λ s. refl }
       go true =
           record {

@@ -193,8 +193,11 @@ module _ (unit : ℕ → ℕ) (s : List ℕ) (k : Accounts) (q : ℕ) (h : Handl
   pub changes-nothing : Kept s k (lend unit s k h) × Kept s k (remaining-of unit s k q) × Kept s k (can-release unit s k q h) × Kept s k (list-block unit s k at) × Kept s k (check unit s k)
       × (claim unit s k q h .heap ≡ s) × (clear unit s k q at .heap ≡ s)
   unfolding lend remaining-of can-release list-block check claim clear
-  changes-nothing = (kept _ _, kept _ _, kept _ _, kept _ _, kept _ _, unless-has (λ t. t .heap ≡ s) _ s k _ refl (λ m. refl), unless-has (λ t. t .heap ≡ s) _ s k _ refl (λ m. refl))
+  changes-nothing = (kept _ _, kept _ _, kept _ _, kept _ _, kept _ _, same-heap _ _ refl, same-heap _ _ refl)
     where
+      same-heap : (n : ℕ) (done : Outcome) → done .heap ≡ s → unless n s k done .heap ≡ s
+      same-heap n done e = unless-has (λ t. t .heap ≡ s) n s k done e (λ m. refl)
+
       kept : (n : ℕ) (v : Values) → Kept s k (unless n s k (unchanged s k v))
       kept n v = unless-has (Kept s k) n s k (unchanged s k v) (refl, refl) (λ m. (refl, refl))
 

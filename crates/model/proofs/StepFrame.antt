@@ -6,11 +6,11 @@ use Prim.Native.Nat.{ℕ, zero, suc, _+_, _*_}
 use native.Mathlib.Nat.{add-zero}
 use mathlib.Core.List.{List}
 use mathlib.Core.Bool.{Bool, true, false, cond}
-use lib.ListN.{length, set}
+use lib.ListN.{length}
 use lib.Dec.{ltb, eqb}
 use Rattle.accounts.specs.declared.Accounts.{Accounts}
 use Rattle.accounts.specs.Accounts.{QUOTAS, remaining, set-remaining, less-paid, paid-back, charge, refund, with-holds}
-use Rattle.accounts.specs.Accounts.{with-quotas, with-permissions, quota-at, left-permissions, clear-permissions}
+use Rattle.accounts.specs.Accounts.{clear-at, clear-permissions}
 use Rattle.model.specs.Objects.{objects-of, lookup, lookup-whole, found}
 use Rattle.model.specs.Consistent.{charge-of, charges}
 use Rattle.model.specs.Holds.{take-record, raise-count}
@@ -110,7 +110,7 @@ clear-serial : (q n : ℕ) (k : Accounts) → clear-permissions q n k .«last_se
 unfolding clear-permissions
 clear-serial q n k = go (ltb q QUOTAS)
   where
-    go : (t : Bool) → cond t (with-quotas (set (k .quotas) q (with-permissions (left-permissions q n k) (quota-at q k))) k) k .«last_serial» ≡ k .«last_serial»
+    go : (t : Bool) → cond t (clear-at q n k) k .«last_serial» ≡ k .«last_serial»
     go true = refl
     go false = refl
 
@@ -147,7 +147,8 @@ unless-next (suc n) s k done z e = sym (add-zero (k .«last_serial»))
 module _ (unit : ℕ → ℕ) where
   pub step-serial : (c : Call) (s : List ℕ) (k : Accounts)
       → step unit c s k .accounts .«last_serial» ≡ k .«last_serial» + serials-given-by c (step unit c s k .values .refusal)
-  unfolding step allocate allocate-array claim release free-all reallocate lend remaining-of can-release list-block clear allocated released freed copied new-object
+  unfolding step allocate allocate-array claim release free-all reallocate lend remaining-of can-release list-block clear
+      allocated released freed copied new-object
   step-serial (Allocate q n) s k = unless-next (first-refusal (allocate-lines unit s k q n)) s k _ refl refl
   step-serial (AllocateArray q count size) s k = unless-next (first-refusal (allocate-lines unit s k q (count * size))) s k _ refl refl
   step-serial (Claim q h) s k = unless-same (first-refusal (claim-lines unit s k q h)) s k _ (claimed-serial q (found (lookup h s)) k)

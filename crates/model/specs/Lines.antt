@@ -139,7 +139,8 @@ last-lines =
 
 -- the same objects; quota 0 may not allocate, quota 1 not claim, quota 2 not free all, and quota 3 nothing
 unfoldable pub barred-accounts : Accounts
-barred-accounts = accounts-of (quota-with 6 79 15 ∷ quota-with 5 1000 984 ∷ quota-with 3 8 8 ∷ quota-with 0 8 8 ∷ []) 4294967295 (hold 1 1 1 ∷ records-from 0 1 4 1)
+barred-accounts =
+    accounts-of (quota-with 6 79 15 ∷ quota-with 5 1000 984 ∷ quota-with 3 8 8 ∷ quota-with 0 8 8 ∷ []) 4294967295 (hold 1 1 1 ∷ records-from 0 1 4 1)
 
 -- what a refused open hands back, over one free block
 unfoldable pub zero-state : Outcome

@@ -119,7 +119,8 @@ module _ (unit : ℕ → ℕ) where
   claim-lines s k q h =
       let o = found (lookup h s) in
       let pays = claims-first k q o in
-      line-1 s ∷ line-2 unit s k ∷ line-3 q ∷ line-12 CLAIM k q ∷ line-5 (lookup h s) ∷ line-7 k q o ∷ only-if pays (line-8 k q (o .length)) ∷ only-if pays (line-9 k) ∷ []
+      line-1 s ∷ line-2 unit s k ∷ line-3 q ∷ line-12 CLAIM k q ∷ line-5 (lookup h s) ∷ line-7 k q o
+      ∷ only-if pays (line-8 k q (o .length)) ∷ only-if pays (line-9 k) ∷ []
 
   -- rule 8.6: the base of a new object for a request of n bytes
   unfoldable pub base-for : List ℕ → ℕ → Option ℕ

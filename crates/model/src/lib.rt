@@ -35,7 +35,7 @@ pub struct ListedBlock {
     pub serial: u32,
 }
 
-// The twelve refusals, in the order of their numbers. They are checked in this order (rule 7.1), but for the last, which comes right after the third (rule 15.6).
+// The twelve refusals, in the order of their numbers. They are checked in this order (rule 7.1), but for the last: it comes right after the third (rule 15.6).
 pub enum Refusal {
     HeapLength,
     Inconsistent,

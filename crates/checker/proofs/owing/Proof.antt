@@ -1,5 +1,6 @@
--- `checker::owing` meets its contract. The loop's invariant: the quotas before place i are solvent and their permissions are such, and what each owes stands at its place. So a
--- remainder above its grant or a number above 7 fails the test, and at the end every quota is solvent and the table is whole. The measure is what is left of it.
+-- `checker::owing` meets its contract. The loop's invariant: the quotas before place i are solvent and have permissions, and what each owes stands at
+-- its place. So a remainder above its grant, or a number above 7, fails the test, and at the end every quota passes it and the table is whole. The
+-- measure is what is left of it.
 -- Assumes nothing.
 use Prim.Native.Nat.{ℕ, _≤_, _<_, _-_}
 use native.Mathlib.Omega.{arith}
@@ -7,7 +8,7 @@ use borrow.Author.Needs.{needs}
 use borrow.Author.Count.{below-none, below-more}
 use borrow.Author.Tests.{le-leb, lt-leb}
 use mathlib.Core.Path.{_≡_, sym, _∙_}
-use mathlib.Core.Bool.{true, false≢true}
+use mathlib.Core.Bool.{true, false, false≢true}
 use lib.ListN.{length, getD, length-set}
 use Rattle.accounts.specs.Accounts.{QUOTAS, zero-quota}
 use lib.Dec.{leb}
@@ -44,13 +45,15 @@ returns : tie.Need-returns Inv-loop μ-loop
 returns c =
     let l = c .before .before .before .before in
     let x = getD (l .before .args .t1) (l .loop .i) zero-quota in
-    (sym (all-fails entry-valid zero-quota (l .before .args .t1) (l .loop .i) (omega (arith, long (l .before))) (rw (lt-leb (x .remainder) (x .grant) (omega arith)))), λ e. absurd (false≢true e))
+    let short : solvent x ≡ false = lt-leb (x .remainder) (x .grant) (omega arith) in
+    (sym (all-fails entry-valid zero-quota (l .before .args .t1) (l .loop .i) (omega (arith, long (l .before))) (rw short)), λ e. absurd (false≢true e))
 
 returns-2 : tie.Need-returns-2 Inv-loop μ-loop
 returns-2 c =
     let l = c .before .before .before .before .before .before in
     let x = getD (l .before .args .t1) (l .loop .i) zero-quota in
-    (sym (all-fails entry-valid zero-quota (l .before .args .t1) (l .loop .i) (omega (arith, long (l .before))) (and-no (solvent x) (leb (x .permissions) 7) (lt-leb (x .permissions) 7 (omega arith)))), λ e. absurd (false≢true e))
+    let none = and-no (solvent x) (leb (x .permissions) 7) (lt-leb (x .permissions) 7 (omega arith)) in
+    (sym (all-fails entry-valid zero-quota (l .before .args .t1) (l .loop .i) (omega (arith, long (l .before))) none), λ e. absurd (false≢true e))
 
 cast-owed : tie.Need-cast-owed Inv-loop μ-loop
 cast-owed c = search needs

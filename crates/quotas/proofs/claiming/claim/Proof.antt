@@ -1,5 +1,5 @@
--- `quotas::claim` meets its contract: check, quota, permission and lookup decide in the order of claim's lines, and then the search for the quota's record picks
--- the way of the claim. The block lies in the heap, so its length is short and the charge fits.
+-- `quotas::claim` meets its contract: check, quota, permission and lookup decide in the order of claim's lines, and then the search for the quota's
+-- record picks the way of the claim. The block lies in the heap, so its length is short and the charge fits.
 -- Assumes nothing.
 use native.Mathlib.Omega.{arith}
 use mathlib.Core.Path.{ap, sym, _∙_}

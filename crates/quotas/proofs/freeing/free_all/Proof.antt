@@ -1,5 +1,5 @@
--- `quotas::free_all` meets its contract. Each refusal is the first line that holds: the check's, the quota's number, and its permission. Past them the accounts are those
--- that the definition leaves, the flags are asked for the records that are left, and the walk leaves the settled blocks (`all-freed`).
+-- `quotas::free_all` meets its contract. Each refusal is the first line that holds: the check's, the quota's number, and its permission. Past them the
+-- accounts are those that the definition leaves, the flags are asked for the records that are left, and the walk leaves the settled blocks (`all-freed`).
 -- Assumes nothing.
 use borrow.Author.Needs.{needs}
 use mathlib.Core.Path.{_≡_}

@@ -1,7 +1,6 @@
 -- `quotas::clear_permissions` meets its contract: the check decides first, then the quota's number, and else the accounts are the definition's.
 -- Assumes nothing.
-use Prim.Native.Nat.{ℕ}
-use mathlib.Core.Path.{ap, sym, _∙_}
+use mathlib.Core.Path.{ap, _∙_}
 use mathlib.Core.List.{[], _∷_}
 use borrow.Author.Needs.{needs}
 use Rattle.rounding.specs.Rounding.{unit}
@@ -32,7 +31,8 @@ returns c =
     let r = c .before .before .refusal .given in
     let k = c .before .before .before .before .check in
     ap (amount-outcome (a .heap .now)) (c .refused .ensures)
-    ∙ refused-is _ (a .heap .now) (a .accounts) _ (r .0 .0) (check-refuses unit (a .heap .now) (a .accounts) (k .result) (k .ensures) (line-3 (a .quota) ∷ []) (r .0 .0) (r .1))
+    ∙ refused-is _ (a .heap .now) (a .accounts) _ (r .0 .0)
+    (check-refuses unit (a .heap .now) (a .accounts) (k .result) (k .ensures) (line-3 (a .quota) ∷ []) (r .0 .0) (r .1))
 
 enum-told : tie.Need-enum-told
 enum-told c = search needs
@@ -48,7 +48,8 @@ returns-2 c =
     let k = e .before .before .check in
     ap (amount-outcome (a .heap .now)) (c .refused2 .ensures)
     ∙ refused-is _ (a .heap .now) (a .accounts) _ QuotaNumber
-    (check-accepts unit (a .heap .now) (a .accounts) (k .result) (k .ensures) (line-3 (a .quota) ∷ []) (e .enum-told .given .1) ∙ line-3-refuses (a .quota) [] (c .before .if1 .taken))
+    (check-accepts unit (a .heap .now) (a .accounts) (k .result) (k .ensures) (line-3 (a .quota) ∷ []) (e .enum-told .given .1)
+    ∙ line-3-refuses (a .quota) [] (c .before .if1 .taken))
 
 left-permissions-requires : tie.Need-left-permissions-requires
 left-permissions-requires c κs = search needs
@@ -74,7 +75,8 @@ returns-3 c =
     gives (a .heap .now) (d .clear-permissions .result) (p .left-permissions .result) (c .given .result) (c .given .ensures)
     ∙ (λ i. outcome (a .heap .now) (d .clear-permissions .ensures i) (amount-of (p .left-permissions .ensures i)))
     ∙ accepted-is _ (a .heap .now) (a .accounts) _
-    (check-accepts unit (a .heap .now) (a .accounts) (k .result) (k .ensures) (line-3 (a .quota) ∷ []) (e .enum-told .given .1) ∙ line-3-passes (a .quota) [] (f .if1 .left))
+    (check-accepts unit (a .heap .now) (a .accounts) (k .result) (k .ensures) (line-3 (a .quota) ∷ []) (e .enum-told .given .1)
+    ∙ line-3-passes (a .quota) [] (f .if1 .left))
 
 pub clear-permissions-spec : {M : Type 1} → statement M
 clear-permissions-spec =

@@ -11,8 +11,8 @@ use lib.ListN.{drop}
 use Rattle.accounts.specs.Accounts.{HOLDS}
 use Rattle.checker.specs.Audit.{all-zero}
 use Rattle.checker.proofs.Tables.{zero-more, zero-end}
-use Rattle.checker.proofs.is_struck.Statement.{statement}
-use Rattle.checker.proofs.is_struck.Tie as tie
+use Rattle.checker.proofs.closing.is_struck.Statement.{statement}
+use Rattle.checker.proofs.closing.is_struck.Tie as tie
 
 abbrev Inv-loop : tie.InvT-loop
 Inv-loop keys bits₀ i₀ bits i = (i ≤ HOLDS) × (all-zero keys ≡ (eqb bits 0 && all-zero (drop i keys)))

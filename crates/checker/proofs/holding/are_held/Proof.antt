@@ -12,8 +12,8 @@ use Rattle.accounts.specs.Accounts.{HOLDS}
 use Rattle.checker.specs.Holders.{has-key}
 use Rattle.accounts.proofs.Laws.{mapped-more, mapped-all}
 use Rattle.checker.proofs.Holders.{no-key-zero}
-use Rattle.checker.proofs.are_held.Statement.{statement}
-use Rattle.checker.proofs.are_held.Tie as tie
+use Rattle.checker.proofs.holding.are_held.Statement.{statement}
+use Rattle.checker.proofs.holding.are_held.Tie as tie
 
 abbrev Inv-loop : tie.InvT-loop
 Inv-loop keys next heads serials answers₀ i₀ answers i =

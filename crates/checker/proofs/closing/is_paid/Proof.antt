@@ -12,8 +12,8 @@ use lib.Dec.{eqb}
 use lib.ListN.{getD}
 use Rattle.accounts.specs.Accounts.{QUOTAS}
 use Rattle.checker.proofs.Tables.{all-places, all-fails}
-use Rattle.checker.proofs.is_paid.Statement.{statement}
-use Rattle.checker.proofs.is_paid.Tie as tie
+use Rattle.checker.proofs.closing.is_paid.Statement.{statement}
+use Rattle.checker.proofs.closing.is_paid.Tie as tie
 
 abbrev Inv-loop : tie.InvT-loop
 Inv-loop owed i₀ i = (i ≤ QUOTAS) × ((j : ℕ) → j < i → eqb (getD owed j 0) 0 ≡ true)

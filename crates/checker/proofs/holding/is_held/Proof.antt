@@ -7,8 +7,8 @@ use mathlib.Core.Path.{_≡_, ap, sym, _∙_}
 use lib.ListN.{getD}
 use Rattle.checker.specs.Chains.{slot}
 use Rattle.checker.proofs.Holders.{no-key-zero, findable, search-has-key}
-use Rattle.checker.proofs.is_held.Statement.{statement}
-use Rattle.checker.proofs.is_held.Tie as tie
+use Rattle.checker.proofs.holding.is_held.Statement.{statement}
+use Rattle.checker.proofs.holding.is_held.Tie as tie
 
 returns : tie.Need-returns
 returns c =

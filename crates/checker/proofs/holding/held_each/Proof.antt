@@ -10,8 +10,8 @@ use Rattle.accounts.specs.Accounts.{HOLDS}
 use Rattle.checker.specs.Contracts.{Indexed}
 use Rattle.checker.proofs.Verdicts.{fresh}
 use Rattle.checker.proofs.Holders.{each-ill, chained, each-well}
-use Rattle.checker.proofs.held_each.Statement.{statement}
-use Rattle.checker.proofs.held_each.Tie as tie
+use Rattle.checker.proofs.holding.held_each.Statement.{statement}
+use Rattle.checker.proofs.holding.held_each.Tie as tie
 
 -- the table of serials has its length
 long : (c : tie.Start) → length (c .args .serials) ≡ HOLDS
