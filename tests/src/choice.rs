@@ -3,6 +3,7 @@
 use lokhazim_reference::{Accounts, Handle, QUOTAS};
 
 use crate::forged::{forged_handle, live_handle, View};
+use crate::forms::FORM_1;
 use crate::seed::Seed;
 use crate::state::Call;
 
@@ -81,10 +82,18 @@ pub fn one_of_each(seed: &mut Seed, habits: &Habits, view: &View, books: &Accoun
     kinds.map(&mut chosen).collect()
 }
 
-/// Gives a quota's number, now and then one that is not below 8.
+/// Gives a quota's number, now and then one that no quota has.
 fn quota(seed: &mut Seed, habits: &Habits) -> u32 {
     if seed.percent(habits.wild / 3) {
-        return seed.pick(&[8, 9, 255, 256, u32::MAX, seed.clone().odd_word()]);
+        let first = QUOTAS as u32;
+        return seed.pick(&[
+            first,
+            first + 1,
+            255,
+            256,
+            u32::MAX,
+            seed.clone().odd_word(),
+        ]);
     }
     seed.below(habits.quotas)
 }
@@ -217,10 +226,12 @@ fn place(seed: &mut Seed, habits: &Habits, view: &View) -> usize {
     view.blocks[seed.place(view.blocks.len())].offset as usize
 }
 
-/// Gives grants: ample, middling, small, none, or any.
+/// Gives grants: ample, middling, small, none, or any; now and then to no more quotas than form 1 has.
 pub fn grants(seed: &mut Seed) -> [u32; QUOTAS] {
     let way = seed.below(9);
-    std::array::from_fn(|_| match way {
+    let quotas = seed.pick(&[FORM_1.quotas, QUOTAS, QUOTAS]);
+    std::array::from_fn(|number| match way {
+        _ if number >= quotas => 0,
         0 => u32::MAX - seed.below(3),
         1 => seed.between(100, 3_000),
         2 => seed.pick(&[0, 16, 24, 100, 1_000]),

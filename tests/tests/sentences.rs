@@ -104,7 +104,7 @@ fn right_steps_break_nothing() {
         Call::List(24),
         Call::Check,
         Call::ClearPermissions(0, 3),
-        Call::ClearPermissions(8, 0),
+        Call::ClearPermissions(QUOTAS as u32, 0),
     ];
     for call in calls {
         assert_eq!(Recorded::new(&begin(), call).wrong(), [""; 0], "{call}");
