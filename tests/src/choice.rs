@@ -14,13 +14,13 @@ pub type Weights = [u32; 14];
 pub const GROWING: Weights = [0, 30, 8, 8, 6, 0, 8, 3, 4, 2, 3, 2, 1, 1];
 
 /// Drops objects more often than it makes them.
-pub const SHRINKING: Weights = [0, 7, 3, 5, 38, 2, 7, 3, 4, 2, 4, 2, 1, 1];
+pub const SHRINKING: Weights = [0, 7, 3, 5, 38, 3, 7, 3, 4, 2, 4, 2, 1, 1];
 
 /// Claims and releases.
-pub const SHARING: Weights = [0, 6, 2, 36, 16, 1, 4, 3, 4, 2, 4, 2, 1, 1];
+pub const SHARING: Weights = [0, 6, 2, 36, 16, 2, 4, 3, 4, 2, 4, 2, 1, 1];
 
 /// Every call.
-pub const MIXED: Weights = [1, 12, 6, 12, 14, 2, 12, 6, 6, 5, 8, 6, 3, 2];
+pub const MIXED: Weights = [1, 12, 6, 12, 14, 3, 12, 6, 6, 5, 8, 6, 3, 3];
 
 /// The calls that the replay program knows, making as many objects as they drop.
 pub const REPLAYED: Weights = [0, 26, 8, 14, 26, 2, 14, 0, 0, 0, 0, 0, 0, 0];

@@ -237,7 +237,7 @@ impl History<'_> {
     fn now_and_then(&mut self, seed: &mut Seed) -> Result<(), Failure> {
         match seed.below(400) {
             0..=11 => self.write_look_alikes(seed),
-            12..=17 => self.list_and_ask()?,
+            12..=17 => self.list_and_ask(seed)?,
             18 => self.claim_to_the_end(seed)?,
             19 => self.fill_records(seed)?,
             22..=25 => self.go_through_an_image(seed)?,
@@ -261,9 +261,9 @@ impl History<'_> {
         }
     }
 
-    /// Walks the whole listing, and asks every quota what remains.
-    fn list_and_ask(&mut self) -> Result<(), Failure> {
-        for quota in 0..QUOTAS as u32 {
+    /// Walks the whole listing, and asks some quotas what remains.
+    fn list_and_ask(&mut self, seed: &mut Seed) -> Result<(), Failure> {
+        for quota in [0, seed.below(QUOTAS as u32), QUOTAS as u32 - 1] {
             self.call(Call::Remaining(quota))?;
         }
         let wanted = blocks(&self.state.heap);

