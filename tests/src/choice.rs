@@ -8,7 +8,7 @@ use crate::seed::Seed;
 use crate::state::Call;
 
 /// What kinds of calls are made, by the places of `Call::NAMES`.
-pub type Weights = [u32; 14];
+pub type Weights = [u32; Call::NAMES.len()];
 
 /// Makes objects more often than it drops them.
 pub const GROWING: Weights = [0, 30, 8, 8, 6, 0, 8, 3, 4, 2, 3, 2, 1, 1];
@@ -74,7 +74,7 @@ pub fn choose(seed: &mut Seed, habits: &Habits, view: &View, accounts: &Accounts
 pub fn one_of_each(seed: &mut Seed, habits: &Habits, view: &View, books: &Accounts) -> Vec<Call> {
     let kinds = 0..Call::NAMES.len();
     let mut chosen = |kind: usize| {
-        let mut weights = [0; 14];
+        let mut weights = [0; Call::NAMES.len()];
         weights[kind] = 1;
         let habits = Habits { weights, ..*habits };
         choose(seed, &habits, view, books)
