@@ -66,8 +66,8 @@ enum lokhazim_image_refusal {
     LOKHAZIM_IMAGE_INCONSISTENT = 26,
     /* Comparing: the heaps of the two images have different lengths. */
     LOKHAZIM_IMAGE_HEAP_LENGTHS = 27,
-    /* Writing form 1: a quota from LOKHAZIM_FORM_1_QUOTAS on has a grant, a record from place LOKHAZIM_FORM_1_HOLDS on is
-     * used, or a quota lacks a permission. */
+    /* Writing form 1, which can't carry the accounts: a grant of a quota that it doesn't have, a used record at a place that
+     * it doesn't have, or a quota without all permissions. */
     LOKHAZIM_IMAGE_NOT_CARRIED = 28,
     /* Comparing: the two images are of different forms. */
     LOKHAZIM_IMAGE_FORMS_DIFFER = 29

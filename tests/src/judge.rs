@@ -1,4 +1,4 @@
-//! Rules 5.1 to 5.8, 5.10 and 5.11, judged one by one with plain loops.
+//! Rules 5.1 to 5.8, 5.10 and 15.2, judged one by one with plain loops.
 
 use lokhazim_reference::{Block, Hold, MAX_HEAP, MIN_HEAP, QUOTAS};
 
@@ -23,7 +23,7 @@ pub enum Sentence {
     Sums,
     /// 5.10: base and length of every object are multiples of its unit.
     Units,
-    /// 5.11: no quota has a permission that there is not.
+    /// 15.2: no quota has a permission that there is not.
     Permissions,
 }
 

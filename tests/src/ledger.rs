@@ -191,7 +191,7 @@ impl Ledger {
         })
     }
 
-    /// Gives the permission that a call needs, by its bit, or 0 for a call that needs none.
+    /// Gives the permission that a call needs (rule 15.5), by its bit, or 0 for a call that needs none.
     fn needed(call: Call) -> u8 {
         match call {
             Call::Allocate(..) | Call::Array(..) | Call::Reallocate(..) => 1,

@@ -99,13 +99,13 @@ fn remainders_hold(step: &Step) -> bool {
     (0..QUOTAS).all(|number| remainders[number] == step.ledger.remainder(number))
 }
 
-/// A quota's permissions are those that no clearing call has named since the opening.
+/// Rules 15.3 and 15.4: a quota's permissions are those that no clearing call has named since the opening.
 fn permissions_hold(step: &Step) -> bool {
     let quotas = &step.after.accounts.quotas;
     quotas.map(|quota| quota.permissions) == step.ledger.permissions
 }
 
-/// No call but an opening sets a permission, and none but the clearing one clears one.
+/// Rule 15.7: no call but an opening sets a permission, and none but the clearing one clears one.
 fn no_permission_comes_back(step: &Step) -> bool {
     let opens = matches!(step.call, Call::Open(_)) && step.answer.is_accepted();
     let mut quotas = step.before.accounts.quotas.iter();

@@ -1,5 +1,5 @@
-//! Permissions, on both sides of each line: the proved code and the reference answer alike, and as
-//! the rules say.
+//! Permissions (rules, section 15), on both sides of each line: the proved code and the reference
+//! answer alike, and as the rules say.
 
 use lokhazim_reference::{Accounts, Handle, ALL_PERMISSIONS, QUOTAS};
 use lokhazim_tests::calls::Pair;
@@ -201,5 +201,45 @@ fn form_2_carries_permissions_and_form_1_refuses_them() {
                 .unwrap_or_else(|failure| panic!("{failure}"));
             assert_eq!((refusal, restored), (0, cleared));
         }
+    }
+}
+
+/// The run of rule 15.10.
+#[test]
+fn the_run_of_the_rule_book() {
+    let mut pair = Pair::new();
+    let mut state = State {
+        heap: vec![0; 64],
+        accounts: Accounts::default(),
+    };
+    let mut grants = [0; QUOTAS];
+    grants[..2].fill(100);
+    let object = Handle {
+        length: 8,
+        ..OBJECT
+    };
+    let steps = [
+        (Call::Open(grants), Answer::accepted(&[])),
+        (Call::ClearPermissions(0, 0), Answer::accepted(&[7])),
+        (
+            Call::ClearPermissions(0, 4_294_967_288),
+            Answer::accepted(&[7]),
+        ),
+        (Call::Allocate(0, 8), Answer::accepted(&[8, 8, 1])),
+        (Call::ClearPermissions(0, 1), Answer::accepted(&[6])),
+        (Call::Allocate(0, 8), Answer::refused(12)),
+        (Call::Claim(1, object), Answer::accepted(&[8])),
+        (
+            Call::ClearPermissions(1, 4_294_967_290),
+            Answer::accepted(&[5]),
+        ),
+        (Call::Claim(1, object), Answer::refused(12)),
+        (Call::ClearPermissions(1, 4), Answer::accepted(&[1])),
+        (Call::FreeAll(1), Answer::refused(12)),
+        (Call::Release(1, object), Answer::accepted(&[16])),
+        (Call::FreeAll(0), Answer::accepted(&[16])),
+    ];
+    for (made, answer) in steps {
+        assert_eq!(call(&mut pair, &mut state, made), answer, "{made}");
     }
 }

@@ -118,8 +118,9 @@ pub enum ImageRefusal {
     Inconsistent,
     /// 27: the heaps of two images have different lengths.
     HeapLengths,
-    /// 28: form 1 can't carry the accounts: a quota from [`FORM_1_QUOTAS`] on has a grant, a record
-    /// from place [`FORM_1_HOLDS`] on is used, or a quota lacks a permission.
+    /// 28: form 1 can't carry the accounts: one of the quotas behind the first [`FORM_1_QUOTAS`] has
+    /// a grant, one of the records behind the first [`FORM_1_HOLDS`] is used, or some quota is
+    /// without a permission.
     NotCarried,
     /// 29: two images are of different forms.
     FormsDiffer,
