@@ -18,7 +18,11 @@ pub(crate) struct Span {
     end: usize,
 }
 
+<<<<<<< ours
 // Rule 8.29: the range of the object that a handle names; an empty one with the refusal's number where lend is refused.
+=======
+// The range of a handle that names an object; an empty one with the refusal's number where lend is refused.
+>>>>>>> theirs
 fn span_of(heap: &[u8], accounts: Accounts, handle: Handle) -> Span
     ensures { λ r. ⌜ Spans unit (now (heap .entry)) accounts handle (r .refusal) (r .start) (r .end) ⌝ }
 {
@@ -29,21 +33,26 @@ fn span_of(heap: &[u8], accounts: Accounts, handle: Handle) -> Span
             end: 0,
         };
     }
-    let Lookup::Found(block) = finder::find_object(heap, handle) else {
+    let Lookup::Found(_) = finder::find_object(heap, handle) else {
         return Span {
             refusal: Refusal::NoSuchObject.number(),
             start: 0,
             end: 0,
         };
     };
+    let start = handle.base as usize;
     Span {
         refusal: 0,
-        start: block.at + 8,
-        end: block.at + block.size,
+        start: start,
+        end: start + handle.length as usize,
     }
 }
 
+<<<<<<< ours
 // Rule 8.36: one byte of an object is written, at a place that counts from its base. A place at or beyond its length is accepted, and nothing is written.
+=======
+// One byte of a handle's range is written, at a place that counts from the handle's base. A place at or beyond its length is accepted, and nothing is written.
+>>>>>>> theirs
 pub fn write_object(
     heap: &mut [u8],
     accounts: Accounts,
@@ -56,12 +65,11 @@ pub fn write_object(
     if let Verdict::Refused(refusal) = checker::check(heap, accounts) {
         return Verdict::Refused(refusal);
     }
-    let Lookup::Found(block) = finder::find_object(heap, handle) else {
+    let Lookup::Found(_) = finder::find_object(heap, handle) else {
         return Verdict::Refused(Refusal::NoSuchObject);
     };
-    let place = at as usize;
-    if place < block.size - 8 {
-        let index = block.at + 8 + place;
+    if at < handle.length {
+        let index = handle.base as usize + at as usize;
         heap[index] = byte;
     }
     Verdict::Accepted

@@ -55,11 +55,12 @@ pub fn object_range(heap: &[u8], accounts: Accounts, handle: Handle) -> RangeAns
     if let Verdict::Refused(refusal) = checker::check(heap, accounts) {
         return RangeAnswer::Refused(refusal);
     }
-    let Lookup::Found(block) = finder::find_object(heap, handle) else {
+    let Lookup::Found(_) = finder::find_object(heap, handle) else {
         return RangeAnswer::Refused(Refusal::NoSuchObject);
     };
+    let start = handle.base as usize;
     RangeAnswer::Lent(Range {
-        start: block.at + 8,
-        end: block.at + block.size,
+        start: start,
+        end: start + handle.length as usize,
     })
 }

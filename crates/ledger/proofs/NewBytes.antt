@@ -24,7 +24,7 @@ use Rattle.model.specs.Refusals.{first-refusal, allocate-lines, reallocate-line
 use Rattle.model.specs.declared.Handle.{Handle}
 use Rattle.model.specs.declared.Call.the-variants.{Allocate, Reallocate}
 use Rattle.model.proofs.Refusals.{accepted-exactly, by-lines}
-use Rattle.model.proofs.Lookup.{lookup-exactly, lookup-whole-is}
+use Rattle.model.proofs.Lookup.{lookup-whole-exactly}
 use Rattle.ledger.specs.Ledger.{Ledger}
 use Rattle.ledger.specs.Contents.{contents}
 use Rattle.invariant.proofs.Good.{Good}
@@ -194,7 +194,7 @@ module _ (unit : ℕ → ℕ) (units : Units unit) (l : Ledger) (s : List ℕ) (
   -- the old object is the handle's
   was-handle : was ≡ h
   unfolding was found or-else
-  was-handle = ap found (p .names) ∙ sym (lookup-exactly h s (p .object) .0 (sym (lookup-whole-is h s) ∙ p .names) .0)
+  was-handle = ap found (p .names) ∙ sym (lookup-whole-exactly h s (p .object) .0 (p .names) .0)
 
   handle-bytes : contents will (render (released q was (copied was will t₁) .blocks)) ≡ take N (contents h s) ++ replicate (N - h .length) 0
   handle-bytes = subst (λ (x : Handle). contents will (render (released q was (copied was will t₁) .blocks)) ≡ take N (contents x s) ++ replicate (N - x .length) 0) was-handle moved-bytes

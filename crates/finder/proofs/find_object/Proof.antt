@@ -1,101 +1,93 @@
--- `finder::find_object` meets its contract: where the header at the one place is not that of the object, no block holds it (`named-none`), and where it
--- is, the block is found exactly if the walk comes there (`named-some`).
+-- `finder::find_object` meets its contract. The loop's invariant: the search for the block whose object the handle names came to `at` (`Searching`). A block
+-- that ends at or before the base is passed by the size that is read there (`search-stepped`), and the one that the base lies in is compared (`object-here`).
 -- Assumes nothing.
 use borrow.Author.Needs.{needs}
-use borrow.Author.Tests.{not-true, not-false}
 use native.Mathlib.Omega.{arith}
 use mathlib.Core.Path.{_≡_, sym, _∙_}
-use mathlib.Core.Bool.{false, cond}
-use Prim.Native.Nat.{ℕ, _-_, _≤_}
-use Rattle.finder.specs.declared.Met.{Met}
-use Rattle.finder.specs.declared.Lookup.the-variants.{Found, Missing}
-use Rattle.finder.specs.Walk.{met-at, holds-named, find-object}
-use Rattle.finder.proofs.Walk.{met-known}
-use Rattle.finder.proofs.Reached.{named-none, named-some}
+use Prim.Native.Nat.{ℕ, _+_, _-_}
+use Rattle.finder.specs.Walk.{holds-named}
+use Rattle.finder.proofs.Walk.{met-known, met-zero, Searching, search-start, search-stepped}
+use Rattle.finder.proofs.Reached.{behind-block, object-ended, object-past, object-here}
 use Rattle.finder.proofs.find_object.Statement.{statement}
 use Rattle.finder.proofs.find_object.Tie as tie
 
--- the one place where the block can stand
-abbrev place : tie.Start → ℕ
-place c = c .args .handle .base - 8
+abbrev Inv-loop : tie.InvT-loop
+Inv-loop heap handle base at₀ at = Searching (holds-named handle) heap at
 
--- where no block at the place is the one that the handle names, none is
-no-other : (c : tie.Start) → 8 ≤ c .args .handle .base → ((m : Met) → met-at (place c) (c .args .heap .now) ≡ Found m → holds-named (c .args .handle) m ≡ false)
-    → find-object (c .args .handle) (c .args .heap .now) ≡ Missing
-no-other c l f = named-none (c .args .handle) (c .args .heap .now) (λ x m b e. let q : x ≡ place c = omega arith in f m (rw q at e))
+abbrev μ-loop : tie.MeasureT-loop
+μ-loop heap handle base at₀ at = base + 1 - at
 
-cast-base : tie.Need-cast-base
+cast-base : tie.Need-cast-base Inv-loop μ-loop
 cast-base c = search needs
 
-returns : tie.Need-returns
+loop-holds : tie.Need-loop-holds Inv-loop μ-loop
+loop-holds c = let a = c .before .before .args in search-start (holds-named (a .handle)) (a .heap .now)
+
+read-u16-requires : tie.Need-read-u16-requires Inv-loop μ-loop
+read-u16-requires c κs = search needs
+
+cast-size : tie.Need-cast-size Inv-loop μ-loop
+cast-size c = search needs
+
+mul-size : tie.Need-mul-size Inv-loop μ-loop
+mul-size c = search needs
+
+returns : tie.Need-returns Inv-loop μ-loop
 returns c =
-    let a = c .before .before .before .args in
-    sym (named-none (a .handle) (a .heap .now) (λ x m b e. absurd (omega (arith, c .if1 .taken))))
+    let l = c .before .before .before in
+    let a = l .before .before .before .args in
+    let u = c .before .read-u16 .ensures in
+    sym (object-ended (a .handle) (a .heap .now) (l .loop .at) (l .loop .inv) (met-zero (l .loop .at) (a .heap .now) (omega (arith, c .if1 .taken))))
 
-met-at-requires : tie.Need-met-at-requires
-met-at-requires c κs = search needs
+add-end : tie.Need-add-end Inv-loop μ-loop
+add-end c = search needs
 
-enum-known-block : tie.Need-enum-known-block
-enum-known-block c = search needs
+named-at-requires : tie.Need-named-at-requires Inv-loop μ-loop
+named-at-requires c κs = search needs
 
-enum-told : tie.Need-enum-told
-enum-told c = search needs
-
-returns-2 : tie.Need-returns-2
+returns-2 : tie.Need-returns-2 Inv-loop μ-loop
 returns-2 c =
-    let s = c .before .before .before .before .before .before in
-    let missing = sym (c .before .before .met-at .ensures) ∙ c .enum-told .given .1 in
-    sym (no-other s (omega arith) (λ m e. let z : _≡_ {A = ℕ} 0 1 = cc in absurd (omega arith)))
+    let e = c .before .before in
+    let r = e .before in
+    let l = r .before .before in
+    let a = l .before .before .before .args in
+    let u = r .read-u16 .ensures in
+    c .named-at .ensures ∙ sym (object-here (a .handle) (a .heap .now) (l .loop .at) (l .loop .inv) (omega (arith, c .before .if2 .taken)))
 
--- the block that starts at the place
-found : (c : tie.After-block) → met-at (place (c .before .before .before .before .before .before)) (c .before .before .before .before .before .before .args .heap .now) ≡ Found (c .block .given .0 .0)
-found c = sym (c .before .before .met-at .ensures) ∙ c .block .given .1
+loop-less : tie.Need-loop-less Inv-loop μ-loop
+loop-less c = search needs
 
-holds-named-requires : tie.Need-holds-named-requires
-holds-named-requires c κs =
-    let s = c .before .before .before .before .before .before .before in
-    let k = met-known (place s) (s .args .heap .now) (c .before .block .given .0 .0) (found (c .before)) in
-    record { header = k .header; end = omega arith }
+loop-again : tie.Need-loop-again Inv-loop μ-loop
+loop-again c =
+    let e = c .before in
+    let r = e .before in
+    let l = r .before .before in
+    let a = l .before .before .before .args in
+    let u = r .read-u16 .ensures in
+    search-stepped (holds-named (a .handle)) (a .heap .now) (l .loop .at) (l .loop .inv) _ (omega arith) (omega (arith, e .if1 .left))
+    (λ m q. let k = met-known (l .loop .at) (a .heap .now) m q in let p = k .place in let z = k .units in behind-block (a .handle) m (k .header) (omega (arith, c .if2 .left)))
 
-returns-3 : tie.Need-returns-3
+returns-3 : tie.Need-returns-3 Inv-loop μ-loop
 returns-3 c =
-    let b = c .before .before .before in
-    let s = b .before .before .before .before .before .before in
-    let f = found b in
-    sym (no-other s (omega arith) (λ m e. let z : b .block .given .0 .0 ≡ m = cc in rw z at (sym (c .before .holds-named .ensures) ∙ not-true _ (c .if2 .taken))))
-
-comes-to-requires : tie.Need-comes-to-requires
-comes-to-requires c κs = search needs
-
--- the handle names the block, which is found if the walk comes to its place
-named : (c : tie.After-comes-to)
-    → let b = c .before .before .before .before in
-    let a = b .before .before .before .before .before .before .args in
-    find-object (a .handle) (a .heap .now) ≡ cond (c .comes-to .result) (Found (b .block .given .0 .0)) Missing
-named c =
-    let b = c .before .before .before .before in
-    let s = b .before .before .before .before .before .before in
-    named-some (s .args .handle) (s .args .heap .now) (place s) (b .block .given .0 .0) (omega arith) (found b)
-    (sym (c .before .before .holds-named .ensures) ∙ not-false _ (c .before .if2 .left)) (c .comes-to .result) (c .comes-to .ensures)
-
-returns-4 : tie.Need-returns-4
-returns-4 c = sym (rw (not-true (c .before .comes-to .result) (c .if3 .taken)) at (named (c .before)))
-
-returns-5 : tie.Need-returns-5
-returns-5 c = sym (rw (not-false (c .before .comes-to .result) (c .if3 .left)) at (named (c .before)))
+    let l = c .before in
+    let a = l .before .before .before .args in
+    sym (object-past (a .handle) (a .heap .now) (l .loop .at) (l .loop .inv) (omega arith))
 
 pub find-object-spec : {M : Type 1} → statement M
 find-object-spec =
     tie.close
     (tie.spec
+    Inv-loop
+    μ-loop
     cast-base
+    loop-holds
+    read-u16-requires
+    cast-size
+    mul-size
     returns
-    met-at-requires
-    enum-known-block
-    enum-told
+    add-end
+    named-at-requires
     returns-2
-    holds-named-requires
-    returns-3
-    comes-to-requires
-    returns-4
-    returns-5)
+    loop-less
+    loop-again
+    returns-3)

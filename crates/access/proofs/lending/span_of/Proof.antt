@@ -1,4 +1,4 @@
--- `access::span_of` meets its contract: the check refuses first, then the lookup; the block that it found lies in the heap, and its object behind its header.
+-- `access::span_of` meets its contract: the check refuses first, then the lookup; the handle's range lies in the object that it found, and so in the heap.
 -- Assumes nothing.
 use mathlib.Core.Path.{_≡_, sym, _∙_}
 use Prim.Native.Nat.{_+_, _≤_}
@@ -7,9 +7,7 @@ use borrow.Author.Needs.{needs}
 use lib.ListN.{length}
 use Rattle.rounding.specs.Rounding.{unit}
 use Rattle.model.specs.declared.Refusal.the-variants.{NoSuchObject}
-use Rattle.finder.specs.declared.Lookup.the-variants.{Found}
-use Rattle.finder.specs.Walk.{find-object}
-use Rattle.access.proofs.Lent.{lend-refused, lend-missing, lend-accepted, lend-object, lend-inside, spans-refused, spans-lent}
+use Rattle.access.proofs.Lent.{lend-refused, lend-missing, lend-accepted, lend-inside, spans-refused, spans-lent}
 use Rattle.access.proofs.lending.span_of.Statement.{statement}
 use Rattle.access.proofs.lending.span_of.Tie as tie
 
@@ -36,14 +34,16 @@ enum-told c = search needs
 find-object-requires : tie.Need-find-object-requires
 find-object-requires c κs = search needs
 
-enum-known-block : tie.Need-enum-known-block
-enum-known-block c = search needs
-
 enum-told-2 : tie.Need-enum-told-2
 enum-told-2 c = search needs
 
+<<<<<<< ours
 number-requires-2 : tie.Need-number-requires-2
 number-requires-2 c κs = search needs
+=======
+enum-told-3 : tie.Need-enum-told-3
+enum-told-3 c = search needs
+>>>>>>> theirs
 
 returns-2 : tie.Need-returns-2
 returns-2 c =
@@ -51,6 +51,7 @@ returns-2 c =
     let f = n .before .before in
     let k = f .before .before .before in
     let a = k .before .before .args in
+<<<<<<< ours
     spans-refused unit (a .heap .now) (a .accounts) (a .handle) (c .number2 .result) NoSuchObject (c .number2 .ensures)
     (lend-missing unit (a .heap .now) (a .accounts) (a .handle) (k .check .result) (k .check .ensures) (f .before .enum-told .given .1)
     (sym (f .find-object .ensures) ∙ n .enum-told2 .given .1))
@@ -75,18 +76,40 @@ add-t11 c = let i = inside (c .before .before) in omega arith
 
 add-t12 : tie.Need-add-t12
 add-t12 c = let i = inside (c .before .before .before) in omega arith
+=======
+    spans-refused (a .heap .now) (a .accounts) (a .handle) 5 NoSuchObject refl
+    (lend-missing (a .heap .now) (a .accounts) (a .handle) (k .check .result) (k .check .ensures) (f .before .enum-told .given .1)
+    (sym (f .find-object .ensures) ∙ c .enum-told3 .given .1))
+
+cast-start : tie.Need-cast-start
+cast-start c = search needs
+
+cast-t9 : tie.Need-cast-t9
+cast-t9 c = search needs
+
+add-t10 : tie.Need-add-t10
+add-t10 c = search needs
+>>>>>>> theirs
 
 returns-3 : tie.Need-returns-3
 returns-3 c =
-    let b = c .before .before .before in
+    let b = c .before .before in
     let t = b .before .before .before in
     let k = t .before .before in
     let a = k .before .before .args in
+<<<<<<< ours
     let m = b .block .given .0 .0 in
     spans-lent unit (a .heap .now) (a .accounts) (a .handle) m
     (lend-accepted unit (a .heap .now) (a .accounts) (a .handle) (k .check .result) (k .check .ensures) (t .enum-told .given .1) m (found b))
     (lend-object unit (a .heap .now) (a .accounts) (a .handle) (k .check .result) (k .check .ensures) (t .enum-told .given .1) m (found b))
     (inside b)
+=======
+    let m = b .enum-told2 .given .0 .0 in
+    let f = sym (b .before .before .find-object .ensures) ∙ b .enum-told2 .given .1 in
+    spans-lent (a .heap .now) (a .accounts) (a .handle)
+    (lend-accepted (a .heap .now) (a .accounts) (a .handle) (k .check .result) (k .check .ensures) (t .enum-told .given .1) m f)
+    (lend-inside (a .heap .now) (a .accounts) (a .handle) (k .check .result) (k .check .ensures) (t .enum-told .given .1) m f)
+>>>>>>> theirs
 
 pub span-of-spec : {M : Type 1} → statement M
 span-of-spec =
@@ -98,10 +121,17 @@ span-of-spec =
     returns
     enum-told
     find-object-requires
-    enum-known-block
     enum-told-2
+<<<<<<< ours
     number-requires-2
     returns-2
     add-t11
     add-t12
+=======
+    enum-told-3
+    returns-2
+    cast-start
+    cast-t9
+    add-t10
+>>>>>>> theirs
     returns-3)

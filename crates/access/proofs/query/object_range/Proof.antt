@@ -37,11 +37,11 @@ enum-told c = search needs
 find-object-requires : tie.Need-find-object-requires
 find-object-requires c κs = search needs
 
-enum-known-block : tie.Need-enum-known-block
-enum-known-block c = search needs
-
 enum-told-2 : tie.Need-enum-told-2
 enum-told-2 c = search needs
+
+enum-told-3 : tie.Need-enum-told-3
+enum-told-3 c = search needs
 
 returns-2 : tie.Need-returns-2
 unfolding lend range-values
@@ -50,6 +50,7 @@ returns-2 c =
     let a = e .before .before .before .before .args in
     let k = e .before .before .check in
     refused-is _ (a .heap .now) (a .accounts) _ NoSuchObject
+<<<<<<< ours
     (lend-missing unit (a .heap .now) (a .accounts) (k .result) (k .ensures) (e .enum-told .given .1) (a .handle) (sym (c .before .before .find-object .ensures) ∙ c .enum-told2 .given .1))
 
 add-t9 : tie.Need-add-t9
@@ -69,15 +70,31 @@ add-t10 c =
     let k = e .before .before .check in
     let l = located unit (a .heap .now) (a .accounts) (k .result) (k .ensures) (e .enum-told .given .1) (a .handle) (b .block .given .0 .0) (sym (b .before .before .find-object .ensures) ∙ b .block .given .1) in
     record { fits = omega (arith, l .header, l .end) }
+=======
+    (lend-missing (a .heap .now) (a .accounts) (k .result) (k .ensures) (e .enum-told .given .1) (a .handle) (sym (c .before .before .find-object .ensures) ∙ c .enum-told3 .given .1))
+
+cast-start : tie.Need-cast-start
+cast-start c = search needs
+
+cast-t9 : tie.Need-cast-t9
+cast-t9 c = search needs
+
+add-t10 : tie.Need-add-t10
+add-t10 c = search needs
+>>>>>>> theirs
 
 returns-3 : tie.Need-returns-3
 unfolding range-values
 returns-3 c =
-    let b = c .before .before .before in
+    let b = c .before .before in
     let e = b .before .before .before in
     let a = e .before .before .before .before .args in
     let k = e .before .before .check in
+<<<<<<< ours
     lend-is unit (a .heap .now) (a .accounts) (k .result) (k .ensures) (e .enum-told .given .1) (a .handle) (b .block .given .0 .0) (sym (b .before .before .find-object .ensures) ∙ b .block .given .1)
+=======
+    lend-is (a .heap .now) (a .accounts) (k .result) (k .ensures) (e .enum-told .given .1) (a .handle) (b .enum-told2 .given .0 .0) (sym (b .before .before .find-object .ensures) ∙ b .enum-told2 .given .1)
+>>>>>>> theirs
 
 pub object-range-spec : {M : Type 1} → statement M
 object-range-spec =
@@ -88,9 +105,10 @@ object-range-spec =
     returns
     enum-told
     find-object-requires
-    enum-known-block
     enum-told-2
+    enum-told-3
     returns-2
-    add-t9
+    cast-start
+    cast-t9
     add-t10
     returns-3)
