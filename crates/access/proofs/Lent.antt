@@ -91,18 +91,13 @@ module _ (unit : ℕ → ℕ) (s : List ℕ) (k : Accounts) (h : Handle) where
         inside = omega arith;
       }
 
-<<<<<<< ours
-  module _ (m : Met) (e : first-refusal (lend-lines unit s k h) ≡ 0) (o : found (lookup h s) ≡ object-met m) (i : (8 ≤ m .size) × (m .at + m .size ≤ length s)) where
-    -- that of an accepted one is the object's
-    pub spans-lent : Spans unit s k h 0 (m .at + 8) (m .at + m .size)
-=======
   module _ (e : first-refusal (lend-lines unit s k h) ≡ 0) where
     -- that of an accepted one is the handle's
-    pub spans-lent : h .base + h .length ≤ length s → Spans s k h 0 (h .base) (h .base + h .length)
->>>>>>> theirs
+    pub spans-lent : h .base + h .length ≤ length s → Spans unit s k h 0 (h .base) (h .base + h .length)
     unfolding lend
     spans-lent i =
-        let q : unchanged s k (lent (record { start = h .base; end = h .base + h .length })) ≡ lend unit s k h = accepted-is (first-refusal (lend-lines unit s k h)) s k _ e in
+        let q : unchanged s k (lent (record { start = h .base; end = h .base + h .length })) ≡ lend unit s k h =
+            accepted-is (first-refusal (lend-lines unit s k h)) s k _ e in
         record {
           refuses = ap (λ (x : Outcome). x .values .refusal) q;
           starts = ap (λ (x : Outcome). x .values .range .start) q;
@@ -111,23 +106,14 @@ module _ (unit : ℕ → ℕ) (s : List ℕ) (k : Accounts) (h : Handle) where
           inside = i;
         }
 
-<<<<<<< ours
-    -- a byte in the object is written, and one beyond it is not
-    pub writes : (at byte : ℕ) → at < m .size - 8 → unchanged (set s (m .at + 8 + at) byte) k accepted ≡ write-object unit s k h at byte
-=======
     -- a byte in the range is written, and one beyond it is not
-    pub writes : (at byte : ℕ) → at < h .length → unchanged (set s (h .base + at) byte) k accepted ≡ write-object s k h at byte
->>>>>>> theirs
+    pub writes : (at byte : ℕ) → at < h .length → unchanged (set s (h .base + at) byte) k accepted ≡ write-object unit s k h at byte
     unfolding write-object written
     writes at byte l =
         let w : set s (h .base + at) byte ≡ written s h at byte = rw (lt-ltb at (h .length) l) in
         ap (λ (x : List ℕ). unchanged x k accepted) w ∙ accepted-is (first-refusal (lend-lines unit s k h)) s k _ e
 
-<<<<<<< ours
-    pub passes : (at byte : ℕ) → m .size - 8 ≤ at → unchanged s k accepted ≡ write-object unit s k h at byte
-=======
-    pub passes : (at byte : ℕ) → h .length ≤ at → unchanged s k accepted ≡ write-object s k h at byte
->>>>>>> theirs
+    pub passes : (at byte : ℕ) → h .length ≤ at → unchanged s k accepted ≡ write-object unit s k h at byte
     unfolding write-object written
     passes at byte l =
         let w : s ≡ written s h at byte = rw (le-ltb at (h .length) l) in

@@ -19,8 +19,6 @@ use Rattle.finder.specs.declared.Met.{Met}
 use Rattle.finder.specs.declared.Lookup.the-variants.{Found, Missing}
 use Rattle.finder.specs.Walk.{object-met, find-object}
 use Rattle.finder.proofs.Parsed.{total-parsed}
-use Rattle.model.proofs.Lookup.{Narrowed}
-use Rattle.finder.proofs.Reached.{found-narrowed}
 use Rattle.finder.proofs.Named.{lookup-found, lookup-missing}
 use Rattle.model.specs.Answers.{verdict-values, lent}
 use Rattle.model.specs.Lists.{is-none, or-else}
@@ -49,13 +47,12 @@ pub line-5-passes : (o : Option Handle) (p : Handle) (rest : List Line) → o �
 unfolding line-5 is-none
 line-5-passes o p rest e = line-passes 5 (is-none o) rest (rw e)
 
--- the handle names the object of the block m, which lies in the heap, and its range lies in the object
+-- the handle names the object of the block m, which lies in the heap
 pub record Located (s : List ℕ) (h : Handle) (m : Met) : Type 0 where
   pub named : lookup h s ≡ some (object-met m)
   pub object : found (lookup h s) ≡ object-met m
   pub header : 8 ≤ m .size
   pub end : m .at + m .size ≤ 32768
-  pub range : Narrowed h (object-met m)
 
 module _ (unit : ℕ → ℕ) (s : List ℕ) (k : Accounts) (v : Verdict) (told : verdict-values v ≡ check unit s k .values) (accepts : v ≡ Accepted) where
   cut : parse s ≡ some (blocks-of s)
@@ -78,7 +75,7 @@ module _ (unit : ℕ → ℕ) (s : List ℕ) (k : Accounts) (v : Verdict) (told 
       let b = short in
       let place = w .place in
       let sized = w .sized in
-      record { named = n .named; object = rw (n .named); header = omega arith; end = omega arith; range = found-narrowed h s m e }
+      record { named = n .named; object = rw (n .named); header = omega arith; end = omega arith }
 
   pub unnamed : (h : Handle) → find-object h s ≡ Missing → lookup h s ≡ none
   unnamed h e = lookup-missing s (blocks-of s) cut h e
@@ -123,16 +120,7 @@ module _ (unit : ℕ → ℕ) (s : List ℕ) (k : Accounts) (v : Verdict) (told 
     -- the handle's range is what lend gives
     pub lend-is : unchanged s k (lent (record { start = h .base; end = h .base + h .length })) ≡ lend unit s k h
     unfolding lend
-<<<<<<< ours
-    lend-is =
-        let w = located unit s k v told accepts h m e in
-        let d : m .at + m .size ≡ m .at + 8 + (m .size - 8) = omega (arith, w .header) in
-        ap (λ (n : ℕ). unchanged s k (lent (record { start = m .at + 8; end = n }))) d
-        ∙ ap (λ (o : Handle). unchanged s k (lent (record { start = o .base; end = o .base + o .length }))) (sym (w .object))
-        ∙ accepted-is _ s k _ lend-found
-=======
     lend-is = accepted-is _ s k _ lend-found
->>>>>>> theirs
 
     module _ (q : ℕ) (l : q < QUOTAS) where
       sixth : first-refusal (release-lines unit s k q h) ≡ first-refusal (line-6 k q (object-met m) ∷ [])

@@ -1,4 +1,4 @@
--- An object's bytes: the write of one byte, and the part of the heap that lend gives, after model's `lend`.
+-- An object's bytes through a handle: the write of one byte, and the part of the heap that lend gives, after model's `lend`.
 use Prim.Native.Nat.{ℕ, _+_, _-_, _≤_}
 use mathlib.Core.Path.{_≡_}
 use mathlib.Core.List.{List}
@@ -16,17 +16,10 @@ use Rattle.model.specs.declared.Range.{Range}
 unfoldable pub written : List ℕ → Handle → ℕ → ℕ → List ℕ
 written s h at byte = cond (ltb at (h .length)) (set s (h .base + at) byte) s
 
-<<<<<<< ours
--- the write of a history: lend's refusals, and else the byte in the object
+-- the write of a history: lend's refusals, and else the byte in the range
 unfoldable pub write-object : (ℕ → ℕ) → List ℕ → Accounts → Handle → ℕ → ℕ → Outcome
 write-object unit s k h at byte =
-    let done = unchanged (written s (found (lookup h s)) at byte) k accepted in
-=======
--- the write of a history: lend's refusals, and else the byte in the range
-unfoldable pub write-object : List ℕ → Accounts → Handle → ℕ → ℕ → Outcome
-write-object s k h at byte =
     let done = unchanged (written s h at byte) k accepted in
->>>>>>> theirs
     unless (first-refusal (lend-lines unit s k h)) s k done
 
 -- lend's refusal, 0 where there is none; its range, from 0 to 0 where it is refused; and the bytes in that range

@@ -37,13 +37,11 @@ find-object-requires c κs = search needs
 enum-told-2 : tie.Need-enum-told-2
 enum-told-2 c = search needs
 
-<<<<<<< ours
-number-requires-2 : tie.Need-number-requires-2
-number-requires-2 c κs = search needs
-=======
 enum-told-3 : tie.Need-enum-told-3
 enum-told-3 c = search needs
->>>>>>> theirs
+
+number-requires-2 : tie.Need-number-requires-2
+number-requires-2 c κs = search needs
 
 returns-2 : tie.Need-returns-2
 returns-2 c =
@@ -51,45 +49,18 @@ returns-2 c =
     let f = n .before .before in
     let k = f .before .before .before in
     let a = k .before .before .args in
-<<<<<<< ours
     spans-refused unit (a .heap .now) (a .accounts) (a .handle) (c .number2 .result) NoSuchObject (c .number2 .ensures)
     (lend-missing unit (a .heap .now) (a .accounts) (a .handle) (k .check .result) (k .check .ensures) (f .before .enum-told .given .1)
-    (sym (f .find-object .ensures) ∙ n .enum-told2 .given .1))
-
--- the block that was found
-found : (c : tie.After-block)
-    → let a = c .before .before .before .before .before .before .before .args in
-    find-object (a .handle) (a .heap .now) ≡ Found (c .block .given .0 .0)
-found c = sym (c .before .before .find-object .ensures) ∙ c .block .given .1
-
-inside : (c : tie.After-block)
-    → let a = c .before .before .before .before .before .before .before .args in
-    (8 ≤ c .block .given .0 .0 .size) × (c .block .given .0 .0 .at + c .block .given .0 .0 .size ≤ length (a .heap .now))
-inside c =
-    let t = c .before .before .before in
-    let k = t .before .before in
-    let a = k .before .before .args in
-    lend-inside unit (a .heap .now) (a .accounts) (a .handle) (k .check .result) (k .check .ensures) (t .enum-told .given .1) (c .block .given .0 .0) (found c)
-
-add-t11 : tie.Need-add-t11
-add-t11 c = let i = inside (c .before .before) in omega arith
-
-add-t12 : tie.Need-add-t12
-add-t12 c = let i = inside (c .before .before .before) in omega arith
-=======
-    spans-refused (a .heap .now) (a .accounts) (a .handle) 5 NoSuchObject refl
-    (lend-missing (a .heap .now) (a .accounts) (a .handle) (k .check .result) (k .check .ensures) (f .before .enum-told .given .1)
-    (sym (f .find-object .ensures) ∙ c .enum-told3 .given .1))
+    (sym (f .find-object .ensures) ∙ n .enum-told3 .given .1))
 
 cast-start : tie.Need-cast-start
 cast-start c = search needs
 
-cast-t9 : tie.Need-cast-t9
-cast-t9 c = search needs
+cast-t11 : tie.Need-cast-t11
+cast-t11 c = search needs
 
-add-t10 : tie.Need-add-t10
-add-t10 c = search needs
->>>>>>> theirs
+add-t12 : tie.Need-add-t12
+add-t12 c = search needs
 
 returns-3 : tie.Need-returns-3
 returns-3 c =
@@ -97,19 +68,11 @@ returns-3 c =
     let t = b .before .before .before in
     let k = t .before .before in
     let a = k .before .before .args in
-<<<<<<< ours
-    let m = b .block .given .0 .0 in
-    spans-lent unit (a .heap .now) (a .accounts) (a .handle) m
-    (lend-accepted unit (a .heap .now) (a .accounts) (a .handle) (k .check .result) (k .check .ensures) (t .enum-told .given .1) m (found b))
-    (lend-object unit (a .heap .now) (a .accounts) (a .handle) (k .check .result) (k .check .ensures) (t .enum-told .given .1) m (found b))
-    (inside b)
-=======
     let m = b .enum-told2 .given .0 .0 in
     let f = sym (b .before .before .find-object .ensures) ∙ b .enum-told2 .given .1 in
-    spans-lent (a .heap .now) (a .accounts) (a .handle)
-    (lend-accepted (a .heap .now) (a .accounts) (a .handle) (k .check .result) (k .check .ensures) (t .enum-told .given .1) m f)
-    (lend-inside (a .heap .now) (a .accounts) (a .handle) (k .check .result) (k .check .ensures) (t .enum-told .given .1) m f)
->>>>>>> theirs
+    spans-lent unit (a .heap .now) (a .accounts) (a .handle)
+    (lend-accepted unit (a .heap .now) (a .accounts) (a .handle) (k .check .result) (k .check .ensures) (t .enum-told .given .1) m f)
+    (lend-inside unit (a .heap .now) (a .accounts) (a .handle) (k .check .result) (k .check .ensures) (t .enum-told .given .1) m f)
 
 pub span-of-spec : {M : Type 1} → statement M
 span-of-spec =
@@ -122,16 +85,10 @@ span-of-spec =
     enum-told
     find-object-requires
     enum-told-2
-<<<<<<< ours
+    enum-told-3
     number-requires-2
     returns-2
-    add-t11
-    add-t12
-=======
-    enum-told-3
-    returns-2
     cast-start
-    cast-t9
-    add-t10
->>>>>>> theirs
+    cast-t11
+    add-t12
     returns-3)

@@ -57,44 +57,28 @@ returns-2 c =
     let k = t .before .before in
     let a = k .before .before .before .args in
     refused-is _ (a .heap .now) (a .accounts) _ NoSuchObject
-<<<<<<< ours
     (lend-missing unit (a .heap .now) (a .accounts) (a .handle) (k .check .result) (k .check .ensures) (t .enum-told .given .1)
-    (sym (f .find-object .ensures) ∙ c .enum-told2 .given .1))
-
--- the block that was found
-found : (c : tie.After-block)
-    → let a = c .before .before .before .before .before .before .before .before .before .args in
-    find-object (a .handle) (a .heap .now) ≡ Found (c .block .given .0 .0)
-found c = sym (c .before .before .find-object .ensures) ∙ c .block .given .1
-
-inside : (c : tie.After-block)
-    → let a = c .before .before .before .before .before .before .before .before .before .args in
-    (8 ≤ c .block .given .0 .0 .size) × (c .block .given .0 .0 .at + c .block .given .0 .0 .size ≤ length (a .heap .now))
-inside c =
-    let t = c .before .before .before .before in
-    let k = t .before .before in
-    let a = k .before .before .before .args in
-    lend-inside unit (a .heap .now) (a .accounts) (a .handle) (k .check .result) (k .check .ensures) (t .enum-told .given .1) (c .block .given .0 .0) (found c)
-=======
-    (lend-missing (a .heap .now) (a .accounts) (a .handle) (k .check .result) (k .check .ensures) (t .enum-told .given .1)
     (sym (f .find-object .ensures) ∙ c .enum-told3 .given .1))
 
 -- what the lookup found: the write is accepted, and the range lies in the heap
-accepts : (b : tie.After-enum-told2) → let a = b .before .before .before .before .before .before .before .before .before .args in first-refusal (lend-lines unit (a .heap .now) (a .accounts) (a .handle)) ≡ 0
+accepts : (b : tie.After-enum-told2)
+    → let a = b .before .before .before .before .before .before .before .before .before .args in
+    first-refusal (lend-lines unit (a .heap .now) (a .accounts) (a .handle)) ≡ 0
 accepts b =
     let t = b .before .before .before .before in
     let k = t .before .before in
     let a = k .before .before .before .args in
-    lend-accepted (a .heap .now) (a .accounts) (a .handle) (k .check .result) (k .check .ensures) (t .enum-told .given .1) (b .enum-told2 .given .0 .0)
+    lend-accepted unit (a .heap .now) (a .accounts) (a .handle) (k .check .result) (k .check .ensures) (t .enum-told .given .1) (b .enum-told2 .given .0 .0)
     (sym (b .before .before .find-object .ensures) ∙ b .enum-told2 .given .1)
->>>>>>> theirs
 
-inside : (b : tie.After-enum-told2) → let a = b .before .before .before .before .before .before .before .before .before .args in a .handle .base + a .handle .length ≤ length (a .heap .now)
+inside : (b : tie.After-enum-told2)
+    → let a = b .before .before .before .before .before .before .before .before .before .args in
+    a .handle .base + a .handle .length ≤ length (a .heap .now)
 inside b =
     let t = b .before .before .before .before in
     let k = t .before .before in
     let a = k .before .before .before .args in
-    lend-inside (a .heap .now) (a .accounts) (a .handle) (k .check .result) (k .check .ensures) (t .enum-told .given .1) (b .enum-told2 .given .0 .0)
+    lend-inside unit (a .heap .now) (a .accounts) (a .handle) (k .check .result) (k .check .ensures) (t .enum-told .given .1) (b .enum-told2 .given .0 .0)
     (sym (b .before .before .find-object .ensures) ∙ b .enum-told2 .given .1)
 
 cast-index : tie.Need-cast-index
@@ -112,21 +96,9 @@ same-length-3 c = search needs
 returns-3 : tie.Need-returns-3
 unfolding verdict-values
 returns-3 c =
-<<<<<<< ours
-    let b = c .before .before .before .before in
-    let t = b .before .before .before .before in
-    let k = t .before .before in
-    let a = k .before .before .before .args in
-    let m = b .block .given .0 .0 in
-    writes unit (a .heap .now) (a .accounts) (a .handle) m
-    (lend-accepted unit (a .heap .now) (a .accounts) (a .handle) (k .check .result) (k .check .ensures) (t .enum-told .given .1) m (found b))
-    (lend-object unit (a .heap .now) (a .accounts) (a .handle) (k .check .result) (k .check .ensures) (t .enum-told .given .1) m (found b))
-    (inside b) (a .at) (a .byte) (c .before .if1 .taken)
-=======
     let b = c .before .before .before in
     let a = b .before .before .before .before .before .before .before .before .before .args in
-    writes (a .heap .now) (a .accounts) (a .handle) (accepts b) (a .at) (a .byte) (c .before .if1 .taken)
->>>>>>> theirs
+    writes unit (a .heap .now) (a .accounts) (a .handle) (accepts b) (a .at) (a .byte) (c .before .if1 .taken)
 
 same-length-4 : tie.Need-same-length-4
 same-length-4 c = search needs
@@ -134,21 +106,9 @@ same-length-4 c = search needs
 returns-4 : tie.Need-returns-4
 unfolding verdict-values
 returns-4 c =
-<<<<<<< ours
-    let b = c .before .before .before in
-    let t = b .before .before .before .before in
-    let k = t .before .before in
-    let a = k .before .before .before .args in
-    let m = b .block .given .0 .0 in
-    passes unit (a .heap .now) (a .accounts) (a .handle) m
-    (lend-accepted unit (a .heap .now) (a .accounts) (a .handle) (k .check .result) (k .check .ensures) (t .enum-told .given .1) m (found b))
-    (lend-object unit (a .heap .now) (a .accounts) (a .handle) (k .check .result) (k .check .ensures) (t .enum-told .given .1) m (found b))
-    (inside b) (a .at) (a .byte) (c .if1 .left)
-=======
     let b = c .before .before in
     let a = b .before .before .before .before .before .before .before .before .before .args in
-    passes (a .heap .now) (a .accounts) (a .handle) (accepts b) (a .at) (a .byte) (c .if1 .left)
->>>>>>> theirs
+    passes unit (a .heap .now) (a .accounts) (a .handle) (accepts b) (a .at) (a .byte) (c .if1 .left)
 
 pub write-object-spec : {M : Type 1} → statement M
 write-object-spec =

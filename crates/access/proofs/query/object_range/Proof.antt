@@ -1,7 +1,5 @@
--- `access::object_range` meets its contract: check and lookup decide in the order of lend's lines, and the block that was found has the object behind
--- its header, up to its end. The block lies in the heap, so the sums fit.
+-- `access::object_range` meets its contract: check and lookup decide in the order of lend's lines, and the handle's range is given.
 -- Assumes nothing.
-use native.Mathlib.Omega.{arith}
 use mathlib.Core.Path.{sym, _∙_}
 use mathlib.Core.List.{[], _∷_}
 use borrow.Author.Needs.{needs}
@@ -12,7 +10,7 @@ use Rattle.model.specs.Refusals.{line-5, lend-lines}
 use Rattle.model.specs.Calls.{lend}
 use Rattle.model.specs.declared.Refusal.the-variants.{NoSuchObject}
 use Rattle.access.proofs.Lines.{check-refuses, refused-is}
-use Rattle.access.proofs.Lookups.{located, lend-missing, lend-is}
+use Rattle.access.proofs.Lookups.{lend-missing, lend-is}
 use Rattle.access.proofs.query.object_range.Statement.{statement}
 use Rattle.access.proofs.query.object_range.Tie as tie
 
@@ -50,28 +48,7 @@ returns-2 c =
     let a = e .before .before .before .before .args in
     let k = e .before .before .check in
     refused-is _ (a .heap .now) (a .accounts) _ NoSuchObject
-<<<<<<< ours
-    (lend-missing unit (a .heap .now) (a .accounts) (k .result) (k .ensures) (e .enum-told .given .1) (a .handle) (sym (c .before .before .find-object .ensures) ∙ c .enum-told2 .given .1))
-
-add-t9 : tie.Need-add-t9
-add-t9 c =
-    let b = c .before .before in
-    let e = b .before .before .before in
-    let a = e .before .before .before .before .args in
-    let k = e .before .before .check in
-    let l = located unit (a .heap .now) (a .accounts) (k .result) (k .ensures) (e .enum-told .given .1) (a .handle) (b .block .given .0 .0) (sym (b .before .before .find-object .ensures) ∙ b .block .given .1) in
-    record { fits = omega (arith, l .header, l .end) }
-
-add-t10 : tie.Need-add-t10
-add-t10 c =
-    let b = c .before .before .before in
-    let e = b .before .before .before in
-    let a = e .before .before .before .before .args in
-    let k = e .before .before .check in
-    let l = located unit (a .heap .now) (a .accounts) (k .result) (k .ensures) (e .enum-told .given .1) (a .handle) (b .block .given .0 .0) (sym (b .before .before .find-object .ensures) ∙ b .block .given .1) in
-    record { fits = omega (arith, l .header, l .end) }
-=======
-    (lend-missing (a .heap .now) (a .accounts) (k .result) (k .ensures) (e .enum-told .given .1) (a .handle) (sym (c .before .before .find-object .ensures) ∙ c .enum-told3 .given .1))
+    (lend-missing unit (a .heap .now) (a .accounts) (k .result) (k .ensures) (e .enum-told .given .1) (a .handle) (sym (c .before .before .find-object .ensures) ∙ c .enum-told3 .given .1))
 
 cast-start : tie.Need-cast-start
 cast-start c = search needs
@@ -81,7 +58,6 @@ cast-t9 c = search needs
 
 add-t10 : tie.Need-add-t10
 add-t10 c = search needs
->>>>>>> theirs
 
 returns-3 : tie.Need-returns-3
 unfolding range-values
@@ -90,11 +66,7 @@ returns-3 c =
     let e = b .before .before .before in
     let a = e .before .before .before .before .args in
     let k = e .before .before .check in
-<<<<<<< ours
-    lend-is unit (a .heap .now) (a .accounts) (k .result) (k .ensures) (e .enum-told .given .1) (a .handle) (b .block .given .0 .0) (sym (b .before .before .find-object .ensures) ∙ b .block .given .1)
-=======
-    lend-is (a .heap .now) (a .accounts) (k .result) (k .ensures) (e .enum-told .given .1) (a .handle) (b .enum-told2 .given .0 .0) (sym (b .before .before .find-object .ensures) ∙ b .enum-told2 .given .1)
->>>>>>> theirs
+    lend-is unit (a .heap .now) (a .accounts) (k .result) (k .ensures) (e .enum-told .given .1) (a .handle) (b .enum-told2 .given .0 .0) (sym (b .before .before .find-object .ensures) ∙ b .enum-told2 .given .1)
 
 pub object-range-spec : {M : Type 1} → statement M
 object-range-spec =
