@@ -97,7 +97,7 @@ module _ (unit : ℕ → ℕ) (s : List ℕ) (k : Accounts) (h : Handle) where
     unfolding lend
     spans-lent i =
         let q : unchanged s k (lent (record { start = h .base; end = h .base + h .length })) ≡ lend unit s k h =
-            accepted-is (first-refusal (lend-lines unit s k h)) s k _ e in
+        accepted-is (first-refusal (lend-lines unit s k h)) s k _ e in
         record {
           refuses = ap (λ (x : Outcome). x .values .refusal) q;
           starts = ap (λ (x : Outcome). x .values .range .start) q;

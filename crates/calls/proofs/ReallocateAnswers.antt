@@ -1,14 +1,9 @@
 -- Reallocate's refusals as results: the number of the first line that holds, from what the check, the lookup and the search for the record found.
 -- Assumes nothing.
-<<<<<<< ours
 use Prim.Native.Nat.{ℕ, _≤_}
-use mathlib.Core.Path.{_≡_, refl, ap, _∙_}
-use mathlib.Core.List.{List, _∷_}
-=======
-use Prim.Native.Nat.{ℕ, _/_, _%_, _≤_}
+use native.Mathlib.Omega.{arith}
 use mathlib.Core.Path.{_≡_, refl, ap, sym, _∙_}
 use mathlib.Core.List.{List, _∷_, List·Memᴰ}
->>>>>>> theirs
 use mathlib.Core.Bool.{true, not}
 use mathlib.Core.Option.{none, some}
 use Rattle.accounts.specs.declared.Accounts.{Accounts}
@@ -24,19 +19,14 @@ use Rattle.model.specs.declared.Refusal.{Refusal}
 use Rattle.model.specs.declared.Verdict.{Verdict}
 use Rattle.model.specs.declared.Verdict.the-variants.{Accepted, Refused as NotAccepted}
 use Rattle.model.specs.declared.HandleAnswer.the-variants.{Refused}
-use Rattle.model.proofs.Lookup.{whole-names, lookup-exactly, lookup-whole-none, consistent-differ, consistent-byte}
-use Rattle.finder.proofs.Reached.{whole-same, whole-found}
-use Rattle.finder.specs.declared.Lookup.{Lookup}
-use native.Mathlib.Omega.{arith}
+use Rattle.model.proofs.Lookup.{lookup-whole-none}
+use Rattle.model.proofs.Narrowing.{own-found}
 use Rattle.finder.specs.declared.Met.{Met}
+use Rattle.finder.specs.declared.Lookup.{Lookup}
 use Rattle.finder.specs.declared.Lookup.the-variants.{Found, Missing}
-<<<<<<< ours
-use Rattle.finder.specs.Walk.{object-met, find-object}
-use Rattle.access.proofs.Lines.{check-refuses, check-accepts, refused-is, line-refuses, line-3-refuses}
-=======
 use Rattle.finder.specs.Walk.{object-met, find-object, find-whole}
-use Rattle.access.proofs.Lines.{check-refuses, check-accepts, refused-is, line-refuses, line-3-refuses, line-12-refuses, line-12-passes}
->>>>>>> theirs
+use Rattle.finder.proofs.Reached.{whole-same, whole-found}
+use Rattle.access.proofs.Lines.{check-refuses, check-accepts, refused-is, line-refuses, line-3-refuses}
 use Rattle.access.proofs.Lookups.{byte-quota, line-5-refuses, line-5-passes, located, unnamed, record-found, record-missing}
 use Rattle.calls.specs.declared.HandleResult.{HandleResult}
 use Rattle.calls.specs.Results.{handle-outcome}
@@ -45,31 +35,24 @@ use Rattle.calls.proofs.Ready.{accepted-check, checked-passes, ready-pa
 use Rattle.calls.proofs.Granted.{from-8}
 use Rattle.calls.proofs.Reallocated.{whole-named}
 
-<<<<<<< ours
-module _ (unit : ℕ → ℕ) (s : List ℕ) (k : Accounts) (q : ℕ) (h : Handle) (n : ℕ) where
-=======
 -- a handle that is the whole of an object has a byte, since a live block has 16, so the walk finds it
-module _ (s : List ℕ) (k : Accounts) (q : ℕ) (h : Handle) (c : Checked s k q) where
-  whole-there : List·Memᴰ h (objects-of s) → lookup h s ≡ some h
-  whole-there m = lookup-exactly h s h (consistent-differ s k (c .sound)) .1 (whole-names h (consistent-byte s k (c .sound) h m), m)
-
+module _ (unit : ℕ → ℕ) (s : List ℕ) (k : Accounts) (q : ℕ) (h : Handle) (c : Checked unit s k q) where
   whole-met-there : List·Memᴰ h (objects-of s) → (x : Lookup) → find-object h s ≡ x → find-whole h s ≡ Missing → ⊥
   whole-met-there m Missing f e =
-      let n = sym (unnamed s k Accepted (accepted-check s k q c) refl h f) ∙ whole-there m in
+      let n = sym (unnamed unit s k Accepted (accepted-check unit s k q c) refl h f) ∙ own-found s k (c .consistent) h m in
       let z : _≡_ {A = ℕ} 0 1 = cc in
       absurd (omega arith)
   whole-met-there m (Found b) f e =
-      let n = sym (located s k Accepted (accepted-check s k q c) refl h b f .named) ∙ whole-there m in
+      let n = sym (located unit s k Accepted (accepted-check unit s k q c) refl h b f .named) ∙ own-found s k (c .consistent) h m in
       let o : object-met b ≡ h = cc in
-      let w = sym (whole-same h s b f (sym (ap (λ (x : Handle). x .base) o)) (sym (ap (λ (x : Handle). x .length) o))) ∙ e in
+      let w = sym (whole-same h s b f (sym (ap (λ (x : Handle). x .length) o))) ∙ e in
       let z : _≡_ {A = ℕ} 0 1 = cc in
       absurd (omega arith)
 
   whole-missing : find-whole h s ≡ Missing → lookup-whole h s ≡ none
   whole-missing e = lookup-whole-none h s .1 (λ m. whole-met-there m (find-object h s) refl e)
 
-module _ (s : List ℕ) (k : Accounts) (q : ℕ) (h : Handle) (n : ℕ) where
->>>>>>> theirs
+module _ (unit : ℕ → ℕ) (s : List ℕ) (k : Accounts) (q : ℕ) (h : Handle) (n : ℕ) where
   -- the lines behind the fourth
   abbrev pub from-5 : List Line
   from-5 = line-5 (lookup-whole h s) ∷ line-6 k q (found (lookup-whole h s)) ∷ from-8 unit s k q n
@@ -95,21 +78,12 @@ module _ (s : List ℕ) (k : Accounts) (q : ℕ) (h : Handle) (n : ℕ) where
   by-length c e = checked-passes unit s k q (line-4 n ∷ from-5) c ∙ e
 
   -- the fifth and sixth, of a request that is ready
-<<<<<<< ours
   module _ (r : Ready unit s k q n) where
-    pub by-object : find-object h s ≡ Missing → first-refusal (reallocate-lines unit s k q h n) ≡ 5
-    unfolding reallocate-lines
-    by-object e =
-        ready-passes unit s k q n from-5 r
-        ∙ line-5-refuses (lookup-whole h s) (line-6 k q (found (lookup-whole h s)) ∷ from-8 unit s k q n)
-        (lookup-whole-is h s ∙ unnamed unit s k Accepted (accepted-check unit s k q (r .checked)) refl h e)
-=======
-  module _ (r : Ready s k q n) where
     pub by-object : find-whole h s ≡ Missing → first-refusal (reallocate-lines unit s k q h n) ≡ 5
     unfolding reallocate-lines
     by-object e =
-        ready-passes s k q n from-5 r
-        ∙ line-5-refuses (lookup-whole h s) (line-6 k q (found (lookup-whole h s)) ∷ from-8 s k q n) (whole-missing s k q h (r .checked) e)
+        ready-passes unit s k q n from-5 r
+        ∙ line-5-refuses (lookup-whole h s) (line-6 k q (found (lookup-whole h s)) ∷ from-8 unit s k q n) (whole-missing unit s k q h (r .checked) e)
 
     module _ (m : Met) (w : find-whole h s ≡ Found m) where
       e : find-object h s ≡ Found m
@@ -117,7 +91,6 @@ module _ (s : List ℕ) (k : Accounts) (q : ℕ) (h : Handle) (n : ℕ) where
 
       pub block-whole : h ≡ object-met m
       block-whole = whole-found h s m w .1
->>>>>>> theirs
 
       pub block-named : lookup h s ≡ some (object-met m)
       block-named = located unit s k Accepted (accepted-check unit s k q (r .checked)) refl h m e .named

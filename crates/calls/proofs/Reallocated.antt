@@ -30,13 +30,8 @@ use Rattle.model.specs.declared.Refusal.{Refusal}
 use Rattle.model.specs.declared.HandleAnswer.{HandleAnswer}
 use Rattle.model.specs.declared.HandleAnswer.the-variants.{Given, Refused}
 use Rattle.model.specs.declared.Call.the-variants.{Allocate}
-<<<<<<< ours
 use Rattle.model.proofs.Bools.{fails, and-right, and-both}
-use Rattle.model.proofs.Lookup.{lookup-exactly, lookup-whole-is}
-=======
-use Rattle.model.proofs.Bools.{fails, and-left, and-right, and-both}
 use Rattle.model.proofs.Lookup.{lookup-named, lookup-exactly, lookup-whole-exactly}
->>>>>>> theirs
 use Rattle.model.proofs.Refusals.{by-lines, refusal-of-lines, accepted-exactly, unless-refused}
 use Rattle.writer.proofs.CopyBytes.{copied-bytes}
 use Rattle.invariant.proofs.Good.{Good}
@@ -99,11 +94,7 @@ module _ (unit : ℕ → ℕ) (s : List ℕ) (k : Accounts) (q : ℕ) (h old : H
   release-leaves = rw (release-passes, named) (refl, refl)
 
 -- a request that passes lines 1 to 6: h names the object old, and the quota has a record for it
-<<<<<<< ours
-module _ (unit : ℕ → ℕ) (units : Units unit) (s : List ℕ) (k : Accounts) (q : ℕ) (h : Handle) (n : ℕ) (r : Ready unit s k q n) (old : Handle) (named : lookup h s ≡ some old) (held : has-record (k .holds) q (old .serial) ≡ true) where
-=======
-module _ (s : List ℕ) (k : Accounts) (q : ℕ) (h : Handle) (n : ℕ) (r : Ready s k q n) (old : Handle) (handle-is : h ≡ old) (named : lookup h s ≡ some old) (held : has-record (k .holds) q (old .serial) ≡ true) where
->>>>>>> theirs
+module _ (unit : ℕ → ℕ) (units : Units unit) (s : List ℕ) (k : Accounts) (q : ℕ) (h : Handle) (n : ℕ) (r : Ready unit s k q n) (old : Handle) (handle-is : h ≡ old) (named : lookup h s ≡ some old) (held : has-record (k .holds) q (old .serial) ≡ true) where
   -- the lines behind them are allocate's
   same-number : first-refusal (reallocate-lines unit s k q h n) ≡ first-refusal (allocate-lines unit s k q n)
   unfolding reallocate-lines allocate-lines
@@ -184,7 +175,8 @@ module _ (s : List ℕ) (k : Accounts) (q : ℕ) (h : Handle) (n : ℕ) (r : Rea
     filled-named : lookup h (render (filled .blocks)) ≡ some old
     filled-named =
         let x = still-releasable (state-of s k) start q old new room fresh there held in
-        lookup-exactly h (render (filled .blocks)) old (rw (written .objects) (copied-good old new made made-good .tests .differ)) .1 (lookup-named h s old named .0, rw (written .objects) (x .0))
+        lookup-exactly h (render (filled .blocks)) old (rw (written .objects) (copied-good old new made made-good .tests .differ)) .1
+        (lookup-named h s old named .0, rw (written .objects) (x .0))
 
     filled-releases : (release unit (render (filled .blocks)) (filled .accounts) q h .heap ≡ render (released q old filled .blocks))
         × (release unit (render (filled .blocks)) (filled .accounts) q h .accounts ≡ released q old filled .accounts)

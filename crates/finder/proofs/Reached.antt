@@ -91,13 +91,17 @@ module _ (h : Handle) (s : List ℕ) where
           let t = and-left (live-met m) (names h (object-met m)) (first-some (holds-named h) (met s) m (rw q at e) .1) in
           λ z. false≢true (rw (eq-eqb (m .serial) 0 z) at t)
 
-  -- the handle is the whole of its object, or not
-  pub whole-same : (m : Met) → find-object h s ≡ Found m → h .base ≡ m .at + 8 → h .length ≡ m .size - 8 → find-whole h s ≡ Found m
+  -- the handle is the whole of its object, or not: a range inside it that is as long begins where it begins
+  pub whole-same : (m : Met) → find-object h s ≡ Found m → h .length ≡ m .size - 8 → find-whole h s ≡ Found m
   unfolding find-whole
-  whole-same m e b l = ap (whole-met h) e ∙ ap (λ (t : Bool). cond t (Found m) Missing) (whole-exactly h (object-met m) .1 (λ i. record { base = b i; length = l i; serial = n i }))
+  whole-same m e l =
+      ap (whole-met h) e ∙ ap (λ (t : Bool). cond t (Found m) Missing) (whole-exactly h (object-met m) .1 (λ i. record { base = b i; length = l i; serial = n .serial i }))
     where
-      n : h .serial ≡ m .serial
-      n = found-narrowed m e .serial
+      n : Narrowed h (object-met m)
+      n = found-narrowed m e
+
+      b : h .base ≡ m .at + 8
+      b = let low = n .low in let high = n .high in omega arith
 
   pub whole-other : (m : Met) → find-object h s ≡ Found m → (h ≡ object-met m → ⊥) → find-whole h s ≡ Missing
   unfolding find-whole

@@ -40,7 +40,7 @@ fn met_at(heap: &[u8], at: usize) -> Lookup
     })
 }
 
-// Whether a block is live, and a handle names its object: it has its serial, and its range has at least one byte and lies inside it.
+// Rule 4.3: whether a block is live, and a handle names its object.
 fn holds_named(block: Met, handle: Handle) -> bool
     requires { ⌜ Bounded block ⌝ }
     ensures { λ r. ⌜ r ≡ holds-named handle block ⌝ }
@@ -95,16 +95,13 @@ pub fn find_object(heap: &[u8], handle: Handle) -> Lookup
     Lookup::Missing
 }
 
-// The same, if the handle is the whole of the object: base and length are the same too.
+// The same, if the handle is the whole of the object (rule 4.6). A range inside the object that is as long as it has its base too.
 pub fn find_whole(heap: &[u8], handle: Handle) -> Lookup
     ensures { λ r. ⌜ r ≡ find-whole handle (now (heap .entry)) ⌝ }
 {
     let Lookup::Found(block) = find_object(heap, handle) else {
         return Lookup::Missing;
     };
-    if handle.base as usize != block.at + 8 {
-        return Lookup::Missing;
-    }
     if handle.length as usize != block.size - 8 {
         return Lookup::Missing;
     }

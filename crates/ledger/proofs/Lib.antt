@@ -17,5 +17,6 @@ pub mod Contents
 pub mod Staying
 pub mod Bytes
 pub mod NewBytes
+pub mod Narrowing
 pub mod Rejoining
 pub mod Lengths

@@ -57,11 +57,12 @@ pub record Narrowed (h o : Handle) : Type 0 where
 
 pub names-exactly : (h o : Handle) → (names h o ≡ true) ↔ Narrowed h o
 unfolding names
-names-exactly h o =
-    (there,
-    λ n. and-both _ _ (eq-eqb (h .serial) (o .serial) (n .serial))
-    (and-both _ _ (le-leb 1 (h .length) (n .some-byte))
-    (and-both _ _ (le-leb (o .base) (h .base) (n .low)) (le-leb (h .base + h .length) (o .base + o .length) (n .high)))))
+names-exactly h o = (
+  there,
+  λ n. and-both _ _ (eq-eqb (h .serial) (o .serial) (n .serial))
+      (and-both _ _ (le-leb 1 (h .length) (n .some-byte))
+      (and-both _ _ (le-leb (o .base) (h .base) (n .low)) (le-leb (h .base + h .length) (o .base + o .length) (n .high)))),
+)
   where
     there : names h o ≡ true → Narrowed h o
     there e =

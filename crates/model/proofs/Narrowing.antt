@@ -29,8 +29,8 @@ module _ (s : List ℕ) (k : Accounts) (c : consistent s k ≡ true) where
   pub object-found : (h o : Handle) → Narrowed h o → List·Memᴰ o (objects-of s) → lookup h s ≡ some o
   object-found h o n m = lookup-exactly h s o (consistent-differ s k c) .1 (names-exactly h o .1 n, m)
 
-  pub whole-found : (o : Handle) → List·Memᴰ o (objects-of s) → lookup o s ≡ some o
-  whole-found o m = lookup-exactly o s o (consistent-differ s k c) .1 (whole-names o (consistent-byte s k c o m), m)
+  pub own-found : (o : Handle) → List·Memᴰ o (objects-of s) → lookup o s ≡ some o
+  own-found o m = lookup-exactly o s o (consistent-differ s k c) .1 (whole-names o (consistent-byte s k c o m), m)
 
   -- the object that a handle names is named by each handle that is narrower
   pub narrowed-found : (h g o : Handle) → Narrowed h g → lookup g s ≡ some o → lookup h s ≡ some o
@@ -41,7 +41,7 @@ module _ (s : List ℕ) (k : Accounts) (c : consistent s k ≡ true) where
   module _ (h o : Handle) (e : lookup h s ≡ some o) where
     -- the object's own handle is looked up with the same result
     same-found : lookup h s ≡ lookup o s
-    same-found = e ∙ sym (whole-found o (lookup-named h s o e .1))
+    same-found = e ∙ sym (own-found o (lookup-named h s o e .1))
 
     -- so these calls answer and leave the same
     module _ (unit : ℕ → ℕ) (q : ℕ) where

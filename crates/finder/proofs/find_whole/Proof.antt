@@ -1,4 +1,4 @@
--- `finder::find_whole` meets its contract: of the block that was found, base and length are compared.
+-- `finder::find_whole` meets its contract: of the block that was found, the length is compared.
 -- Assumes nothing.
 use borrow.Author.Needs.{needs}
 use native.Mathlib.Omega.{arith}
@@ -33,41 +33,25 @@ found c = sym (c .before .before .find-object .ensures) ∙ c .block .given .1
 cast-if1 : tie.Need-cast-if1
 cast-if1 c = search needs
 
-add-if1 : tie.Need-add-if1
-add-if1 c =
+sub-if1 : tie.Need-sub-if1
+sub-if1 c =
     let b = c .before .before .before in
     let a = b .before .before .before .before .args in
-    let k = found-met (a .handle) (a .heap .now) (b .block .given .0 .0) (found b) in
-    let i = k .inside in
-    let z = k .header in
-    record { fits = omega arith }
+    found-met (a .handle) (a .heap .now) (b .block .given .0 .0) (found b) .header
 
 returns-2 : tie.Need-returns-2
 returns-2 c =
     let b = c .before .before .before .before in
     let a = b .before .before .before .before .args in
-    sym (whole-other (a .handle) (a .heap .now) (b .block .given .0 .0) (found b) (λ e. let q : a .handle .base ≡ b .block .given .0 .0 .at + 8 = ap (λ (x : Handle). x .base) e in omega (arith, q, c .if1 .taken)))
-
-cast-if2 : tie.Need-cast-if2
-cast-if2 c = search needs
-
-sub-if2 : tie.Need-sub-if2
-sub-if2 c =
-    let b = c .before .before .before .before .before .before in
-    let a = b .before .before .before .before .args in
-    found-met (a .handle) (a .heap .now) (b .block .given .0 .0) (found b) .header
+    let m = b .block .given .0 .0 in
+    sym (whole-other (a .handle) (a .heap .now) m (found b)
+    (λ e. let q : a .handle .length ≡ m .size - 8 = ap (λ (x : Handle). x .length) e in omega (arith, q, c .if1 .taken)))
 
 returns-3 : tie.Need-returns-3
 returns-3 c =
-    let b = c .before .before .before .before .before .before .before in
+    let b = c .before .before .before .before in
     let a = b .before .before .before .before .args in
-    sym (whole-other (a .handle) (a .heap .now) (b .block .given .0 .0) (found b) (λ e. let q : a .handle .length ≡ b .block .given .0 .0 .size - 8 = ap (λ (x : Handle). x .length) e in omega (arith, q, c .if2 .taken)))
-
-returns-4 : tie.Need-returns-4
-returns-4 c =
-    let b = c .before .before .before .before .before .before .before in
-    let a = b .before .before .before .before .args in
-    sym (whole-same (a .handle) (a .heap .now) (b .block .given .0 .0) (found b) (omega (arith, c .before .before .before .if1 .left)) (omega (arith, c .if2 .left)))
+    sym (whole-same (a .handle) (a .heap .now) (b .block .given .0 .0) (found b) (omega (arith, c .if1 .left)))
 
 pub find-whole-spec : {M : Type 1} → statement M
 find-whole-spec =
@@ -78,9 +62,6 @@ find-whole-spec =
     enum-told
     returns
     cast-if1
-    add-if1
+    sub-if1
     returns-2
-    cast-if2
-    sub-if2
-    returns-3
-    returns-4)
+    returns-3)

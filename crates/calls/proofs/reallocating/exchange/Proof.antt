@@ -64,13 +64,8 @@ returns c =
     let f = c .before .before .before in
     let e = f .before .before .before in
     let a = e .args in
-<<<<<<< ours
     refuses unit (a .heap .now) (a .accounts) (a .quota) (a .handle) (a .length) (c .refused .result) NoSuchObject (c .refused .ensures)
-    (by-object unit (a .heap .now) (a .accounts) (a .quota) (a .handle) (a .length) (e .pre) (sym (f .find-object .ensures) ∙ c .before .enum-told .given .1))
-=======
-    refuses (a .heap .now) (a .accounts) (a .quota) (a .handle) (a .length) (c .refused .result) NoSuchObject (c .refused .ensures)
-    (by-object (a .heap .now) (a .accounts) (a .quota) (a .handle) (a .length) (e .pre) (sym (f .find-whole .ensures) ∙ c .before .enum-told .given .1))
->>>>>>> theirs
+    (by-object unit (a .heap .now) (a .accounts) (a .quota) (a .handle) (a .length) (e .pre) (sym (f .find-whole .ensures) ∙ c .before .enum-told .given .1))
 
 -- the block that the lookup found
 block-is : (b : tie.After-old) → let a = b .before .before .before .before .before .args in find-whole (a .handle) (a .heap .now) ≡ Found (b .old .given .0 .0)
@@ -136,13 +131,13 @@ lies c =
     let k = b .before .before .before .before in
     let e = k .before in
     let a = e .args in
-<<<<<<< ours
     holding-inside unit (a .heap .now) (a .accounts) (octets k) (a .quota) (b .old .given .0 .0) (c .place .given .0 .0)
-    (record { checked = e .pre .checked; handle = a .handle; named = block-is b; place = sym (p .find-hold .ensures) ∙ c .place .given .1 })
-=======
-    holding-inside (a .heap .now) (a .accounts) (octets k) (a .quota) (b .old .given .0 .0) (c .place .given .0 .0)
-    (record { checked = e .pre .checked; handle = a .handle; named = whole-found (a .handle) (a .heap .now) (b .old .given .0 .0) (block-is b) .0; place = sym (p .find-hold .ensures) ∙ c .place .given .1 })
->>>>>>> theirs
+    (record {
+      checked = e .pre .checked;
+      handle = a .handle;
+      named = whole-found (a .handle) (a .heap .now) (b .old .given .0 .0) (block-is b) .0;
+      place = sym (p .find-hold .ensures) ∙ c .place .given .1;
+    })
 
 grant-requires : tie.Need-grant-requires
 grant-requires c κs = search needs
@@ -163,11 +158,7 @@ returns-3 c =
     let b = t .before .before .before .before in
     let e = b .before .before .before .before .before in
     let a = e .args in
-<<<<<<< ours
-    refused-too unit unit-is (a .heap .now) (a .accounts) (a .quota) (a .handle) (a .length) (e .pre) (object-met (b .old .given .0 .0)) (named t) (held t) (g .grant .last .0) (g .grant .result)
-=======
-    refused-too (a .heap .now) (a .accounts) (a .quota) (a .handle) (a .length) (e .pre) (object-met (b .old .given .0 .0)) (is-whole t) (named t) (held t) (g .grant .last .0) (g .grant .result)
->>>>>>> theirs
+    refused-too unit unit-is (a .heap .now) (a .accounts) (a .quota) (a .handle) (a .length) (e .pre) (object-met (b .old .given .0 .0)) (is-whole t) (named t) (held t) (g .grant .last .0) (g .grant .result)
     (c .enum-told3 .given .0 .0) (c .enum-told3 .given .1) (g .grant .ensures)
 
 cast-shorter : tie.Need-cast-shorter
@@ -218,11 +209,7 @@ ready m =
     let k = b .before .before .before .before in
     let e = k .before in
     let a = e .args in
-<<<<<<< ours
-    copied-checked unit unit-is (a .heap .now) (a .accounts) (a .quota) (a .handle) (a .length) (e .pre) (object-met (b .old .given .0 .0)) (named t) (held t) (octets k) (limits e) (g .grant .last .0) (g .grant .result)
-=======
-    copied-checked (a .heap .now) (a .accounts) (a .quota) (a .handle) (a .length) (e .pre) (object-met (b .old .given .0 .0)) (is-whole t) (named t) (held t) (octets k) (limits e) (g .grant .last .0) (g .grant .result)
->>>>>>> theirs
+    copied-checked unit unit-is (a .heap .now) (a .accounts) (a .quota) (a .handle) (a .length) (e .pre) (object-met (b .old .given .0 .0)) (is-whole t) (named t) (held t) (octets k) (limits e) (g .grant .last .0) (g .grant .result)
     (g .grant .ensures) (w .answer .given .0 .0) (w .answer .given .1) (m .copy-part .last .0) (copied m)
 
 -- the old block is found where it stood, and the quota's record too
@@ -237,13 +224,8 @@ again n =
     let k = b .before .before .before .before in
     let e = k .before in
     let a = e .args in
-<<<<<<< ours
     found-again unit (m .copy-part .last .0) (g .grant .result .accounts) (a .quota) (ready m) (a .handle) (b .old .given .0 .0) (lies t .header)
-    (copied-named unit unit-is (a .heap .now) (a .accounts) (a .quota) (a .handle) (a .length) (e .pre) (object-met (b .old .given .0 .0)) (named t) (held t) (octets k) (limits e) (g .grant .last .0) (g .grant .result)
-=======
-    found-again (m .copy-part .last .0) (g .grant .result .accounts) (a .quota) (ready m) (a .handle) (b .old .given .0 .0) (lies t .header)
-    (copied-named (a .heap .now) (a .accounts) (a .quota) (a .handle) (a .length) (e .pre) (object-met (b .old .given .0 .0)) (is-whole t) (named t) (held t) (octets k) (limits e) (g .grant .last .0) (g .grant .result)
->>>>>>> theirs
+    (copied-named unit unit-is (a .heap .now) (a .accounts) (a .quota) (a .handle) (a .length) (e .pre) (object-met (b .old .given .0 .0)) (is-whole t) (named t) (held t) (octets k) (limits e) (g .grant .last .0) (g .grant .result)
     (g .grant .ensures) (w .answer .given .0 .0) (w .answer .given .1) (m .copy-part .last .0) (copied m))
     ∙ ap Found (sym (n .current .ensures))
 
@@ -260,11 +242,7 @@ placed n =
     let e = k .before in
     let a = e .args in
     ap (λ (x : Met). find-hold (x .serial) (a .quota) (g .grant .result .accounts)) (n .current .ensures)
-<<<<<<< ours
-    ∙ copied-place unit unit-is (a .heap .now) (a .accounts) (a .quota) (a .handle) (a .length) (e .pre) (object-met (b .old .given .0 .0)) (named t) (held t) (octets k) (limits e) (g .grant .last .0) (g .grant .result)
-=======
-    ∙ copied-place (a .heap .now) (a .accounts) (a .quota) (a .handle) (a .length) (e .pre) (object-met (b .old .given .0 .0)) (is-whole t) (named t) (held t) (octets k) (limits e) (g .grant .last .0) (g .grant .result)
->>>>>>> theirs
+    ∙ copied-place unit unit-is (a .heap .now) (a .accounts) (a .quota) (a .handle) (a .length) (e .pre) (object-met (b .old .given .0 .0)) (is-whole t) (named t) (held t) (octets k) (limits e) (g .grant .last .0) (g .grant .result)
     (g .grant .ensures) (w .answer .given .0 .0) (w .answer .given .1) (m .copy-part .last .0) (copied m)
     (t .place .given .0 .0) (sym (t .before .before .find-hold .ensures) ∙ t .place .given .1)
 
@@ -307,11 +285,7 @@ returns-4 c =
     let s = u .drop-claim .last .0 in
     ap (handle-outcome s) (c .with-accounts .ensures)
     ∙ ap (λ (x : HandleAnswer). outcome s (u .drop-claim .result .accounts) (handle-values x)) (w .answer .given .1)
-<<<<<<< ours
-    ∙ given-too unit unit-is (a .heap .now) (a .accounts) (a .quota) (a .handle) (a .length) (e .pre) (object-met (b .old .given .0 .0)) (named t) (held t) (octets k) (limits e) (g .grant .last .0) (g .grant .result)
-=======
-    ∙ given-too (a .heap .now) (a .accounts) (a .quota) (a .handle) (a .length) (e .pre) (object-met (b .old .given .0 .0)) (is-whole t) (named t) (held t) (octets k) (limits e) (g .grant .last .0) (g .grant .result)
->>>>>>> theirs
+    ∙ given-too unit unit-is (a .heap .now) (a .accounts) (a .quota) (a .handle) (a .length) (e .pre) (object-met (b .old .given .0 .0)) (is-whole t) (named t) (held t) (octets k) (limits e) (g .grant .last .0) (g .grant .result)
     (g .grant .ensures) (w .answer .given .0 .0) (w .answer .given .1) (m .copy-part .last .0) (copied m) (u .drop-claim .last .0) (u .drop-claim .result)
     (u .drop-claim .ensures
     ∙ dropped unit (m .copy-part .last .0) (g .grant .result .accounts) (a .quota) (a .handle) (ready m) (n .current .result) (again n) (t .place .given .0 .0) (placed n))
