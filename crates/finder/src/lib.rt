@@ -75,24 +75,29 @@ fn named_at(heap: &[u8], at: usize, handle: Handle) -> Lookup
     Lookup::Missing
 }
 
-// The block whose object a handle names. It is the one that the handle's base lies in: sizes alone lead the walk there, and its header is compared.
+// Rule 4.4: the block whose object a handle names. Its header stands at most at `last`, and no other does behind it up to there: sizes alone lead the walk past
+// `last`, and the header that it came to before that is compared.
 pub fn find_object(heap: &[u8], handle: Handle) -> Lookup
     ensures { λ r. ⌜ r ≡ find-object handle (now (heap .entry)) ⌝ }
 {
     let base = handle.base as usize;
+    if base < 8 {
+        return Lookup::Missing;
+    }
+    if heap.len() < base {
+        return Lookup::Missing;
+    }
+    let last = base - 8;
     let mut at: usize = 0;
-    while at <= base {
-        let size = 8 * layout::read_u16(heap, at) as usize;
-        if size == 0 {
+    let mut units: usize = 0;
+    while at <= last {
+        units = layout::read_u16(heap, at) as usize;
+        if units == 0 {
             return Lookup::Missing;
         }
-        let end = at + size;
-        if base < end {
-            return named_at(heap, at, handle);
-        }
-        at = end;
+        at += 8 * units;
     }
-    Lookup::Missing
+    named_at(heap, 8 * (at / 8 - units), handle)
 }
 
 // The same, if the handle is the whole of the object (rule 4.6). A range inside the object that is as long as it has its base too.
