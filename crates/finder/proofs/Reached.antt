@@ -1,12 +1,12 @@
--- The search for the block whose object a handle names: blocks that end at or before the handle's base are passed, the last one whose header does not stand
--- behind the base is compared, and no block behind that is named. A block's start is told from its end and its size, so that the walk keeps one place.
+-- The search for the block whose object a handle names: blocks that end at or before the handle's base are passed, the last one that starts a header or more
+-- in front of the base is compared, and no block behind that is named.
 -- Assumes nothing.
 use mathlib.Core.Path.{_≡_, refl, ap, sym, _∙_}
 use mathlib.Core.List.{List, [], _∷_}
-use mathlib.Core.Logic.{_≢_, _⊎_, inl, inr, ⊎-elim}
+use mathlib.Core.Logic.{_≢_}
 use mathlib.Core.Bool.{Bool, true, false, cond, false≢true}
 use mathlib.Core.Option.{Option, none, some}
-use Prim.Native.Nat.{ℕ, zero, suc, _+_, _*_, _-_, _/_, _%_, _≤_, _<_}
+use Prim.Native.Nat.{ℕ, _+_, _*_, _-_, _≤_, _<_}
 use native.Mathlib.Omega.{arith}
 use lib.ListN.{length}
 use borrow.Author.Tests.{eq-eqb}
@@ -21,7 +21,7 @@ use Rattle.finder.specs.declared.Met.{Met}
 use Rattle.finder.specs.declared.Lookup.{Lookup}
 use Rattle.finder.specs.declared.Lookup.the-variants.{Found, Missing}
 use Rattle.finder.specs.Walk.{met-at, met, live-met, object-met, holds-named, looked-up, named-met, whole-met, find-object, find-whole}
-use Rattle.finder.proofs.Walk.{MetAt, met-known, search-met, Searching, search-start, search-ended, search-found, search-passed, search-stepped, search-none}
+use Rattle.finder.proofs.Walk.{MetAt, met-known, search-met, Searching, search-start, search-ended, search-found, search-passed, search-none}
 
 -- a handle that names a block's object has its base in the block
 named-parts : (h : Handle) (m : Met) → holds-named h m ≡ true → Narrowed h (object-met m)
@@ -35,11 +35,6 @@ pub before-block : (h : Handle) (m : Met) → h .base < m .at + 8 → holds-name
 before-block h m l = fails (holds-named h m) (λ e. let n = named-parts h m e in let a = n .low in omega arith)
 
 module _ (h : Handle) (s : List ℕ) where
-  -- a search that ends on the way
-  pub object-ended : (at : ℕ) → Searching (holds-named h) s at → met-at at s ≡ Missing → find-object h s ≡ Missing
-  unfolding find-object
-  object-ended at w e = ap looked-up (search-ended (holds-named h) s at w e)
-
   -- no object has a base in the first header, or behind the heap
   pub object-low : h .base < 8 → find-object h s ≡ Missing
   unfolding find-object
@@ -51,68 +46,34 @@ module _ (h : Handle) (s : List ℕ) where
       ap looked-up (search-none (holds-named h) s 0 (search-start (holds-named h) s)
       (λ x m g e. (let k = met-known x s m e in let p = k .place in let i = k .inside in behind-block h m (k .header) (omega arith))))
 
-  -- a search that came to the last header that does not stand behind the base: no block behind it is named
-  pub object-here : (at : ℕ) → Searching (holds-named h) s at → h .base < at + 8 * read-number 2 at s + 8 → find-object h s ≡ named-met h (met-at at s)
-  unfolding find-object
-  object-here at w l = go (met-at at s) refl
-    where
-      by-test : (m : Met) → met-at at s ≡ Found m → (t : Bool) → holds-named h m ≡ t → looked-up (first (holds-named h) (met s)) ≡ cond t (Found m) Missing
-      by-test m e true t = ap looked-up (search-found (holds-named h) s at w m e t)
-      by-test m e false t =
-          let k = met-known at s m e in
-          let z = k .units in
-          ap looked-up (search-none (holds-named h) s (at + m .size) (search-passed (holds-named h) s at w m e t)
-          (λ x b g f. (let n = met-known x s b f in let p = n .place in before-block h b (omega arith))))
+  module _ (at : ℕ) (w : Searching (holds-named h) s at) where
+    -- a search that ends on the way
+    pub object-ended : met-at at s ≡ Missing → find-object h s ≡ Missing
+    unfolding find-object
+    object-ended e = ap looked-up (search-ended (holds-named h) s at w e)
 
-      go : (x : Lookup) → met-at at s ≡ x → looked-up (first (holds-named h) (met s)) ≡ named-met h x
-      go Missing e = ap looked-up (search-ended (holds-named h) s at w e)
-      go (Found m) e = by-test m e (holds-named h m) refl
+    -- one that has passed the base
+    pub object-past : h .base < at + 8 → find-object h s ≡ Missing
+    unfolding find-object
+    object-past l =
+        ap looked-up (search-none (holds-named h) s at w (λ x m g e. (let k = met-known x s m e in let p = k .place in before-block h m (omega arith))))
 
--- The walk by sizes: it is at a place, behind a block of so many units that starts where the search came to; at 0, behind none.
-pub record Walked (h : Handle) (s : List ℕ) (at units : ℕ) : Type 0 where
-  pub start : ℕ
-  pub place : at ≡ start + 8 * units
-  pub eights : start % 8 ≡ 0
-  pub came : Searching (holds-named h) s start
-  pub read : ((units ≡ 0) × (at ≡ 0)) ⊎ (units ≡ read-number 2 start s)
-
-module _ (h : Handle) (s : List ℕ) where
-  pub walked-start : Walked h s 0 0
-  walked-start = record { start = 0; place = refl; eights = refl; came = search-start (holds-named h) s; read = inl (refl, refl) }
-
-  module _ (at units : ℕ) (w : Walked h s at units) where
-    -- where the place is not behind the base, the search comes to it
-    pub walked-to : at ≤ h .base → Searching (holds-named h) s at
-    walked-to l = go units refl
+    -- one that came to the last block that starts far enough in front of the base: no block behind it is named
+    pub object-here : h .base < at + 8 * read-number 2 at s + 8 → find-object h s ≡ named-met h (met-at at s)
+    unfolding find-object
+    object-here l = go (met-at at s) refl
       where
-        place : at ≡ w .start + 8 * units
-        place = w .place
+        by-test : (m : Met) → met-at at s ≡ Found m → (t : Bool) → holds-named h m ≡ t → looked-up (first (holds-named h) (met s)) ≡ cond t (Found m) Missing
+        by-test m e true t = ap looked-up (search-found (holds-named h) s at w m e t)
+        by-test m e false t =
+            let k = met-known at s m e in
+            let z = k .units in
+            ap looked-up (search-none (holds-named h) s (at + m .size) (search-passed (holds-named h) s at w m e t)
+            (λ x b g f. (let n = met-known x s b f in let p = n .place in before-block h b (omega arith))))
 
-        go : (n : ℕ) → units ≡ n → Searching (holds-named h) s at
-        go zero e = let same : w .start ≡ at = omega (arith, place, e) in rw same at (w .came)
-        go (suc n) e =
-            ⊎-elim (λ none. absurd (omega (arith, none .0, e)))
-            (λ r. rw (← place) at (search-stepped (holds-named h) s (w .start) (w .came) (8 * units) (rw r) (omega (arith, e))
-            (λ m q. (let k = met-known (w .start) s m q in let p = k .place in let z = k .units in behind-block h m (k .header) (omega (arith, place, r, l))))))
-            (w .read)
-
-    -- so it goes on by the size there
-    pub walked-on : (u : ℕ) → at ≤ h .base → u ≡ read-number 2 at s → Walked h s (at + 8 * u) u
-    walked-on u l r =
-        let place = w .place in
-        let eights = w .eights in
-        record { start = at; place = refl; eights = omega arith; came = walked-to l; read = inr r }
-
-    -- and ends where the next header would stand behind the base
-    pub walked-last : 8 ≤ h .base → h .base < at + 8 → (x : ℕ) → x ≡ 8 * (at / 8 - units) → named-met h (met-at x s) ≡ find-object h s
-    walked-last b l x q =
-        ⊎-elim (λ none. absurd (omega (arith, none .1, b, l)))
-        (λ r.
-        (let place = w .place in
-        let eights = w .eights in
-        let same : x ≡ w .start = omega arith in
-        rw same (sym (object-here h s (w .start) (w .came) (omega arith)))))
-        (w .read)
+        go : (x : Lookup) → met-at at s ≡ x → looked-up (first (holds-named h) (met s)) ≡ named-met h x
+        go Missing e = ap looked-up (search-ended (holds-named h) s at w e)
+        go (Found m) e = by-test m e (holds-named h m) refl
 
 module _ (h : Handle) (s : List ℕ) where
   -- the block that is found is met where it stands

@@ -75,8 +75,8 @@ fn named_at(heap: &[u8], at: usize, handle: Handle) -> Lookup
     Lookup::Missing
 }
 
-// Rule 4.4: the block whose object a handle names. Its header stands at most at `last`, and no other does behind it up to there: sizes alone lead the walk past
-// `last`, and the header that it came to before that is compared.
+// Rule 4.4: the block whose object a handle names. The base lies at least a header behind the block's start: sizes alone lead the walk to the last block that
+// starts so far in front of it, and that block's header is compared.
 pub fn find_object(heap: &[u8], handle: Handle) -> Lookup
     ensures { λ r. ⌜ r ≡ find-object handle (now (heap .entry)) ⌝ }
 {
@@ -89,15 +89,18 @@ pub fn find_object(heap: &[u8], handle: Handle) -> Lookup
     }
     let last = base - 8;
     let mut at: usize = 0;
-    let mut units: usize = 0;
     while at <= last {
-        units = layout::read_u16(heap, at) as usize;
-        if units == 0 {
+        let size = 8 * layout::read_u16(heap, at) as usize;
+        if size == 0 {
             return Lookup::Missing;
         }
-        at += 8 * units;
+        let end = at + size;
+        if last < end {
+            return named_at(heap, at, handle);
+        }
+        at = end;
     }
-    named_at(heap, 8 * (at / 8 - units), handle)
+    Lookup::Missing
 }
 
 // The same, if the handle is the whole of the object (rule 4.6). A range inside the object that is as long as it has its base too.
