@@ -3,7 +3,7 @@
 -- Assumes nothing.
 use mathlib.Core.Path.{_≡_, refl, ap, sym, _∙_}
 use mathlib.Core.List.{List, [], _∷_}
-use mathlib.Core.Logic.{_≢_}
+use mathlib.Core.Logic.{_≢_, _⊎_, inl, inr, ⊎-elim}
 use mathlib.Core.Bool.{Bool, true, false, cond, false≢true}
 use mathlib.Core.Option.{Option, none, some}
 use Prim.Native.Nat.{ℕ, _+_, _*_, _-_, _≤_, _<_}
@@ -21,7 +21,7 @@ use Rattle.finder.specs.declared.Met.{Met}
 use Rattle.finder.specs.declared.Lookup.{Lookup}
 use Rattle.finder.specs.declared.Lookup.the-variants.{Found, Missing}
 use Rattle.finder.specs.Walk.{met-at, met, live-met, object-met, holds-named, looked-up, named-met, whole-met, find-object, find-whole}
-use Rattle.finder.proofs.Walk.{MetAt, met-known, search-met, Searching, search-start, search-ended, search-found, search-passed, search-none}
+use Rattle.finder.proofs.Walk.{MetAt, met-known, search-met, Searching, search-start, search-ended, search-found, search-passed, search-stepped, search-none}
 
 -- a handle that names a block's object has its base in the block
 named-parts : (h : Handle) (m : Met) → holds-named h m ≡ true → Narrowed h (object-met m)
@@ -52,12 +52,6 @@ module _ (h : Handle) (s : List ℕ) where
     unfolding find-object
     object-ended e = ap looked-up (search-ended (holds-named h) s at w e)
 
-    -- one that has passed the base
-    pub object-past : h .base < at + 8 → find-object h s ≡ Missing
-    unfolding find-object
-    object-past l =
-        ap looked-up (search-none (holds-named h) s at w (λ x m g e. (let k = met-known x s m e in let p = k .place in before-block h m (omega arith))))
-
     -- one that came to the last block that starts far enough in front of the base: no block behind it is named
     pub object-here : h .base < at + 8 * read-number 2 at s + 8 → find-object h s ≡ named-met h (met-at at s)
     unfolding find-object
@@ -74,6 +68,44 @@ module _ (h : Handle) (s : List ℕ) where
         go : (x : Lookup) → met-at at s ≡ x → looked-up (first (holds-named h) (met s)) ≡ named-met h x
         go Missing e = ap looked-up (search-ended (holds-named h) s at w e)
         go (Found m) e = by-test m e (holds-named h m) refl
+
+-- the walk by sizes is at a place: behind a block of a size, to whose start the search came; at 0, behind none
+pub record Walked (h : Handle) (s : List ℕ) (at size : ℕ) : Type 0 where
+  pub start : ℕ
+  pub place : at ≡ start + size
+  pub came : Searching (holds-named h) s start
+  pub read : ((size ≡ 0) × (at ≡ 0)) ⊎ ((0 < size) × (size ≡ 8 * read-number 2 start s))
+
+module _ (h : Handle) (s : List ℕ) where
+  pub walked-start : Walked h s 0 0
+  walked-start = record { start = 0; place = refl; came = search-start (holds-named h) s; read = inl (refl, refl) }
+
+  module _ (at size : ℕ) (w : Walked h s at size) where
+    -- where the place is not behind the base, the search comes to it
+    pub walked-to : at ≤ h .base → Searching (holds-named h) s at
+    walked-to l =
+        let place = w .place in
+        ⊎-elim (λ none. (let same : w .start ≡ at = omega (arith, none .0) in rw same at (w .came)))
+        (λ some.
+        (let r = some .1 in
+        rw (← place) at (search-stepped (holds-named h) s (w .start) (w .came) size r (some .0)
+        (λ m q. (let k = met-known (w .start) s m q in let p = k .place in let z = k .units in behind-block h m (k .header) (omega arith))))))
+        (w .read)
+
+    -- so it goes on by the size there
+    pub walked-on : (n : ℕ) → at ≤ h .base → 0 < n → n ≡ 8 * read-number 2 at s → Walked h s (at + n) n
+    walked-on n l p r = record { start = at; place = refl; came = walked-to l; read = inr (p, r) }
+
+    -- and ends where the next header would stand behind the base: the block that it passed last is the one to compare
+    pub walked-last : 8 ≤ h .base → h .base < at + 8 → (x : ℕ) → x ≡ at - size → named-met h (met-at x s) ≡ find-object h s
+    walked-last b l x q =
+        let place = w .place in
+        ⊎-elim (λ none. absurd (omega (arith, none .1)))
+        (λ some.
+        (let r = some .1 in
+        let same : x ≡ w .start = omega arith in
+        rw same (sym (object-here h s (w .start) (w .came) (omega arith)))))
+        (w .read)
 
 module _ (h : Handle) (s : List ℕ) where
   -- the block that is found is met where it stands

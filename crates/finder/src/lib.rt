@@ -76,7 +76,7 @@ fn named_at(heap: &[u8], at: usize, handle: Handle) -> Lookup
 }
 
 // Rule 4.4: the block whose object a handle names. The base lies at least a header behind the block's start: sizes alone lead the walk to the last block that
-// starts so far in front of it, and that block's header is compared.
+// starts so far in front of it, and that block is compared.
 pub fn find_object(heap: &[u8], handle: Handle) -> Lookup
     ensures { λ r. ⌜ r ≡ find-object handle (now (heap .entry)) ⌝ }
 {
@@ -89,18 +89,15 @@ pub fn find_object(heap: &[u8], handle: Handle) -> Lookup
     }
     let last = base - 8;
     let mut at: usize = 0;
+    let mut size: usize = 0;
     while at <= last {
-        let size = 8 * layout::read_u16(heap, at) as usize;
+        size = 8 * layout::read_u16(heap, at) as usize;
         if size == 0 {
             return Lookup::Missing;
         }
-        let end = at + size;
-        if last < end {
-            return named_at(heap, at, handle);
-        }
-        at = end;
+        at += size;
     }
-    Lookup::Missing
+    named_at(heap, at - size, handle)
 }
 
 // The same, if the handle is the whole of the object (rule 4.6). A range inside the object that is as long as it has its base too.
