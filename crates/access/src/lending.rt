@@ -68,7 +68,8 @@ pub fn write_object(
     Verdict::Accepted
 }
 
-// Rule 8.29: the bytes of a handle's range, as a part of the heap; an empty part where it is refused. The refusal's number, 0 where there is none, is left in refusal.
+// Rule 8.29: the bytes of a handle's range, as a part of the heap; an empty part where it is refused. The refusal's number, 0 where there is none, is left
+// in refusal.
 pub fn lend<'a>(
     heap: &'a mut [u8],
     accounts: Accounts,

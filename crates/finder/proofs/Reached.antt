@@ -21,7 +21,8 @@ use Rattle.finder.specs.declared.Met.{Met}
 use Rattle.finder.specs.declared.Lookup.{Lookup}
 use Rattle.finder.specs.declared.Lookup.the-variants.{Found, Missing}
 use Rattle.finder.specs.Walk.{met-at, met, live-met, object-met, holds-named, looked-up, named-met, whole-met, find-object, find-whole}
-use Rattle.finder.proofs.Walk.{MetAt, met-known, search-met, Searching, search-start, search-ended, search-found, search-passed, search-stepped, search-none}
+use Rattle.finder.proofs.Walk.{MetAt, met-known, search-met, Searching}
+use Rattle.finder.proofs.Walk.{search-start, search-ended, search-found, search-passed, search-stepped, search-none}
 
 -- a handle that names a block's object has its base in the block
 named-parts : (h : Handle) (m : Met) → holds-named h m ≡ true → Narrowed h (object-met m)
@@ -142,7 +143,8 @@ module _ (h : Handle) (s : List ℕ) where
   pub whole-same : (m : Met) → find-object h s ≡ Found m → h .length ≡ m .size - 8 → find-whole h s ≡ Found m
   unfolding find-whole
   whole-same m e l =
-      ap (whole-met h) e ∙ ap (λ (t : Bool). cond t (Found m) Missing) (whole-exactly h (object-met m) .1 (λ i. record { base = b i; length = l i; serial = n .serial i }))
+      ap (whole-met h) e
+      ∙ ap (λ (t : Bool). cond t (Found m) Missing) (whole-exactly h (object-met m) .1 (λ i. record { base = b i; length = l i; serial = n .serial i }))
     where
       n : Narrowed h (object-met m)
       n = found-narrowed m e
@@ -152,14 +154,17 @@ module _ (h : Handle) (s : List ℕ) where
 
   pub whole-other : (m : Met) → find-object h s ≡ Found m → (h ≡ object-met m → ⊥) → find-whole h s ≡ Missing
   unfolding find-whole
-  whole-other m e d = ap (whole-met h) e ∙ ap (λ (t : Bool). cond t (Found m) Missing) (fails (whole h (object-met m)) (λ w. d (whole-exactly h (object-met m) .0 w)))
+  whole-other m e d =
+      ap (whole-met h) e
+      ∙ ap (λ (t : Bool). cond t (Found m) Missing) (fails (whole h (object-met m)) (λ w. d (whole-exactly h (object-met m) .0 w)))
 
   -- what find-whole gives was found, and the handle is its object
   pub whole-found : (m : Met) → find-whole h s ≡ Found m → (find-object h s ≡ Found m) × (h ≡ object-met m)
   unfolding find-whole
   whole-found m = go (find-object h s) refl
     where
-      test : (b : Met) (t : Bool) → whole h (object-met b) ≡ t → find-object h s ≡ Found b → cond t (Found b) Missing ≡ Found m → (find-object h s ≡ Found m) × (h ≡ object-met m)
+      test : (b : Met) (t : Bool) → whole h (object-met b) ≡ t → find-object h s ≡ Found b → cond t (Found b) Missing ≡ Found m
+          → (find-object h s ≡ Found m) × (h ≡ object-met m)
       test b true t e f = let q : b ≡ m = cc in let r : (find-object h s ≡ Found b) × (h ≡ object-met b) = (e, whole-exactly h (object-met b) .0 t) in rw q at r
       test b false t e f = let z : _≡_ {A = ℕ} 0 1 = cc in absurd (omega arith)
 

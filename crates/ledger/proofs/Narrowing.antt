@@ -1,5 +1,5 @@
--- Narrowed handles over a history (rules 4.7 and 10.5). A handle that a request answered, made as narrow as one byte, names that object, right after the request
--- and for as long as some quota holds it. So claim, release and lend can be called with it.
+-- Narrowed handles over a history (rules 4.7 and 10.5). A handle that a request answered, made as narrow as one byte, names that object, right after the
+-- request and for as long as some quota holds it. So claim, release and lend can be called with it.
 -- Assumes nothing.
 use Prim.Native.Nat.{ℕ, _*_}
 use mathlib.Core.Path.{_≡_}
@@ -33,7 +33,8 @@ module _ (unit : ℕ → ℕ) (units : Units unit) where
         object-found (allocate unit s k q n .heap) (allocate unit s k q n .accounts) (step-agrees unit units (Allocate q n) l s k a .sound) h _ w
         (allocated-live-there unit units l s k a q n e)
 
-    pub array-found : (count size : ℕ) → allocate-array unit s k q count size .values .refusal ≡ 0 → Narrowed h (allocate-array unit s k q count size .values .handle)
+    pub array-found : (count size : ℕ) → allocate-array unit s k q count size .values .refusal ≡ 0
+        → Narrowed h (allocate-array unit s k q count size .values .handle)
         → lookup h (allocate-array unit s k q count size .heap) ≡ some (allocate-array unit s k q count size .values .handle)
     unfolding allocate-array
     array-found count size = allocated-found (count * size)
@@ -42,7 +43,8 @@ module _ (unit : ℕ → ℕ) (units : Units unit) where
         → lookup h (reallocate unit s k q old n .heap) ≡ some (reallocate unit s k q old n .values .handle)
     unfolding step
     reallocated-found old n e w =
-        object-found (reallocate unit s k q old n .heap) (reallocate unit s k q old n .accounts) (step-agrees unit units (Reallocate q old n) l s k a .sound) h _ w
+        object-found (reallocate unit s k q old n .heap) (reallocate unit s k q old n .accounts)
+        (step-agrees unit units (Reallocate q old n) l s k a .sound) h _ w
         (reallocated-live-there unit units l s k a q old n e)
 
   -- an object of the ledger, and one of an earlier ledger whose serial was held at every point since

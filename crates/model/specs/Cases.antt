@@ -196,7 +196,8 @@ narrowed =
     0 left accounts
     -- no byte; a byte too many behind, in front and on both sides; the sums are true ones; the serial of another object, of none and of a free block
     ∷ case neighbours
-    (Lend (handle 8 0 1) ∷ Lend (handle 16 0 1) ∷ Lend (handle 8 17 1) ∷ Lend (handle 23 2 1) ∷ Lend (handle 7 1 1) ∷ Lend (handle 7 2 1) ∷ Lend (handle 7 18 1) ∷ Lend (handle 24 1 1)
+    (Lend (handle 8 0 1) ∷ Lend (handle 16 0 1) ∷ Lend (handle 8 17 1) ∷ Lend (handle 23 2 1)
+    ∷ Lend (handle 7 1 1) ∷ Lend (handle 7 2 1) ∷ Lend (handle 7 18 1) ∷ Lend (handle 24 1 1)
     ∷ Lend (handle 4294967295 1 1) ∷ Lend (handle 4294967295 4294967295 1) ∷ Lend (handle 8 4294967295 1) ∷ Lend (handle 4294967295 16 1)
     ∷ Lend (handle 9 1 2) ∷ Lend (handle 33 1 1) ∷ Lend (handle 9 1 3) ∷ Lend (handle 49 1 0) ∷ [])
     (replicate 16 (refused 5)) 0 left accounts
@@ -210,8 +211,8 @@ narrowed =
     (accounts-of (quota 100 84 ∷ quota 100 100 ∷ []) 2 (zero-hold ∷ hold 2 0 1 ∷ []))
     -- reallocate takes the whole handle alone, behind line 4 and before line 6
     ∷ case neighbours
-    (Reallocate 0 (handle 9 15 1) 0 ∷ Reallocate 0 (handle 9 15 1) 8 ∷ Reallocate 0 (handle 8 15 1) 8 ∷ Reallocate 0 (handle 9 1 1) 8 ∷ Reallocate 1 (handle 9 1 1) 8
-    ∷ Reallocate 1 (handle 8 16 1) 8 ∷ Reallocate 0 (handle 8 16 1) 8 ∷ [])
+    (Reallocate 0 (handle 9 15 1) 0 ∷ Reallocate 0 (handle 9 15 1) 8 ∷ Reallocate 0 (handle 8 15 1) 8
+    ∷ Reallocate 0 (handle 9 1 1) 8 ∷ Reallocate 1 (handle 9 1 1) 8 ∷ Reallocate 1 (handle 8 16 1) 8 ∷ Reallocate 0 (handle 8 16 1) 8 ∷ [])
     (refused 4 ∷ refused 5 ∷ refused 5 ∷ refused 5 ∷ refused 5 ∷ refused 6 ∷ given (handle 48 8 3) ∷ [])
     0 (parts (head 3 0 0 ∷ zeros 16 ∷ head 2 3 2 ∷ zeros 8 ∷ head 2 2 3 ∷ eight ∷ head 1 2 0 ∷ []))
     (accounts-of (quota 100 68 ∷ quota 100 100 ∷ []) 3 (zero-hold ∷ hold 2 0 1 ∷ hold 3 0 1 ∷ []))

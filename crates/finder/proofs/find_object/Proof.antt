@@ -1,5 +1,5 @@
--- `finder::find_object` meets its contract. The loop's invariant is `Walked`: the search came to the start of a block that has `size` bytes and ends at `at`. It
--- goes on by the size that is read at `at`, and where it has passed `last`, that block is the one to compare (`walked-last`).
+-- `finder::find_object` meets its contract. The loop's invariant is `Walked`: the search came to the start of a block that has `size` bytes and ends at `at`.
+-- It goes on by the size that is read at `at`, and where it has passed `last`, that block is the one to compare (`walked-last`).
 -- Assumes nothing.
 use borrow.Author.Needs.{needs}
 use native.Mathlib.Omega.{arith}

@@ -29,11 +29,13 @@ module _ (h : Handle) (m : Met) where
   unfolding holds-named names
   no-byte e = and-no (live-met m) _ (and-no (eqb (h .serial) (m .serial)) _ (rw (lt-leb 1 (h .length) (omega (arith, e)))))
 
-  by-end : (m .serial ≡ 0 → ⊥) → h .serial ≡ m .serial → (h .length ≡ 0 → ⊥) → m .at + 8 ≤ h .base → 8 ≤ m .size → leb (h .base + h .length) (m .at + m .size) ≡ holds-named h m
+  by-end : (m .serial ≡ 0 → ⊥) → h .serial ≡ m .serial → (h .length ≡ 0 → ⊥) → m .at + 8 ≤ h .base → 8 ≤ m .size
+      → leb (h .base + h .length) (m .at + m .size) ≡ holds-named h m
   unfolding holds-named names
   by-end e s l b z =
       let d : m .at + m .size ≡ m .at + 8 + (m .size - 8) = omega (arith, z) in
-      rw (ne-eqb (m .serial) 0 e, eq-eqb (h .serial) (m .serial) s, le-leb 1 (h .length) (omega (arith, l)), le-leb (m .at + 8) (h .base) b) (ap (leb (h .base + h .length)) d)
+      rw (ne-eqb (m .serial) 0 e, eq-eqb (h .serial) (m .serial) s, le-leb 1 (h .length) (omega (arith, l)), le-leb (m .at + 8) (h .base) b)
+      (ap (leb (h .base + h .length)) d)
 
 cast-base : tie.Need-cast-base
 cast-base c = search needs
@@ -75,7 +77,8 @@ returns-5 c =
     let r = q .before .before in
     let t = r .before .before .before in
     let a = t .before .before .before .before .args in
-    by-end (a .handle) (a .block) (λ e. omega (arith, t .if1 .left)) (omega (arith, r .if2 .left)) (λ e. omega (arith, q .if3 .left)) (omega (arith, p .if4 .left)) (t .before .before .before .before .pre .header)
+    by-end (a .handle) (a .block) (λ e. omega (arith, t .if1 .left)) (omega (arith, r .if2 .left)) (λ e. omega (arith, q .if3 .left))
+    (omega (arith, p .if4 .left)) (t .before .before .before .before .pre .header)
 
 pub holds-named-spec : {M : Type 1} → statement M
 holds-named-spec =

@@ -48,7 +48,8 @@ returns-2 c =
     let a = e .before .before .before .before .args in
     let k = e .before .before .check in
     refused-is _ (a .heap .now) (a .accounts) _ NoSuchObject
-    (lend-missing unit (a .heap .now) (a .accounts) (k .result) (k .ensures) (e .enum-told .given .1) (a .handle) (sym (c .before .before .find-object .ensures) ∙ c .enum-told3 .given .1))
+    (lend-missing unit (a .heap .now) (a .accounts) (k .result) (k .ensures) (e .enum-told .given .1) (a .handle)
+    (sym (c .before .before .find-object .ensures) ∙ c .enum-told3 .given .1))
 
 cast-start : tie.Need-cast-start
 cast-start c = search needs
@@ -66,7 +67,8 @@ returns-3 c =
     let e = b .before .before .before in
     let a = e .before .before .before .before .args in
     let k = e .before .before .check in
-    lend-is unit (a .heap .now) (a .accounts) (k .result) (k .ensures) (e .enum-told .given .1) (a .handle) (b .enum-told2 .given .0 .0) (sym (b .before .before .find-object .ensures) ∙ b .enum-told2 .given .1)
+    lend-is unit (a .heap .now) (a .accounts) (k .result) (k .ensures) (e .enum-told .given .1) (a .handle) (b .enum-told2 .given .0 .0)
+    (sym (b .before .before .find-object .ensures) ∙ b .enum-told2 .given .1)
 
 pub object-range-spec : {M : Type 1} → statement M
 object-range-spec =
