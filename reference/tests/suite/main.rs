@@ -9,6 +9,7 @@ mod ledger;
 mod ledger_checks;
 mod lines;
 mod naive;
+mod narrowed;
 mod permissions;
 mod prng;
 mod random_bytes;
