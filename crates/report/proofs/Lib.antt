@@ -1,0 +1,6 @@
+-- The rows that the definitions are held to, and laws of the report.
+pub mod Computing
+pub mod Rows
+pub mod Hex
+pub mod Words
+pub mod Loops
