@@ -4,3 +4,5 @@ pub mod Rows
 pub mod Hex
 pub mod Words
 pub mod Loops
+pub mod Exports
+pub mod Imports
