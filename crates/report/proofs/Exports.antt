@@ -66,5 +66,5 @@ module _ (t gs : List ℕ) where
       let n : length (lines-text gs) ≡ 1728 = omega (arith, lines-length gs) in
       let m : 0 + length (lines-text gs) ≡ 1728 = omega arith in
       let f : s ≡ lines-text gs ++ drop 1728 t =
-          e ∙ overwrite-fits 0 (lines-text gs) t (omega arith) ∙ (λ i. take-none t i ++ (lines-text gs ++ drop (m i) t)) in
+      e ∙ overwrite-fits 0 (lines-text gs) t (omega arith) ∙ (λ i. take-none t i ++ (lines-text gs ++ drop (m i) t)) in
       rw (le-ltb (length t) 1728 h, f)

@@ -8,13 +8,11 @@ use native.Mathlib.Numerals.{add-one}
 use lib.ListN.{length, take, drop, getD, set, replicate, length-set, length-drop, drop-of-length-le, take-append-drop, length-replicate}
 use lib.Seq.{take-suc-set, drop-set-lt, drop-drop, drop-cons}
 use Rattle.accounts.specs.Accounts.{QUOTAS}
-use Rattle.report.specs.Import.{Lines, Good, Wrong, line-of, in-front, with-line, lines-from, bad-at, imported, import-of}
+use Rattle.report.specs.Import.{Lines, Good, Wrong, line-of, in-front, with-line, lines-from, taken, bad-at, imported, import-of}
 use Rattle.report.specs.declared.ReportRefusal.{ReportRefusal}
 use Rattle.report.specs.declared.ReportRefusal.the-variants.{TooMany}
 use Rattle.report.specs.declared.Line.{Line}
 use Rattle.report.specs.declared.Line.the-variants.{Grant, Bad}
-use Rattle.report.specs.declared.ImportAnswer.the-variants.{Accepted}
-use Rattle.report.specs.declared.Imported.{Imported}
 use Rattle.report.proofs.Rows
 
 -- the definition at a text that is not empty, and at its end
@@ -38,7 +36,7 @@ unfoldable pub behind : List ℕ → Lines → Lines
 behind gs (Good hs) = Good (gs ++ hs)
 behind gs (Wrong r n) = Wrong r n
 
-behind-none : (l : Lines) → behind [] l ≡ l
+pub behind-none : (l : Lines) → behind [] l ≡ l
 unfolding behind
 behind-none (Good gs) = refl
 behind-none (Wrong r n) = refl
@@ -79,8 +77,8 @@ module _ (t gs : List ℕ) (i : ℕ) (w : Importing t gs i) where
       let later = lines-from (QUOTAS - (i + 1)) (suc (suc i)) (drop (54 * (i + 1)) t) in
       let front : take (i + 1) (set gs i g) ≡ take i gs ++ (g ∷ []) = rw (add-one i) (take-suc-set gs i g (omega arith)) in
       let zeros : getD gs i 0 ∷ drop (suc i) gs ≡ 0 ∷ replicate (QUOTAS - (i + 1)) 0 =
-          let e : QUOTAS - i ≡ suc (QUOTAS - (i + 1)) = omega arith in
-          sym (drop-cons gs i 0 (omega arith)) ∙ w .rest ∙ ap (λ (m : ℕ). replicate m 0) e in
+      let e : QUOTAS - i ≡ suc (QUOTAS - (i + 1)) = omega arith in
+      sym (drop-cons gs i 0 (omega arith)) ∙ w .rest ∙ ap (λ (m : ℕ). replicate m 0) e in
       record {
         long = k;
         rest = drop-set-lt (i + 1) gs i g (omega arith) ∙ ap (λ (m : ℕ). drop m gs) (add-one i) ∙ ap (λ (l : List ℕ). drop 1 l) zeros;
@@ -102,9 +100,9 @@ module _ (t gs : List ℕ) (i : ℕ) (w : Importing t gs i) where
         let f : lines-from QUOTAS 1 t ≡ Wrong TooMany (suc i) = w .so-far ∙ rw (e, lines-over (suc i) (drop (54 * i) t) (left-over l)) in
         ap (bad-at TooMany) (add-one i) ∙ sym (ap imported f)
 
-  pub import-end : length t ≤ 54 * i → _≡_ {A = Imported} (record { grants = gs; answer = Accepted }) (import-of t)
+  pub import-end : length t ≤ 54 * i → taken gs ≡ import-of t
   unfolding import-of imported behind
   import-end h =
       let f : lines-from QUOTAS 1 t ≡ Good gs =
-          w .so-far ∙ rw (drop-of-length-le t h, lines-end (QUOTAS - i) (suc i), ← w .rest) (ap Good (take-append-drop i gs)) in
+      w .so-far ∙ rw (drop-of-length-le t h, lines-end (QUOTAS - i) (suc i), ← w .rest) (ap Good (take-append-drop i gs)) in
       sym (ap imported f)

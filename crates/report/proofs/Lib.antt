@@ -6,3 +6,6 @@ pub mod Words
 pub mod Loops
 pub mod Exports
 pub mod Imports
+pub mod Exact
+pub mod Trips
+pub mod Feeds

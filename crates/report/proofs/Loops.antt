@@ -66,8 +66,8 @@ module _ (t : List ℕ) (at : ℕ) (l : at + 8 ≤ length t) (d : all-digits (ta
       let k : i < length s = omega (arith, length-drop at t) in
       let g : value (getD s i 0) ≡ v = ap value (getD-drop at t i 0) ∙ sym f in
       let x : number (take (i + 1) s) ≡ n * 16 + v =
-          ap (λ (j : ℕ). number (take j s)) (add-one i) ∙ ap number (take-suc s i 0 k) ∙ number-snoc (take i s) (getD s i 0)
-          ∙ (λ j. sym e j * 16 + g j) in
+      ap (λ (j : ℕ). number (take j s)) (add-one i) ∙ ap number (take-suc s i 0 k) ∙ number-snoc (take i s) (getD s i 0)
+      ∙ (λ j. sym e j * 16 + g j) in
       let y : all-digits (take (i + 1) s) ≡ true = rw (take-take (i + 1) 8 s (omega arith)) at (digits-take (i + 1) (take 8 s) d) in
       let z = number-fits (take (i + 1) s) y (omega (arith, length-take (i + 1) s)) in
       (sym x, omega arith)

@@ -5,12 +5,10 @@ use mathlib.Core.List.{List, [], _∷_, _++_, map}
 use Prim.Native.Nat.{ℕ, zero, suc}
 use lib.ListN.{length, set, take, drop, replicate}
 use Rattle.report.specs.Words.{digit, value, digits, number, line-text}
-use Rattle.report.specs.Import.{line-of, import-of, bad-at}
+use Rattle.report.specs.Import.{line-of, import-of, taken, bad-at}
 use Rattle.report.specs.Export.{lines-text, export-of}
 use Rattle.report.specs.declared.ReportRefusal.the-variants.{Character, Reserved, TooMany, Room}
 use Rattle.report.specs.declared.Line.the-variants.{Grant, Bad}
-use Rattle.report.specs.declared.ImportAnswer.the-variants.{Accepted}
-use Rattle.report.specs.declared.Imported.{Imported}
 use Rattle.report.specs.declared.ExportAnswer.the-variants.{Exported, Refused}
 use Rattle.report.proofs.Computing.{computing}
 
@@ -24,16 +22,13 @@ tail = word ++ (word ++ (word ++ (word ++ (word ++ (10 ∷ [])))))
 line : List ℕ
 line = 48 ∷ 48 ∷ 48 ∷ 48 ∷ 49 ∷ 48 ∷ 48 ∷ 48 ∷ tail
 
--- so many lines, and what is accepted
+-- so many lines
 many : ℕ → List ℕ → List ℕ
 many zero l = []
 many (suc n) l = l ++ many n l
 
-good : List ℕ → Imported
-good gs = record { grants = gs; answer = Accepted }
-
 shown : Unit {0}
-unfolding computing word tail line many good
+unfolding computing word tail line many
 shown = tt
 
 -- digits: both ends of each kind, and the characters beside them; no upper case
@@ -88,10 +83,10 @@ unfolding shown
 zero-rows = (refl, refl, refl, refl, refl, refl, refl, refl)
 
 -- import: no line, one line, two different ones, 32 of them; a 33rd line, a good one or anything else
-import-rows : (import-of [] ≡ good (replicate 32 0))
-    × (import-of line ≡ good (4096 ∷ replicate 31 0))
-    × (import-of (line ++ (replicate 8 102 ++ tail)) ≡ good (4096 ∷ 4294967295 ∷ replicate 30 0))
-    × (import-of (many 32 line) ≡ good (replicate 32 4096))
+import-rows : (import-of [] ≡ taken (replicate 32 0))
+    × (import-of line ≡ taken (4096 ∷ replicate 31 0))
+    × (import-of (line ++ (replicate 8 102 ++ tail)) ≡ taken (4096 ∷ 4294967295 ∷ replicate 30 0))
+    × (import-of (many 32 line) ≡ taken (replicate 32 4096))
     × (import-of (many 33 line) ≡ bad-at TooMany 33)
     × (import-of (many 32 line ++ (10 ∷ [])) ≡ bad-at TooMany 33)
     × (import-of (many 40 line) ≡ bad-at TooMany 33)

@@ -76,7 +76,7 @@ word-again m s w =
     let d : digits 8 (number (take 8 s)) ≡ take 8 s = rw (length-take-le 8 s (omega arith)) at (digits-number (take 8 s) (w .right)) in
     rw (d, ← w .marked, ← drop-cons s 8 0 (omega arith)) (take-append-drop 8 s)
 
-words-length : (k : ℕ) (s : List ℕ) → length (words k s) ≡ k
+pub words-length : (k : ℕ) (s : List ℕ) → length (words k s) ≡ k
 unfolding words
 words-length zero s = refl
 words-length (suc k) s = ap suc (words-length k (drop 9 s))

@@ -1,10 +1,12 @@
 -- What is said of import: which texts it takes, and which line is the first bad one.
-use Prim.Native.Nat.{ℕ, _+_, _-_, _^_, _≤_, _<_}
+use Prim.Native.Nat.{ℕ, zero, suc, _+_, _-_, _^_, _≤_, _<_}
 use mathlib.Core.Path.{_≡_}
 use mathlib.Core.List.{List, [], _∷_, _++_}
+use mathlib.Core.Bool.{cond}
 use mathlib.Core.Logic.{_⊎_}
-use lib.ListN.{length, replicate}
-use Rattle.report.specs.Import.{line-of}
+use lib.ListN.{length, drop, replicate}
+use lib.Dec.{eqb}
+use Rattle.report.specs.Import.{Lines, Good, Wrong, line-of, with-line}
 use Rattle.report.specs.Export.{lines-text}
 use Rattle.report.specs.declared.ReportRefusal.{ReportRefusal}
 use Rattle.report.specs.declared.ReportRefusal.the-variants.{TooMany}
@@ -32,3 +34,17 @@ pub record FirstBad (left n : ℕ) (s : List ℕ) (r : ReportRefusal) (m : ℕ) 
   pub lines : s ≡ lines-text listed ++ behind
   pub which : m ≡ n + length listed
   pub why : ((length listed ≡ left) × (r ≡ TooMany)) ⊎ ((length listed < left) × (line-of behind ≡ Bad r))
+
+-- a text up to its first line feed
+unfoldable pub to-line-feed : List ℕ → List ℕ
+to-line-feed [] = []
+to-line-feed (c ∷ s) = cond (eqb c 10) (c ∷ []) (c ∷ to-line-feed s)
+
+-- what lines say if each goes to its line feed, however far that is
+unfoldable pub lines-by-feed : ℕ → ℕ → List ℕ → Lines
+lines-by-feed zero n [] = Good []
+lines-by-feed zero n (c ∷ s) = Wrong TooMany n
+lines-by-feed (suc left) n [] = Good (replicate (suc left) 0)
+lines-by-feed (suc left) n (c ∷ s) =
+    let one = to-line-feed (c ∷ s) in
+    with-line n (line-of one) (lines-by-feed left (suc n) (drop (length one) (c ∷ s)))

@@ -44,11 +44,14 @@ lines-from (suc left) n [] = Good (replicate (suc left) 0)
 lines-from (suc left) n (c ∷ s) = with-line n (line-of (c ∷ s)) (lines-from left (suc n) (drop 54 (c ∷ s)))
 
 -- rule 21.6: what import gives, no grant where there is a bad line
+abbrev pub taken : List ℕ → Imported
+taken gs = record { grants = gs; answer = Accepted }
+
 abbrev pub bad-at : ReportRefusal → ℕ → Imported
 bad-at r n = record { grants = replicate QUOTAS 0; answer = Refused r n }
 
 unfoldable pub imported : Lines → Imported
-imported (Good gs) = record { grants = gs; answer = Accepted }
+imported (Good gs) = taken gs
 imported (Wrong r n) = bad-at r n
 
 unfoldable pub import-of : List ℕ → Imported

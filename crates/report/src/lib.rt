@@ -13,6 +13,7 @@ pub use importing::import_grants;
 
 // The length of a line with its line feed, and of an exported text.
 pub const LINE_LENGTH: usize = 54;
+
 pub const REPORT_LENGTH: usize = 1728;
 
 // Why a text is not imported, or grants are not exported, in the order of their numbers: a wrong character or place; a word after the first that is
