@@ -67,11 +67,13 @@ end-outcome left n =
     let e : left ≡ left - 0 = omega arith in
     record { listed = []; small = tt; fits = omega arith; lines = refl; grants = ap (λ (k : ℕ). replicate k 0) e }
 
-bad-outcome : (left n : ℕ) (s : List ℕ) (r : ReportRefusal) → 0 < length s → ((0 ≡ left) × (r ≡ TooMany)) ⊎ ((0 < left) × (line-of s ≡ Bad r)) → FirstBad left n s r n
+bad-outcome : (left n : ℕ) (s : List ℕ) (r : ReportRefusal) → 0 < length s → ((0 ≡ left) × (r ≡ TooMany)) ⊎ ((0 < left) × (line-of s ≡ Bad r))
+    → FirstBad left n s r n
 unfolding lines-text
 bad-outcome left n s r h w = record { listed = []; small = tt; behind = s; there = h; lines = refl; which = omega arith; why = w }
 
-good-outcome : (left n : ℕ) (s : List ℕ) (g : ℕ) (l : Lines) → line-of s ≡ Grant g → Outcome left (suc n) (drop 54 s) l → Outcome (suc left) n s (in-front g l)
+good-outcome : (left n : ℕ) (s : List ℕ) (g : ℕ) (l : Lines) → line-of s ≡ Grant g → Outcome left (suc n) (drop 54 s) l
+    → Outcome (suc left) n s (in-front g l)
 unfolding in-front lines-text
 good-outcome left n s g (Good gs) e o =
     let t = line-told s g e in
@@ -119,7 +121,10 @@ outcome (suc left) n (c ∷ s) =
 accepted-lines : (l : Lines) (t gs : List ℕ) → Outcome QUOTAS 1 t l → imported l ≡ taken gs → GoodLines QUOTAS t gs
 unfolding imported
 accepted-lines (Good hs) t gs o e = let f : hs ≡ gs = ap (λ (x : Imported). x .grants) e in rw (← f) o
-accepted-lines (Wrong r n) t gs o e = let a : Refused r n ≡ Accepted = ap (λ (x : Imported). x .answer) e in let z : _≡_ {A = ℕ} 0 1 = cc in absurd (omega arith)
+accepted-lines (Wrong r n) t gs o e =
+    let a : Refused r n ≡ Accepted = ap (λ (x : Imported). x .answer) e in
+    let z : _≡_ {A = ℕ} 0 1 = cc in
+    absurd (omega arith)
 
 pub import-accepts : (t gs : List ℕ) → (import-of t ≡ taken gs) ↔ GoodLines QUOTAS t gs
 unfolding import-of imported behind
@@ -134,7 +139,10 @@ import-accepts t gs = (accepted-lines (lines-from QUOTAS 1 t) t gs (outcome QUOT
 -- which are refused, by what, and at which line
 refused-lines : (l : Lines) (t : List ℕ) (r : ReportRefusal) (n : ℕ) → Outcome QUOTAS 1 t l → imported l ≡ bad-at r n → FirstBad QUOTAS 1 t r n
 unfolding imported
-refused-lines (Good hs) t r n o e = let a : Accepted ≡ Refused r n = ap (λ (x : Imported). x .answer) e in let z : _≡_ {A = ℕ} 0 1 = cc in absurd (omega arith)
+refused-lines (Good hs) t r n o e =
+    let a : Accepted ≡ Refused r n = ap (λ (x : Imported). x .answer) e in
+    let z : _≡_ {A = ℕ} 0 1 = cc in
+    absurd (omega arith)
 refused-lines (Wrong q m) t r n o e =
     let a : Refused q m ≡ Refused r n = ap (λ (x : Imported). x .answer) e in
     let p : q ≡ r = cc in
@@ -161,4 +169,6 @@ module _ (t : List ℕ) (r : ReportRefusal) (n : ℕ) (w : FirstBad QUOTAS 1 t r
 
 pub import-refuses : (t : List ℕ) (r : ReportRefusal) (n : ℕ) → (import-of t ≡ bad-at r n) ↔ FirstBad QUOTAS 1 t r n
 unfolding import-of
-import-refuses t r n = (refused-lines (lines-from QUOTAS 1 t) t r n (outcome QUOTAS 1 t), λ (w : FirstBad QUOTAS 1 t r n). ⊎-elim (over t r n w) (wrong t r n w) (w .why))
+import-refuses t r n =
+    let there = refused-lines (lines-from QUOTAS 1 t) t r n (outcome QUOTAS 1 t) in
+    (there, λ (w : FirstBad QUOTAS 1 t r n). ⊎-elim (over t r n w) (wrong t r n w) (w .why))

@@ -82,7 +82,10 @@ module _ (t gs : List ℕ) (i : ℕ) (w : Importing t gs i) where
       record {
         long = k;
         rest = drop-set-lt (i + 1) gs i g (omega arith) ∙ ap (λ (m : ℕ). drop m gs) (add-one i) ∙ ap (λ (l : List ℕ). drop 1 l) zeros;
-        so-far = w .so-far ∙ rw (this-line h l, ← e) (behind-more (take i gs) g later ∙ (λ j. behind (sym front j) (lines-from (QUOTAS - (i + 1)) (suc (sym (add-one i) j)) (drop (54 * (i + 1)) t))));
+        so-far =
+            w .so-far ∙ rw (this-line h l, ← e)
+            (behind-more (take i gs) g later
+            ∙ (λ j. behind (sym front j) (lines-from (QUOTAS - (i + 1)) (suc (sym (add-one i) j)) (drop (54 * (i + 1)) t))));
       }
 
   -- a bad line, one too many, and the end

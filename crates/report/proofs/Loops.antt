@@ -214,4 +214,5 @@ pub line-put : (at g : ℕ) (s s₁ s₂ : List ℕ) → at + 54 ≤ length s �
     → s₂ ≡ overwrite at (line-text g) s
 line-put at g s s₁ s₂ l e f =
     let k = digits-length 8 g in
-    f ∙ rw (e, line-tail g) (ap (λ (n : ℕ). overwrite (at + n) TAIL (overwrite at (digits 8 g) s)) (sym k) ∙ overwrite-two at (digits 8 g) TAIL s (omega arith))
+    let p : at + 8 ≡ at + length (digits 8 g) = omega arith in
+    f ∙ rw (e, line-tail g, p) (overwrite-two at (digits 8 g) TAIL s (omega arith))

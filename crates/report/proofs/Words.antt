@@ -167,7 +167,8 @@ pub line-told : (s : List ℕ) (g : ℕ) → line-of s ≡ Grant g → Told s g
 unfolding line-of
 line-told s g e = go (words-right 6 s) refl (all-zero (words 5 (drop 9 s))) refl e
   where
-    go : (t : Bool) → words-right 6 s ≡ t → (z : Bool) → all-zero (words 5 (drop 9 s)) ≡ z → cond t (cond z (Grant (number (take 8 s))) (Bad Reserved)) (Bad Character) ≡ Grant g
+    go : (t : Bool) → words-right 6 s ≡ t → (z : Bool) → all-zero (words 5 (drop 9 s)) ≡ z
+        → cond t (cond z (Grant (number (take 8 s))) (Bad Reserved)) (Bad Character) ≡ Grant g
         → Told s g
     go true t true z q = let n : number (take 8 s) ≡ g = cc in rw (← n) (told s t z)
     go true t false z q = let w : _≡_ {A = ℕ} 0 1 = cc in absurd (omega arith)

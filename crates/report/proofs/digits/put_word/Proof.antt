@@ -66,8 +66,11 @@ loop-again c =
     let a = s .args in
     let i = l .loop .i in
     let n = digits-length 8 (a .n) in
-    let e : c .digit-of .result ≡ getD (digits 8 (a .n)) i 0 = c .digit-of .ensures ∙ shifted (a .n) i (omega arith) in
-    (omega arith, put-more (a .at) i (c .digit-of .result) (digits 8 (a .n)) (a .text .now) (l .loop .text) (omega (arith, s .pre)) (omega arith) e (l .loop .inv .1))
+    let e : c .digit-of .result ≡ getD (digits 8 (a .n)) i 0 = c .digit-of .ensures ∙ shifted (a .n) i (omega arith) in (
+      omega arith,
+      put-more (a .at) i (c .digit-of .result) (digits 8 (a .n)) (a .text .now) (l .loop .text) (omega (arith, s .pre)) (omega arith) e
+          (l .loop .inv .1),
+    )
 
 same-length : tie.Need-same-length Inv-loop μ-loop
 same-length c = len (c .before)

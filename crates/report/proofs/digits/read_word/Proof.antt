@@ -25,7 +25,8 @@ mul-n c =
     let l = c .before in
     let s = l .before .before in
     let a = s .args in
-    let e = read-more (a .text .now) (a .at) (s .pre .0) (s .pre .1) (l .loop .i) (l .loop .n) (value (getD (a .text .now) (a .at + l .loop .i) 0)) (omega arith) (l .loop .inv .1) refl in
+    let e = read-more (a .text .now) (a .at) (s .pre .0) (s .pre .1) (l .loop .i) (l .loop .n) (value (getD (a .text .now) (a .at + l .loop .i) 0))
+    (omega arith) (l .loop .inv .1) refl in
     omega (arith, e .1)
 
 add-value-of : tie.Need-add-value-of Inv-loop μ-loop
@@ -42,7 +43,8 @@ add-n c =
     let l = c .before .before .before in
     let s = l .before .before in
     let a = s .args in
-    let e = read-more (a .text .now) (a .at) (s .pre .0) (s .pre .1) (l .loop .i) (l .loop .n) (c .value-of .result) (omega arith) (l .loop .inv .1) (c .value-of .ensures) in
+    let e = read-more (a .text .now) (a .at) (s .pre .0) (s .pre .1) (l .loop .i) (l .loop .n) (c .value-of .result) (omega arith) (l .loop .inv .1)
+    (c .value-of .ensures) in
     omega (arith, e .1)
 
 add-i : tie.Need-add-i Inv-loop μ-loop
@@ -56,7 +58,8 @@ loop-again c =
     let l = c .before .before .before in
     let s = l .before .before in
     let a = s .args in
-    let e = read-more (a .text .now) (a .at) (s .pre .0) (s .pre .1) (l .loop .i) (l .loop .n) (c .value-of .result) (omega arith) (l .loop .inv .1) (c .value-of .ensures) in
+    let e = read-more (a .text .now) (a .at) (s .pre .0) (s .pre .1) (l .loop .i) (l .loop .n) (c .value-of .result) (omega arith) (l .loop .inv .1)
+    (c .value-of .ensures) in
     (omega arith, e .0)
 
 returns : tie.Need-returns Inv-loop μ-loop

@@ -56,8 +56,11 @@ loop-again c =
     let l = w .before .before .before in
     let s = l .before .before in
     let a = s .args in
-    let n : length (a .t2) ≡ QUOTAS = s .good .1 .0 .1 .0 .1 in
-    (omega arith, put-line-more (l .loop .i) (a .t2) (a .text .now) (l .loop .text) (w .put-line .last .0) (omega arith) (omega (arith, s .pre)) (l .loop .inv .1) (w .put-line .ensures))
+    let n : length (a .t2) ≡ QUOTAS = s .good .1 .0 .1 .0 .1 in (
+      omega arith,
+      put-line-more (l .loop .i) (a .t2) (a .text .now) (l .loop .text) (w .put-line .last .0) (omega arith) (omega (arith, s .pre))
+          (l .loop .inv .1) (w .put-line .ensures),
+    )
 
 same-length : tie.Need-same-length Inv-loop μ-loop
 same-length c = len (c .before)

@@ -34,7 +34,8 @@ refused-requires c κs = search needs
 returns : tie.Need-returns Inv-loop μ-loop
 returns c =
     let l = c .before .before .before in
-    c .refused .ensures ∙ import-over (l .before .before .args .text .now) (l .loop .grants) (l .loop .i) (l .loop .inv .1) (c .before .before .loop-test .taken) (c .before .if1 .taken)
+    c .refused .ensures ∙ import-over (l .before .before .args .text .now) (l .loop .grants) (l .loop .i) (l .loop .inv .1)
+    (c .before .before .loop-test .taken) (c .before .if1 .taken)
 
 mul-read-line : tie.Need-mul-read-line Inv-loop μ-loop
 mul-read-line c = search needs
@@ -62,7 +63,8 @@ returns-2 c =
     let m = c .before .before in
     let r = m .before .before in
     let l = r .before .before .before in
-    c .refused2 .ensures ∙ import-bad (l .before .before .args .text .now) (l .loop .grants) (l .loop .i) (l .loop .inv .1) (r .before .before .loop-test .taken) (m .line2 .given .0 .0) (r .before .if1 .left) (sym (m .line2 .given .1) ∙ r .read-line .ensures)
+    c .refused2 .ensures ∙ import-bad (l .before .before .args .text .now) (l .loop .grants) (l .loop .i) (l .loop .inv .1)
+    (r .before .before .loop-test .taken) (m .line2 .given .0 .0) (r .before .if1 .left) (sym (m .line2 .given .1) ∙ r .read-line .ensures)
 
 add-i : tie.Need-add-i Inv-loop μ-loop
 add-i c = search needs
@@ -74,8 +76,11 @@ loop-again : tie.Need-loop-again Inv-loop μ-loop
 loop-again c =
     let m = c .before in
     let r = m .before .before in
-    let l = r .before .before .before in
-    (omega arith, import-more (l .before .before .args .text .now) (l .loop .grants) (l .loop .i) (l .loop .inv .1) (m .line .given .0 .0) (r .before .if1 .left) (r .before .before .loop-test .taken) (sym (m .line .given .1) ∙ r .read-line .ensures))
+    let l = r .before .before .before in (
+      omega arith,
+      import-more (l .before .before .args .text .now) (l .loop .grants) (l .loop .i) (l .loop .inv .1) (m .line .given .0 .0)
+          (r .before .if1 .left) (r .before .before .loop-test .taken) (sym (m .line .given .1) ∙ r .read-line .ensures),
+    )
 
 returns-3 : tie.Need-returns-3 Inv-loop μ-loop
 returns-3 c =

@@ -36,7 +36,8 @@ returns : tie.Need-returns Inv-loop μ-loop
 returns c =
     let l = c .before .before .before in
     let a = l .before .before .args in
-    right-stops (a .text .now) (a .at) (l .loop .k) (omega arith) (l .loop .inv .1) (sym (c .before .is-word .ensures) ∙ not-true (c .before .is-word .result) (c .if1 .taken))
+    right-stops (a .text .now) (a .at) (l .loop .k) (omega arith) (l .loop .inv .1)
+    (sym (c .before .is-word .ensures) ∙ not-true (c .before .is-word .result) (c .if1 .taken))
 
 add-k : tie.Need-add-k Inv-loop μ-loop
 add-k c = search needs
@@ -47,8 +48,11 @@ loop-less c = search needs
 loop-again : tie.Need-loop-again Inv-loop μ-loop
 loop-again c =
     let l = c .before .before .before in
-    let a = l .before .before .args in
-    (omega arith, right-goes-on (a .text .now) (a .at) (l .loop .k) (omega arith) (l .loop .inv .1) (sym (c .before .is-word .ensures) ∙ not-false (c .before .is-word .result) (c .if1 .left)))
+    let a = l .before .before .args in (
+      omega arith,
+      right-goes-on (a .text .now) (a .at) (l .loop .k) (omega arith) (l .loop .inv .1)
+          (sym (c .before .is-word .ensures) ∙ not-false (c .before .is-word .result) (c .if1 .left)),
+    )
 
 add-is-word-2 : tie.Need-add-is-word-2 Inv-loop μ-loop
 add-is-word-2 c = search needs

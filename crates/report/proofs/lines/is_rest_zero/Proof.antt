@@ -37,7 +37,8 @@ returns : tie.Need-returns Inv-loop μ-loop
 returns c =
     let l = c .before .before .before in
     let a = l .before .before .args in
-    zero-stops (a .text .now) (a .at) (l .loop .k) (c .before .read-word .result) (omega arith) (l .loop .inv .1) (c .before .read-word .ensures) (c .if1 .taken)
+    zero-stops (a .text .now) (a .at) (l .loop .k) (c .before .read-word .result) (omega arith) (l .loop .inv .1) (c .before .read-word .ensures)
+    (c .if1 .taken)
 
 add-k : tie.Need-add-k Inv-loop μ-loop
 add-k c = search needs
@@ -48,8 +49,11 @@ loop-less c = search needs
 loop-again : tie.Need-loop-again Inv-loop μ-loop
 loop-again c =
     let l = c .before .before .before in
-    let a = l .before .before .args in
-    (omega arith, zero-goes-on (a .text .now) (a .at) (l .loop .k) (c .before .read-word .result) (omega arith) (l .loop .inv .1) (c .before .read-word .ensures) (c .if1 .left))
+    let a = l .before .before .args in (
+      omega arith,
+      zero-goes-on (a .text .now) (a .at) (l .loop .k) (c .before .read-word .result) (omega arith) (l .loop .inv .1)
+          (c .before .read-word .ensures) (c .if1 .left),
+    )
 
 returns-2 : tie.Need-returns-2 Inv-loop μ-loop
 returns-2 c =

@@ -36,7 +36,8 @@ returns c =
     let l = c .before .before .before .before in
     let s = l .before .before in
     let a = s .args in
-    word-stops (a .text .now) (a .at) (a .mark) (s .pre) (l .loop .i) (omega arith) (sym (c .before .is-digit .ensures) ∙ not-true (c .before .is-digit .result) (c .if1 .taken))
+    word-stops (a .text .now) (a .at) (a .mark) (s .pre) (l .loop .i) (omega arith)
+    (sym (c .before .is-digit .ensures) ∙ not-true (c .before .is-digit .result) (c .if1 .taken))
 
 add-i : tie.Need-add-i Inv-loop μ-loop
 add-i c = search needs
@@ -48,8 +49,11 @@ loop-again : tie.Need-loop-again Inv-loop μ-loop
 loop-again c =
     let l = c .before .before .before .before in
     let s = l .before .before in
-    let a = s .args in
-    (omega arith, word-goes-on (a .text .now) (a .at) (a .mark) (s .pre) (l .loop .i) (omega arith) (l .loop .inv .1) (sym (c .before .is-digit .ensures) ∙ not-false (c .before .is-digit .result) (c .if1 .left)))
+    let a = s .args in (
+      omega arith,
+      word-goes-on (a .text .now) (a .at) (a .mark) (s .pre) (l .loop .i) (omega arith) (l .loop .inv .1)
+          (sym (c .before .is-digit .ensures) ∙ not-false (c .before .is-digit .result) (c .if1 .left)),
+    )
 
 add-result : tie.Need-add-result Inv-loop μ-loop
 add-result c = search needs

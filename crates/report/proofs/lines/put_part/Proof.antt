@@ -47,8 +47,11 @@ loop-again : tie.Need-loop-again Inv-loop μ-loop
 loop-again c =
     let l = c .before .before in
     let a = l .before .args in
-    let i = l .loop .i in
-    (omega arith, put-more (a .at) i (getD (a .part .now) i 0) (a .part .now) (a .text .now) (l .loop .text) (l .before .pre) (omega arith) refl (l .loop .inv .1))
+    let i = l .loop .i in (
+      omega arith,
+      put-more (a .at) i (getD (a .part .now) i 0) (a .part .now) (a .text .now) (l .loop .text) (l .before .pre) (omega arith) refl
+          (l .loop .inv .1),
+    )
 
 same-length : tie.Need-same-length Inv-loop μ-loop
 same-length c = len (c .before)

@@ -46,7 +46,8 @@ returns-3 : tie.Need-returns-3
 returns-3 c =
     let e = c .before .before in
     let a = e .before .before .before .before .args in
-    line-reserved (drop (a .at) (a .text .now)) (right e) (rest (a .text .now) (a .at) (c .before .is-rest-zero .result) (c .before .is-rest-zero .ensures) ∙ not-true (c .before .is-rest-zero .result) (c .if3 .taken))
+    line-reserved (drop (a .at) (a .text .now)) (right e) (rest (a .text .now) (a .at) (c .before .is-rest-zero .result) (c .before .is-rest-zero .ensures)
+    ∙ not-true (c .before .is-rest-zero .result) (c .if3 .taken))
 
 read-word-requires : tie.Need-read-word-requires
 read-word-requires c κs =
@@ -59,7 +60,8 @@ returns-4 c =
     let z = c .before .before in
     let e = z .before in
     let a = e .before .before .before .before .args in
-    ap Grant (c .read-word .ensures) ∙ line-right (drop (a .at) (a .text .now)) (right e) (rest (a .text .now) (a .at) (z .is-rest-zero .result) (z .is-rest-zero .ensures) ∙ not-false (z .is-rest-zero .result) (c .before .if3 .left))
+    ap Grant (c .read-word .ensures) ∙ line-right (drop (a .at) (a .text .now)) (right e)
+    (rest (a .text .now) (a .at) (z .is-rest-zero .result) (z .is-rest-zero .ensures) ∙ not-false (z .is-rest-zero .result) (c .before .if3 .left))
 
 pub read-line-spec : {M : Type 1} → statement M
 read-line-spec =
