@@ -1,4 +1,4 @@
-//! The command `lokhazim`: replays scripts and works on images. Every rule is in the proved library;
+//! The command `lokhazim`: replays scripts, works on images and reads audit reports. Every rule is in the proved library;
 //! this program reads files, calls it and prints.
 //!
 //! Exit status: 0 where all went well, 1 where the library refuses, 2 for wrong words or a file that
@@ -12,8 +12,10 @@ compile_error!("liblokhazim_replay.a is missing: run 'make cli' in the repositor
 mod failure;
 mod files;
 mod image;
+mod json;
 #[allow(unsafe_code)]
 mod proved;
+mod report;
 mod script;
 
 use std::env;
@@ -39,6 +41,9 @@ lokhazim: a heap that parts of a firmware share, by its proved library
     lokhazim image compare A B        print what differs between two images, a line each: serial,
                                       quota NUMBER, record PLACE, bytes OFFSET LENGTH; status 0 where
                                       nothing does, 1 where something does, 2 where one is refused
+    lokhazim report import FILE       print the grants of an audit report, ready to stand behind 'open H';
+                                      FILE has a line for each quota, or is the linker's JSON
+    lokhazim report export G..        print grants as a report of 32 lines; missing ones are 0
     lokhazim help | version
 
 A script begins with 'open H' and {QUOTAS} grants, then has a call to a line: alloc q n, array q n s,
@@ -75,6 +80,8 @@ fn run(words: &[&str]) -> Result<(), Failure> {
         ["image", "save", "--form", "2", script, out] => image::save(Form::Second, script, out),
         ["image", "show", file] => image::show(file),
         ["image", "compare", first, second] => image::compare(first, second),
+        ["report", "import", file] => report::import(file),
+        ["report", "export", grants @ ..] if !grants.is_empty() => report::export(grants),
         ["help" | "--help" | "-h"] => files::print(help().as_bytes()),
         ["version" | "--version"] => {
             files::print(concat!("lokhazim ", env!("CARGO_PKG_VERSION"), "\n").as_bytes())

@@ -32,6 +32,7 @@ pub mod ledger;
 pub mod lent;
 pub mod malformed;
 pub mod programs;
+pub mod reports;
 pub mod rounds;
 pub mod script;
 pub mod seed;
