@@ -2,8 +2,8 @@
 -- Assumes nothing.
 use mathlib.Core.Path.{_≡_, refl, ap, sym, _∙_}
 use mathlib.Core.List.{List, [], _∷_, _++_, map, append-assoc, append-nil}
-use mathlib.Core.Bool.{Bool, true, false, cond, _&&_, false≢true}
-use Prim.Native.Nat.{ℕ, zero, suc, _%_, _^_, _<_}
+use mathlib.Core.Bool.{Bool, true, false, cond, false≢true}
+use Prim.Native.Nat.{ℕ, zero, suc, _%_, _^_}
 use native.Mathlib.Omega.{arith}
 use lib.ListN.{length, drop, getD, replicate}
 use lib.Dec.{eqb}
@@ -17,7 +17,6 @@ use Rattle.report.specs.declared.ReportRefusal.the-variants.{Reserved}
 use Rattle.report.proofs.Hex.{and-parts, digits-are}
 use Rattle.report.proofs.Words.{text-right, text-words, words-text, words-length, line-length, line-told}
 use Rattle.report.proofs.Loops.{line-wrong}
-use Rattle.report.proofs.Imports.{lines-step}
 
 -- a line feed is no digit, so a line goes to its own
 digits-pass : (d r : List ℕ) → all-digits d ≡ true → to-line-feed (d ++ r) ≡ d ++ to-line-feed r

@@ -1,17 +1,16 @@
 -- The lines of a text one by one: what is known once the first i of them are read, and what import then gives.
 -- Assumes nothing.
 use mathlib.Core.Path.{_≡_, refl, ap, sym, _∙_}
-use mathlib.Core.List.{List, [], _∷_, _++_, append-assoc, append-nil}
+use mathlib.Core.List.{List, [], _∷_, _++_, append-assoc}
 use Prim.Native.Nat.{ℕ, zero, suc, _+_, _*_, _-_, _≤_, _<_}
 use native.Mathlib.Omega.{arith}
 use native.Mathlib.Numerals.{add-one}
-use lib.ListN.{length, take, drop, getD, set, replicate, length-set, length-drop, drop-of-length-le, take-append-drop, length-replicate}
+use lib.ListN.{length, take, drop, getD, set, replicate, length-set, length-drop, drop-of-length-le, take-append-drop}
 use lib.Seq.{take-suc-set, drop-set-lt, drop-drop, drop-cons}
 use Rattle.accounts.specs.Accounts.{QUOTAS}
 use Rattle.report.specs.Import.{Lines, Good, Wrong, line-of, in-front, with-line, lines-from, taken, bad-at, imported, import-of}
 use Rattle.report.specs.declared.ReportRefusal.{ReportRefusal}
 use Rattle.report.specs.declared.ReportRefusal.the-variants.{TooMany}
-use Rattle.report.specs.declared.Line.{Line}
 use Rattle.report.specs.declared.Line.the-variants.{Grant, Bad}
 use Rattle.report.proofs.Rows
 

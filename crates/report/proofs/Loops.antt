@@ -2,7 +2,7 @@
 -- Assumes nothing.
 use mathlib.Core.Path.{_≡_, refl, ap, sym, _∙_}
 use mathlib.Core.List.{List, [], _∷_, _++_}
-use mathlib.Core.Bool.{Bool, true, false, cond, _&&_}
+use mathlib.Core.Bool.{Bool, true, false, _&&_}
 use Prim.Native.Nat.{ℕ, zero, suc, _+_, _*_, _-_, _/_, _%_, _^_, _≤_, _<_}
 use native.Mathlib.Omega.{arith}
 use native.Mathlib.Numerals.{add-one}
@@ -11,7 +11,7 @@ use lib.Pow.{pow-add}
 use lib.ListN.{length, take, drop, getD, set, length-append, length-take, length-drop}
 use lib.Seq.{take-suc, take-take, getD-take, getD-drop, drop-drop, length-take-le}
 use lib.Dec.{leb, eqb, lit<}
-use borrow.Author.Tests.{le-leb, lt-leb, leb-true, eq-eqb, ne-eqb}
+use borrow.Author.Tests.{le-leb, eq-eqb, ne-eqb}
 use Rattle.layout.specs.Bytes.{overwrite}
 use Rattle.layout.proofs.Overwrite.{overwrite-more, overwrite-two}
 use Rattle.report.specs.Words.{digit, value, is-digit, all-digits, digits, number, mark, text, line-text, word-right, words-right, words, all-zero}

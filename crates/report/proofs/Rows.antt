@@ -3,7 +3,7 @@
 use mathlib.Core.Path.{_≡_, refl}
 use mathlib.Core.List.{List, [], _∷_, _++_, map}
 use Prim.Native.Nat.{ℕ, zero, suc}
-use lib.ListN.{length, set, take, drop, replicate}
+use lib.ListN.{length, set, take, replicate}
 use Rattle.report.specs.Words.{digit, value, digits, number, line-text}
 use Rattle.report.specs.Import.{line-of, import-of, taken, bad-at}
 use Rattle.report.specs.Export.{lines-text, export-of}

@@ -1,7 +1,7 @@
 -- The invariant: the first `i` digits stand at the place (`put-more`), each by its shift (`shifted`). The measure is how many are left.
 -- Assumes nothing.
 use native.Mathlib.Omega.{arith}
-use mathlib.Core.Path.{_≡_, refl, ap, sym, _∙_}
+use mathlib.Core.Path.{_≡_, ap, sym, _∙_}
 use mathlib.Core.List.{List}
 use Prim.Native.Nat.{ℕ, _-_, _≤_}
 use lib.ListN.{length, take, getD}

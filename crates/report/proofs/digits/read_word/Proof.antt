@@ -1,7 +1,7 @@
 -- The invariant: `n` is the number of the first `i` digits (`read-more`). The measure is how many are left.
 -- Assumes nothing.
 use native.Mathlib.Omega.{arith}
-use mathlib.Core.Path.{_≡_, refl, ap, sym, _∙_}
+use mathlib.Core.Path.{_≡_, refl, ap, _∙_}
 use Prim.Native.Nat.{ℕ, _+_, _-_, _≤_}
 use lib.ListN.{take, drop, getD}
 use Rattle.report.specs.Words.{value, number}

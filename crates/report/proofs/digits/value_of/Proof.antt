@@ -1,7 +1,7 @@
 -- The value of each kind of character (`value-decimal`, `value-letter`, and 16 for the others).
 -- Assumes nothing.
 use native.Mathlib.Omega.{arith}
-use mathlib.Core.Path.{_≡_, ap, sym, _∙_}
+use mathlib.Core.Path.{ap, sym, _∙_}
 use Prim.Native.Nat.{ℕ, _-_}
 use Rattle.report.proofs.Hex.{value-low, value-decimal, value-between, value-letter, value-high}
 use borrow.Author.Needs.{needs}

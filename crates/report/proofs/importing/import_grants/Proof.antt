@@ -2,7 +2,7 @@
 -- many (`import-over`). The measure is how many quotas have no line yet.
 -- Assumes nothing.
 use native.Mathlib.Omega.{arith}
-use mathlib.Core.Path.{_≡_, sym, _∙_}
+use mathlib.Core.Path.{sym, _∙_}
 use Prim.Native.Nat.{_-_, _≤_}
 use Rattle.accounts.specs.Accounts.{QUOTAS}
 use Rattle.report.proofs.Imports.{Importing, import-start, import-more, import-bad, import-over, import-end}
@@ -35,7 +35,7 @@ returns : tie.Need-returns Inv-loop μ-loop
 returns c =
     let l = c .before .before .before in
     c .refused .ensures ∙ import-over (l .before .before .args .text .now) (l .loop .grants) (l .loop .i) (l .loop .inv .1)
-    (c .before .before .loop-test .taken) (c .before .if1 .taken)
+    (c .before .before .loop-test .taken) (omega arith)
 
 mul-read-line : tie.Need-mul-read-line Inv-loop μ-loop
 mul-read-line c = search needs

@@ -1,6 +1,5 @@
 -- The word of the grant, and the tail behind it (`line-put`).
 -- Assumes nothing.
-use native.Mathlib.Omega.{arith}
 use Rattle.report.proofs.Loops.{line-put}
 use borrow.Author.Needs.{needs}
 use Rattle.report.proofs.lines.put_line.Statement.{statement}

@@ -1,8 +1,6 @@
 -- The numbers of the answer's case, with the grants as they are.
 -- Assumes nothing.
-use mathlib.Core.Path.{_≡_, ap, sym, _∙_}
-use mathlib.Core.List.{List}
-use Prim.Native.Nat.{ℕ}
+use mathlib.Core.Path.{ap, sym, _∙_}
 use Rattle.report.specs.declared.ImportAnswer.{ImportAnswer}
 use Rattle.report_api.specs.Replies.{import-reply}
 use borrow.Author.Needs.{needs}
