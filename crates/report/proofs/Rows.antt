@@ -5,10 +5,13 @@ use mathlib.Core.List.{List, [], _∷_, _++_, map}
 use Prim.Native.Nat.{ℕ, zero, suc}
 use lib.ListN.{length, set, take, replicate}
 use Rattle.report.specs.Words.{digit, value, digits, number, line-text}
-use Rattle.report.specs.Import.{line-of, import-of, taken, bad-at}
+use Rattle.report.specs.Import.{report-refusal-number, line-of, import-of}
 use Rattle.report.specs.Export.{lines-text, export-of}
+use Rattle.report.specs.declared.ReportRefusal.{ReportRefusal}
 use Rattle.report.specs.declared.ReportRefusal.the-variants.{Character, Reserved, TooMany, Room}
 use Rattle.report.specs.declared.Line.the-variants.{Grant, Bad}
+use Rattle.report.specs.declared.ImportAnswer.the-variants.{Accepted, Refused as NotImported}
+use Rattle.report.specs.declared.Imported.{Imported}
 use Rattle.report.specs.declared.ExportAnswer.the-variants.{Exported, Refused}
 use Rattle.report.proofs.Computing.{computing}
 
@@ -27,9 +30,20 @@ many : ℕ → List ℕ → List ℕ
 many zero l = []
 many (suc n) l = l ++ many n l
 
+-- what is accepted, and what is refused at a line
+good : List ℕ → Imported
+good gs = record { grants = gs; answer = Accepted }
+
+bad : ReportRefusal → ℕ → Imported
+bad r n = record { grants = replicate 32 0; answer = NotImported r n }
+
 shown : Unit {0}
-unfolding computing word tail line many
+unfolding computing word tail line many good bad
 shown = tt
+
+-- the numbers of the refusals
+number-rows : map report-refusal-number (Character ∷ Reserved ∷ TooMany ∷ Room ∷ []) ≡ 31 ∷ 32 ∷ 33 ∷ 34 ∷ []
+number-rows = refl
 
 -- digits: both ends of each kind, and the characters beside them; no upper case
 digit-rows : (map digit (0 ∷ 9 ∷ 10 ∷ 15 ∷ []) ≡ 48 ∷ 57 ∷ 97 ∷ 102 ∷ [])
@@ -83,26 +97,26 @@ unfolding shown
 zero-rows = (refl, refl, refl, refl, refl, refl, refl, refl)
 
 -- import: no line, one line, two different ones, 32 of them; a 33rd line, a good one or anything else
-import-rows : (import-of [] ≡ taken (replicate 32 0))
-    × (import-of line ≡ taken (4096 ∷ replicate 31 0))
-    × (import-of (line ++ (replicate 8 102 ++ tail)) ≡ taken (4096 ∷ 4294967295 ∷ replicate 30 0))
-    × (import-of (many 32 line) ≡ taken (replicate 32 4096))
-    × (import-of (many 33 line) ≡ bad-at TooMany 33)
-    × (import-of (many 32 line ++ (10 ∷ [])) ≡ bad-at TooMany 33)
-    × (import-of (many 40 line) ≡ bad-at TooMany 33)
+import-rows : (import-of [] ≡ good (replicate 32 0))
+    × (import-of line ≡ good (4096 ∷ replicate 31 0))
+    × (import-of (line ++ (replicate 8 102 ++ tail)) ≡ good (4096 ∷ 4294967295 ∷ replicate 30 0))
+    × (import-of (many 32 line) ≡ good (replicate 32 4096))
+    × (import-of (many 33 line) ≡ bad TooMany 33)
+    × (import-of (many 32 line ++ (10 ∷ [])) ≡ bad TooMany 33)
+    × (import-of (many 40 line) ≡ bad TooMany 33)
 unfolding shown
 import-rows = (refl, refl, refl, refl, refl, refl, refl)
 
 -- the first bad line decides, by its number from 1: in the first line, the second, the last; an earlier 32 before a later 31, and 31 before 33
-bad-rows : (import-of (10 ∷ []) ≡ bad-at Character 1)
-    × (import-of (take 53 line) ≡ bad-at Character 1)
-    × (import-of (line ++ take 53 line) ≡ bad-at Character 2)
-    × (import-of (line ++ (10 ∷ line)) ≡ bad-at Character 2)
-    × (import-of (take 53 line ++ (13 ∷ 10 ∷ line)) ≡ bad-at Character 1)
-    × (import-of (line ++ (set line 52 49 ++ set line 0 65)) ≡ bad-at Reserved 2)
-    × (import-of (line ++ (set line 0 65 ++ set line 52 49)) ≡ bad-at Character 2)
-    × (import-of (many 31 line ++ (set line 52 49 ++ line)) ≡ bad-at Reserved 32)
-    × (import-of (many 31 line ++ take 53 line) ≡ bad-at Character 32)
+bad-rows : (import-of (10 ∷ []) ≡ bad Character 1)
+    × (import-of (take 53 line) ≡ bad Character 1)
+    × (import-of (line ++ take 53 line) ≡ bad Character 2)
+    × (import-of (line ++ (10 ∷ line)) ≡ bad Character 2)
+    × (import-of (take 53 line ++ (13 ∷ 10 ∷ line)) ≡ bad Character 1)
+    × (import-of (line ++ (set line 52 49 ++ set line 0 65)) ≡ bad Reserved 2)
+    × (import-of (line ++ (set line 0 65 ++ set line 52 49)) ≡ bad Character 2)
+    × (import-of (many 31 line ++ (set line 52 49 ++ line)) ≡ bad Reserved 32)
+    × (import-of (many 31 line ++ take 53 line) ≡ bad Character 32)
 unfolding shown
 bad-rows = (refl, refl, refl, refl, refl, refl, refl, refl, refl)
 
