@@ -1,6 +1,7 @@
 -- The rows that the definitions are held to, and laws of the report.
 pub mod Computing
 pub mod Rows
+pub mod Answers
 pub mod Hex
 pub mod Words
 pub mod Loops

@@ -18,7 +18,7 @@ report-refusal-number Reserved = 32
 report-refusal-number TooMany = 33
 report-refusal-number Room = 34
 
--- rules 21.3 and 21.4: what the line says that s begins with, 31 before 32
+-- rule 21.4: what the line says that s begins with, 31 before 32
 unfoldable pub line-of : List ℕ → Line
 line-of s = cond (words-right 6 s) (cond (all-zero (words 5 (drop 9 s))) (Grant (number (take 8 s))) (Bad Reserved)) (Bad Character)
 
@@ -36,7 +36,7 @@ unfoldable pub with-line : ℕ → Line → Lines → Lines
 with-line n (Grant g) later = in-front g later
 with-line n (Bad r) later = Wrong r n
 
--- rule 21.5: the lines from the n-th on, for so many quotas; missing grants are 0, and a line for which there is no quota is a bad one, whatever it says
+-- rules 21.3 and 21.5: the lines from the n-th on, for so many quotas; missing grants are 0, and a line for which there is no quota is a bad one, whatever it says
 unfoldable pub lines-from : ℕ → ℕ → List ℕ → Lines
 lines-from zero n [] = Good []
 lines-from zero n (c ∷ s) = Wrong TooMany n
