@@ -4,29 +4,44 @@ use lokhazim_reference::{export_grants, import_grants, QUOTAS};
 
 use crate::boundary::report as proved;
 use crate::boundary::report::Imported;
+use crate::compare::{save, Failure};
 use crate::lent::Lent;
 use crate::seed::Seed;
 
 /// The length of a line.
 pub const LINE: usize = 54;
 
-/// What was compared: how often each refusal came, by its number, and how many texts were exported.
-#[derive(Default)]
+/// Both sides, and what was compared: how often each refusal came, and how many texts were exported.
 pub struct Reports {
+    lend: fn(&[u8]) -> Lent,
     imports: [u64; 4],
     exports: [u64; 2],
 }
 
 impl Reports {
+    /// Lends texts with guard bytes around them.
+    pub fn new() -> Reports {
+        Reports::lending(Lent::guarded)
+    }
+
+    /// Lends texts in allocations of their exact length, whose ends a memory checker watches.
+    pub fn for_memory_checker() -> Reports {
+        Reports::lending(Lent::exact)
+    }
+
+    /// Lends texts in this way.
+    fn lending(lend: fn(&[u8]) -> Lent) -> Reports {
+        Reports {
+            lend,
+            imports: [0; 4],
+            exports: [0; 2],
+        }
+    }
+
     /// Imports a text on both sides and gives what they agree on. Text and guards have to stay.
-    ///
-    /// # Panics
-    ///
-    /// Where the two differ.
-    pub fn import(&mut self, text: &[u8]) -> Imported {
-        let mut lent = Lent::guarded(text);
+    pub fn import(&mut self, text: &[u8]) -> Result<Imported, Failure> {
+        let mut lent = (self.lend)(text);
         let found = proved::import(lent.part());
-        let shown = String::from_utf8_lossy(text);
         let expected = match import_grants(text) {
             Ok(grants) => Imported {
                 grants,
@@ -39,32 +54,44 @@ impl Reports {
                 line: line as u32,
             },
         };
-        assert_eq!(found, expected, "proved, then reference, of {shown:?}");
-        assert_eq!(lent.part(), text, "the text was written");
-        assert!(lent.guards_hold(), "a byte beside {shown:?} was written");
-        let place = found.refusal.saturating_sub(30);
-        self.imports[place as usize] += 1;
-        found
+        if found != expected {
+            return self.differs(text, &format!("proved {found:?}, reference {expected:?}"));
+        }
+        if lent.part() != text || !lent.guards_hold() {
+            return self.differs(text, "import wrote a byte");
+        }
+        self.imports[found.refusal.saturating_sub(30) as usize] += 1;
+        Ok(found)
     }
 
     /// Exports grants into a lent text on both sides and gives what it then holds.
-    ///
-    /// # Panics
-    ///
-    /// Where the two differ.
-    pub fn export(&mut self, text: &[u8], grants: [u32; QUOTAS]) -> Vec<u8> {
-        let mut lent = Lent::guarded(text);
+    pub fn export(&mut self, text: &[u8], grants: [u32; QUOTAS]) -> Result<Vec<u8>, Failure> {
+        let mut lent = (self.lend)(text);
         let found = proved::export(lent.part(), grants);
         let mut other = text.to_vec();
         let expected = match export_grants(grants, &mut other) {
             Ok(length) => (0, length),
             Err(refusal) => (u32::from(refusal.number()), 0),
         };
-        assert_eq!(found, expected, "proved, then reference, of {grants:?}");
-        assert_eq!(lent.part(), other, "what {grants:?} leave");
-        assert!(lent.guards_hold(), "a byte beside the text was written");
+        if found != expected {
+            let words = format!("proved {found:?}, reference {expected:?} of {grants:?}");
+            return self.differs(text, &words);
+        }
+        if lent.part() != other || !lent.guards_hold() {
+            return self.differs(lent.part(), &format!("export left this of {grants:?}"));
+        }
         self.exports[usize::from(found.0 != 0)] += 1;
-        other
+        Ok(other)
+    }
+
+    /// The failure of a text, which is saved.
+    fn differs<T>(&self, text: &[u8], what: &str) -> Result<T, Failure> {
+        let done: u64 = self.imports.iter().chain(&self.exports).sum();
+        let file = save(&format!("report-{done}.text"), text)?;
+        Err(Failure(format!(
+            "a report: {what}. The text is saved in {}",
+            file.display()
+        )))
     }
 
     /// How many texts were accepted, and refused by 31, 32 and 33.
@@ -75,6 +102,12 @@ impl Reports {
     /// How many texts were written, and how many had no room.
     pub fn exports(&self) -> [u64; 2] {
         self.exports
+    }
+}
+
+impl Default for Reports {
+    fn default() -> Reports {
+        Reports::new()
     }
 }
 
@@ -121,4 +154,21 @@ pub fn spoil(seed: &mut Seed, text: &mut Vec<u8>) {
         }
         _ => text.rotate_left(at),
     }
+}
+
+/// Imports the n-th text of a seed, spoiled or not, and exports grants of its own and back.
+pub fn random(reports: &mut Reports, seed: u64, n: u64) -> Result<(), Failure> {
+    let mut seed = Seed::of_case(seed, n);
+    let count = seed.place(35);
+    let mut text = lines(&mut seed, count);
+    for _ in 0..seed.below(4) {
+        spoil(&mut seed, &mut text);
+    }
+    reports.import(&text)?;
+    let grants = std::array::from_fn(|_| seed.odd_word());
+    let length = seed.between(1_700, 1_760) as usize;
+    let before: Vec<u8> = (0..length).map(|_| seed.byte()).collect();
+    let after = reports.export(&before, grants)?;
+    reports.import(&after)?;
+    Ok(())
 }

@@ -3,11 +3,23 @@
 
 use lokhazim_reference::{QUOTAS, REPORT_BYTES};
 use lokhazim_tests::boundary::report::Imported;
-use lokhazim_tests::reports::{line, lines, spoil, Reports, LINE};
+use lokhazim_tests::reports::{line, lines, random, Reports, LINE};
 use lokhazim_tests::seed::Seed;
 
 /// The seed of every case.
 const SEED: u64 = 20_261_116;
+
+/// What both sides give for a text.
+fn import(reports: &mut Reports, text: &[u8]) -> Imported {
+    let found = reports.import(text);
+    found.unwrap_or_else(|failure| panic!("{failure}"))
+}
+
+/// What both sides leave in a lent text.
+fn export(reports: &mut Reports, text: &[u8], grants: [u32; QUOTAS]) -> Vec<u8> {
+    let left = reports.export(text, grants);
+    left.unwrap_or_else(|failure| panic!("{failure}"))
+}
 
 /// What is expected of a text that is refused.
 fn refused(refusal: u32, line: u32) -> Imported {
@@ -36,9 +48,9 @@ fn full() -> Vec<u8> {
 
 #[test]
 fn the_rows_of_the_rules() {
-    let mut reports = Reports::default();
+    let mut reports = Reports::new();
     let good = line(4096);
-    let mut expect = |text: &[u8], expected| assert_eq!(reports.import(text), expected);
+    let mut expect = |text: &[u8], expected| assert_eq!(import(&mut reports, text), expected);
     let both = |front: &[u8], rest: &[u8]| [front, rest].concat();
     let with = |at: usize, byte: u8| {
         let mut text = line(4096);
@@ -68,16 +80,16 @@ fn the_rows_of_the_rules() {
 
 #[test]
 fn no_line_to_34_lines() {
-    let mut reports = Reports::default();
+    let mut reports = Reports::new();
     let mut seed = Seed::new(SEED);
     for count in 0..=34 {
         let text = lines(&mut seed, count);
         let expected = if count > 32 { (33, 33) } else { (0, 0) };
-        let found = reports.import(&text);
+        let found = import(&mut reports, &text);
         assert_eq!((found.refusal, found.line), expected, "{count} lines");
         for cut in [1, 2, 53] {
             let end = text.len().saturating_sub(cut);
-            let short = reports.import(&text[..end]);
+            let short = import(&mut reports, &text[..end]);
             if (1..=32).contains(&count) {
                 assert_eq!(short, refused(31, count as u32), "{count} lines");
             }
@@ -88,7 +100,7 @@ fn no_line_to_34_lines() {
 
 #[test]
 fn every_character_of_a_report_changed() {
-    let mut reports = Reports::default();
+    let mut reports = Reports::new();
     let text = full();
     for at in 0..text.len() {
         let here = text[at];
@@ -108,7 +120,7 @@ fn every_character_of_a_report_changed() {
         ] {
             let mut changed = text.clone();
             changed[at] = wrong;
-            let found = reports.import(&changed);
+            let found = import(&mut reports, &changed);
             let (row, column) = ((at / LINE + 1) as u32, at % LINE);
             let digit = wrong.is_ascii_digit() || (b'a'..=b'f').contains(&wrong);
             let expected = match (wrong == here, column % 9 != 8 && digit, column < 8) {
@@ -125,12 +137,12 @@ fn every_character_of_a_report_changed() {
 
 #[test]
 fn every_byte_at_each_place_of_a_line() {
-    let mut reports = Reports::default();
+    let mut reports = Reports::new();
     for at in 0..LINE {
         for byte in 0..=u8::MAX {
             let mut text = [line(0x89ab_cdef), line(7)].concat();
             text[at] = byte;
-            reports.import(&text);
+            import(&mut reports, &text);
         }
     }
     assert_eq!(reports.imports().iter().sum::<u64>(), 54 * 256);
@@ -138,88 +150,79 @@ fn every_byte_at_each_place_of_a_line() {
 
 #[test]
 fn lines_moved_cut_and_joined() {
-    let mut reports = Reports::default();
+    let mut reports = Reports::new();
     let text = full();
     for at in 0..=text.len() {
-        reports.import(&text[..at]);
-        reports.import(&text[at..]);
+        import(&mut reports, &text[..at]);
+        import(&mut reports, &text[at..]);
         let mut turned = text.clone();
         turned.rotate_left(at);
-        reports.import(&turned);
+        import(&mut reports, &turned);
         for extra in [b'0', b' ', b'\n', b'\r'] {
             let mut longer = text[..at].to_vec();
             longer.push(extra);
             longer.extend(&text[at..]);
-            reports.import(&longer);
+            import(&mut reports, &longer);
         }
     }
     for row in 0..32 {
         let mut joined = text.clone();
         joined.remove(row * LINE + 53);
-        assert_eq!(reports.import(&joined), refused(31, row as u32 + 1));
+        assert_eq!(import(&mut reports, &joined), refused(31, row as u32 + 1));
         let mut dropped = text.clone();
         dropped.drain(row * LINE..(row + 1) * LINE);
-        assert_eq!(reports.import(&dropped).refusal, 0);
+        assert_eq!(import(&mut reports, &dropped).refusal, 0);
     }
     println!("{:?}", reports.imports());
 }
 
 #[test]
 fn random_texts() {
-    let mut reports = Reports::default();
+    let mut reports = Reports::new();
     for n in 0..20_000 {
-        let mut seed = Seed::of_case(SEED, n);
-        let count = seed.place(35);
-        let mut text = lines(&mut seed, count);
-        for _ in 0..seed.below(4) {
-            spoil(&mut seed, &mut text);
-        }
-        reports.import(&text);
+        random(&mut reports, SEED, n).unwrap_or_else(|failure| panic!("{failure}"));
     }
-    println!("{:?}", reports.imports());
+    println!("{:?} {:?}", reports.imports(), reports.exports());
     assert!(reports.imports().iter().all(|count| *count > 200));
+    assert!(reports.exports().iter().all(|count| *count > 5_000));
 }
 
 #[test]
 fn any_bytes() {
-    let mut reports = Reports::default();
+    let mut reports = Reports::new();
     for n in 0..2_000 {
         let mut seed = Seed::of_case(SEED + 1, n);
         let length = seed.place(200);
         let text: Vec<u8> = (0..length).map(|_| seed.byte()).collect();
-        reports.import(&text);
+        import(&mut reports, &text);
     }
 }
 
 #[test]
 fn grants_go_out_and_come_back() {
-    let mut reports = Reports::default();
+    let mut reports = Reports::new();
     for n in 0..500 {
         let mut seed = Seed::of_case(SEED + 2, n);
         let grants: [u32; QUOTAS] = std::array::from_fn(|_| seed.odd_word());
         let text: Vec<u8> = (0..REPORT_BYTES).map(|_| seed.byte()).collect();
-        let written = reports.export(&text, grants);
+        let written = export(&mut reports, &text, grants);
         assert_eq!(
             written,
             grants.into_iter().flat_map(line).collect::<Vec<u8>>()
         );
-        assert_eq!(reports.import(&written), taken(&grants));
-        assert_eq!(reports.export(&written, reports_grants(&written)), written);
+        assert_eq!(import(&mut reports, &written), taken(&grants));
+        let again = import(&mut reports, &written).grants;
+        assert_eq!(export(&mut reports, &written, again), written);
     }
-}
-
-/// The grants of a report that both sides accept.
-fn reports_grants(text: &[u8]) -> [u32; QUOTAS] {
-    Reports::default().import(text).grants
 }
 
 #[test]
 fn lent_texts_around_1728_bytes() {
-    let mut reports = Reports::default();
+    let mut reports = Reports::new();
     let grants = std::array::from_fn(|quota| (quota as u32).wrapping_mul(0x0fed_cba9));
     for length in (0..4).chain(1_720..1_790).chain([4_096]) {
         let before = vec![b'~'; length];
-        let after = reports.export(&before, grants);
+        let after = export(&mut reports, &before, grants);
         match length < 1_728 {
             true => assert_eq!(after, before),
             false => assert_eq!(after[1_728..], before[1_728..]),

@@ -22,7 +22,7 @@ exported : (t gs : List ℕ) → 1728 ≤ length t → export-of t gs ≡ record
 unfolding export-of
 exported t gs h = rw (le-ltb (length t) 1728 h)
 
--- rule 21.8: import of an export gives back the grants
+-- rule 21.8: what export wrote is read as the same grants
 pub import-export : (t gs : List ℕ) → 1728 ≤ length t → length gs ≡ QUOTAS → Small gs → import-of (take 1728 (export-of t gs .text)) ≡ taken gs
 import-export t gs h l s =
     let n : length (lines-text gs) ≡ 1728 = omega (arith, lines-length gs) in
@@ -31,7 +31,7 @@ import-export t gs h l s =
     (import-accepts (lines-text gs) gs .1
     (record { listed = gs; small = s; fits = omega arith; lines = refl; grants = sym (append-nil gs) ∙ ap (λ (k : ℕ). gs ++ replicate k 0) (sym e) }))
 
--- and export of a full import the text
+-- and a text of 32 lines that import takes is the one that export writes of its grants
 accepted-taken : (x : Imported) → x .answer ≡ Accepted → x ≡ taken (x .grants)
 accepted-taken x e = λ i. record { grants = x .grants; answer = e i }
 
