@@ -41,8 +41,8 @@ lokhazim: a heap that parts of a firmware share, by its proved library
     lokhazim image compare A B        print what differs between two images, a line each: serial,
                                       quota NUMBER, record PLACE, bytes OFFSET LENGTH; status 0 where
                                       nothing does, 1 where something does, 2 where one is refused
-    lokhazim report import FILE       print the grants of an audit report, ready to stand behind 'open H';
-                                      FILE has a line for each quota, or is the linker's JSON
+    lokhazim report import FILE       print the grants in an audit report, to stand behind 'open H': FILE
+                                      has a line for each quota, or is the linker's JSON
     lokhazim report export G..        print grants as a report of 32 lines; missing ones are 0
     lokhazim help | version
 

@@ -69,7 +69,7 @@ impl ReportRefusal {
     /// What is wrong, and what to do.
     const fn advice(self) -> &'static str {
         match self {
-            ReportRefusal::Character => "a wrong character, or one at a wrong place; a line is six words of eight digits 0 to 9 and a to f with single spaces between, and a line feed",
+            ReportRefusal::Character => "a wrong character, or one at a wrong place; a line is six words of eight digits 0-9 and a-f, single spaces between them, and a line feed",
             ReportRefusal::Reserved => "a word after the first is not zero; only the first word, the grant, may be another number",
             ReportRefusal::TooMany => "something stands behind the last quota's line; a report has at most 32 lines",
             ReportRefusal::Room => "the lent text has fewer than 1728 bytes; lend REPORT_LENGTH bytes",

@@ -36,7 +36,8 @@ unfoldable pub with-line : ℕ → Line → Lines → Lines
 with-line n (Grant g) later = in-front g later
 with-line n (Bad r) later = Wrong r n
 
--- rules 21.3 and 21.5: the lines from the n-th on, for so many quotas; missing grants are 0, and a line for which there is no quota is a bad one, whatever it says
+-- rules 21.3 and 21.5: the lines from the n-th on, for so many quotas; missing grants are 0, and a line for which there is no quota is a bad one,
+-- whatever it says
 unfoldable pub lines-from : ℕ → ℕ → List ℕ → Lines
 lines-from zero n [] = Good []
 lines-from zero n (c ∷ s) = Wrong TooMany n
