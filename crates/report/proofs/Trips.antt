@@ -1,4 +1,4 @@
--- Import and export undo each other (rule 21.8).
+-- Import and export undo each other (rule 18.8).
 -- Assumes nothing.
 use mathlib.Core.Path.{_≡_, refl, ap, sym, _∙_}
 use mathlib.Core.List.{List, _++_, append-nil}
@@ -22,7 +22,7 @@ exported : (t gs : List ℕ) → 1728 ≤ length t → export-of t gs ≡ record
 unfolding export-of
 exported t gs h = rw (le-ltb (length t) 1728 h)
 
--- rule 21.8: what export wrote is read as the same grants
+-- rule 18.8: what export wrote is read as the same grants
 pub import-export : (t gs : List ℕ) → 1728 ≤ length t → length gs ≡ QUOTAS → Small gs → import-of (take 1728 (export-of t gs .text)) ≡ taken gs
 import-export t gs h l s =
     let n : length (lines-text gs) ≡ 1728 = omega (arith, lines-length gs) in

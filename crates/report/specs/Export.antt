@@ -1,4 +1,4 @@
--- Grants as a text (rule 21.7): a line for each.
+-- Grants as a text (rule 18.7): a line for each.
 use Prim.Native.Nat.{ℕ}
 use mathlib.Core.List.{List, [], _∷_, _++_}
 use mathlib.Core.Bool.{cond}

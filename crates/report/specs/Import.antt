@@ -1,4 +1,4 @@
--- A text as grants (rules 21.3 to 21.6): a line for each quota from 0 on, and the first bad line decides.
+-- A text as grants (rules 18.3 to 18.6): a line for each quota from 0 on, and the first bad line decides.
 use Prim.Native.Nat.{ℕ, zero, suc}
 use mathlib.Core.List.{List, [], _∷_}
 use mathlib.Core.Bool.{cond}
@@ -18,7 +18,7 @@ report-refusal-number Reserved = 32
 report-refusal-number TooMany = 33
 report-refusal-number Room = 34
 
--- rule 21.4: what the line says that s begins with, 31 before 32
+-- rule 18.4: what the line says that s begins with, 31 before 32
 unfoldable pub line-of : List ℕ → Line
 line-of s = cond (words-right 6 s) (cond (all-zero (words 5 (drop 9 s))) (Grant (number (take 8 s))) (Bad Reserved)) (Bad Character)
 
@@ -36,7 +36,7 @@ unfoldable pub with-line : ℕ → Line → Lines → Lines
 with-line n (Grant g) later = in-front g later
 with-line n (Bad r) later = Wrong r n
 
--- rules 21.3 and 21.5: the lines from the n-th on, for so many quotas; missing grants are 0, and a line for which there is no quota is a bad one,
+-- rules 18.3 and 18.5: the lines from the n-th on, for so many quotas; missing grants are 0, and a line for which there is no quota is a bad one,
 -- whatever it says
 unfoldable pub lines-from : ℕ → ℕ → List ℕ → Lines
 lines-from zero n [] = Good []
@@ -44,7 +44,7 @@ lines-from zero n (c ∷ s) = Wrong TooMany n
 lines-from (suc left) n [] = Good (replicate (suc left) 0)
 lines-from (suc left) n (c ∷ s) = with-line n (line-of (c ∷ s)) (lines-from left (suc n) (drop 54 (c ∷ s)))
 
--- rule 21.6: what import gives, no grant where there is a bad line
+-- rule 18.6: what import gives, no grant where there is a bad line
 abbrev pub taken : List ℕ → Imported
 taken gs = record { grants = gs; answer = Accepted }
 

@@ -1,11 +1,11 @@
--- A quota's line in the audit report (rules 21.1 and 21.2): six words of eight hexadecimal digits with a space between, and a line feed.
+-- A quota's line in the audit report (rules 18.1 and 18.2): six words of eight hexadecimal digits with a space between, and a line feed.
 use Prim.Native.Nat.{ℕ, zero, suc, _+_, _*_, _-_, _/_, _%_, _^_}
 use mathlib.Core.List.{List, [], _∷_, _++_}
 use mathlib.Core.Bool.{Bool, true, cond, _&&_}
 use lib.ListN.{length, getD, take, drop, replicate}
 use lib.Dec.{leb, ltb, eqb}
 
--- rule 21.1: the character of a digit, 0 to 9 and a to f; and the digit of a character, 16 where it is none
+-- rule 18.1: the character of a digit, 0 to 9 and a to f; and the digit of a character, 16 where it is none
 unfoldable pub digit : ℕ → ℕ
 digit d = cond (ltb d 10) (48 + d) (87 + d)
 
@@ -28,7 +28,7 @@ unfoldable pub number : List ℕ → ℕ
 number [] = 0
 number (c ∷ cs) = value c * 16 ^ length cs + number cs
 
--- rule 21.2: behind a word that k words follow stands a space, behind the last a line feed
+-- rule 18.2: behind a word that k words follow stands a space, behind the last a line feed
 unfoldable pub mark : ℕ → ℕ
 mark zero = 10
 mark (suc k) = 32

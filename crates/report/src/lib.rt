@@ -1,4 +1,4 @@
-// Quotas from the linker's audit report (rules, section 21): lines of six words as grants, and grants as lines.
+// Quotas from the linker's audit report (rules, section 18): lines of six words as grants, and grants as lines.
 use accounts::QUOTAS;
 ghost use mathlib.Core.Path.{_≡_};
 ghost use Rattle.report.specs.Import.{report-refusal-number};
