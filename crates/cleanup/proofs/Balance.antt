@@ -55,11 +55,15 @@ module _ (t u : State) (g : Good t) (h : Good u) (e : but-remainders (t .account
   pub same-state : t .accounts .«last_serial» ≡ u .accounts .«last_serial» → t ≡ u
   same-state l = let a = same-accounts (t .accounts) (u .accounts) same-quotas l r in λ i. record { blocks = b i; accounts = a i }
 
--- what a release leaves: of the records, of the quotas, and the last serial
+-- what a release leaves: the records, the blocks, the quotas but for what remains, and the last serial
 module _ (q : ℕ) (o : Handle) (t : State) where
   pub released-holds : released q o t .accounts .holds ≡ lower-count (o .serial) q (t .accounts .holds)
   unfolding released
   released-holds = refl
+
+  pub released-blocks : released q o t .blocks ≡ settle (lower-count (o .serial) q (t .accounts .holds)) (t .blocks)
+  unfolding released
+  released-blocks = refl
 
   pub released-but : but-remainders (released q o t .accounts) ≡ but-remainders (t .accounts)
   unfolding released

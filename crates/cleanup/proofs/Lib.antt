@@ -5,3 +5,4 @@ pub mod Balance
 pub mod Exchange
 pub mod Accepting
 pub mod Theorem
+pub mod Drained
