@@ -207,7 +207,7 @@ module _ (unit : ℕ → ℕ) (q : ℕ) where
     freed-all = rw (sym (refusal-of-lines (by-lines unit (FreeAll q) s k)) ∙ e)
 
     by-releases : (ds : List Drop) → all-for q ds ≡ true → accepted-throughout (cleaned (release unit) ds s k .answers) ≡ true
-        → any (record-of q) (cleaned (release unit) ds s k .accounts .holds) ≡ false → AsFreeAll unit q ds s k
+        → any (record-of q) (cleaned (release unit) ds s k .accounts .holds) ≡ false → AsFreeAll (release unit) (free-all unit) q ds s k
     unfolding objects-of
     by-releases ds f a none =
         let t = state-of s k in
@@ -223,5 +223,5 @@ module _ (unit : ℕ → ℕ) (q : ℕ) where
         }
 
 -- for every table of units
-pub free-all-by-releases : (unit : ℕ → ℕ) → FreeAllByReleases unit
+pub free-all-by-releases : (unit : ℕ → ℕ) → FreeAllByReleases (release unit) (free-all unit)
 free-all-by-releases unit = record { always = λ q ds s k fits e f a none. by-releases unit q s k fits e ds f a none }

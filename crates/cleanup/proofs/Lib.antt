@@ -1,4 +1,6 @@
 pub mod Rows
+pub mod Answers
+pub mod Wrong
 pub mod Lowering
 pub mod Finding
 pub mod Balance

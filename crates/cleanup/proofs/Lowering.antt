@@ -19,6 +19,7 @@ use Rattle.model.proofs.Bools.{and-both, or-cases, or-left, or-right, fails}
 use Rattle.model.proofs.Consistent.{is-of-exactly, is-for-exactly}
 use Rattle.invariant.proofs.Counts.{counted-used}
 use Rattle.cleanup.proofs.Rows
+use Rattle.cleanup.proofs.Wrong
 
 module _ {A : Type 0} (p : A → Bool) (f : A → A) where
   -- what passes a test after a change passed it before, if what the change makes does so only where its old one did
