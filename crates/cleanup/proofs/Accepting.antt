@@ -53,6 +53,11 @@ module _ (unit : ℕ → ℕ) where
     unfolding accepted-throughout all
     rest-accepted ds e = rw (after-first ds) at e
 
+    -- and if they are, so is the list
+    pub first-accepted : (ds : List Drop) → Accepted ds (released (d .quota) o t) → Accepted (d ∷ ds) t
+    unfolding accepted-throughout all
+    first-accepted ds e = rw (after-first ds) e
+
   -- the first of a list that is accepted throughout is possible
   pub first-possible : (t : State) → Sound t → (d : Drop) (ds : List Drop) → Accepted (d ∷ ds) t → (o : Handle) × Possible (d .quota) (d .handle) o t
   unfolding cleaned accepted-throughout all

@@ -71,17 +71,17 @@ lowered-dropped serial q (h ∷ hs) = go (is-for serial q h) refl (lowered-dropp
 
 module _ (unit : ℕ → ℕ) (q : ℕ) where
   -- where a list of a quota's releases ends
-  record Ends (ds : List Drop) (t : State) : Type 0 where
-    state : State
-    good : Good state
-    heap : after unit ds t .heap ≡ render (state .blocks)
-    accounts : after unit ds t .accounts ≡ state .accounts
-    blocks : state .blocks ≡ settle (state .accounts .holds) (t .blocks)
-    fewer : (serial : ℕ) → held (state .accounts .holds) serial ≡ true → held (t .accounts .holds) serial ≡ true
-    same : drop-records q (state .accounts .holds) ≡ drop-records q (t .accounts .holds)
-    but : but-remainders (state .accounts) ≡ but-remainders (t .accounts)
-    last : state .accounts .«last_serial» ≡ t .accounts .«last_serial»
-    paid : remaining q (state .accounts) ≡ remaining q (t .accounts) + sum-of (after unit ds t .answers)
+  pub record Ends (ds : List Drop) (t : State) : Type 0 where
+    pub state : State
+    pub good : Good state
+    pub heap : after unit ds t .heap ≡ render (state .blocks)
+    pub accounts : after unit ds t .accounts ≡ state .accounts
+    pub blocks : state .blocks ≡ settle (state .accounts .holds) (t .blocks)
+    pub fewer : (serial : ℕ) → held (state .accounts .holds) serial ≡ true → held (t .accounts .holds) serial ≡ true
+    pub same : drop-records q (state .accounts .holds) ≡ drop-records q (t .accounts .holds)
+    pub but : but-remainders (state .accounts) ≡ but-remainders (t .accounts)
+    pub last : state .accounts .«last_serial» ≡ t .accounts .«last_serial»
+    pub paid : remaining q (state .accounts) ≡ remaining q (t .accounts) + sum-of (after unit ds t .answers)
 
   -- nothing is settled in a good state
   settled : (t : State) → Good t → t .blocks ≡ settle (t .accounts .holds) (t .blocks)
@@ -125,7 +125,7 @@ module _ (unit : ℕ → ℕ) (q : ℕ) where
           paid = omega (arith, e .paid, repaid, summed);
         }
 
-  ends : (ds : List Drop) (t : State) → Sound unit t → Accepted unit ds t → all-for q ds ≡ true → Ends ds t
+  pub ends : (ds : List Drop) (t : State) → Sound unit t → Accepted unit ds t → all-for q ds ≡ true → Ends ds t
   unfolding cleaned sum-of total all-for all
   ends [] t g a f =
       record {
@@ -190,16 +190,19 @@ module _ (unit : ℕ → ℕ) (q : ℕ) where
     whole : consistent s k ≡ true
     whole = sound-consistent unit s k (checked .1)
 
-    again : render (blocks-of s) ≡ s
+    pub again : render (blocks-of s) ≡ s
     again = heap-again s k (fits .octets) whole
 
-    begun : Sound unit (state-of s k)
+    pub begun : Sound unit (state-of s k)
     unfolding sound objects-of
     begun =
         record {
           good = heap-good s k (checked .0) (fits .octets) whole (fits .quotas) (fits .narrow) (fits .serial);
           units = and-right (consistent s k) _ (checked .1);
         }
+
+    pub exists : q < QUOTAS
+    exists = quota-passed unit s k q none-holds
 
     -- and leaves what its definition says
     freed-all : free-all unit s k q ≡ leaves (freed q (charges (k .holds) q (objects-of s)) (state-of s k)) (amount-of (charges (k .holds) q (objects-of s)))
@@ -213,9 +216,9 @@ module _ (unit : ℕ → ℕ) (q : ℕ) where
         let t = state-of s k in
         let a′ : Accepted unit ds t = rw again a in
         let n : any (record-of q) (after unit ds t .accounts .holds) ≡ false = rw again none in
-        let x = end ds t begun (quota-passed unit s k q none-holds) a′ f n in
-        let y = end-freed ds t begun (quota-passed unit s k q none-holds) a′ f n in
-        let z = end-sum ds t begun (quota-passed unit s k q none-holds) a′ f n in
+        let x = end ds t begun exists a′ f n in
+        let y = end-freed ds t begun exists a′ f n in
+        let z = end-sum ds t begun exists a′ f n in
         record {
           heap = rw freed-all (rw again at (x .heap) ∙ ap (λ (u : State). render (u .blocks)) y);
           accounts = rw freed-all (rw again at (x .accounts) ∙ ap (λ (u : State). u .accounts) y);

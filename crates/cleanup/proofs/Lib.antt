@@ -8,3 +8,5 @@ pub mod Exchange
 pub mod Accepting
 pub mod Theorem
 pub mod Drained
+pub mod Enough
+pub mod AllReleased
