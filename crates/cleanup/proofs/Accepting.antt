@@ -63,7 +63,8 @@ module _ (unit : ℕ → ℕ) where
   unfolding cleaned accepted-throughout all
   first-possible t g d ds e =
       let r = did unit (render (t .blocks)) (t .accounts) (d .quota) (d .handle) (eqb-true _ 0 (and-left _ _ e)) in
-      (r .0, subst (λ (bs : List Block). Possible (d .quota) (d .handle) (r .0) (record { blocks = bs; accounts = t .accounts })) (good-heap t (g .good) .blocks) (r .1))
+      let here : List Block → Type 0 = λ bs. Possible (d .quota) (d .handle) (r .0) (record { blocks = bs; accounts = t .accounts }) in
+      (r .0, subst here (good-heap t (g .good) .blocks) (r .1))
 
   -- and begins in such a state, whose heap is the one that it began with
   module _ (d : Drop) (ds : List Drop) (s : List ℕ) (k : Accounts) (f : Fits s k) (e : accepted-throughout (cleaned (release unit) (d ∷ ds) s k .answers) ≡ true) where

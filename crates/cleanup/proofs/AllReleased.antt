@@ -5,7 +5,8 @@ use mathlib.Core.Path.{_≡_, refl, ap, sym, subst, _∙_}
 use Prim.Native.Nat.{ℕ, zero, suc, _+_, _-_, _≤_, _<_}
 use native.Mathlib.Nat.{zero-add}
 use native.Mathlib.Omega.{arith}
-use mathlib.Core.List.{List, [], _∷_, _++_, List·Memᴰ, List·Memᴰ·head, List·Memᴰ·tail, List·Memᴰ·not-nil, List·Memᴰ·cases-cons, List·Memᴰ·append-cases, List·Permᴰ}
+use mathlib.Core.List.{List, [], _∷_, _++_, List·Permᴰ}
+use mathlib.Core.List.{List·Memᴰ, List·Memᴰ·head, List·Memᴰ·tail, List·Memᴰ·not-nil, List·Memᴰ·cases-cons, List·Memᴰ·append-cases}
 use mathlib.Core.Bool.{Bool, true, false, not, cond, _&&_, _||_, true≢false}
 use mathlib.Core.Logic.{_⊎_, inl, inr, ⊎-elim}
 use lib.ListN.{replicate}
@@ -91,7 +92,8 @@ module _ (q : ℕ) (hs : List Hold) where
           → times serial j own + times serial j (releases-of q hs os) ≡ cond (y && (x || any (has-serial serial) os)) (count-of serial j hs) 0
       go true true e f a b =
           let none : any (has-serial serial) os ≡ false =
-          subst (λ (n : ℕ). any (has-serial n) os ≡ false) (eqb-true (o .serial) serial e) (not-true (any (has-serial (o .serial)) os) (and-left (not (any (has-serial (o .serial)) os)) (serials-differ os) d)) in
+          subst (λ (n : ℕ). any (has-serial n) os ≡ false) (eqb-true (o .serial) serial e)
+          (not-true (any (has-serial (o .serial)) os) (and-left (not (any (has-serial (o .serial)) os)) (serials-differ os) d)) in
           let n : count-of (o .serial) q hs ≡ count-of serial j hs = rw (eqb-true (o .serial) serial e, eqb-true q j f) in
           omega (arith, a, rw none at b, n)
       go true false e f a b = omega (arith, a, b)
@@ -108,7 +110,10 @@ module _ (unit : ℕ → ℕ) (q : ℕ) (t : State) (g : Sound unit t) (there : 
       record {
         exist = λ d m. rw (of-object q (t .accounts .holds) (objects (t .blocks)) d m .0) there;
         there = λ d m. of-object q (t .accounts .holds) (objects (t .blocks)) d m .1;
-        held = λ serial j. rw (times-of q (t .accounts .holds) (objects (t .blocks)) (g .good .tests .differ) serial j) (go (eqb q j && any (has-serial serial) (objects (t .blocks))) (count-of serial j (t .accounts .holds)));
+        held =
+            λ serial j.
+            rw (times-of q (t .accounts .holds) (objects (t .blocks)) (g .good .tests .differ) serial j)
+            (go (eqb q j && any (has-serial serial) (objects (t .blocks))) (count-of serial j (t .accounts .holds)));
       }
     where
       go : (x : Bool) (n : ℕ) → cond x n 0 ≤ n
@@ -120,7 +125,9 @@ module _ (unit : ℕ → ℕ) (q : ℕ) (t : State) (g : Sound unit t) (there : 
 
   all-the-quotas : all-for q everything ≡ true
   unfolding all-for
-  all-the-quotas = member-all (λ (d : Drop). eqb (d .quota) q) everything (λ d m. eq-eqb (d .quota) q (of-object q (t .accounts .holds) (objects (t .blocks)) d m .0))
+  all-the-quotas =
+      member-all (λ (d : Drop). eqb (d .quota) q) everything
+      (λ d m. eq-eqb (d .quota) q (of-object q (t .accounts .holds) (objects (t .blocks)) d m .0))
 
   -- no count of the quota is left
   no-count : (serial : ℕ) → count-of serial q (after unit everything t .accounts .holds) ≡ 0
@@ -162,7 +169,8 @@ pub all-released : (unit : ℕ → ℕ) → AllReleased (release unit) (free-all
 unfolding objects-of
 all-released unit = record { always = every }
   where
-    every : (q : ℕ) (s : List ℕ) (k : Accounts) → Fits s k → free-all unit s k q .values .refusal ≡ 0 → (es : List Drop) → List·Permᴰ (releases-of q (k .holds) (objects-of s)) es
+    every : (q : ℕ) (s : List ℕ) (k : Accounts) → Fits s k → free-all unit s k q .values .refusal ≡ 0
+        → (es : List Drop) → List·Permᴰ (releases-of q (k .holds) (objects-of s)) es
         → (accepted-throughout (cleaned (release unit) es s k .answers) ≡ true) × AsFreeAll (release unit) (free-all unit) q es s k
     every q s k fits e es p =
         let t = state-of s k in
@@ -173,8 +181,7 @@ all-released unit = record { always = every }
         let taken : accepted-throughout (cleaned (release unit) ds s k .answers) ≡ true = rw same at (all-accepted unit q t g there) in
         let none : any (record-of q) (cleaned (release unit) ds s k .accounts .holds) ≡ false = rw same at (no-record-left unit q t g there) in
         let a = free-all-by-releases unit .always q ds s k fits e (all-the-quotas unit q t g there) taken none in
-        let b = any-order unit .always ds es p s k fits taken in
-        (
+        let b = any-order unit .always ds es p s k fits taken in (
           b .accepted,
           record { heap = b .heap ∙ a .heap; accounts = b .accounts ∙ a .accounts; amount = sym (permuted-sum (b .answers)) ∙ a .amount },
         )

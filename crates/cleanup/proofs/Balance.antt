@@ -36,7 +36,8 @@ module _ (t u : State) (g : Good t) (h : Good u) (e : but-remainders (t .account
   same-charges : (j : ℕ) → charges (t .accounts .holds) j (objects (t .blocks)) ≡ charges (u .accounts .holds) j (objects (u .blocks))
   same-charges j = rw (r, b)
 
-  same-remainder : (j : ℕ) → j < length (t .accounts .quotas) → getD (t .accounts .quotas) j zero-quota .remainder ≡ getD (u .accounts .quotas) j zero-quota .remainder
+  same-remainder : (j : ℕ) → j < length (t .accounts .quotas)
+      → getD (t .accounts .quotas) j zero-quota .remainder ≡ getD (u .accounts .quotas) j zero-quota .remainder
   same-remainder j l =
       omega (
         arith,

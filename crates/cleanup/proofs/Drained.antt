@@ -87,7 +87,8 @@ module _ (unit : ℕ → ℕ) (q : ℕ) where
   settled : (t : State) → Good t → t .blocks ≡ settle (t .accounts .holds) (t .blocks)
   unfolding objects well-cut
   settled t g =
-      sym (settle-same (t .accounts .holds) (t .blocks) (sym (stays-objects (t .accounts .holds) 0 (t .blocks)) ∙ g .tests .recorded) (and-right (all long-enough (t .blocks)) (free-apart (t .blocks)) (g .tests .cut)))
+      sym (settle-same (t .accounts .holds) (t .blocks) (sym (stays-objects (t .accounts .holds) 0 (t .blocks)) ∙ g .tests .recorded)
+      (and-right (all long-enough (t .blocks)) (free-apart (t .blocks)) (g .tests .cut)))
 
   -- a release that is possible, in front of a list
   module _ (t : State) (g : Sound unit t) (d : Drop) (o : Handle) (p : Possible (d .quota) (d .handle) o t) (here : d .quota ≡ q) (ds : List Drop) (e : Ends ds (released (d .quota) o t)) where
@@ -113,7 +114,10 @@ module _ (unit : ℕ → ℕ) (q : ℕ) where
           good = e .good;
           heap = ap (λ (c : Cleaned). c .heap) (after-first unit t g d o p ds) ∙ e .heap;
           accounts = ap (λ (c : Cleaned). c .accounts) (after-first unit t g d o p ds) ∙ e .accounts;
-          blocks = e .blocks ∙ ap (settle (e .state .accounts .holds)) (released-blocks (d .quota) o t) ∙ settle-twice left (e .state .accounts .holds) still-held (t .blocks);
+          blocks =
+              e .blocks
+              ∙ ap (settle (e .state .accounts .holds)) (released-blocks (d .quota) o t)
+              ∙ settle-twice left (e .state .accounts .holds) still-held (t .blocks);
           fewer = λ serial h. lowered-held (o .serial) (d .quota) (t .accounts .holds) serial (still-held serial h);
           same =
               e .same
@@ -143,7 +147,8 @@ module _ (unit : ℕ → ℕ) (q : ℕ) where
   ends (d ∷ ds) t g a f =
       let r = first-possible unit t g d ds a in
       ends-behind t g d (r .0) (r .1) (eqb-true (d .quota) q (and-left _ _ f)) ds
-      (ends ds (released (d .quota) (r .0) t) (next-sound unit t g d (r .0) (r .1)) (rest-accepted unit t g d (r .0) (r .1) ds a) (and-right (eqb (d .quota) q) _ f))
+      (ends ds (released (d .quota) (r .0) t) (next-sound unit t g d (r .0) (r .1)) (rest-accepted unit t g d (r .0) (r .1) ds a)
+      (and-right (eqb (d .quota) q) _ f))
 
   -- with no record left that is where free-all ends
   module _ (ds : List Drop) (t : State) (g : Sound unit t) (exists : q < QUOTAS) (a : Accepted unit ds t) (f : all-for q ds ≡ true) (none : any (record-of q) (after unit ds t .accounts .holds) ≡ false) where

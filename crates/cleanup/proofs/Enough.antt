@@ -75,7 +75,8 @@ module _ (unit : ℕ → ℕ) where
         (lower-counted (t .accounts .holds) (good-ordered t (g .good)) (d .handle .serial) (d .quota) (first-can .recorded) serial q
         ∙ go (eqb (d .handle .serial) serial && eqb (d .quota) q))
       where
-        go : (x : Bool) → cond x (count-of serial q (t .accounts .holds) - 1) (count-of serial q (t .accounts .holds)) ≡ count-of serial q (t .accounts .holds) - cond x 1 0
+        go : (x : Bool) → cond x (count-of serial q (t .accounts .holds) - 1) (count-of serial q (t .accounts .holds))
+            ≡ count-of serial q (t .accounts .holds) - cond x 1 0
         go true = refl
         go false = omega arith
 
@@ -101,15 +102,18 @@ module _ (unit : ℕ → ℕ) where
         kept : (x : Drop) → List·Memᴰ x ds → object-held (lower-count (d .handle .serial) (d .quota) (t .accounts .holds)) (x .handle) ≡ true
         kept x m =
             let u = released (d .quota) (d .handle) t in
-            let p : 0 < count-of (x .handle .serial) (x .quota) (u .accounts .holds) = omega (arith, times-member ds x m, still (x .handle .serial) (x .quota)) in
-            rw (released-holds (d .quota) (d .handle) t) at (held-counted (u .accounts .holds) (good-ordered u (next .good)) (x .handle .serial) .1 (x .quota, p))
+            let p : 0 < count-of (x .handle .serial) (x .quota) (u .accounts .holds) =
+            omega (arith, times-member ds x m, still (x .handle .serial) (x .quota)) in
+            rw (released-holds (d .quota) (d .handle) t) at
+            (held-counted (u .accounts .holds) (good-ordered u (next .good)) (x .handle .serial) .1 (x .quota, p))
 
   -- so all are accepted
   pub enough-accepted : (ds : List Drop) (t : State) → Sound unit t → Enough ds t → Accepted unit ds t
   unfolding cleaned accepted-throughout all
   enough-accepted [] t g e = refl
   enough-accepted (d ∷ ds) t g e =
-      first-accepted unit t g d (d .handle) (first-can t g d ds e) ds (enough-accepted ds (released (d .quota) (d .handle) t) (next t g d ds e) (rest-enough t g d ds e))
+      first-accepted unit t g d (d .handle) (first-can t g d ds e) ds
+      (enough-accepted ds (released (d .quota) (d .handle) t) (next t g d ds e) (rest-enough t g d ds e))
 
   -- and leave each count so much lower
   pub enough-counts : (ds : List Drop) (t : State) → Sound unit t → Enough ds t → (serial q : ℕ)

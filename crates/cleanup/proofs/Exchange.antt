@@ -68,7 +68,8 @@ module _ (t : State) (g : Good t) (d e : Drop) (o p : Handle) (a : Possible (d .
         exists = a .exists;
         names =
             rw (released-objects (e .quota) p t g (possible-there (e .quota) (e .handle) p t g earlier) (earlier .recorded))
-            (found-kept (names (d .handle)) (object-held (lower-count (p .serial) (e .quota) (t .accounts .holds))) (objects (t .blocks)) o (a .names) (record-held _ (o .serial) (d .quota) r));
+            (found-kept (names (d .handle)) (object-held (lower-count (p .serial) (e .quota) (t .accounts .holds))) (objects (t .blocks)) o (a .names)
+            (record-held _ (o .serial) (d .quota) r));
         recorded = rw (released-holds (e .quota) p t) r;
       }
 
@@ -88,7 +89,9 @@ module _ (t : State) (g : Good t) (d e : Drop) (o p : Handle) (a : Possible (d .
   -- where both are of one record they are of one object and one quota
   one-object : same ≡ true → p ≡ o
   unfolding same
-  one-object s = same-serial (objects (t .blocks)) (g .tests .differ) p o (possible-there (e .quota) (e .handle) p t g earlier) (possible-there (d .quota) (d .handle) o t g a) (eqb-true (p .serial) (o .serial) (and-left _ _ s))
+  one-object s =
+      same-serial (objects (t .blocks)) (g .tests .differ) p o (possible-there (e .quota) (e .handle) p t g earlier)
+      (possible-there (d .quota) (d .handle) o t g a) (eqb-true (p .serial) (o .serial) (and-left _ _ s))
 
   one-quota : same ≡ true → e .quota ≡ d .quota
   unfolding same
@@ -121,24 +124,30 @@ module _ (t : State) (g : Good t) (d e : Drop) (o p : Handle) (a : Possible (d .
       ((released-last (e .quota) p first-done ∙ released-last (d .quota) o t) ∙ sym (released-last (d .quota) o second-done ∙ released-last (e .quota) p t))
 
   -- a release of another record gives back the same
-  same-answer : (q : ℕ) (x : Handle) (j : ℕ) (y : Handle) → has-record (t .accounts .holds) j (y .serial) ≡ true → (eqb (y .serial) (x .serial) && eqb j q) ≡ false
+  same-answer : (q : ℕ) (x : Handle) (j : ℕ) (y : Handle) → has-record (t .accounts .holds) j (y .serial) ≡ true
+      → (eqb (y .serial) (x .serial) && eqb j q) ≡ false
       → answer q x (released j y t) ≡ answer q x t
   unfolding released given-back
   same-answer q x j y r s =
-      let n : count-of (x .serial) q (lower-count (y .serial) j (t .accounts .holds)) ≡ count-of (x .serial) q (t .accounts .holds) = rw s at (lower-counted (t .accounts .holds) (good-ordered t g) (y .serial) j r (x .serial) q) in
+      let n : count-of (x .serial) q (lower-count (y .serial) j (t .accounts .holds)) ≡ count-of (x .serial) q (t .accounts .holds) =
+      rw s at (lower-counted (t .accounts .holds) (good-ordered t g) (y .serial) j r (x .serial) q) in
       ap (λ (n : ℕ). record { quota = q; values = amount-of (cond (eqb n 1) (charge-of (x .length)) 0) }) n
 
   turned : same ≡ false → (eqb (o .serial) (p .serial) && eqb (d .quota) (e .quota)) ≡ false
   unfolding same
   turned s =
-      fails _ (λ u. true≢false (sym (and-both _ _ (eq-eqb (p .serial) (o .serial) (sym (eqb-true _ _ (and-left _ _ u)))) (eq-eqb (e .quota) (d .quota) (sym (eqb-true _ _ (and-right (eqb (o .serial) (p .serial)) _ u))))) ∙ s))
+      fails _
+      (λ u. true≢false (sym (and-both _ _ (eq-eqb (p .serial) (o .serial) (sym (eqb-true _ _ (and-left _ _ u))))
+      (eq-eqb (e .quota) (d .quota) (sym (eqb-true _ _ (and-right (eqb (o .serial) (p .serial)) _ u))))) ∙ s))
 
   -- the answers are the same but for their order
   both-answers : (rest : List Answered) (x : Bool) → same ≡ x
       → List·Permᴰ (answer (d .quota) o t ∷ answer (e .quota) p first-done ∷ rest) (answer (e .quota) p t ∷ answer (d .quota) o second-done ∷ rest)
   unfolding same
   both-answers rest true s = rw (one-object s, one-quota s) (Permᴰ·refl _)
-  both-answers rest false s = List·Permᴰ·swap (sym (same-answer (d .quota) o (e .quota) p (earlier .recorded) s)) (same-answer (e .quota) p (d .quota) o (a .recorded) (turned s))
+  both-answers rest false s =
+      List·Permᴰ·swap (sym (same-answer (d .quota) o (e .quota) p (earlier .recorded) s))
+      (same-answer (e .quota) p (d .quota) o (a .recorded) (turned s))
 
   -- so the two may be exchanged
   pub record Exchanged : Type 0 where
@@ -146,7 +155,8 @@ module _ (t : State) (g : Good t) (d e : Drop) (o p : Handle) (a : Possible (d .
     pub after : Possible (d .quota) (d .handle) o (released (e .quota) p t)
     pub state : released (e .quota) p (released (d .quota) o t) ≡ released (d .quota) o (released (e .quota) p t)
     pub answers : (rest : List Answered)
-        → List·Permᴰ (answer (d .quota) o t ∷ answer (e .quota) p (released (d .quota) o t) ∷ rest) (answer (e .quota) p t ∷ answer (d .quota) o (released (e .quota) p t) ∷ rest)
+        → List·Permᴰ (answer (d .quota) o t ∷ answer (e .quota) p (released (d .quota) o t) ∷ rest)
+        (answer (e .quota) p t ∷ answer (d .quota) o (released (e .quota) p t) ∷ rest)
 
   pub exchanged : Exchanged
   exchanged = record { before = earlier; after = later; state = both-same same refl; answers = λ rest. both-answers rest same refl }

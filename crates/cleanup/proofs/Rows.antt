@@ -14,7 +14,7 @@ use Rattle.model.specs.Calls.{Outcome, open-heap, allocate, claim, release, fre
 use Rattle.model.specs.declared.Handle.{Handle}
 use Rattle.model.proofs.Computing.{computing}
 use Rattle.cleanup.specs.Releases.{Drop, Answered, Cleaned, cleaned, accepted-throughout}
-use Rattle.cleanup.specs.FreeAll.{all-for, sum-of}
+use Rattle.cleanup.specs.FreeAll.{all-for, sum-of, releases-of}
 
 opened-heap : Outcome
 opened-heap = open-heap (replicate 128 0) (100 ∷ 100 ∷ replicate 6 0)
@@ -70,7 +70,8 @@ unfolding computing opened-heap held-heap first second drop one-order other-orde
 order-rows = (refl, refl, refl, refl, refl, refl, refl, refl, refl, refl)
 
 -- refused releases, and the others of the same list
-refusal-rows : (refusals with-refusals ≡ 6 ∷ 0 ∷ 0 ∷ 5 ∷ 0 ∷ []) × (amounts with-refusals ≡ 0 ∷ 0 ∷ 24 ∷ 0 ∷ 32 ∷ []) × (accepted-throughout (after with-refusals .answers) ≡ false)
+refusal-rows : (refusals with-refusals ≡ 6 ∷ 0 ∷ 0 ∷ 5 ∷ 0 ∷ []) × (amounts with-refusals ≡ 0 ∷ 0 ∷ 24 ∷ 0 ∷ 32 ∷ [])
+    × (accepted-throughout (after with-refusals .answers) ≡ false)
     × (accepted-throughout [] ≡ true)
 unfolding computing opened-heap held-heap first second drop with-refusals after amounts refusals cleaned accepted-throughout
 refusal-rows = (refl, refl, refl, refl)
@@ -80,10 +81,14 @@ freed-heap : Outcome
 freed-heap = free-all unit (held-heap .heap) (held-heap .accounts) 0
 
 second-left : List ℕ
-second-left = render (record { serial = 0; body = replicate 16 0 } ∷ record { serial = 2; body = replicate 24 0 } ∷ record { serial = 0; body = replicate 64 0 } ∷ [])
+second-left =
+    render (record { serial = 0; body = replicate 16 0 } ∷ record { serial = 2; body = replicate 24 0 } ∷ record { serial = 0; body = replicate 64 0 } ∷ [])
 
 free-rows : (all-for 0 of-quota-0 ≡ true) × (all-for 1 of-quota-0 ≡ false) × (all-for 0 other-order ≡ false) × (all-for 1 (drop 1 second ∷ []) ≡ true)
     × (sum-of (after of-quota-0 .answers) ≡ 56) × (sum-of (after one-order .answers) ≡ 88) × (sum-of (after with-refusals .answers) ≡ 56)
+    × (releases-of 0 (held-heap .accounts .holds) (first ∷ second ∷ []) ≡ drop 0 first ∷ drop 0 first ∷ drop 0 second ∷ [])
+    × (releases-of 1 (held-heap .accounts .holds) (first ∷ second ∷ []) ≡ drop 1 second ∷ [])
     × (freed-heap .values .amount ≡ 56) × (after of-quota-0 .heap ≡ second-left) × (freed-heap .heap ≡ second-left)
-unfolding computing opened-heap held-heap freed-heap second-left first second drop one-order other-order of-quota-0 with-refusals after cleaned all-for sum-of
-free-rows = (refl, refl, refl, refl, refl, refl, refl, refl, refl, refl)
+unfolding computing opened-heap held-heap freed-heap second-left first second drop one-order other-order of-quota-0 with-refusals after cleaned
+    all-for sum-of releases-of
+free-rows = (refl, refl, refl, refl, refl, refl, refl, refl, refl, refl, refl, refl)

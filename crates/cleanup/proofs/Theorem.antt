@@ -24,7 +24,8 @@ module _ (unit : ℕ → ℕ) where
   itself ds t e = record { accepted = e; heap = refl; accounts = refl; answers = Permᴰ·refl _ }
 
   -- lists that do the same still do behind a release
-  same-behind : (t : State) → Sound unit t → (d : Drop) (ds es : List Drop) → Accepted unit (d ∷ ds) t → ((u : State) → Sound unit u → Accepted unit ds u → Same ds es u)
+  same-behind : (t : State) → Sound unit t → (d : Drop) (ds es : List Drop) → Accepted unit (d ∷ ds) t
+      → ((u : State) → Sound unit u → Accepted unit ds u → Same ds es u)
       → Same (d ∷ ds) (d ∷ es) t
   unfolding accepted-throughout all
   same-behind t g d ds es e f =
@@ -51,9 +52,10 @@ module _ (unit : ℕ → ℕ) where
       let x = exchanged t (g .good) d e (r .0) (q .0) (r .1) (q .1) in
       let v = released (e .quota) (q .0) t in
       let gv = next-sound unit t g e (q .0) (x .before) in
-      let one : after unit (d ∷ e ∷ ds) t ≡ behind (answer (d .quota) (r .0) t) (behind (answer (e .quota) (q .0) u) (after unit ds (released (e .quota) (q .0) u))) =
+      let done = after unit ds (released (e .quota) (q .0) u) in
+      let one : after unit (d ∷ e ∷ ds) t ≡ behind (answer (d .quota) (r .0) t) (behind (answer (e .quota) (q .0) u) done) =
       after-first unit t g d (r .0) (r .1) (e ∷ ds) ∙ ap (behind (answer (d .quota) (r .0) t)) (after-first unit u gu e (q .0) (q .1) ds) in
-      let two : after unit (e ∷ d ∷ ds) t ≡ behind (answer (e .quota) (q .0) t) (behind (answer (d .quota) (r .0) v) (after unit ds (released (e .quota) (q .0) u))) =
+      let two : after unit (e ∷ d ∷ ds) t ≡ behind (answer (e .quota) (q .0) t) (behind (answer (d .quota) (r .0) v) done) =
       after-first unit t g e (q .0) (x .before) (d ∷ ds) ∙ ap (behind (answer (e .quota) (q .0) t)) (after-first unit v gv d (r .0) (x .after) ds
       ∙ ap (λ (w : State). behind (answer (d .quota) (r .0) v) (after unit ds w)) (sym (x .state))) in
       record {
@@ -76,7 +78,8 @@ module _ (unit : ℕ → ℕ) where
       record { accepted = y .accepted; heap = y .heap ∙ x .heap; accounts = y .accounts ∙ x .accounts; answers = List·Permᴰ·trans (x .answers) (y .answers) }
 
   -- a list that is accepted throughout is empty, or begins in a good state
-  any-order-of : (ds es : List Drop) → List·Permᴰ ds es → (s : List ℕ) (k : Accounts) → Fits s k → accepted-throughout (cleaned (release unit) ds s k .answers) ≡ true
+  any-order-of : (ds es : List Drop) → List·Permᴰ ds es → (s : List ℕ) (k : Accounts) → Fits s k
+      → accepted-throughout (cleaned (release unit) ds s k .answers) ≡ true
       → SameCleanup (release unit) ds es s k
   unfolding cleaned accepted-throughout all
   any-order-of [] [] p s k f a = record { accepted = refl; heap = refl; accounts = refl; answers = List·Permᴰ·nil }

@@ -3,7 +3,7 @@
 use Prim.Native.Nat.{ℕ, zero, suc, _+_, _<_, _^_}
 use native.Mathlib.Omega.{arith}
 use mathlib.Core.Path.{_≡_, refl, ap}
-use mathlib.Core.List.{List, [], _∷_, List·Permᴰ·swap}
+use mathlib.Core.List.{List, [], _∷_, List·Permᴰ·swap, Permᴰ·refl}
 use mathlib.Core.Bool.{Bool, true, false, false≢true}
 use lib.ListN.{length, replicate, getD}
 use lib.Dec.{ltb}
@@ -14,13 +14,14 @@ use Rattle.accounts.specs.declared.Accounts.{Accounts}
 use Rattle.accounts.specs.Accounts.{QUOTAS, zero-quota, zero-hold, remaining}
 use Rattle.rounding.specs.Rounding.{unit}
 use Rattle.model.specs.Lists.{all, any, total}
-use Rattle.model.specs.Calls.{Outcome, open-heap, allocate, release}
+use Rattle.model.specs.Calls.{Outcome, open-heap, allocate, release, free-all}
 use Rattle.model.specs.declared.Handle.{Handle}
 use Rattle.model.proofs.Bools.{and-left, and-right}
 use Rattle.model.proofs.Computing.{computing}
 use Rattle.cleanup.specs.Releases.{Run, Drop, cleaned, accepted-throughout, Fits, SameCleanup, AnyOrder}
-use Rattle.cleanup.specs.FreeAll.{all-for, sum-of, Freeing, AsFreeAll, FreeAllByReleases}
-use Rattle.cleanup.specs.Wrong.{newest-first, remembers-the-last, close-gap, closes-gaps, tells-the-remainder, keeps-the-heap, pays-nothing, answers-the-remainder}
+use Rattle.cleanup.specs.FreeAll.{all-for, sum-of, Freeing, AsFreeAll, FreeAllByReleases, releases-of, AllReleased}
+use Rattle.cleanup.specs.Wrong.{newest-first, remembers-the-last, close-gap, closes-gaps, tells-the-remainder}
+use Rattle.cleanup.specs.Wrong.{keeps-the-heap, pays-nothing, answers-the-remainder}
 use Rattle.cleanup.proofs.Answers.{permuted-sum}
 
 -- a heap of 128 bytes in which quota 0 has made four objects, of 8, 16, 8 and 8 bytes
@@ -55,7 +56,8 @@ each p d e (x ∷ xs) a zero = and-left (p x) (all p xs) a
 each p d e (x ∷ xs) a (suc i) = each p d e xs (and-right (p x) (all p xs) a) i
 
 -- so tests show that a state fits
-tested-fits : (s : List ℕ) (k : Accounts) → all (λ b. ltb b 256) s ≡ true → length (k .quotas) ≡ QUOTAS → all (λ (x : Quota). ltb (x .grant) (2 ^ 32)) (k .quotas) ≡ true
+tested-fits : (s : List ℕ) (k : Accounts) → all (λ b. ltb b 256) s ≡ true → length (k .quotas) ≡ QUOTAS
+    → all (λ (x : Quota). ltb (x .grant) (2 ^ 32)) (k .quotas) ≡ true
     → ltb (k .«last_serial») (2 ^ 32) ≡ true → Fits s k
 tested-fits s k o l n e =
     record {
@@ -120,3 +122,11 @@ refuted-pays-nothing a = let e : _≡_ {A = ℕ} 1000 928 = ap (remaining 0) (fr
 pub refuted-answers-the-remainder : FreeAllByReleases (release unit) answers-the-remainder → ⊥
 unfolding computing made drop first second third fourth cleaned sum-of answers-the-remainder
 refuted-answers-the-remainder a = let e : _≡_ {A = ℕ} 72 1000 = freed answers-the-remainder a refl .amount in omega arith
+
+-- the first object can't be released before the others
+pub refuted-all-released : AllReleased newest-first (free-all unit) → ⊥
+unfolding computing made drop first second third fourth cleaned accepted-throughout newest-first releases-of
+refuted-all-released a =
+    let all = first ∷ second ∷ third ∷ fourth ∷ [] in
+    let e : _≡_ {A = Bool} false true = a .always 0 (made .heap) (made .accounts) fits refl all (Permᴰ·refl all) .0 in
+    false≢true e
