@@ -5,9 +5,9 @@ use mathlib.Core.Path.{_≡_, refl, ap, sym, subst, _∙_}
 use Prim.Native.Nat.{ℕ, zero, suc, _+_, _-_, _≤_, _<_}
 use native.Mathlib.Nat.{zero-add}
 use native.Mathlib.Omega.{arith}
-use mathlib.Core.List.{List, [], _∷_, _++_, List·Permᴰ}
+use mathlib.Core.List.{List, [], _∷_, List·Permᴰ}
 use mathlib.Core.List.{List·Memᴰ, List·Memᴰ·head, List·Memᴰ·tail, List·Memᴰ·not-nil, List·Memᴰ·cases-cons, List·Memᴰ·append-cases}
-use mathlib.Core.Bool.{Bool, true, false, not, cond, _&&_, _||_, true≢false}
+use mathlib.Core.Bool.{Bool, true, false, not, cond, _&&_, _||_}
 use mathlib.Core.Logic.{_⊎_, inl, inr, ⊎-elim}
 use lib.ListN.{replicate}
 use lib.Dec.{eqb}
@@ -15,7 +15,6 @@ use borrow.Author.Tests.{eqb-true, eq-eqb, not-true}
 use Rattle.accounts.specs.declared.Hold.{Hold}
 use Rattle.accounts.specs.declared.Accounts.{Accounts}
 use Rattle.accounts.specs.Accounts.{QUOTAS, used, record-of}
-use Rattle.layout.specs.Blocks.{render}
 use Rattle.model.specs.Lists.{all, any, total}
 use Rattle.model.specs.Objects.{objects, objects-of}
 use Rattle.model.specs.Consistent.{has-serial, serials-differ}
@@ -23,13 +22,12 @@ use Rattle.model.specs.Holds.{count-of}
 use Rattle.model.specs.Calls.{State, state-of, free-all, release}
 use Rattle.model.specs.declared.Handle.{Handle}
 use Rattle.model.proofs.Bools.{and-left, and-right}
-use Rattle.model.proofs.Lists.{total-append, member-all, member-any, none-exactly}
-use Rattle.invariant.proofs.Good.{Good}
+use Rattle.model.proofs.Lists.{total-append, member-all, none-exactly}
 use Rattle.invariant.proofs.Heaps.{good-ordered}
 use Rattle.invariant.proofs.Counts.{ordered-member, count-member}
 use Rattle.invariant.proofs.Recorded.{good-recorded}
 use Rattle.cleanup.specs.Releases.{Drop, cleaned, accepted-throughout, Fits}
-use Rattle.cleanup.specs.FreeAll.{all-for, AsFreeAll, FreeAllByReleases, releases-of, AllReleased}
+use Rattle.cleanup.specs.FreeAll.{all-for, AsFreeAll, releases-of, AllReleased}
 use Rattle.cleanup.proofs.Answers.{permuted-sum}
 use Rattle.cleanup.proofs.Accepting.{Sound, after, Accepted}
 use Rattle.cleanup.proofs.Theorem.{any-order}

@@ -8,9 +8,8 @@ use mathlib.Core.List.{List, map}
 use lib.ListN.{length, getD, List·getD-map}
 use lib.Seq.{ext-getD}
 use Rattle.accounts.specs.declared.Quota.{Quota}
-use Rattle.accounts.specs.declared.Hold.{Hold}
 use Rattle.accounts.specs.declared.Accounts.{Accounts}
-use Rattle.accounts.specs.Accounts.{zero-quota, with-remainder, refund}
+use Rattle.accounts.specs.Accounts.{zero-quota, with-remainder}
 use Rattle.accounts.proofs.Laws.{same-quota, same-accounts, refund-but, refund-kept}
 use Rattle.model.specs.Objects.{objects}
 use Rattle.model.specs.Consistent.{charges}

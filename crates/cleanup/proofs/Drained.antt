@@ -14,14 +14,14 @@ use Rattle.accounts.specs.declared.Hold.{Hold}
 use Rattle.accounts.specs.declared.Accounts.{Accounts}
 use Rattle.accounts.specs.Accounts.{QUOTAS, used, is-for, remaining, record-of, dropped, drop-records}
 use Rattle.accounts.proofs.Laws.{refund-but, refund-kept}
-use Rattle.layout.specs.Blocks.{Block, render}
+use Rattle.layout.specs.Blocks.{render}
 use Rattle.model.specs.Lists.{any, all, total, change-first}
 use Rattle.model.specs.Answers.{amount-of}
 use Rattle.model.specs.Objects.{blocks-of, objects, objects-of}
 use Rattle.model.specs.Consistent.{allowed, consistent, sound, held, charges, long-enough, free-apart, well-cut}
 use Rattle.model.specs.Space.{settle}
 use Rattle.model.specs.Holds.{with-count, less-one, lower-count}
-use Rattle.model.specs.Refusals.{line-holds, first-refusal, line-1, line-2, line-3, quota-lines}
+use Rattle.model.specs.Refusals.{line-holds, line-1, line-2, quota-lines}
 use Rattle.model.specs.Calls.{State, leaves, unless, state-of, given-back, released, freed, free-all, release}
 use Rattle.model.specs.Step.{step}
 use Rattle.model.specs.declared.Handle.{Handle}

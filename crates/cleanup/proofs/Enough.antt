@@ -1,10 +1,10 @@
 -- A list of releases, each with the handle of an object, is accepted throughout if no quota releases an object more often than it holds it.
 -- Each release lowers one count by one, and as long as the list has one for an object, a count for it is left and the object is there.
 -- Assumes nothing.
-use mathlib.Core.Path.{_≡_, refl, ap, sym, _∙_}
-use Prim.Native.Nat.{ℕ, zero, suc, _+_, _-_, _≤_, _<_}
+use mathlib.Core.Path.{_≡_, refl, ap, _∙_}
+use Prim.Native.Nat.{ℕ, _-_, _≤_, _<_}
 use native.Mathlib.Omega.{arith}
-use mathlib.Core.List.{List, [], _∷_, _++_, List·Memᴰ, List·Memᴰ·head, List·Memᴰ·tail, List·Memᴰ·not-nil, List·Memᴰ·cases-cons}
+use mathlib.Core.List.{List, [], _∷_, List·Memᴰ, List·Memᴰ·head, List·Memᴰ·tail, List·Memᴰ·not-nil, List·Memᴰ·cases-cons}
 use mathlib.Core.Bool.{Bool, true, false, cond, _&&_}
 use mathlib.Core.Logic.{_⊎_, inl, inr}
 use lib.Dec.{eqb}
@@ -13,12 +13,10 @@ use Rattle.model.specs.Lists.{all, total}
 use Rattle.model.specs.Objects.{objects}
 use Rattle.model.specs.Holds.{count-of, lower-count}
 use Rattle.model.specs.Calls.{State, released}
-use Rattle.model.specs.declared.Handle.{Handle}
 use Rattle.model.proofs.Settle.{object-held}
-use Rattle.invariant.proofs.Good.{Good}
 use Rattle.invariant.proofs.Heaps.{good-ordered}
 use Rattle.invariant.proofs.Members.{keep-exactly}
-use Rattle.invariant.proofs.Counts.{record-counted, held-counted, lower-ordered, lower-counted}
+use Rattle.invariant.proofs.Counts.{record-counted, held-counted, lower-counted}
 use Rattle.invariant.proofs.Payments.{themselves}
 use Rattle.invariant.proofs.Settled.{released-objects}
 use Rattle.invariant.proofs.Releasing.{Possible}

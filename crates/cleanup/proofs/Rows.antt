@@ -9,7 +9,6 @@ use lib.ListN.{replicate}
 use Rattle.accounts.specs.Accounts.{with-last-serial}
 use Rattle.layout.specs.Blocks.{render}
 use Rattle.rounding.specs.Rounding.{unit}
-use Rattle.model.specs.Lists.{any}
 use Rattle.model.specs.Calls.{Outcome, open-heap, allocate, claim, release, free-all}
 use Rattle.model.specs.declared.Handle.{Handle}
 use Rattle.model.proofs.Computing.{computing}

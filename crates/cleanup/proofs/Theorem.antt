@@ -11,7 +11,7 @@ use Rattle.layout.specs.Blocks.{render}
 use Rattle.model.specs.Lists.{all}
 use Rattle.model.specs.Calls.{State, state-of, released, release}
 use Rattle.cleanup.specs.Releases.{Drop, cleaned, accepted-throughout, Fits, SameCleanup, AnyOrder}
-use Rattle.cleanup.proofs.Exchange.{answer, Exchanged, exchanged}
+use Rattle.cleanup.proofs.Exchange.{answer, exchanged}
 use Rattle.cleanup.proofs.Accepting.{Sound, after, Accepted, behind, next-sound, after-first, first-possible, rest-accepted, begins-sound, begins-again}
 
 module _ (unit : ℕ → ℕ) where

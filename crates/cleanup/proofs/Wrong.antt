@@ -1,6 +1,6 @@
 -- Neither statement holds of the wrong heaps: each is refuted by a short list of releases that is computed.
 -- Assumes nothing.
-use Prim.Native.Nat.{ℕ, zero, suc, _+_, _<_, _^_}
+use Prim.Native.Nat.{ℕ, zero, suc, _^_}
 use native.Mathlib.Omega.{arith}
 use mathlib.Core.Path.{_≡_, refl, ap}
 use mathlib.Core.List.{List, [], _∷_, List·Permᴰ·swap, Permᴰ·refl}
@@ -9,13 +9,11 @@ use lib.ListN.{length, replicate, getD}
 use lib.Dec.{ltb}
 use borrow.Author.Tests.{ltb-true}
 use Rattle.accounts.specs.declared.Quota.{Quota}
-use Rattle.accounts.specs.declared.Hold.{Hold}
 use Rattle.accounts.specs.declared.Accounts.{Accounts}
 use Rattle.accounts.specs.Accounts.{QUOTAS, zero-quota, zero-hold, remaining}
 use Rattle.rounding.specs.Rounding.{unit}
-use Rattle.model.specs.Lists.{all, any, total}
+use Rattle.model.specs.Lists.{all, any}
 use Rattle.model.specs.Calls.{Outcome, open-heap, allocate, release, free-all}
-use Rattle.model.specs.declared.Handle.{Handle}
 use Rattle.model.proofs.Bools.{and-left, and-right}
 use Rattle.model.proofs.Computing.{computing}
 use Rattle.cleanup.specs.Releases.{Run, Drop, cleaned, accepted-throughout, Fits, SameCleanup, AnyOrder}

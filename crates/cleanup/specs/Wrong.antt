@@ -1,5 +1,5 @@
 -- Wrong heaps: what each does instead of `release` or `free-all`. That clean-up in any order does not hold of them is `proofs/Wrong.antt`.
-use Prim.Native.Nat.{ℕ, _-_, _%_}
+use Prim.Native.Nat.{_-_, _%_}
 use mathlib.Core.List.{List, reverse}
 use mathlib.Core.Bool.{cond}
 use lib.ListN.{length, set}
@@ -7,7 +7,7 @@ use lib.Dec.{leb}
 use Rattle.accounts.specs.declared.Hold.{Hold}
 use Rattle.accounts.specs.Accounts.{zero-hold, with-holds, drop-records, remaining, used, unused, is-for}
 use Rattle.rounding.specs.Rounding.{unit}
-use Rattle.model.specs.Lists.{all, first, change-first, or-else, total}
+use Rattle.model.specs.Lists.{all, first, change-first, or-else}
 use Rattle.model.specs.Answers.{refused, amount-of}
 use Rattle.model.specs.Objects.{objects-of}
 use Rattle.model.specs.Calls.{unchanged, release, free-all}
