@@ -34,7 +34,7 @@ pub struct Tally {
     pub high_quotas: u64,
     /// Calls whose handle names no object although the bytes before its base look like its header.
     pub look_alikes: u64,
-    /// Cases by a name of their own: the kinds of damage.
+    /// Cases by a name of their own: the kinds of damage, and the lists of releases.
     pub cases: BTreeMap<&'static str, u64>,
     /// Images written and read, by refusal, 0 where accepted.
     pub images: BTreeMap<(&'static str, u32), u64>,
