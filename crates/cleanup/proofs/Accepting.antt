@@ -14,7 +14,7 @@ use Rattle.model.specs.declared.Handle.{Handle}
 use Rattle.model.proofs.Bools.{and-left}
 use Rattle.invariant.proofs.Good.{Good}
 use Rattle.invariant.proofs.Heaps.{good-heap, heap-again}
-use Rattle.invariant.proofs.Releasing.{Possible, InUnits, possible-good, possible-units, does, did, did-good, did-units, did-consistent}
+use Rattle.invariant.proofs.Releasing.{Possible, Fitting, possible-good, possible-fitting, does, did, did-good, did-fitting, did-consistent}
 use Rattle.cleanup.specs.Releases.{Drop, Answered, Cleaned, cleaned, accepted-throughout, Fits}
 use Rattle.cleanup.proofs.Exchange.{answer}
 
@@ -23,10 +23,10 @@ abbrev pub behind : Answered → Cleaned → Cleaned
 behind a c = record { heap = c .heap; accounts = c .accounts; answers = a ∷ c .answers }
 
 module _ (unit : ℕ → ℕ) where
-  -- a good state whose objects fit their units
+  -- a good state whose objects fit their units, with permissions that are such
   pub record Sound (t : State) : Type 0 where
     pub good : Good t
-    pub units : InUnits unit t
+    pub fitting : Fitting unit t
 
   -- a list of releases on such a state
   abbrev pub after : List Drop → State → Cleaned
@@ -39,14 +39,17 @@ module _ (unit : ℕ → ℕ) where
     -- a release that is possible leaves such a state
     pub next-sound : Sound (released (d .quota) o t)
     next-sound =
-        record { good = possible-good (d .quota) (d .handle) o t (g .good) p; units = possible-units (d .quota) (d .handle) o t (g .good) p unit (g .units) }
+        record {
+          good = possible-good (d .quota) (d .handle) o t (g .good) p;
+          fitting = possible-fitting (d .quota) (d .handle) o t (g .good) p unit (g .fitting);
+        }
 
     -- and is the first of a list, with the others behind it
     pub after-first : (ds : List Drop) → after (d ∷ ds) t ≡ behind (answer (d .quota) o t) (after ds (released (d .quota) o t))
     unfolding cleaned
     after-first ds =
         ap (λ (r : Outcome). behind (record { quota = d .quota; values = r .values }) (cleaned (release unit) ds (r .heap) (r .accounts)))
-        (does (d .quota) (d .handle) o t (g .good) p unit (g .units))
+        (does (d .quota) (d .handle) o t (g .good) p unit (g .fitting))
 
     -- the others are accepted throughout
     pub rest-accepted : (ds : List Drop) → Accepted (d ∷ ds) t → Accepted ds (released (d .quota) o t)
@@ -76,7 +79,7 @@ module _ (unit : ℕ → ℕ) where
     begins-sound =
         record {
           good = did-good unit s k (d .quota) (d .handle) taken (f .octets) (f .quotas) (f .narrow) (f .serial);
-          units = did-units unit s k (d .quota) (d .handle) taken;
+          fitting = did-fitting unit s k (d .quota) (d .handle) taken;
         }
 
     pub begins-again : render (blocks-of s) ≡ s

@@ -21,7 +21,7 @@ use Rattle.model.specs.Objects.{blocks-of, objects, objects-of}
 use Rattle.model.specs.Consistent.{allowed, consistent, sound, held, charges, long-enough, free-apart, well-cut}
 use Rattle.model.specs.Space.{settle}
 use Rattle.model.specs.Holds.{with-count, less-one, lower-count}
-use Rattle.model.specs.Refusals.{line-holds, line-1, line-2, quota-lines}
+use Rattle.model.specs.Refusals.{line-holds, line-1, line-2, free-all-lines}
 use Rattle.model.specs.Calls.{State, leaves, unless, state-of, given-back, released, freed, free-all, release}
 use Rattle.model.specs.Step.{step}
 use Rattle.model.specs.declared.Handle.{Handle}
@@ -33,7 +33,7 @@ use Rattle.model.proofs.Refusals.{by-lines, refusal-of-lines, call-accepted-exa
 use Rattle.invariant.proofs.Good.{Good}
 use Rattle.invariant.proofs.Heaps.{heap-good, heap-again}
 use Rattle.invariant.proofs.Counts.{counted-used}
-use Rattle.invariant.proofs.Passed.{quota-passed}
+use Rattle.invariant.proofs.Passed.{free-all-passed}
 use Rattle.invariant.proofs.Settled.{released-paid, freed-paid, freed-good}
 use Rattle.invariant.proofs.Releasing.{Possible, possible-there}
 use Rattle.cleanup.specs.Releases.{Drop, Cleaned, cleaned, accepted-throughout, Fits}
@@ -181,12 +181,12 @@ module _ (unit : ℕ → ℕ) (q : ℕ) where
 
   -- an accepted free-all began in a good state
   module _ (s : List ℕ) (k : Accounts) (fits : Fits s k) (e : free-all unit s k q .values .refusal ≡ 0) where
-    none-holds : any line-holds (quota-lines unit s k q) ≡ false
+    none-holds : any line-holds (free-all-lines unit s k q) ≡ false
     unfolding step
     none-holds = call-accepted-exactly unit (FreeAll q) s k .0 e
 
     checked : (allowed (length s) ≡ true) × (sound unit s k ≡ true)
-    unfolding quota-lines any line-1 line-2
+    unfolding free-all-lines any line-1 line-2
     checked =
         let x = or-neither (not (allowed (length s))) _ none-holds in
         let y = or-neither (not (sound unit s k)) _ (x .1) in
@@ -203,11 +203,11 @@ module _ (unit : ℕ → ℕ) (q : ℕ) where
     begun =
         record {
           good = heap-good s k (checked .0) (fits .octets) whole (fits .quotas) (fits .narrow) (fits .serial);
-          units = and-right (consistent s k) _ (checked .1);
+          fitting = and-right (consistent s k) _ (checked .1);
         }
 
     pub exists : q < QUOTAS
-    exists = quota-passed unit s k q none-holds
+    exists = free-all-passed unit s k q none-holds
 
     -- and leaves what its definition says
     freed-all : free-all unit s k q ≡ leaves (freed q (charges (k .holds) q (objects-of s)) (state-of s k)) (amount-of (charges (k .holds) q (objects-of s)))

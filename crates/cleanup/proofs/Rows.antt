@@ -9,19 +9,20 @@ use lib.ListN.{replicate}
 use Rattle.accounts.specs.Accounts.{with-last-serial}
 use Rattle.layout.specs.Blocks.{render}
 use Rattle.rounding.specs.Rounding.{unit}
-use Rattle.model.specs.Calls.{Outcome, open-heap, allocate, claim, release, free-all}
+use Rattle.model.specs.Calls.{Outcome, allocate, claim, release, free-all}
+use Rattle.model.specs.Cases.{opened-heap}
 use Rattle.model.specs.declared.Handle.{Handle}
 use Rattle.model.proofs.Computing.{computing}
 use Rattle.cleanup.specs.Releases.{Drop, Answered, Cleaned, cleaned, accepted-throughout}
 use Rattle.cleanup.specs.FreeAll.{all-for, sum-of, releases-of}
 
-opened-heap : Outcome
-opened-heap = open-heap (replicate 128 0) (100 ∷ 100 ∷ replicate 6 0)
+fresh-heap : Outcome
+fresh-heap = opened-heap 128 100 100
 
 -- a heap of 128 bytes with objects of 16 and 24 bytes; quota 0 holds the first twice and the second once, quota 1 holds the second
 held-heap : Outcome
 held-heap =
-    let b = allocate unit (opened-heap .heap) (opened-heap .accounts) 0 16 in
+    let b = allocate unit (fresh-heap .heap) (fresh-heap .accounts) 0 16 in
     let c = allocate unit (b .heap) (b .accounts) 0 24 in
     let d = claim unit (c .heap) (c .accounts) 0 (b .values .handle) in
     claim unit (d .heap) (d .accounts) 1 (c .values .handle)
@@ -62,17 +63,17 @@ answered ds = map (λ (a : Answered). a .quota) (after ds .answers)
 
 -- both orders
 order-rows : (amounts one-order ≡ 0 ∷ 32 ∷ 32 ∷ 24 ∷ []) × (answered one-order ≡ 0 ∷ 0 ∷ 1 ∷ 0 ∷ []) × (accepted-throughout (after one-order .answers) ≡ true)
-    × (after one-order .heap ≡ 16 ∷ replicate 127 0) × (after one-order .accounts ≡ with-last-serial 2 (opened-heap .accounts))
+    × (after one-order .heap ≡ 16 ∷ replicate 127 0) × (after one-order .accounts ≡ with-last-serial 2 (fresh-heap .accounts))
     × (amounts other-order ≡ 32 ∷ 0 ∷ 24 ∷ 32 ∷ []) × (answered other-order ≡ 1 ∷ 0 ∷ 0 ∷ 0 ∷ []) × (accepted-throughout (after other-order .answers) ≡ true)
-    × (after other-order .heap ≡ 16 ∷ replicate 127 0) × (after other-order .accounts ≡ with-last-serial 2 (opened-heap .accounts))
-unfolding computing opened-heap held-heap first second drop one-order other-order after amounts answered cleaned accepted-throughout
+    × (after other-order .heap ≡ 16 ∷ replicate 127 0) × (after other-order .accounts ≡ with-last-serial 2 (fresh-heap .accounts))
+unfolding computing opened-heap fresh-heap held-heap first second drop one-order other-order after amounts answered cleaned accepted-throughout
 order-rows = (refl, refl, refl, refl, refl, refl, refl, refl, refl, refl)
 
 -- refused releases, and the others of the same list
 refusal-rows : (refusals with-refusals ≡ 6 ∷ 0 ∷ 0 ∷ 5 ∷ 0 ∷ []) × (amounts with-refusals ≡ 0 ∷ 0 ∷ 24 ∷ 0 ∷ 32 ∷ [])
     × (accepted-throughout (after with-refusals .answers) ≡ false)
     × (accepted-throughout [] ≡ true)
-unfolding computing opened-heap held-heap first second drop with-refusals after amounts refusals cleaned accepted-throughout
+unfolding computing opened-heap fresh-heap held-heap first second drop with-refusals after amounts refusals cleaned accepted-throughout
 refusal-rows = (refl, refl, refl, refl)
 
 -- one quota's releases and its free-all
@@ -88,6 +89,6 @@ free-rows : (all-for 0 of-quota-0 ≡ true) × (all-for 1 of-quota-0 ≡ false) 
     × (releases-of 0 (held-heap .accounts .holds) (first ∷ second ∷ []) ≡ drop 0 first ∷ drop 0 first ∷ drop 0 second ∷ [])
     × (releases-of 1 (held-heap .accounts .holds) (first ∷ second ∷ []) ≡ drop 1 second ∷ [])
     × (freed-heap .values .amount ≡ 56) × (after of-quota-0 .heap ≡ second-left) × (freed-heap .heap ≡ second-left)
-unfolding computing opened-heap held-heap freed-heap second-left first second drop one-order other-order of-quota-0 with-refusals after cleaned
+unfolding computing opened-heap fresh-heap held-heap freed-heap second-left first second drop one-order other-order of-quota-0 with-refusals after cleaned
     all-for sum-of releases-of
 free-rows = (refl, refl, refl, refl, refl, refl, refl, refl, refl, refl, refl, refl)

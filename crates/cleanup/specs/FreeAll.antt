@@ -1,4 +1,4 @@
--- Free-all and releases: a quota that releases one by one until it holds nothing leaves what free-all leaves.
+-- Free-all and releases (rules 19.7 and 19.8): a quota that releases one by one until it holds nothing leaves what free-all leaves.
 use Prim.Native.Nat.{ℕ}
 use mathlib.Core.Path.{_≡_}
 use mathlib.Core.List.{List, [], _∷_, _++_, List·Permᴰ}

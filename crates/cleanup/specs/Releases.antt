@@ -1,4 +1,4 @@
--- Clean-up: a list of releases, one after the other with no writing in between, and what every order of it has in common.
+-- Clean-up (rules, section 19): a list of releases, one after the other with no writing in between, and what every order of it has in common.
 use Prim.Native.Nat.{ℕ, _<_, _^_}
 use mathlib.Core.Path.{_≡_}
 use mathlib.Core.List.{List, [], _∷_, List·Permᴰ}
@@ -33,7 +33,7 @@ pub record Cleaned : Type 0 where
   pub accounts : Accounts
   pub answers : List Answered
 
--- each release is made on what the one before it left
+-- rule 19.1: each release is made on what the one before it left
 unfoldable pub cleaned : Run → List Drop → List ℕ → Accounts → Cleaned
 cleaned run [] s k = record { heap = s; accounts = k; answers = [] }
 cleaned run (d ∷ ds) s k =
@@ -41,7 +41,7 @@ cleaned run (d ∷ ds) s k =
     let rest = cleaned run ds (t .heap) (t .accounts) in
     record { heap = rest .heap; accounts = rest .accounts; answers = record { quota = d .quota; values = t .values } ∷ rest .answers }
 
--- every release of the list was accepted
+-- rule 19.2: every release of the list was accepted
 unfoldable pub accepted-throughout : List Answered → Bool
 accepted-throughout answers = all (λ a. eqb (a .values .refusal) 0) answers
 
@@ -52,7 +52,7 @@ pub record Fits (s : List ℕ) (k : Accounts) : Type 0 where
   pub narrow : (q : ℕ) → getD (k .quotas) q zero-quota .grant < 2 ^ 32
   pub serial : k .«last_serial» < 2 ^ 32
 
--- the second list does as the first: it is accepted throughout, leaves the same heap bytes and accounts, and gives each quota the same answers
+-- rules 19.3 to 19.5: the second list does as the first. It is accepted throughout, leaves the same heap bytes and accounts, and gives each quota the same answers
 pub record SameCleanup (run : Run) (ds es : List Drop) (s : List ℕ) (k : Accounts) : Type 0 where
   pub accepted : accepted-throughout (cleaned run es s k .answers) ≡ true
   pub heap : cleaned run es s k .heap ≡ cleaned run ds s k .heap

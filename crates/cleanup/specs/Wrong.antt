@@ -1,4 +1,4 @@
--- Wrong heaps: what each does instead of `release` or `free-all`. That clean-up in any order does not hold of them is `proofs/Wrong.antt`.
+-- The wrong heaps of rule 19.9: what each does instead of `release` or `free-all`. That clean-up in any order does not hold of them is `proofs/Wrong.antt`.
 use Prim.Native.Nat.{_-_, _%_}
 use mathlib.Core.List.{List, reverse}
 use mathlib.Core.Bool.{cond}

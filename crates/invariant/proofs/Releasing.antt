@@ -1,17 +1,17 @@
 -- A release is accepted exactly where it is possible, and then leaves what its definition says.
 -- Each of its lines says one thing of the state: the heap's length, soundness, the quota's number, the object that the handle names, its record.
 -- Assumes nothing.
-use mathlib.Core.Path.{_≡_, subst}
+use mathlib.Core.Path.{_≡_, ap, _∙_}
 use Prim.Native.Nat.{ℕ, _<_, _^_}
 use mathlib.Core.List.{List, List·Memᴰ}
-use mathlib.Core.Bool.{true, false, not}
+use mathlib.Core.Bool.{true, false, not, _&&_}
 use mathlib.Core.Option.{some}
 use lib.ListN.{length, getD}
 use borrow.Author.Tests.{not-false, lt-leb}
 use Rattle.accounts.specs.declared.Accounts.{Accounts}
-use Rattle.accounts.specs.Accounts.{QUOTAS, zero-quota}
+use Rattle.accounts.specs.Accounts.{QUOTAS, zero-quota, permissible, permissions}
 use Rattle.layout.specs.Bytes.{Octets}
-use Rattle.layout.specs.Blocks.{Block, render}
+use Rattle.layout.specs.Blocks.{render}
 use Rattle.model.specs.Lists.{all, any, first, or-else, is-none}
 use Rattle.model.specs.Answers.{amount-of}
 use Rattle.model.specs.Objects.{objects, objects-of, names, lookup, found}
@@ -21,9 +21,10 @@ use Rattle.model.specs.Calls.{State, leaves, unless, state-of, given-back, rele
 use Rattle.model.specs.Step.{step}
 use Rattle.model.specs.declared.Handle.{Handle}
 use Rattle.model.specs.declared.Call.the-variants.{Release}
-use Rattle.model.proofs.Bools.{and-right, and-both, or-neither}
+use Rattle.model.proofs.Bools.{and-left, and-right, and-both, or-neither}
 use Rattle.model.proofs.Lists.{first-some, all-member, member-all}
 use Rattle.model.proofs.Consistent.{sound-consistent}
+use Rattle.model.proofs.Permissions.{released-permissions}
 use Rattle.model.proofs.Refusals.{call-accepted-exactly}
 use Rattle.invariant.proofs.Good.{Good}
 use Rattle.invariant.proofs.Heaps.{good-heap, heap-good}
@@ -37,12 +38,12 @@ pub record Possible (q : ℕ) (h o : Handle) (t : State) : Type 0 where
   pub names : first (names h) (objects (t .blocks)) ≡ some o
   pub recorded : has-record (t .accounts .holds) q (o .serial) ≡ true
 
--- every object of a state fits its unit
-abbrev pub InUnits : (ℕ → ℕ) → State → Type 0
-InUnits unit t = all (in-units unit) (objects (t .blocks)) ≡ true
+-- what `sound` asks for beyond consistency: every object of a state fits its unit, and every quota's permissions are such
+abbrev pub Fitting : (ℕ → ℕ) → State → Type 0
+Fitting unit t = (all (in-units unit) (objects (t .blocks)) && all permissible (permissions (t .accounts))) ≡ true
 
--- a good state whose objects fit their units is written as a sound heap
-good-sound : (unit : ℕ → ℕ) (t : State) → Good t → InUnits unit t → sound unit (render (t .blocks)) (t .accounts) ≡ true
+-- a good state that has this is written as a sound heap
+good-sound : (unit : ℕ → ℕ) (t : State) → Good t → Fitting unit t → sound unit (render (t .blocks)) (t .accounts) ≡ true
 unfolding sound
 good-sound unit t g f = and-both _ _ (good-heap t g .sound) (rw (good-heap t g .objects) f)
 
@@ -56,12 +57,18 @@ module _ (q : ℕ) (h o : Handle) (t : State) (g : Good t) (p : Possible q h o t
   pub possible-good : Good (released q o t)
   possible-good = released-good q o t g possible-there (p .recorded)
 
-  module _ (unit : ℕ → ℕ) (f : InUnits unit t) where
-    -- and its objects fit their units
-    pub possible-units : InUnits unit (released q o t)
-    possible-units =
-        member-all (in-units unit) (objects (released q o t .blocks))
-        (λ x m. all-member (in-units unit) (objects (t .blocks)) f x (keep-exactly _ (objects (t .blocks)) x .0 (rw (released-objects q o t g possible-there (p .recorded)) at m) .0))
+  -- its objects were there before
+  possible-kept : (x : Handle) → List·Memᴰ x (objects (released q o t .blocks)) → List·Memᴰ x (objects (t .blocks))
+  possible-kept x m = keep-exactly _ (objects (t .blocks)) x .0 (rw (released-objects q o t g possible-there (p .recorded)) at m) .0
+
+  module _ (unit : ℕ → ℕ) (f : Fitting unit t) where
+    -- so they fit their units, and a release leaves the permissions
+    pub possible-fitting : Fitting unit (released q o t)
+    possible-fitting =
+        and-both _ _
+        (member-all (in-units unit) (objects (released q o t .blocks))
+        (λ x m. all-member (in-units unit) (objects (t .blocks)) (and-left _ _ f) x (possible-kept x m)))
+        (ap (all permissible) (released-permissions q o t) ∙ and-right (all (in-units unit) (objects (t .blocks))) _ f)
 
     found-here : lookup h (render (t .blocks)) ≡ some o
     unfolding lookup
@@ -92,11 +99,12 @@ module _ (unit : ℕ → ℕ) (s : List ℕ) (k : Accounts) (q : ℕ) (h : Handl
   pub did-consistent : consistent s k ≡ true
   did-consistent = sound-consistent unit s k (checked .1)
 
-  pub did-units : InUnits unit (state-of s k)
+  pub did-fitting : Fitting unit (state-of s k)
   unfolding sound objects-of
-  did-units = and-right (consistent s k) _ (checked .1)
+  did-fitting = and-right (consistent s k) _ (checked .1)
 
-  pub did-good : Octets s → length (k .quotas) ≡ QUOTAS → ((j : ℕ) → getD (k .quotas) j zero-quota .grant < 2 ^ 32) → k .«last_serial» < 2 ^ 32 → Good (state-of s k)
+  pub did-good : Octets s → length (k .quotas) ≡ QUOTAS → ((j : ℕ) → getD (k .quotas) j zero-quota .grant < 2 ^ 32) → k .«last_serial» < 2 ^ 32
+      → Good (state-of s k)
   did-good o l n f = heap-good s k (checked .0) o did-consistent l n f
 
   pub did : (o : Handle) × Possible q h o (state-of s k)
