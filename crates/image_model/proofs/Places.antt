@@ -53,6 +53,15 @@ form-has-number n f e = by-number (λ m g. g .number ≡ m) refl refl n f e
 pub form-is-known : (n : ℕ) (f : Form) → form-numbered n ≡ some f → Known f
 form-is-known n f e = ap form-numbered (form-has-number n f e) ∙ e
 
+-- forms 1 and 2 have theirs
+pub known-1 : Known form-1
+unfolding form-numbered form-1
+known-1 = refl
+
+pub known-2 : Known form-2
+unfolding form-numbered form-2
+known-2 = refl
+
 -- two forms with one number are the same
 pub same-number : (f g : Form) → Known f → Known g → f .number ≡ g .number → f ≡ g
 same-number f g e h n = let w : some f ≡ some g = sym e ∙ ap form-numbered n ∙ h in cc
