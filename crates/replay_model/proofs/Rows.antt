@@ -33,7 +33,8 @@ rows =
     -- rule 11.16
     ("open 128 100 1000" and 30 zeros "\nalloc 0 10\nalloc 0 68\nfree 1 8 16 1\nall 0\n" prints "ok\nok 8 16 1\nno 8\nno 6\nok 24\n0 128 0\n")
     -- each call's answer, and the list of a heap with live blocks
-    ∷ ("open 128 500 500" and 30 zeros "\narray 0 2 8\nclaim 1 8 16 1\nfree 0 8 16 1\nrealloc 1 8 16 1 20\nall 0\nclaim 1 32 24 2\nfree 1 32 24 2\n" prints "ok\nok 8 16 1\nok 16\nok 24\nok 32 24 2\nok 0\nok 24\nok 0\n0 24 0\n24 32 2\n56 72 0\n")
+    ∷ ("open 128 500 500" and 30 zeros "\narray 0 2 8\nclaim 1 8 16 1\nfree 0 8 16 1\nrealloc 1 8 16 1 20\nall 0\nclaim 1 32 24 2\nfree 1 32 24 2\n"
+    prints "ok\nok 8 16 1\nok 16\nok 24\nok 32 24 2\nok 0\nok 24\nok 0\n0 24 0\n24 32 2\n56 72 0\n")
     -- an opening alone; the refused lengths; what follows a refused open is not looked at
     ∷ ("open 64" and 32 zeros "\n" prints "ok\n0 64 0\n")
     ∷ ("open 56" and 32 zeros "\nwhat\n\nalloc" prints "no 1\n")
@@ -53,7 +54,8 @@ rows =
     ∷ ("all 0\n" prints "bad\n")
     ∷ ("open 64" and 32 zeros "\nopen 56 0 0 0 0 0 0 0 0 0 0 0 0 0 0 0 0 0 0 0 0 0 0 0 0 0 0 0 0 0 0 0 0\nall 0\n" prints "ok\nbad\n")
     -- numbers
-    ∷ ("open 64 4294967295" and 31 zeros "\nalloc 4294967295 1\nalloc 32 1\nalloc 0 4294967295\nfree 0 4294967295 0 0\nalloc 0 4294967296\n" prints "ok\nno 3\nno 3\nno 4\nno 5\nbad\n")
+    ∷ ("open 64 4294967295" and 31 zeros "\nalloc 4294967295 1\nalloc 32 1\nalloc 0 4294967295\nfree 0 4294967295 0 0\nalloc 0 4294967296\n"
+    prints "ok\nno 3\nno 3\nno 4\nno 5\nbad\n")
     ∷ ("open 64" and 32 zeros "\nall 18446744073709551616\n" prints "ok\nbad\n")
     ∷ ("open 64" and 32 zeros "\nall 00\n" prints "ok\nbad\n")
     ∷ ("open 64" and 32 zeros "\nalloc 0 01\n" prints "ok\nbad\n")
