@@ -52,7 +52,8 @@ pub record Fits (s : List ℕ) (k : Accounts) : Type 0 where
   pub narrow : (q : ℕ) → getD (k .quotas) q zero-quota .grant < 2 ^ 32
   pub serial : k .«last_serial» < 2 ^ 32
 
--- rules 19.3 to 19.5: the second list does as the first. It is accepted throughout, leaves the same heap bytes and accounts, and gives each quota the same answers
+-- rules 19.3 to 19.5: the second list does as the first. It is accepted throughout, leaves the same heap bytes and accounts, and gives each quota the same
+-- answers
 pub record SameCleanup (run : Run) (ds es : List Drop) (s : List ℕ) (k : Accounts) : Type 0 where
   pub accepted : accepted-throughout (cleaned run es s k .answers) ≡ true
   pub heap : cleaned run es s k .heap ≡ cleaned run ds s k .heap
