@@ -63,7 +63,7 @@ pub fn lists(pair: &mut Pair, seed: u64, n: u64) -> Result<(), Failure> {
     refused.extend(refused_releases(&mut numbers, &objects));
     in_two_orders(pair, &mut numbers, &state, refused)?;
     let quota = numbers.below(QUOTAS as u32);
-    let all = holds_of(&objects, quota);
+    let all = holds_of(&mut numbers, &objects, quota);
     if all.len() <= LONGEST as usize {
         as_free_all(pair, &mut numbers, &state, quota, all)?;
     }
@@ -104,8 +104,10 @@ fn some_holds(seed: &mut Seed, objects: &[Object]) -> Vec<Release> {
                 true => count.min(seed.pick(&[1, 2, 5, LONGEST])),
                 false => 0,
             };
-            let handle = object.handle;
-            list.extend((0..times).map(|_| Release { quota, handle }));
+            for _ in 0..times {
+                let handle = part_of(seed, object.handle);
+                list.push(Release { quota, handle });
+            }
         }
     }
     seed.shuffle(&mut list);
@@ -114,14 +116,28 @@ fn some_holds(seed: &mut Seed, objects: &[Object]) -> Vec<Release> {
 }
 
 /// Gives every hold of a quota as a release.
-fn holds_of(objects: &[Object], quota: u32) -> Vec<Release> {
+fn holds_of(seed: &mut Seed, objects: &[Object], quota: u32) -> Vec<Release> {
     let mut list = Vec::new();
     for object in objects {
-        let handle = object.handle;
-        let times = object.holds[quota as usize];
-        list.extend((0..times).map(|_| Release { quota, handle }));
+        for _ in 0..object.holds[quota as usize] {
+            let handle = part_of(seed, object.handle);
+            list.push(Release { quota, handle });
+        }
     }
     list
+}
+
+/// Gives a handle of the object, now and then one with a narrowed range.
+fn part_of(seed: &mut Seed, object: Handle) -> Handle {
+    if seed.percent(70) {
+        return object;
+    }
+    let skipped = seed.below(object.length);
+    Handle {
+        base: object.base + skipped,
+        length: seed.between(1, object.length - skipped),
+        ..object
+    }
 }
 
 /// Makes releases of which one is refused in every order: of a quota that does not hold the object
@@ -196,7 +212,8 @@ fn in_two_orders(
     Ok(())
 }
 
-/// Makes every release of a quota in two orders, and compares with its free-all.
+/// Makes every release of a quota in two orders, and compares with its free-all where the quota is
+/// permitted that.
 fn as_free_all(
     pair: &mut Pair,
     seed: &mut Seed,
@@ -208,6 +225,10 @@ fn as_free_all(
     let one_by_one = cleaned(pair, state, &list)?;
     let mut freed = state.clone();
     let answer = pair.call(&mut freed, Call::FreeAll(quota))?;
+    if answer.refusal == 12 {
+        pair.tally.count_case("a free-all that is not permitted");
+        return Ok(());
+    }
     let same = one_by_one.is_accepted() && one_by_one.state == freed;
     if !same || answer != Answer::accepted(&[one_by_one.sum()]) {
         return Err(wrong(pair, "free-all does otherwise", &list, &[]));
