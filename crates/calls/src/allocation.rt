@@ -70,7 +70,7 @@ pub(crate) fn grant(heap: &mut [u8], accounts: Accounts, quota: u32, length: u32
     if GREATEST_SERIAL <= last {
         return HandleResult::refused(accounts, Refusal::SerialsExhausted);
     }
-    let alignment = rounding::unit(size);
+    let alignment = rounding::object_unit(size);
     let Fit::At(block, base) = finder::find_base(heap, alignment, size as usize) else {
         return HandleResult::refused(accounts, Refusal::NoSpace);
     };

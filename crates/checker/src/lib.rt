@@ -268,7 +268,7 @@ fn is_fitting(size: usize, end: usize) -> bool
         return false;
     }
     let length = size - 8;
-    let unit = rounding::unit(length as u32) as usize;
+    let unit = rounding::object_unit(length as u32) as usize;
     if length % unit != 0 {
         return false;
     }

@@ -1,3 +1,5 @@
 -- The crate's laws. The computed rows come first: they are checked before the laws that hold of every length.
 pub mod Rows
 pub mod Rounding
+pub mod Zeros
+pub mod ByZeros

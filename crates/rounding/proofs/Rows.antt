@@ -1,11 +1,12 @@
--- The table of units, computed at both ends of each row, with the object's lengths, the alignments and the hardware's alignment there (rules 6.1 to 6.4).
+-- The table of units, computed at both ends of each row, with the object's lengths, the alignments and the hardware's alignment there, and the leading
+-- zeros at the powers of two (rules 6.1 to 6.4, 6.7).
 -- Assumes nothing.
 use mathlib.Core.Path.{_≡_, refl}
 use mathlib.Core.List.{[], _∷_, map}
 use Rattle.rounding.specs.Rounding.{unit, object-length, alignment, leading-zeros, exponent, representable-alignment}
 
--- the unit at both ends of each row
-pub unit-rows : map unit (1 ∷ 8191 ∷ 8192 ∷ 16383 ∷ 16384 ∷ 32767 ∷ 32768 ∷ []) ≡ 8 ∷ 8 ∷ 16 ∷ 16 ∷ 32 ∷ 32 ∷ 64 ∷ []
+-- the unit at both ends of each row, and above the table (6.5)
+pub unit-rows : map unit (0 ∷ 1 ∷ 8191 ∷ 8192 ∷ 16383 ∷ 16384 ∷ 32767 ∷ 32768 ∷ 65536 ∷ 2147483648 ∷ 4294967295 ∷ []) ≡ 8 ∷ 8 ∷ 8 ∷ 16 ∷ 16 ∷ 32 ∷ 32 ∷ 64 ∷ 64 ∷ 64 ∷ 64 ∷ []
 unfolding unit
 unit-rows = refl
 
@@ -27,6 +28,16 @@ alignment-rows = refl
 pub longest-rows : map (alignment unit) (32736 ∷ 32737 ∷ 32760 ∷ []) ≡ 32 ∷ 64 ∷ 64 ∷ []
 unfolding unit object-length alignment
 longest-rows = refl
+
+-- the leading zeros of numbers of 32 bits, on both sides of a power of two
+pub zeros-rows : map (leading-zeros 32) (0 ∷ 1 ∷ 2 ∷ 3 ∷ 255 ∷ 256 ∷ 65535 ∷ 65536 ∷ 2147483647 ∷ 2147483648 ∷ 4294967295 ∷ []) ≡ 32 ∷ 31 ∷ 30 ∷ 30 ∷ 24 ∷ 23 ∷ 16 ∷ 15 ∷ 1 ∷ 0 ∷ 0 ∷ []
+unfolding leading-zeros
+zeros-rows = refl
+
+-- and at both ends of each row of units
+pub row-zeros : map (leading-zeros 32) (8191 ∷ 8192 ∷ 16383 ∷ 16384 ∷ 32767 ∷ 32768 ∷ []) ≡ 19 ∷ 18 ∷ 18 ∷ 17 ∷ 17 ∷ 16 ∷ []
+unfolding leading-zeros
+row-zeros = refl
 
 -- the hardware's alignment at the ends of the rows from 4 KiB on
 pub formula-rows : map representable-alignment (4096 ∷ 8191 ∷ 8192 ∷ 16383 ∷ 16384 ∷ 32767 ∷ 32768 ∷ []) ≡ 8 ∷ 8 ∷ 16 ∷ 16 ∷ 32 ∷ 32 ∷ 64 ∷ []

@@ -22,7 +22,7 @@ pub record Units (u : ℕ → ℕ) : Type 0 where
   pub eights : (n : ℕ) → u n % 8 ≡ 0
   pub stable : (n : ℕ) → object-length u (object-length u n) ≡ object-length u n
 
--- the leading zeros of x, written with w bits
+-- the leading zeros of x, written with w bits: w for 0
 unfoldable pub leading-zeros : ℕ → ℕ → ℕ
 leading-zeros zero x = 0
 leading-zeros (suc w) x =

@@ -29,32 +29,32 @@ returns-2 c = rw (lt-leb 16 (c .before .before .before .args .size) (c .if2 .tak
 sub-length : tie.Need-sub-length
 sub-length c = search needs
 
+cast-object-unit : tie.Need-cast-object-unit
+cast-object-unit c = search needs
+
+object-unit-requires : tie.Need-object-unit-requires
+object-unit-requires c κs = search needs
+
 cast-unit : tie.Need-cast-unit
 cast-unit c = search needs
 
-unit-requires : tie.Need-unit-requires
-unit-requires c κs = search needs
-
-cast-unit-2 : tie.Need-cast-unit-2
-cast-unit-2 c = search needs
-
 rem-if3 : tie.Need-rem-if3
-rem-if3 c = omega (arith, c .unit .ensures, unit-is .positive (c .before .before .before .before .args .size - 8))
+rem-if3 c = omega (arith, c .object-unit .ensures, unit-is .positive (c .before .before .before .before .args .size - 8))
 
 returns-3 : tie.Need-returns-3
 returns-3 c =
     let u = c .before in
     let s = u .before .before .before .before in
-    sym (length-unfit unit (s .args .size) (s .args .end) (u .unit .result) (s .pre .2) (u .unit .ensures) (λ z. omega (arith, z, c .if3 .taken)))
+    sym (length-unfit unit (s .args .size) (s .args .end) (u .object-unit .result) (s .pre .2) (u .object-unit .ensures) (λ z. omega (arith, z, c .if3 .taken)))
 
 rem-result : tie.Need-rem-result
-rem-result c = omega (arith, c .before .unit .ensures, unit-is .positive (c .before .before .before .before .before .args .size - 8))
+rem-result c = omega (arith, c .before .object-unit .ensures, unit-is .positive (c .before .before .before .before .before .args .size - 8))
 
 returns-4 : tie.Need-returns-4
 returns-4 c =
     let u = c .before in
     let s = u .before .before .before .before in
-    sym (base-fits unit (s .args .size) (s .args .end) (u .unit .result) (s .pre .2) (u .unit .ensures) (omega arith) (omega (arith, c .if3 .left)))
+    sym (base-fits unit (s .args .size) (s .args .end) (u .object-unit .result) (s .pre .2) (u .object-unit .ensures) (omega arith) (omega (arith, c .if3 .left)))
 
 pub is-fitting-spec : {M : Type 1} → statement M
 is-fitting-spec =
@@ -64,9 +64,9 @@ is-fitting-spec =
     returns
     returns-2
     sub-length
+    cast-object-unit
+    object-unit-requires
     cast-unit
-    unit-requires
-    cast-unit-2
     rem-if3
     returns-3
     rem-result

@@ -86,8 +86,8 @@ returns-3 c =
     refused-10 unit unit-is (a .heap .now) (a .t2) (a .quota) (a .length) (e .pre) (c .refused3 .result) (omega (arith, x .if1 .left, z .object-length .ensures))
     (p .place .given .0 .0) (sym (u .lowest-unused .ensures) ∙ p .place .given .1) (omega (arith, c .before .if2 .taken, e .good .1 .0 .1 .1 .1 .0 .1)) (c .refused3 .ensures)
 
-unit-requires : tie.Need-unit-requires
-unit-requires c κs = search needs
+object-unit-requires : tie.Need-object-unit-requires
+object-unit-requires c κs = search needs
 
 cast-find-base : tie.Need-cast-find-base
 cast-find-base c = search needs
@@ -103,7 +103,7 @@ searched b =
     let l = b .before .before in
     let z = l .before .before .before .before .before .before .before in
     let a = z .before .before .args in
-    b .find-base .ensures ∙ (λ i. find-fit ((l .unit .ensures ∙ ap unit (z .object-length .ensures)) i) (z .object-length .ensures i) (a .heap .now))
+    b .find-base .ensures ∙ (λ i. find-fit ((l .object-unit .ensures ∙ ap unit (z .object-length .ensures)) i) (z .object-length .ensures i) (a .heap .now))
 
 -- the object lies in the block that was found
 room : (l : tie.After-block) → let a = l .before .before .before .before .before .before .before .before .before .before .before .before .before .args in
@@ -200,7 +200,7 @@ grant-spec =
     returns-2
     refused-requires-3
     returns-3
-    unit-requires
+    object-unit-requires
     cast-find-base
     find-base-requires
     enum-known-block
