@@ -10,7 +10,7 @@
 #include <stdlib.h>
 #include <time.h>
 
-enum { MAX_LIVE = 128, MAX_STEPS = 100000, CALLS = 4 };
+enum { MAX_LIVE = 512, MAX_STEPS = 100000, CALLS = 4 };
 enum call { ALLOCATE, RELEASE, CLAIM, REALLOCATE };
 
 struct step {

@@ -68,7 +68,7 @@ static uint32_t release(enum part part, struct lokhazim_handle handle)
     return refund;
 }
 
-/* Each part gets its quota: 48, 120 and 64, and nothing for the other five. */
+/* Each part gets its quota: 48, 120 and 64, and nothing for the others. */
 static void open_heap(void)
 {
     const struct lokhazim_grants grants = { { 48, 120, 64 } };

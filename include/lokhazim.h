@@ -52,16 +52,17 @@ extern "C" {
  *   1  the interface before it had a number
  *   2  a quota has permissions: struct lokhazim_quota has 12 bytes, and there is
  *      lokhazim_clear_permissions
+ *   3  32 quotas and 512 hold records, where there were 8 and 128; images of form 2
  */
-#define LOKHAZIM_INTERFACE 2
+#define LOKHAZIM_INTERFACE 3
 
 /* ---- Numbers ---- */
 
 /* The number of quotas; they are numbered from 0. */
-#define LOKHAZIM_QUOTAS 8
+#define LOKHAZIM_QUOTAS 32
 
 /* The number of hold records. */
-#define LOKHAZIM_HOLDS 128
+#define LOKHAZIM_HOLDS 512
 
 /* What an object costs beyond its length: the bytes of its block's header. */
 #define LOKHAZIM_HEADER 8
@@ -77,9 +78,9 @@ extern "C" {
 #define LOKHAZIM_REQUEST_MAX 32760
 
 /*
- * What a quota may do, as bits of its permissions. An opening and an image that is
- * read set all of them, lokhazim_clear_permissions clears some, and nothing else
- * changes them. Reallocate needs the first; release needs none.
+ * What a quota may do, as bits of its permissions. An opening sets all of them, an
+ * image that is read those that were set in it, lokhazim_clear_permissions clears
+ * some, and nothing else changes them. Reallocate needs the first; release none.
  */
 #define LOKHAZIM_MAY_ALLOCATE 1
 #define LOKHAZIM_MAY_CLAIM 2
@@ -224,32 +225,32 @@ LOKHAZIM_OFFSET(lokhazim_hold, serial, 0);
 LOKHAZIM_OFFSET(lokhazim_hold, quota, 4);
 LOKHAZIM_OFFSET(lokhazim_hold, count, 5);
 
-LOKHAZIM_SIZE(lokhazim_accounts, 1124);
+LOKHAZIM_SIZE(lokhazim_accounts, 4484);
 LOKHAZIM_OFFSET(lokhazim_accounts, quotas, 0);
-LOKHAZIM_OFFSET(lokhazim_accounts, last_serial, 96);
-LOKHAZIM_OFFSET(lokhazim_accounts, holds, 100);
+LOKHAZIM_OFFSET(lokhazim_accounts, last_serial, 384);
+LOKHAZIM_OFFSET(lokhazim_accounts, holds, 388);
 
 LOKHAZIM_SIZE(lokhazim_handle, 12);
 LOKHAZIM_OFFSET(lokhazim_handle, base, 0);
 LOKHAZIM_OFFSET(lokhazim_handle, length, 4);
 LOKHAZIM_OFFSET(lokhazim_handle, serial, 8);
 
-LOKHAZIM_SIZE(lokhazim_grants, 32);
+LOKHAZIM_SIZE(lokhazim_grants, 128);
 LOKHAZIM_OFFSET(lokhazim_grants, values, 0);
 
-LOKHAZIM_SIZE(lokhazim_open_reply, 1128);
+LOKHAZIM_SIZE(lokhazim_open_reply, 4488);
 LOKHAZIM_OFFSET(lokhazim_open_reply, accounts, 0);
-LOKHAZIM_OFFSET(lokhazim_open_reply, refusal, 1124);
+LOKHAZIM_OFFSET(lokhazim_open_reply, refusal, 4484);
 
-LOKHAZIM_SIZE(lokhazim_handle_reply, 1140);
+LOKHAZIM_SIZE(lokhazim_handle_reply, 4500);
 LOKHAZIM_OFFSET(lokhazim_handle_reply, accounts, 0);
-LOKHAZIM_OFFSET(lokhazim_handle_reply, refusal, 1124);
-LOKHAZIM_OFFSET(lokhazim_handle_reply, handle, 1128);
+LOKHAZIM_OFFSET(lokhazim_handle_reply, refusal, 4484);
+LOKHAZIM_OFFSET(lokhazim_handle_reply, handle, 4488);
 
-LOKHAZIM_SIZE(lokhazim_amount_reply, 1132);
+LOKHAZIM_SIZE(lokhazim_amount_reply, 4492);
 LOKHAZIM_OFFSET(lokhazim_amount_reply, accounts, 0);
-LOKHAZIM_OFFSET(lokhazim_amount_reply, refusal, 1124);
-LOKHAZIM_OFFSET(lokhazim_amount_reply, amount, 1128);
+LOKHAZIM_OFFSET(lokhazim_amount_reply, refusal, 4484);
+LOKHAZIM_OFFSET(lokhazim_amount_reply, amount, 4488);
 
 LOKHAZIM_SIZE(lokhazim_amount, 8);
 LOKHAZIM_OFFSET(lokhazim_amount, refusal, 0);

@@ -4,6 +4,11 @@
  * number and a check. Link liblokhazim_image.a; a program that needs no images
  * leaves both away.
  *
+ * There are two forms. Form 2 carries every state; it is what is written. Form 1
+ * is that of earlier versions, with LOKHAZIM_FORM_1_QUOTAS quotas,
+ * LOKHAZIM_FORM_1_HOLDS hold records and no permissions; it is written for boards
+ * that read nothing else. Both are read, by the number that they begin with.
+ *
  * The functions keep no pointer and take any bytes. Reading needs room for a
  * whole heap on the stack (see README), because a refused image must not have
  * touched the heap it was to be read into.
@@ -19,10 +24,26 @@
 extern "C" {
 #endif
 
-/* The length of the longest image, that of a heap of LOKHAZIM_HEAP_MAX bytes. */
-#define LOKHAZIM_IMAGE_MAX 34816
+/* The length of the longest image of form 2 and of form 1, those of a heap of LOKHAZIM_HEAP_MAX bytes. */
+#define LOKHAZIM_IMAGE_MAX 37888
+#define LOKHAZIM_IMAGE_MAX_FORM_1 34816
 
-/* Why an image is not written or not read. The numbers are also the order of checking, but a writer checks 28 and then 25 last. */
+/* The bytes in front of the heap's, in form 2 and in form 1, before they are cut into frames. */
+#define LOKHAZIM_IMAGE_HEAD 4492
+#define LOKHAZIM_IMAGE_HEAD_FORM_1 1100
+
+/* The quotas and hold records that form 1 has; form 2 has all. */
+#define LOKHAZIM_FORM_1_QUOTAS 8
+#define LOKHAZIM_FORM_1_HOLDS 128
+
+static_assert(LOKHAZIM_IMAGE_HEAD == 12 + 12 * LOKHAZIM_QUOTAS + 8 * LOKHAZIM_HOLDS, "the head of form 2 has all quotas and records");
+static_assert(LOKHAZIM_IMAGE_HEAD_FORM_1 == 12 + 8 * LOKHAZIM_FORM_1_QUOTAS + 8 * LOKHAZIM_FORM_1_HOLDS,
+              "the head of form 1 has its quotas and records");
+
+/*
+ * Why an image is not written, not read or not compared. The numbers are also the order of checking, but a writer checks 28
+ * and then 25 last, and comparing 29 before 27.
+ */
 enum lokhazim_image_refusal {
     /* Not refused. */
     LOKHAZIM_IMAGE_ACCEPTED = 0,
@@ -36,7 +57,8 @@ enum lokhazim_image_refusal {
     LOKHAZIM_IMAGE_FRAME = 22,
     /* Another form of image than this library reads. */
     LOKHAZIM_IMAGE_FORM = 23,
-    /* A heap length that is not allowed or needs another number of frames, or a spare byte that is not zero. */
+    /* A heap length that is not allowed or needs another number of frames, a spare byte that is not zero, or permissions
+     * above LOKHAZIM_MAY_ALL. */
     LOKHAZIM_IMAGE_CONTENTS = 24,
     /* Writing: the lent image is too short. Reading: the lent heap hasn't the length of the image's heap. */
     LOKHAZIM_IMAGE_ROOM = 25,
@@ -44,8 +66,11 @@ enum lokhazim_image_refusal {
     LOKHAZIM_IMAGE_INCONSISTENT = 26,
     /* Comparing: the heaps of the two images have different lengths. */
     LOKHAZIM_IMAGE_HEAP_LENGTHS = 27,
-    /* Writing: a quota lacks a permission, which this form can't carry. */
-    LOKHAZIM_IMAGE_NOT_CARRIED = 28
+    /* Writing form 1, which can't carry the accounts: a grant of a quota that it doesn't have, a used record at a place that
+     * it doesn't have, or a quota without all permissions. */
+    LOKHAZIM_IMAGE_NOT_CARRIED = 28,
+    /* Comparing: the two images are of different forms. */
+    LOKHAZIM_IMAGE_FORMS_DIFFER = 29
 };
 
 /* What differs between two images. */
@@ -54,7 +79,7 @@ enum lokhazim_difference {
     LOKHAZIM_NO_DIFFERENCE = 0,
     /* The last serial. */
     LOKHAZIM_SERIAL_DIFFERS = 1,
-    /* The quota of number `place`. */
+    /* The quota of number `place`: its grant, its remainder or its permissions. */
     LOKHAZIM_QUOTA_DIFFERS = 2,
     /* The hold record at `place`. */
     LOKHAZIM_RECORD_DIFFERS = 3,
@@ -102,9 +127,9 @@ struct lokhazim_next_reply {
 static_assert(sizeof(struct lokhazim_image_reply) == 16, "the size of struct lokhazim_image_reply is not 16");
 static_assert(offsetof(struct lokhazim_image_reply, refusal) == 0, "struct lokhazim_image_reply: the offset of refusal is not 0");
 static_assert(offsetof(struct lokhazim_image_reply, length) == 8, "struct lokhazim_image_reply: the offset of length is not 8");
-static_assert(sizeof(struct lokhazim_restore_reply) == 1128, "the size of struct lokhazim_restore_reply is not 1128");
+static_assert(sizeof(struct lokhazim_restore_reply) == 4488, "the size of struct lokhazim_restore_reply is not 4488");
 static_assert(offsetof(struct lokhazim_restore_reply, accounts) == 0, "struct lokhazim_restore_reply: the offset of accounts is not 0");
-static_assert(offsetof(struct lokhazim_restore_reply, refusal) == 1124, "struct lokhazim_restore_reply: the offset of refusal is not 1124");
+static_assert(offsetof(struct lokhazim_restore_reply, refusal) == 4484, "struct lokhazim_restore_reply: the offset of refusal is not 4484");
 
 static_assert(sizeof(struct lokhazim_examine_reply) == 16, "the size of struct lokhazim_examine_reply is not 16");
 static_assert(offsetof(struct lokhazim_examine_reply, refusal) == 0, "struct lokhazim_examine_reply: the offset of refusal is not 0");
@@ -121,14 +146,24 @@ static_assert(offsetof(struct lokhazim_next_reply, at) == 32, "struct lokhazim_n
 
 /* ---- The library's functions: accounts by value ---- */
 
-/* The length of the image of a heap of so many bytes; 0 for a length that no heap can have. */
+/* The length of the image of a heap of so many bytes, in form 2; 0 for a length that no heap can have. */
 size_t lokhazim_image_length(size_t heap_length);
 
-/* Writes an image of heap and accounts to the front of `image`; bytes behind it stay. */
+/* The same in form 1. */
+size_t lokhazim_image_length_form_1(size_t heap_length);
+
+/* Writes an image of heap and accounts, in form 2, to the front of `image`; bytes behind it stay. */
 struct lokhazim_image_reply lokhazim_image_write(
     uint8_t *image, size_t image_length, const uint8_t *heap, size_t length, struct lokhazim_accounts accounts);
 
-/* Reads an image into a heap of the same length, and gives its accounts; every quota has all permissions. */
+/* The same in form 1. */
+struct lokhazim_image_reply lokhazim_image_write_form_1(
+    uint8_t *image, size_t image_length, const uint8_t *heap, size_t length, struct lokhazim_accounts accounts);
+
+/*
+ * Reads an image of either form into a heap of the same length, and gives its accounts. What form 1 lacks is zero, and every
+ * quota then has all permissions.
+ */
 struct lokhazim_restore_reply lokhazim_image_read(
     const uint8_t *image, size_t image_length, uint8_t *heap, size_t length);
 
@@ -137,7 +172,7 @@ struct lokhazim_examine_reply lokhazim_image_examine(const uint8_t *image, size_
 
 /*
  * Tells the n-th difference of two images, from 0, in this order: last serial, quotas, records, runs of heap bytes. Link
- * liblokhazim_compare.a. Refusals 21 to 24 and 26 of either image, the first one's before the second's, then 27.
+ * liblokhazim_compare.a. Refusals 21 to 24 and 26 of either image, the first one's before the second's, then 29 and 27.
  */
 struct lokhazim_compare_reply lokhazim_image_compare(
     const uint8_t *first, size_t first_length, const uint8_t *second, size_t second_length, size_t n);
@@ -151,7 +186,7 @@ struct lokhazim_next_reply lokhazim_image_compare_next(
 
 /* ---- The same with the accounts by pointer; each gives its refusal ---- */
 
-/* Writes an image of heap and accounts to the front of `image`; *written, if it is not null, becomes its length. Refusals 1, 2, 28, 25. */
+/* Writes an image of heap and accounts to the front of `image`; *written, if it is not null, becomes its length. Refusals 1, 2, 25. */
 static inline enum lokhazim_image_refusal lokhazim_heap_save(
     const uint8_t *heap, size_t length, const struct lokhazim_accounts *accounts,
     uint8_t *image, size_t image_length, size_t *written)
@@ -163,10 +198,23 @@ static inline enum lokhazim_image_refusal lokhazim_heap_save(
     return (enum lokhazim_image_refusal)reply.refusal;
 }
 
+/* The same in form 1, for boards that read nothing else. Refusals 1, 2, 28, 25. */
+static inline enum lokhazim_image_refusal lokhazim_heap_save_form_1(
+    const uint8_t *heap, size_t length, const struct lokhazim_accounts *accounts,
+    uint8_t *image, size_t image_length, size_t *written)
+{
+    const struct lokhazim_image_reply reply =
+        lokhazim_image_write_form_1(image, image_length, heap, length, *accounts);
+    if (written) {
+        *written = reply.length;
+    }
+    return (enum lokhazim_image_refusal)reply.refusal;
+}
+
 /*
- * Reads an image into heap and accounts. Handles from before the image are good again, handles that were given out
- * after it mean nothing; every quota has all permissions. Where it is refused, heap and accounts stay as they were, and calls
- * go on with them. Refusals 21 to 26.
+ * Reads an image of either form into heap and accounts. Handles from before the image are good again, handles that were given
+ * out after it mean nothing. Form 1 gives all permissions to every quota. Where it is refused, heap and accounts stay as they
+ * were, and calls go on with them. Refusals 21 to 26.
  */
 static inline enum lokhazim_image_refusal lokhazim_heap_restore(
     uint8_t *heap, size_t length, struct lokhazim_accounts *accounts,

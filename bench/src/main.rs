@@ -30,7 +30,7 @@ use comparing::comparisons;
 use counting::{counts, run_counted};
 use engine::{clearing, Reference};
 use peer::Peer;
-use plan::{HEAP_BYTES, LONGEST};
+use plan::{longest, HEAP_BYTES, LIVE_COUNTS};
 use proved::{Proved, ACCOUNTS_BYTES};
 use timing::{times, ROUNDS, STEPS};
 
@@ -81,7 +81,10 @@ fn explain(peer: Option<&Peer>) -> Result<(), String> {
     let proved = clearing(&mut Proved::open());
     let reference = clearing(&mut Reference::open());
     println!("The same operations by three programs, all built for release.");
-    println!("- The heap has {HEAP_BYTES} bytes, requests have 1 to {LONGEST}, the seed is fixed. 'live' is the number of live objects at a call's fullest moment.");
+    let most = LIVE_COUNTS[LIVE_COUNTS.len() - 1];
+    let (few, many) = (longest(LIVE_COUNTS[0]), longest(most));
+    println!("- The heap has {HEAP_BYTES} bytes, requests have 1 to {few}, at {most} objects to {many}, the seed is fixed. 'live' is the number of live objects at a call's");
+    println!("  fullest moment.");
     println!("- A step is allocate, claim, release, reallocate; {ROUNDS} rounds of {STEPS} steps after one for warming up, the programs in turn.");
     println!("- Each call is timed by itself, and what the clock costs is taken off. The slowest tenth of a round's calls is left out, since the system may have");
     println!("  interrupted them. The release that takes a claim back is not timed.");

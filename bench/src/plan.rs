@@ -2,12 +2,12 @@
 //!
 //! A step starts with one object less than the plan's live count. It allocates one, claims one and
 //! drops the hold, releases one and reallocates one. So at each of the four calls the heap has
-//! exactly the live count at its fullest: a reallocation needs a hold record for both objects, and
-//! there are 128 records.
+//! exactly the live count at its fullest: a reallocation needs a hold record for both objects. The
+//! greatest live count is the number of records.
 
 use std::fmt::Write;
 
-use lokhazim_reference::QUOTAS;
+use lokhazim_reference::{HOLDS, QUOTAS};
 
 /// The bytes of the heap.
 pub const HEAP_BYTES: usize = 32_768;
@@ -16,10 +16,16 @@ pub const HEAP_BYTES: usize = 32_768;
 pub const GRANT: u32 = 1_000_000;
 
 /// The numbers of live objects that are measured.
-pub const LIVE_COUNTS: [usize; 3] = [8, 32, 128];
+pub const LIVE_COUNTS: [usize; 4] = [8, 32, 128, HOLDS];
 
-/// The longest request. Even 128 objects of this length fit the heap.
-pub const LONGEST: u64 = 192;
+/// The longest request for so many live objects: so many of this length leave a fifth of the heap
+/// free at least.
+pub const fn longest(live: usize) -> u64 {
+    match live {
+        0..=128 => 192,
+        _ => 40,
+    }
+}
 
 /// Where the random numbers start.
 const SEED: u64 = 20_260_611;
@@ -58,7 +64,7 @@ impl Plan {
         let mut random = Random(SEED + live as u64);
         Plan {
             live,
-            first: (1..live).map(|_| random.length()).collect(),
+            first: (1..live).map(|_| random.length(live)).collect(),
             rounds: (0..=rounds)
                 .map(|_| (0..steps).map(|_| random.step(live)).collect())
                 .collect(),
@@ -104,20 +110,20 @@ impl Random {
         (self.next() % bound as u64) as usize
     }
 
-    /// Gives a length from 1 to the longest.
-    fn length(&mut self) -> u32 {
-        (self.next() % LONGEST) as u32 + 1
+    /// Gives a length from 1 to the longest for so many live objects.
+    fn length(&mut self, live: usize) -> u32 {
+        (self.next() % longest(live)) as u32 + 1
     }
 
     /// Gives a step for so many live objects.
     fn step(&mut self, live: usize) -> Step {
         Step {
             quota: self.below(QUOTAS) as u32,
-            length: self.length(),
+            length: self.length(live),
             claimed: self.below(live),
             released: self.below(live),
             moved: self.below(live - 1),
-            new_length: self.length(),
+            new_length: self.length(live),
         }
     }
 }
@@ -139,8 +145,10 @@ mod tests {
     }
 
     #[test]
-    fn as_many_of_the_longest_objects_as_there_are_records_fit() {
-        let largest = LIVE_COUNTS[2] * (LONGEST as usize + 8);
-        assert!(largest <= HEAP_BYTES);
+    fn the_longest_objects_leave_a_fifth_of_the_heap_free() {
+        for live in LIVE_COUNTS {
+            let largest = live * (longest(live) as usize + 8);
+            assert!(5 * largest <= 4 * HEAP_BYTES, "{live}");
+        }
     }
 }

@@ -8,6 +8,18 @@ use crate::plan::LIVE_COUNTS;
 /// How wide the column of a program is.
 const WIDTH: usize = 24;
 
+/// Two places among the numbers of live objects.
+#[derive(Clone, Copy)]
+pub struct Span {
+    /// The place of the smaller number.
+    pub from: usize,
+    /// The place of the greater number.
+    pub to: usize,
+}
+
+/// The spans over which growth is shown and judged: to 128 objects, and from there to the most.
+pub const SPANS: [Span; 2] = [Span { from: 0, to: 2 }, Span { from: 2, to: 3 }];
+
 /// A program's figures: for each number of live objects, one of each call.
 pub type Grid<F> = Vec<[F; CALLS]>;
 
@@ -59,18 +71,25 @@ impl<F: Figure> Report<F> {
         )
     }
 
-    /// Writes how often the figure at 8 live objects goes into the one at 128.
+    /// Writes how the figures grow over each span of live objects.
     pub fn growth(&self) -> String {
+        SPANS.map(|span| self.growth_over(span)).concat()
+    }
+
+    /// Writes how often the figure at a span's first number goes into the one at its last.
+    fn growth_over(&self, span: Span) -> String {
         let mut text = format!(
-            "Growth from 8 to 128 live objects\n{:<15}{}\n",
+            "Growth from {} to {} live objects\n{:<15}{}\n",
+            LIVE_COUNTS[span.from],
+            LIVE_COUNTS[span.to],
             "call",
             heads()
         );
         for call in Call::ALL {
             let name = call.name();
-            let proved = growth(&self.proved, call);
-            let reference = growth(&self.reference, call);
-            let peer = shown(self.peer.as_ref().map(|grid| growth(grid, call)));
+            let proved = growth(&self.proved, call, span);
+            let reference = growth(&self.reference, call, span);
+            let peer = shown(self.peer.as_ref().map(|grid| growth(grid, call, span)));
             let _ = writeln!(
                 text,
                 "{name:<15}{proved:>WIDTH$.2}{reference:>WIDTH$.2}{peer:>WIDTH$}"
@@ -103,9 +122,9 @@ fn ratio<F: Figure>(above: &Grid<F>, below: &Grid<F>, call: Call, place: usize) 
     above[place][call as usize].value() / below[place][call as usize].value()
 }
 
-/// Gives how a program's call grows from the fewest live objects to the most.
-pub fn growth<F: Figure>(grid: &Grid<F>, call: Call) -> f64 {
-    grid[grid.len() - 1][call as usize].value() / grid[0][call as usize].value()
+/// Gives how a program's call grows over a span.
+pub fn growth<F: Figure>(grid: &Grid<F>, call: Call, span: Span) -> f64 {
+    grid[span.to][call as usize].value() / grid[span.from][call as usize].value()
 }
 
 /// Writes a ratio, or a dash for none.

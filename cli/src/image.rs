@@ -3,8 +3,8 @@
 use std::fmt::Write;
 
 use lokhazim::{
-    compare_images, examine_image, image_length, Difference, Heap, Hold, ImageRefusal, Permissions,
-    Quota, Which,
+    compare_images, examine_image, image_length, image_length_form_1, Difference, Heap, Hold,
+    ImageRefusal, Permissions, Quota, Which,
 };
 
 use crate::failure::Failure;
@@ -23,14 +23,35 @@ fn refused(name: &str) -> impl Fn(ImageRefusal) -> Failure + '_ {
     move |refusal| Failure::Refused(format!("{name}: {refusal}"))
 }
 
+/// A form of image.
+#[derive(Clone, Copy)]
+pub enum Form {
+    /// Form 1, that of earlier versions.
+    First,
+    /// Form 2, which carries every state.
+    Second,
+}
+
+/// An image of a heap.
+fn image_of(heap: &Heap, form: Form) -> Result<Vec<u8>, ImageRefusal> {
+    let length = heap.parts().0.len();
+    let needed = match form {
+        Form::First => image_length_form_1(length),
+        Form::Second => image_length(length),
+    };
+    let mut image = vec![0; needed.unwrap_or(0)];
+    match form {
+        Form::First => heap.save_form_1(&mut image)?,
+        Form::Second => heap.save(&mut image)?,
+    };
+    Ok(image)
+}
+
 /// Runs a script and writes an image of the heap that it leaves.
-pub fn save(script: &str, out: &str) -> Result<(), Failure> {
+pub fn save(form: Form, script: &str, out: &str) -> Result<(), Failure> {
     let lines = files::read(script)?;
     let image = left_by(script, &lines, |heap| {
-        let (bytes, _) = heap.parts();
-        let mut image = vec![0; image_length(bytes.len()).unwrap_or(0)];
-        heap.save(&mut image).map_err(refused(script))?;
-        Ok(image)
+        image_of(heap, form).map_err(refused(script))
     })?;
     files::write(out, &image)?;
     files::print(format!("ok {}\n", image.len()).as_bytes())

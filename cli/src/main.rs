@@ -20,13 +20,18 @@ use std::env;
 use std::process::ExitCode;
 
 use failure::Failure;
+use image::Form;
+use lokhazim::QUOTAS;
 
 /// What the command can do.
-const HELP: &str = "\
+fn help() -> String {
+    format!(
+        "\
 lokhazim: a heap that parts of a firmware share, by its proved library
 
     lokhazim replay SCRIPT            run a script of calls and print each answer, then the blocks
-    lokhazim image save SCRIPT OUT    run a script and write an image of the heap that it leaves
+    lokhazim image save SCRIPT OUT    run a script and write an image of the heap that it leaves;
+                                      'save --form 1 SCRIPT OUT' writes the form of earlier versions
     lokhazim image show FILE          print what an image holds: form, length and last serial;
                                       quota NUMBER GRANT REMAINDER PERMISSIONS (1 allocate, 2 claim,
                                       4 free-all, added); hold PLACE SERIAL QUOTA COUNT;
@@ -36,11 +41,13 @@ lokhazim: a heap that parts of a firmware share, by its proved library
                                       nothing does, 1 where something does, 2 where one is refused
     lokhazim help | version
 
-A script begins with 'open H' and eight grants, then has a call to a line: alloc q n, array q n s,
+A script begins with 'open H' and {QUOTAS} grants, then has a call to a line: alloc q n, array q n s,
 claim q b l s, free q b l s, all q, realloc q b l s n. SCRIPT and FILE can be - for standard input.
 Status 0: done. 1: refused, with the number and the reason. 2: wrong words, or a file that can't be
 read or written. docs/RULES.md has every rule.
-";
+"
+    )
+}
 
 fn main() -> ExitCode {
     let words: Vec<String> = env::args_os()
@@ -63,10 +70,12 @@ fn main() -> ExitCode {
 fn run(words: &[&str]) -> Result<(), Failure> {
     match words {
         ["replay", script] => replay(script),
-        ["image", "save", script, out] => image::save(script, out),
+        ["image", "save", script, out] => image::save(Form::Second, script, out),
+        ["image", "save", "--form", "1", script, out] => image::save(Form::First, script, out),
+        ["image", "save", "--form", "2", script, out] => image::save(Form::Second, script, out),
         ["image", "show", file] => image::show(file),
         ["image", "compare", first, second] => image::compare(first, second),
-        ["help" | "--help" | "-h"] => files::print(HELP.as_bytes()),
+        ["help" | "--help" | "-h"] => files::print(help().as_bytes()),
         ["version" | "--version"] => {
             files::print(concat!("lokhazim ", env!("CARGO_PKG_VERSION"), "\n").as_bytes())
         }

@@ -4,8 +4,22 @@ use std::fs;
 use std::path::{Path, PathBuf};
 use std::process::{Command, Output, Stdio};
 
+use lokhazim::{FORM_1_QUOTAS, QUOTAS};
+
+/// The line of an opening with these grants, and 0 for every other quota.
+fn open(length: u32, first: &[u32]) -> String {
+    let mut grants = [0; QUOTAS];
+    grants[..first.len()].copy_from_slice(first);
+    format!(
+        "open {length} {}\n",
+        grants.map(|grant| grant.to_string()).join(" ")
+    )
+}
+
 /// The example of the rule book's replay section.
-const SCRIPT: &str = "open 128 100 1000 0 0 0 0 0 0\nalloc 0 10\nalloc 0 68\nfree 1 8 16 1\n";
+fn script() -> String {
+    open(128, &[100, 1_000]) + "alloc 0 10\nalloc 0 68\nfree 1 8 16 1\n"
+}
 
 /// A folder of a test's own, empty at first.
 fn folder(name: &str) -> PathBuf {
@@ -49,10 +63,10 @@ fn names(folder: &Path) -> Vec<String> {
 #[test]
 fn a_script_is_replayed() {
     let folder = folder("replay");
-    fs::write(folder.join("a"), SCRIPT).unwrap();
+    fs::write(folder.join("a"), script()).unwrap();
     let run = lokhazim(&folder, &["replay", "a"]);
     expect(&run, 0, "ok\nok 8 16 1\nno 8\nno 6\n0 24 1\n24 104 0\n", "");
-    fs::write(folder.join("b"), format!("{SCRIPT}lend 8 16 1\n")).unwrap();
+    fs::write(folder.join("b"), script() + "lend 8 16 1\n").unwrap();
     let run = lokhazim(&folder, &["replay", "b"]);
     expect(
         &run,
@@ -75,19 +89,56 @@ fn a_script_is_replayed() {
 #[test]
 fn an_image_is_saved_and_shown() {
     let folder = folder("image");
-    fs::write(folder.join("a"), SCRIPT).unwrap();
+    fs::write(folder.join("a"), script()).unwrap();
+    let blank =
+        "quota 0 100 76 7\nquota 1 1000 1000 7\nhold 0 1 0 1\nblock 0 24 1\nblock 24 104 0\n";
+    for (words, length, form) in [
+        (&["image", "save", "a", "a.image"][..], 5_120, 2),
+        (&["image", "save", "--form", "1", "a", "a.image"], 1_536, 1),
+        (&["image", "save", "--form", "2", "a", "a.image"], 5_120, 2),
+    ] {
+        expect(&lokhazim(&folder, words), 0, &format!("ok {length}\n"), "");
+        assert_eq!(names(&folder), ["a", "a.image"]);
+        let shown = format!("ok {form} 128 1\n{blank}");
+        let run = lokhazim(&folder, &["image", "show", "a.image"]);
+        expect(&run, 0, &shown, "");
+    }
+}
+
+#[test]
+fn what_form_1_can_not_carry_is_not_written() {
+    let folder = folder("carried");
+    let save = |grants: &[u32]| {
+        fs::write(folder.join("a"), open(128, grants)).unwrap();
+        lokhazim(&folder, &["image", "save", "--form", "1", "a", "out"])
+    };
+    let mut grants = [0; FORM_1_QUOTAS + 1];
+    expect(&save(&grants), 0, "ok 1536\n", "");
+    fs::remove_file(folder.join("out")).unwrap();
+    grants[FORM_1_QUOTAS] = 1;
+    expect(&save(&grants), 1, "", "a: refusal 28:");
+    assert_eq!(names(&folder), ["a"]);
+}
+
+/// Permissions that were cleared in a heap of the library come back from its image, and are shown
+/// also for a quota without a grant.
+#[test]
+fn permissions_are_shown() {
+    let folder = folder("permissions");
+    let mut memory = [0; 64];
+    let mut heap = lokhazim::Heap::open(&mut memory, lokhazim::grants([9])).unwrap();
+    heap.clear_permissions(0, lokhazim::Permissions::CLAIM)
+        .unwrap();
+    heap.clear_permissions(31, lokhazim::Permissions::ALL)
+        .unwrap();
+    let mut image = [0; 5_120];
+    heap.save(&mut image).unwrap();
+    fs::write(folder.join("a.image"), image).unwrap();
+    let run = lokhazim(&folder, &["image", "show", "a.image"]);
     expect(
-        &lokhazim(&folder, &["image", "save", "a", "a.image"]),
+        &run,
         0,
-        "ok 1536\n",
-        "",
-    );
-    assert_eq!(names(&folder), ["a", "a.image"]);
-    let shown = "ok 1 128 1\nquota 0 100 76 7\nquota 1 1000 1000 7\nhold 0 1 0 1\nblock 0 24 1\nblock 24 104 0\n";
-    expect(
-        &lokhazim(&folder, &["image", "show", "a.image"]),
-        0,
-        shown,
+        "ok 2 64 0\nquota 0 9 9 5\nquota 31 0 0 0\nblock 0 64 0\n",
         "",
     );
 }
@@ -95,7 +146,7 @@ fn an_image_is_saved_and_shown() {
 #[test]
 fn a_damaged_image_is_refused_with_its_number() {
     let folder = folder("damaged");
-    fs::write(folder.join("a"), SCRIPT).unwrap();
+    fs::write(folder.join("a"), script()).unwrap();
     lokhazim(&folder, &["image", "save", "a", "a.image"]);
     let image = fs::read(folder.join("a.image")).unwrap();
     let show = |bytes: &[u8]| {
@@ -113,9 +164,9 @@ fn a_damaged_image_is_refused_with_its_number() {
 #[test]
 fn two_images_are_compared() {
     let folder = folder("compare");
-    fs::write(folder.join("a"), SCRIPT).unwrap();
-    fs::write(folder.join("b"), format!("{SCRIPT}alloc 1 8\n")).unwrap();
-    fs::write(folder.join("c"), "open 64 0 0 0 0 0 0 0 0\n").unwrap();
+    fs::write(folder.join("a"), script()).unwrap();
+    fs::write(folder.join("b"), script() + "alloc 1 8\n").unwrap();
+    fs::write(folder.join("c"), open(64, &[])).unwrap();
     for name in ["a", "b", "c"] {
         lokhazim(&folder, &["image", "save", name, &format!("{name}.image")]);
     }
@@ -130,6 +181,14 @@ fn two_images_are_compared() {
         2,
         "",
         "a.image and c.image: refusal 27:",
+    );
+    let first_form = ["image", "save", "--form", "1", "c", "d.image"];
+    lokhazim(&folder, &first_form);
+    expect(
+        &compare("a.image", "d.image"),
+        2,
+        "",
+        "a.image and d.image: refusal 29:",
     );
     expect(&compare("a.image", "a"), 2, "", "a: refusal 21:");
     expect(&compare("a", "b"), 2, "", "a: refusal 21:");
@@ -147,13 +206,11 @@ fn what_is_refused_writes_no_image() {
     let old = b"what was there".to_vec();
     fs::write(folder.join("out"), &old).unwrap();
     for (script, said) in [
-        ("open 56 0 0 0 0 0 0 0 0\n", "the opening: refusal 1:"),
-        (
-            "open 4294967288 0 0 0 0 0 0 0 0\n",
-            "the opening: refusal 1:",
-        ),
-        ("open 64 0 0 0 0 0 0 0 0\nalloc 0\n", "line 2 is not one"),
-        ("open 64 0 0 0 0 0 0 0 0\nalloc 0 8", "line 2 is not one"),
+        (open(56, &[]), "the opening: refusal 1:"),
+        (open(4_294_967_288, &[]), "the opening: refusal 1:"),
+        (open(64, &[]) + "alloc 0\n", "line 2 is not one"),
+        (open(64, &[]) + "alloc 0 8", "line 2 is not one"),
+        ("open 64 0 0 0 0 0 0 0 0\n".to_owned(), "line 1 is not one"),
     ] {
         fs::write(folder.join("a"), script).unwrap();
         expect(
@@ -170,7 +227,7 @@ fn what_is_refused_writes_no_image() {
 #[test]
 fn files_that_are_missing_or_can_not_be_written() {
     let folder = folder("files");
-    fs::write(folder.join("a"), SCRIPT).unwrap();
+    fs::write(folder.join("a"), script()).unwrap();
     fs::create_dir(folder.join("taken")).unwrap();
     let missing = "nothere can't be read: ";
     expect(&lokhazim(&folder, &["replay", "nothere"]), 2, "", missing);
@@ -206,7 +263,13 @@ fn files_that_are_missing_or_can_not_be_written() {
 #[test]
 fn wrong_words_get_help() {
     let folder = folder("words");
-    for words in [&[][..], &["play"], &["image"], &["image", "save", "a"]] {
+    for words in [
+        &[][..],
+        &["play"],
+        &["image"],
+        &["image", "save", "a"],
+        &["image", "save", "--form", "3", "a", "b"],
+    ] {
         expect(&lokhazim(&folder, words), 2, "", "'lokhazim help' lists");
     }
     for words in [["help"], ["--help"], ["-h"]] {

@@ -6,10 +6,10 @@ use crate::permissions::Permission;
 use crate::Refusal;
 
 /// The number of quotas.
-pub const QUOTAS: usize = 8;
+pub const QUOTAS: usize = 32;
 
 /// The number of hold records.
-pub const HOLDS: usize = 128;
+pub const HOLDS: usize = 512;
 
 /// The permission bits of a quota from which nothing was cleared.
 pub const ALL_PERMISSIONS: u8 = 0b111;

@@ -7,7 +7,7 @@ use crate::image::{decode_sound, ImageRefusal};
 pub enum Difference {
     /// The last serials.
     LastSerial,
-    /// The quotas of this number.
+    /// The quotas of this number, in grant, remainder or permissions.
     Quota(usize),
     /// The hold records at this place.
     Record(usize),
@@ -28,16 +28,22 @@ pub enum Which {
 
 /// Lists all that differs in the states of two images, in the order of the rules.
 pub fn differences(first: &[u8], second: &[u8]) -> Result<Vec<Difference>, (ImageRefusal, Which)> {
-    let (heap_a, a) = decode_sound(first).map_err(|refusal| (refusal, Which::First))?;
-    let (heap_b, b) = decode_sound(second).map_err(|refusal| (refusal, Which::Second))?;
-    if heap_a.len() != heap_b.len() {
+    let first = decode_sound(first).map_err(|refusal| (refusal, Which::First))?;
+    let second = decode_sound(second).map_err(|refusal| (refusal, Which::Second))?;
+    if first.form != second.form {
+        return Err((ImageRefusal::TwoForms, Which::Neither));
+    }
+    if first.heap.len() != second.heap.len() {
         return Err((ImageRefusal::HeapLengths, Which::Neither));
     }
+    let (a, b) = (&first.accounts, &second.accounts);
     let serial = (a.last_serial != b.last_serial).then_some(Difference::LastSerial);
     let quotas = unequal(&a.quotas, &b.quotas).map(Difference::Quota);
     let records = unequal(&a.holds, &b.holds).map(Difference::Record);
     let mut all: Vec<Difference> = serial.into_iter().chain(quotas).chain(records).collect();
-    all.extend(runs(&unequal(&heap_a, &heap_b).collect::<Vec<_>>()));
+    all.extend(runs(
+        &unequal(&first.heap, &second.heap).collect::<Vec<_>>(),
+    ));
     Ok(all)
 }
 

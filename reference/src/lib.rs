@@ -14,6 +14,7 @@ mod accounts;
 mod allocation;
 mod claims;
 mod comparison;
+mod forms;
 mod frames;
 mod image;
 mod layout;
@@ -28,7 +29,9 @@ pub use accounts::{Accounts, Hold, Quota, ALL_PERMISSIONS, HOLDS, QUOTAS};
 pub use allocation::{allocate, allocate_array, open, reallocate};
 pub use claims::{can_release, claim, free_all, release};
 pub use comparison::{differences, Difference, Which};
-pub use image::{image_length, read_image, write_image, ImageRefusal};
+pub use image::{
+    image_length, image_length_form_1, read_image, write_form_1, write_image, ImageRefusal,
+};
 pub use layout::{Block, Handle, HEADER_BYTES, SIZE_UNIT};
 pub use permissions::clear_permissions;
 pub use queries::{block_at, lend, lend_mut, remaining, Walker};

@@ -3,23 +3,24 @@
 use lokhazim_reference::{Accounts, Handle, QUOTAS};
 
 use crate::forged::{forged_handle, live_handle, View};
+use crate::forms::FORM_1;
 use crate::seed::Seed;
 use crate::state::Call;
 
 /// What kinds of calls are made, by the places of `Call::NAMES`.
-pub type Weights = [u32; 14];
+pub type Weights = [u32; Call::NAMES.len()];
 
 /// Makes objects more often than it drops them.
 pub const GROWING: Weights = [0, 30, 8, 8, 6, 0, 8, 3, 4, 2, 3, 2, 1, 1];
 
 /// Drops objects more often than it makes them.
-pub const SHRINKING: Weights = [0, 7, 3, 5, 38, 2, 7, 3, 4, 2, 4, 2, 1, 1];
+pub const SHRINKING: Weights = [0, 7, 3, 5, 38, 3, 7, 3, 4, 2, 4, 2, 1, 1];
 
 /// Claims and releases.
-pub const SHARING: Weights = [0, 6, 2, 36, 16, 1, 4, 3, 4, 2, 4, 2, 1, 1];
+pub const SHARING: Weights = [0, 6, 2, 36, 16, 2, 4, 3, 4, 2, 4, 2, 1, 1];
 
 /// Every call.
-pub const MIXED: Weights = [1, 12, 6, 12, 14, 2, 12, 6, 6, 5, 8, 6, 3, 2];
+pub const MIXED: Weights = [1, 12, 6, 12, 14, 3, 12, 6, 6, 5, 8, 6, 3, 3];
 
 /// The calls that the replay program knows, making as many objects as they drop.
 pub const REPLAYED: Weights = [0, 26, 8, 14, 26, 2, 14, 0, 0, 0, 0, 0, 0, 0];
@@ -73,7 +74,7 @@ pub fn choose(seed: &mut Seed, habits: &Habits, view: &View, accounts: &Accounts
 pub fn one_of_each(seed: &mut Seed, habits: &Habits, view: &View, books: &Accounts) -> Vec<Call> {
     let kinds = 0..Call::NAMES.len();
     let mut chosen = |kind: usize| {
-        let mut weights = [0; 14];
+        let mut weights = [0; Call::NAMES.len()];
         weights[kind] = 1;
         let habits = Habits { weights, ..*habits };
         choose(seed, &habits, view, books)
@@ -81,10 +82,18 @@ pub fn one_of_each(seed: &mut Seed, habits: &Habits, view: &View, books: &Accoun
     kinds.map(&mut chosen).collect()
 }
 
-/// Gives a quota's number, now and then one that is not below 8.
+/// Gives a quota's number, now and then one that no quota has.
 fn quota(seed: &mut Seed, habits: &Habits) -> u32 {
     if seed.percent(habits.wild / 3) {
-        return seed.pick(&[8, 9, 255, 256, u32::MAX, seed.clone().odd_word()]);
+        let first = QUOTAS as u32;
+        return seed.pick(&[
+            first,
+            first + 1,
+            255,
+            256,
+            u32::MAX,
+            seed.clone().odd_word(),
+        ]);
     }
     seed.below(habits.quotas)
 }
@@ -217,10 +226,12 @@ fn place(seed: &mut Seed, habits: &Habits, view: &View) -> usize {
     view.blocks[seed.place(view.blocks.len())].offset as usize
 }
 
-/// Gives grants: ample, middling, small, none, or any.
+/// Gives grants: ample, middling, small, none, or any; now and then to no more quotas than form 1 has.
 pub fn grants(seed: &mut Seed) -> [u32; QUOTAS] {
     let way = seed.below(9);
-    std::array::from_fn(|_| match way {
+    let quotas = seed.pick(&[FORM_1.quotas, QUOTAS, QUOTAS]);
+    std::array::from_fn(|number| match way {
+        _ if number >= quotas => 0,
         0 => u32::MAX - seed.below(3),
         1 => seed.between(100, 3_000),
         2 => seed.pick(&[0, 16, 24, 100, 1_000]),

@@ -1,14 +1,16 @@
 //! Pairs of images compared by the proved code and by the reference.
 
-use lokhazim_reference::{differences, Accounts, Difference, Which, HOLDS, QUOTAS};
+use lokhazim_reference::{differences, Accounts, Difference, Which};
 
 use crate::boundary::images as proved;
 use crate::calls::Pair;
 use crate::compare::{file_stem, save, Failure};
-use crate::image_cases::{image_of, HARMS};
+use crate::forms::{Form, FORMS, FORM_2};
+use crate::harms::HARMS;
+use crate::image_cases::image_of;
 use crate::seed::Seed;
 use crate::state::State;
-use crate::states::{heap_length, sound, Plan};
+use crate::states::{heap_length, sound_in, Plan};
 
 /// How many differences are asked for by number; the others only one after the other.
 const BY_NUMBER: usize = 12;
@@ -76,32 +78,11 @@ impl Pair {
     }
 }
 
-/// What is done to a state so that it differs, and stays consistent.
-fn changed(seed: &mut Seed, state: &State) -> State {
+/// What is done to a state so that it differs, stays consistent, and can still be carried.
+fn changed(seed: &mut Seed, form: Form, state: &State) -> State {
     let mut other = state.clone();
-    let Accounts {
-        quotas,
-        last_serial,
-        holds,
-    } = &mut other.accounts;
     for _ in 0..seed.below(4) {
-        match seed.below(4) {
-            0 => *last_serial = last_serial.saturating_add(1),
-            1 => {
-                let quota = &mut quotas[seed.place(QUOTAS)];
-                if let Some(more) = quota.grant.checked_add(5) {
-                    quota.grant = more;
-                    quota.remainder += 5;
-                }
-            }
-            2 => holds.swap(seed.place(HOLDS), seed.place(HOLDS)),
-            _ => {
-                let hold = &mut holds[seed.place(HOLDS)];
-                if hold.is_used() {
-                    hold.count = hold.count % 255 + 1;
-                }
-            }
-        }
+        change_accounts(seed, form, &mut other.accounts);
     }
     let live: Vec<_> = crate::cut::blocks(&state.heap)
         .into_iter()
@@ -123,35 +104,66 @@ fn changed(seed: &mut Seed, state: &State) -> State {
     other
 }
 
-/// Compares the n-th pair of a seed: equal, changed a little, of two states, damaged, or of two lengths.
+/// Changes one thing of the accounts, among what a form carries.
+fn change_accounts(seed: &mut Seed, form: Form, accounts: &mut Accounts) {
+    let quota = &mut accounts.quotas[seed.place(form.quotas)];
+    let (place, other) = (seed.place(form.records), seed.place(form.records));
+    match seed.below(5) {
+        0 => accounts.last_serial = accounts.last_serial.saturating_add(1),
+        1 => {
+            if let Some(more) = quota.grant.checked_add(5) {
+                quota.grant = more;
+                quota.remainder += 5;
+            }
+        }
+        2 if form == FORM_2 => quota.permissions = seed.below(8) as u8,
+        3 => accounts.holds.swap(place, other),
+        _ => {
+            let hold = &mut accounts.holds[place];
+            if hold.is_used() {
+                hold.count = hold.count % 255 + 1;
+            }
+        }
+    }
+}
+
+/// Compares the n-th pair of a seed: equal, changed a little, of two states, damaged, of two lengths,
+/// or of two forms.
 pub fn pairs(pair: &mut Pair, seed: u64, n: u64) -> Result<(), Failure> {
     pair.begin("image-pair", seed, n);
     let mut numbers = Seed::of_case(seed, n);
-    let state = sound(&mut numbers);
-    let first = image_of(pair, &state)?;
-    let second = match numbers.below(10) {
+    let form = numbers.pick(&FORMS);
+    let state = sound_in(form, &mut numbers);
+    let first = image_of(pair, form, &state)?;
+    let same_length = state.heap.len() as u32;
+    let any_length = heap_length(&mut numbers);
+    let second = match numbers.below(12) {
         0 => first.clone(),
-        1 => {
-            let length = state.heap.len() as u32;
-            let other = Plan::new(&mut numbers, length).render(&mut numbers);
-            image_of(pair, &other)?
-        }
-        2 => {
-            let length = heap_length(&mut numbers);
-            let other = Plan::new(&mut numbers, length).render(&mut numbers);
-            image_of(pair, &other)?
-        }
-        3 | 4 => {
+        1 => planned(pair, form, &mut numbers, same_length)?,
+        2 => planned(pair, form, &mut numbers, any_length)?,
+        3 => planned(pair, form.other(), &mut numbers, same_length)?,
+        4 => planned(pair, form.other(), &mut numbers, any_length)?,
+        5 | 6 => {
             let (mut image, mut heap) = (first.clone(), state.heap.clone());
-            let (_, harm) = HARMS[numbers.place(HARMS.len())];
-            harm(&mut numbers, &mut image, &mut heap);
+            let harm = &HARMS[numbers.place(HARMS.len())];
+            if harm.forms.contains(&form) {
+                (harm.way)(&mut numbers, form, &mut image, &mut heap);
+            }
             image
         }
-        _ => {
-            let other = changed(&mut numbers, &state);
-            image_of(pair, &other)?
-        }
+        _ => image_of(pair, form, &changed(&mut numbers, form, &state))?,
     };
     pair.compare_images(&first, &second)?;
     pair.compare_images(&second, &first)
+}
+
+/// Gives an image of any state of a heap of this length, in a form.
+fn planned(
+    pair: &mut Pair,
+    form: Form,
+    seed: &mut Seed,
+    heap_length: u32,
+) -> Result<Vec<u8>, Failure> {
+    let state = Plan::in_form(form, seed, heap_length).render(seed);
+    image_of(pair, form, &state)
 }

@@ -114,7 +114,7 @@ fn changed_handle(seed: &mut Seed, view: &View) -> Handle {
         4 => {
             handle.serial = handle
                 .serial
-                .wrapping_add(seed.pick(&[1, 128, 256, 65_536]))
+                .wrapping_add(seed.pick(&[1, 128, 256, 512, 2_048, 65_536]))
         }
         5 => handle.serial = seed.pick(&[0, u32::MAX, handle.serial.wrapping_sub(1)]),
         6 => {

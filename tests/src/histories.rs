@@ -1,19 +1,20 @@
 //! Undamaged histories: lists of calls from an opening or from a consistent state, with the caller's
 //! writes between them, compared call by call and checked against the ledger.
 
-use lokhazim_reference::{image_length, Accounts, Handle, HOLDS, QUOTAS};
+use lokhazim_reference::{Accounts, Handle, HOLDS, QUOTAS};
 
 use crate::calls::Pair;
 use crate::choice::{choose, grants, Habits, Weights, GROWING, MIXED, SHARING, SHRINKING};
 use crate::compare::{call_failure, Failure};
 use crate::cut::blocks;
 use crate::forged::View;
+use crate::forms::FORMS;
 use crate::judge::broken;
 use crate::ledger::Ledger;
 use crate::seed::Seed;
 use crate::sentences::{wrong, Step};
 use crate::state::{Answer, Call, State};
-use crate::states::{heap_length, lacks_permission, look_alike, permitted, sound};
+use crate::states::{heap_length, look_alike, sound};
 
 /// How a history begins.
 #[derive(Clone, Copy, Debug, PartialEq, Eq)]
@@ -127,7 +128,7 @@ fn begin<'a>(
 fn habits(seed: &mut Seed, heap_length: u32) -> Habits {
     Habits {
         weights: GROWING,
-        quotas: seed.pick(&[1, 2, 3, 8]),
+        quotas: seed.pick(&[1, 2, 8, QUOTAS as u32]),
         wild: seed.pick(&[3, 10, 25]),
         longest: seed.pick(&[8, 24, 64, heap_length / 16, heap_length / 5]),
     }
@@ -177,11 +178,12 @@ impl History<'_> {
     }
 
     /// Writes an image of the state, reads it back into other bytes, and goes on with what was read.
-    /// A state that lacks a permission is refused, and the history goes on without an image.
+    /// A state that the form can't carry is refused, and the history goes on without an image.
     fn go_through_an_image(&mut self, seed: &mut Seed) -> Result<(), Failure> {
-        let lent = vec![0; image_length(self.state.heap.len())];
-        let (refusal, image) = self.pair.write_image(&self.state, &lent)?;
-        let wanted = if lacks_permission(&self.state) { 28 } else { 0 };
+        let form = seed.pick(&FORMS);
+        let lent = vec![0; form.length(self.state.heap.len())];
+        let (refusal, image) = self.pair.write_image(form, &self.state, &lent)?;
+        let wanted = if form.carries(&self.state) { 0 } else { 28 };
         if refusal != wanted {
             return Err(self.wrong_image("is not written as the rules say"));
         }
@@ -206,7 +208,7 @@ impl History<'_> {
         let mut other = saved.state.heap.clone();
         other.fill_with(|| seed.byte());
         let (refusal, restored) = self.pair.read_image(&saved.image, &other)?;
-        if refusal != 0 || restored != saved.state || restored != permitted(&restored) {
+        if refusal != 0 || restored != saved.state {
             return Err(self.wrong_image("is not read back"));
         }
         self.state = restored;
@@ -235,9 +237,9 @@ impl History<'_> {
     fn now_and_then(&mut self, seed: &mut Seed) -> Result<(), Failure> {
         match seed.below(400) {
             0..=11 => self.write_look_alikes(seed),
-            12..=17 => self.list_and_ask()?,
+            12..=17 => self.list_and_ask(seed)?,
             18 => self.claim_to_the_end(seed)?,
-            19..=21 => self.fill_records(seed)?,
+            19 => self.fill_records(seed)?,
             22..=25 => self.go_through_an_image(seed)?,
             26 => self.go_back(seed)?,
             _ => {}
@@ -259,9 +261,9 @@ impl History<'_> {
         }
     }
 
-    /// Walks the whole listing, and asks every quota what remains.
-    fn list_and_ask(&mut self) -> Result<(), Failure> {
-        for quota in 0..QUOTAS as u32 {
+    /// Walks the whole listing, and asks some quotas what remains.
+    fn list_and_ask(&mut self, seed: &mut Seed) -> Result<(), Failure> {
+        for quota in [0, seed.below(QUOTAS as u32), QUOTAS as u32 - 1] {
             self.call(Call::Remaining(quota))?;
         }
         let wanted = blocks(&self.state.heap);

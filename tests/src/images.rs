@@ -1,10 +1,13 @@
 //! Images written and read by the proved code and by the reference, and compared.
 
-use lokhazim_reference::{image_length, read_image, write_image, Accounts};
+use lokhazim_reference::{
+    image_length, image_length_form_1, read_image, write_form_1, write_image, Accounts,
+};
 
 use crate::boundary::images as proved;
 use crate::calls::Pair;
 use crate::compare::{file_stem, save, Failure};
+use crate::forms::Form;
 use crate::lent::Lent;
 use crate::state::State;
 
@@ -21,9 +24,17 @@ struct Done {
 impl Pair {
     /// Writes an image of the state into lent bytes on both sides, compares, and gives the
     /// refusal and the bytes that then lie there.
-    pub fn write_image(&mut self, state: &State, lent: &[u8]) -> Result<(u32, Vec<u8>), Failure> {
+    pub fn write_image(
+        &mut self,
+        form: Form,
+        state: &State,
+        lent: &[u8],
+    ) -> Result<(u32, Vec<u8>), Failure> {
         let mut written = lent.to_vec();
-        let answer = write_image(&mut written, &state.heap, &state.accounts);
+        let answer = match form.number {
+            1 => write_form_1(&mut written, &state.heap, &state.accounts),
+            _ => write_image(&mut written, &state.heap, &state.accounts),
+        };
         let expected = Done {
             refusal: answer.map_or_else(|r| u32::from(r.number()), |_| 0),
             length: answer.unwrap_or(0),
@@ -32,7 +43,7 @@ impl Pair {
             heap: state.heap.clone(),
         };
         let (mut image, mut heap) = (self.lend(lent), self.lend(&state.heap));
-        let (refusal, length) = proved::write(image.part(), heap.part(), &state.accounts);
+        let (refusal, length) = proved::write(form, image.part(), heap.part(), &state.accounts);
         let found = Done {
             refusal,
             length,
@@ -42,7 +53,7 @@ impl Pair {
         };
         let guards = image.guards_hold() && heap.guards_hold();
         self.judge("write", (lent, &state.heap), &found, &expected, guards)?;
-        self.tally.count_image("written", refusal);
+        self.tally.count_image(form.written, refusal);
         Ok((refusal, found.image))
     }
 
@@ -115,12 +126,15 @@ impl Pair {
     }
 }
 
-/// Compares the two functions that give an image's length.
-pub fn lengths_agree(heap_length: usize, allowed: bool) -> bool {
-    let wanted = if allowed {
-        image_length(heap_length)
-    } else {
-        0
+/// Compares the functions that give an image's length: the proved one's, the reference's and the
+/// harness's own.
+pub fn lengths_agree(form: Form, heap_length: usize, allowed: bool) -> bool {
+    if !allowed {
+        return proved::image_length(form, heap_length) == 0;
+    }
+    let reference = match form.number {
+        1 => image_length_form_1(heap_length),
+        _ => image_length(heap_length),
     };
-    proved::image_length(heap_length) == wanted
+    reference == form.length(heap_length) && proved::image_length(form, heap_length) == reference
 }

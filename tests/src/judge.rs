@@ -128,10 +128,9 @@ fn no_record_twice(used: &[Hold]) -> bool {
 fn sums_hold(state: &State, live: &[Block], used: &[Hold]) -> bool {
     let quotas = state.accounts.quotas.iter().enumerate();
     quotas.into_iter().all(|(number, quota)| {
-        let has = |block: &&Block| {
-            let its = |h: &Hold| h.serial == block.serial && usize::from(h.quota) == number;
-            used.iter().any(its)
-        };
+        let its = used.iter().filter(|h| usize::from(h.quota) == number);
+        let its: Vec<u32> = its.map(|h| h.serial).collect();
+        let has = |block: &&Block| its.contains(&block.serial);
         let charges: u64 = live.iter().filter(has).map(|b| u64::from(b.size)).sum();
         u64::from(quota.grant) == u64::from(quota.remainder) + charges
     })

@@ -203,13 +203,7 @@ impl Ledger {
 
     /// Gives the first line but 1, 2 and 11 of the table of refusals that holds for a call, or 0.
     pub fn refusal_before_space(&self, call: Call) -> u32 {
-        let quota = match call {
-            Call::Allocate(q, _) | Call::Array(q, ..) | Call::Claim(q, _) => q,
-            Call::Release(q, _) | Call::FreeAll(q) | Call::Reallocate(q, ..) => q,
-            Call::Remaining(q) | Call::CanRelease(q, _) | Call::ClearPermissions(q, _) => q,
-            _ => 0,
-        };
-        match self.permissions.get(quota as usize) {
+        match self.permissions.get(call.quota().unwrap_or(0) as usize) {
             None => return 3,
             Some(bits) if bits & Ledger::needed(call) != Ledger::needed(call) => return 12,
             Some(_) => {}

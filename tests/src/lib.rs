@@ -22,6 +22,8 @@ pub mod comparisons;
 pub mod cut;
 pub mod damage;
 pub mod forged;
+pub mod forms;
+pub mod harms;
 pub mod histories;
 pub mod image_cases;
 pub mod images;

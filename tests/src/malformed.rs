@@ -44,7 +44,7 @@ const fn whole(name: &'static str, way: fn(&mut Seed, Vec<u8>) -> Vec<u8>) -> Ki
 }
 
 /// Every kind of malformed input.
-pub const KINDS: [Kind; 42] = [
+pub const KINDS: [Kind; 43] = [
     line("an unknown word", |seed, l| {
         with_word(l, seed.pick(&UNKNOWN_WORDS))
     }),
@@ -137,6 +137,10 @@ pub const KINDS: [Kind; 42] = [
             .to_vec()
     }),
     opening("an opening with a grant too few", |_, l| without_last(l)),
+    opening("an opening with eight grants", |_, l| {
+        let words: Vec<&str> = l.split(' ').take(2 + 8).collect();
+        words.join(" ").into_bytes()
+    }),
     opening("an opening with a grant too many", |_, l| {
         format!("{l} 0").into_bytes()
     }),
@@ -241,7 +245,11 @@ fn bad_opening(seed: &mut Seed, script: Script, way: fn(&mut Seed, &str) -> Vec<
 
 /// Gives a good line of any call.
 fn good_line(seed: &mut Seed) -> String {
-    let (q, n, handle) = (seed.below(9), seed.below(40), Default::default());
+    let (q, n, handle) = (
+        seed.below(QUOTAS as u32 + 1),
+        seed.below(40),
+        Default::default(),
+    );
     let call = seed.pick(&[
         Call::Allocate(q, n),
         Call::Array(q, n, 2),

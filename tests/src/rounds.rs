@@ -4,6 +4,7 @@ use crate::calls::Pair;
 use crate::compare::Failure;
 use crate::comparisons;
 use crate::damage::DAMAGES;
+use crate::harms::HARMS;
 use crate::histories::{self, Beginning};
 use crate::image_cases;
 use crate::programs::{Feed, Programs};
@@ -58,8 +59,10 @@ pub fn calls(pair: &mut Pair, seed: u64, n: u64) -> Result<(), Failure> {
 /// Compares images for the n-th case of a seed: some dozens.
 pub fn images(pair: &mut Pair, seed: u64, n: u64) -> Result<(), Failure> {
     image_cases::states(pair, seed, n)?;
-    for turn in 0..18 {
-        image_cases::harmed(pair, seed, 18 * n + turn)?;
+    image_cases::narrow(pair, seed, n)?;
+    let harms = HARMS.len() as u64;
+    for turn in 0..harms {
+        image_cases::harmed(pair, seed, harms * n + turn)?;
     }
     for turn in 0..4 {
         image_cases::forged(pair, seed, 4 * n + turn)?;

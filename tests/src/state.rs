@@ -108,6 +108,16 @@ impl Call {
         }
     }
 
+    /// Gives the quota that the call names, if it has one.
+    pub fn quota(self) -> Option<u32> {
+        match self {
+            Call::Allocate(q, _) | Call::Array(q, ..) | Call::Claim(q, _) => Some(q),
+            Call::Release(q, _) | Call::FreeAll(q) | Call::Reallocate(q, ..) => Some(q),
+            Call::Remaining(q) | Call::CanRelease(q, _) | Call::ClearPermissions(q, _) => Some(q),
+            _ => None,
+        }
+    }
+
     /// Gives the call's numbers in the order in which they are written.
     pub fn numbers(self) -> Vec<u64> {
         let with = |first: &[u32], h: Handle, last: &[u32]| {

@@ -6,6 +6,7 @@ use std::collections::BTreeSet;
 use lokhazim_reference::{Accounts, Hold, Quota, ALL_PERMISSIONS, HOLDS, QUOTAS};
 
 use crate::cut::{header, put};
+use crate::forms::{Form, FORM_1, FORM_2};
 use crate::ledger::unit;
 use crate::seed::Seed;
 use crate::state::State;
@@ -47,15 +48,21 @@ pub fn heap_length(seed: &mut Seed) -> u32 {
 }
 
 impl Plan {
-    /// Makes a consistent plan for a heap of this length.
+    /// Makes a consistent plan for a heap of this length, now and then one that form 1 can carry.
     pub fn new(seed: &mut Seed, length: u32) -> Plan {
-        let mut pieces = cut(seed, length);
+        let form = seed.pick(&[FORM_1, FORM_2, FORM_2, FORM_2]);
+        Plan::in_form(form, seed, length)
+    }
+
+    /// Makes a consistent plan for a heap of this length that a form can carry.
+    pub fn in_form(form: Form, seed: &mut Seed, length: u32) -> Plan {
+        let mut pieces = cut(seed, length, form.records);
         let live = pieces.iter().filter(|piece| piece.serial != 0).count();
         let mut serials = serials(seed, live).into_iter();
         for piece in pieces.iter_mut().filter(|piece| piece.serial != 0) {
             piece.serial = serials.next().unwrap_or(1);
         }
-        let records = records(seed, &pieces);
+        let records = records(seed, &pieces, form);
         let highest = pieces.iter().map(|piece| piece.serial).max().unwrap_or(0);
         let last_serial = match seed.below(12) {
             0 => u32::MAX,
@@ -67,8 +74,8 @@ impl Plan {
         Plan {
             pieces,
             records,
-            remainders: std::array::from_fn(|_| remainder(seed)),
-            permissions: permissions(seed),
+            remainders: remainders(seed, form),
+            permissions: permissions(seed, form),
             last_serial,
         }
     }
@@ -98,10 +105,12 @@ impl Plan {
 
     /// Gives the charges of the objects that the quota has a record for.
     pub fn charges(&self, quota: usize) -> u32 {
-        let has = |piece: &&Piece| {
-            let its = |h: &Hold| h.serial == piece.serial && usize::from(h.quota) == quota;
-            piece.serial != 0 && self.records.iter().any(its)
-        };
+        let its = self
+            .records
+            .iter()
+            .filter(|h| usize::from(h.quota) == quota);
+        let its: Vec<u32> = its.map(|h| h.serial).collect();
+        let has = |piece: &&Piece| piece.serial != 0 && its.contains(&piece.serial);
         self.pieces.iter().filter(has).map(|piece| piece.size).sum()
     }
 
@@ -156,7 +165,13 @@ pub fn sound(seed: &mut Seed) -> State {
     Plan::new(seed, length).render(seed)
 }
 
-/// Gives the state with all permissions set, as an opening and an image that is read leave them.
+/// Makes a consistent state that a form can carry.
+pub fn sound_in(form: Form, seed: &mut Seed) -> State {
+    let length = heap_length(seed);
+    Plan::in_form(form, seed, length).render(seed)
+}
+
+/// Gives the state with all permissions set, as an opening leaves them.
 pub fn permitted(state: &State) -> State {
     let mut all = state.clone();
     for quota in &mut all.accounts.quotas {
@@ -165,20 +180,13 @@ pub fn permitted(state: &State) -> State {
     all
 }
 
-/// Tells whether a quota lacks a permission.
-pub fn lacks_permission(state: &State) -> bool {
-    let quotas = state.accounts.quotas.iter();
-    quotas
-        .map(|q| q.permissions)
-        .any(|bits| bits != ALL_PERMISSIONS)
-}
-
 /// Sizes of blocks whose objects stand at the bounds of the rounding table's rows.
 const ROW_SIZES: [u32; 8] = [8_184, 8_192, 8_200, 8_216, 16_376, 16_392, 16_424, 32_744];
 
-/// Cuts a heap into pieces; a live one has serial 1 until serials are given out.
-fn cut(seed: &mut Seed, length: u32) -> Vec<Piece> {
-    let crowd = seed.pick(&[3, 12, 40, HOLDS]);
+/// Cuts a heap into pieces, at most so many of them live; a live one has serial 1 until serials are
+/// given out.
+fn cut(seed: &mut Seed, length: u32, most: usize) -> Vec<Piece> {
+    let crowd = seed.pick(&[3, 12, 40, most, most]);
     let longest = seed.pick(&[2, 4, 12, 60, 600, 2_400]);
     let share = seed.pick(&[30, 60, 90, 100]);
     let long = length >= 8_192;
@@ -249,33 +257,34 @@ fn serials(seed: &mut Seed, count: usize) -> Vec<u32> {
     given
 }
 
-/// Gives each object at least one record, some of them many, at any places of the table.
-fn records(seed: &mut Seed, pieces: &[Piece]) -> [Hold; HOLDS] {
+/// Gives each object at least one record, some of them many, at any places of a form's table.
+fn records(seed: &mut Seed, pieces: &[Piece], form: Form) -> [Hold; HOLDS] {
     let live: Vec<u32> = pieces.iter().map(|piece| piece.serial).collect();
     let live: Vec<u32> = live.into_iter().filter(|serial| *serial != 0).collect();
     let mut pairs: Vec<(u32, u8)> = Vec::new();
     let mut further: Vec<(u32, u8)> = Vec::new();
     for serial in &live {
-        let first = seed.place(QUOTAS);
+        let first = seed.place(form.quotas);
         pairs.push((*serial, first as u8));
-        let others = (0..QUOTAS).filter(|quota| *quota != first);
+        let others = (0..form.quotas).filter(|quota| *quota != first);
         further.extend(others.map(|quota| (*serial, quota as u8)));
     }
     seed.shuffle(&mut further);
-    let room = HOLDS - pairs.len();
-    let extra = match seed.below(4) {
-        0 => 0,
-        1 => room,
-        2 => room.saturating_sub(1),
+    let room = form.records - pairs.len();
+    let extra = match seed.below(6) {
+        0 | 1 => 0,
+        2 | 3 => room,
+        4 => room.saturating_sub(1),
         _ => seed.place(room + 1),
     };
     pairs.extend(further.into_iter().take(extra));
-    place_records(seed, &pairs)
+    place_records(seed, &pairs, form.records)
 }
 
-/// Puts records of these serials and quotas into the table, packed or at any places.
-fn place_records(seed: &mut Seed, pairs: &[(u32, u8)]) -> [Hold; HOLDS] {
-    let mut places: Vec<usize> = (0..HOLDS).collect();
+/// Puts records of these serials and quotas into the first places of the table, packed or at any of
+/// them.
+fn place_records(seed: &mut Seed, pairs: &[(u32, u8)], first: usize) -> [Hold; HOLDS] {
+    let mut places: Vec<usize> = (0..first).collect();
     if seed.percent(60) {
         seed.shuffle(&mut places);
     }
@@ -297,6 +306,13 @@ fn place_records(seed: &mut Seed, pairs: &[(u32, u8)]) -> [Hold; HOLDS] {
     records
 }
 
+/// Gives the remainders of a form's quotas, and 0 for the others.
+fn remainders(seed: &mut Seed, form: Form) -> [u32; QUOTAS] {
+    let mut all = [0; QUOTAS];
+    all[..form.quotas].fill_with(|| remainder(seed));
+    all
+}
+
 /// Gives a remainder: none, a little, enough, the greatest, or any.
 fn remainder(seed: &mut Seed) -> u32 {
     match seed.below(10) {
@@ -308,10 +324,12 @@ fn remainder(seed: &mut Seed) -> u32 {
     }
 }
 
-/// Gives the permissions of all quotas: most often all, else one lacking, or any.
-fn permissions(seed: &mut Seed) -> [u8; QUOTAS] {
+/// Gives the permissions of all quotas: most often all, else one lacking, or any. Form 1 has no other
+/// than all.
+fn permissions(seed: &mut Seed, form: Form) -> [u8; QUOTAS] {
     let mut bits = [ALL_PERMISSIONS; QUOTAS];
     match seed.below(6) {
+        _ if form == FORM_1 => {}
         0 => bits[seed.place(QUOTAS)] = seed.below(7) as u8,
         1 => bits.fill_with(|| seed.below(8) as u8),
         _ => {}

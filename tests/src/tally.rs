@@ -4,13 +4,14 @@ use std::collections::BTreeMap;
 use std::fmt;
 
 use crate::cut::{joins, looks_alive};
+use crate::forms::FORM_1;
 use crate::state::{Answer, Call, State};
 
 /// The counts of one run.
 #[derive(Clone, Debug, Default)]
 pub struct Tally {
     /// The calls by kind and by refusal, 0 where accepted.
-    pub calls: [[u64; 13]; 14],
+    pub calls: [[u64; 13]; Call::NAMES.len()],
     /// The scripts.
     pub scripts: u64,
     /// The lines of all answers to scripts, by their text: `ok`, `no 1` and so on, `bad`, or the list.
@@ -27,6 +28,10 @@ pub struct Tally {
     pub full_counts: u64,
     /// Calls on accounts without an unused record.
     pub full_tables: u64,
+    /// Calls on accounts that use a record behind those of form 1.
+    pub wide_tables: u64,
+    /// Accepted calls of a quota behind those of form 1.
+    pub high_quotas: u64,
     /// Calls whose handle names no object although the bytes before its base look like its header.
     pub look_alikes: u64,
     /// Cases by a name of their own: the kinds of damage.
@@ -43,6 +48,10 @@ impl Tally {
         let holds = &before.accounts.holds;
         self.full_counts += u64::from(holds.iter().any(|hold| hold.count == 255));
         self.full_tables += u64::from(holds.iter().all(|hold| hold.is_used()));
+        let behind = &holds[FORM_1.records..];
+        self.wide_tables += u64::from(behind.iter().any(|hold| hold.is_used()));
+        let high = call.quota().is_some_and(|q| q as usize >= FORM_1.quotas);
+        self.high_quotas += u64::from(high && answer.is_accepted());
         let forged = call.handle().is_some_and(|h| looks_alive(&before.heap, h));
         self.look_alikes += u64::from(forged);
         let frees = matches!(
@@ -163,10 +172,15 @@ impl fmt::Display for Tally {
             "  freed blocks that joined in front {}, behind {}, on both sides {}, on neither {}",
             self.joined_front, self.joined_behind, self.joined_both, self.joined_neither
         )?;
-        write!(
+        writeln!(
             f,
             "  calls with a count of 255: {}, with a full hold table: {}, with a handle to bytes that look like a header: {}",
             self.full_counts, self.full_tables, self.look_alikes
+        )?;
+        write!(
+            f,
+            "  calls with a used record behind those of form 1: {}, accepted for a quota behind those of form 1: {}",
+            self.wide_tables, self.high_quotas
         )
     }
 }

@@ -1,6 +1,6 @@
 //! Scripts by theme, each made from a seed.
 
-use lokhazim_reference::{Handle, MAX_INPUT, QUOTAS};
+use lokhazim_reference::{Handle, HOLDS, MAX_INPUT, QUOTAS};
 
 use crate::choice::{grants, odd_product, Habits, EDGES, GROWING, REPLAYED, SHARING};
 use crate::forged::{forged_handle, View};
@@ -48,7 +48,7 @@ const AMPLE: u32 = 10_000_000;
 fn habits(seed: &mut Seed, length: u32) -> Habits {
     Habits {
         weights: REPLAYED,
-        quotas: seed.pick(&[1, 2, 4, 8]),
+        quotas: seed.pick(&[1, 2, 8, QUOTAS as u32]),
         wild: seed.pick(&[2, 8, 20]),
         longest: seed.pick(&[16, 40, length / 8, length / 4]),
     }
@@ -93,7 +93,7 @@ fn fragmented(seed: &mut Seed) -> Vec<u8> {
     let length = 8 * seed.between(16, 400);
     let mut script = Script::open_with(length, AMPLE);
     let size = seed.pick(&[8, 16, 24, 40]);
-    for _ in 0..seed.between(20, 128) {
+    for _ in 0..seed.between(20, 200) {
         script.call(Call::Allocate(seed.below(3), seed.between(1, size)));
     }
     let objects = script.live();
@@ -150,7 +150,7 @@ fn full_counts(seed: &mut Seed) -> Vec<u8> {
     let mut script = Script::open_with(8 * seed.between(16, 100), 2_000);
     let object = script.call(Call::Allocate(0, seed.between(1, 60))).handle();
     script.call(Call::Allocate(1, 8));
-    let (claimer, other) = (seed.below(3), seed.below(8));
+    let (claimer, other) = (seed.below(3), seed.below(QUOTAS as u32));
     for _ in 0..seed.between(253, 257) {
         script.call(Call::Claim(claimer, object));
         if seed.percent(3) {
@@ -170,29 +170,30 @@ fn full_counts(seed: &mut Seed) -> Vec<u8> {
     script.text
 }
 
-/// Uses up the 128 records, by many objects or by many holders, and goes on at the limit.
+/// Uses up the records, by many objects or by many holders, and goes on at the limit.
 fn full_records(seed: &mut Seed) -> Vec<u8> {
-    let mut script = Script::open_with(8 * seed.between(384, 600), AMPLE);
-    let objects = seed.pick(&[16, 17, 40, 126, 128]);
+    let quotas = QUOTAS as u32;
+    let mut script = Script::open_with(8 * seed.between(1_200, 1_600), AMPLE);
+    let objects = seed.pick(&[16, 17, 40, 200, HOLDS - 2, HOLDS]);
     for _ in 0..objects {
-        script.call(Call::Allocate(seed.below(8), seed.between(1, 8)));
+        script.call(Call::Allocate(seed.below(quotas), seed.between(1, 8)));
     }
     let habits = Habits {
         weights: SHARING,
-        quotas: 8,
+        quotas,
         wild: 1,
         longest: 8,
     };
     let live = script.live();
-    let mut pairs: Vec<(u32, Handle)> = (0..8)
+    let mut pairs: Vec<(u32, Handle)> = (0..quotas)
         .flat_map(|quota| live.iter().map(move |object| (quota, *object)))
         .collect();
     seed.shuffle(&mut pairs);
-    for (quota, object) in pairs.into_iter().take(132) {
+    for (quota, object) in pairs.into_iter().take(HOLDS + 4) {
         script.call(Call::Claim(quota, object));
     }
     for _ in 0..seed.between(10, 40) {
-        script.call(Call::Allocate(seed.below(8), 8));
+        script.call(Call::Allocate(seed.below(quotas), 8));
         script.choose(
             seed,
             &Habits {
@@ -257,7 +258,8 @@ fn array_products(seed: &mut Seed) -> Vec<u8> {
     let mut script = Script::open_with(heap_length(seed), AMPLE);
     for _ in 0..seed.between(10, 40) {
         let (count, size) = odd_product(seed);
-        script.call(Call::Array(seed.below(9), count, size));
+        let quota = seed.pick(&[0, 7, 8, QUOTAS as u32 - 1, QUOTAS as u32]);
+        script.call(Call::Array(quota, count, size));
         script.call(Call::Array(0, seed.between(1, 6), seed.between(1, 6)));
         if let Some(object) = seed.any_of(&script.live()) {
             script.release(object);
@@ -354,14 +356,15 @@ fn free_alls(seed: &mut Seed) -> Vec<u8> {
     let length = heap_length(seed);
     let mut script = Script::open_with(length, AMPLE);
     let mut habits = habits(seed, (length / 4).max(64));
-    habits.quotas = seed.pick(&[2, 3, 8]);
+    habits.quotas = seed.pick(&[2, 3, QUOTAS as u32]);
     habits.weights = [0, 40, 4, 30, 4, 0, 2, 0, 0, 0, 0, 0, 0, 0];
     for _ in 0..seed.between(2, 8) {
         for _ in 0..seed.between(4, 16) {
             script.choose(seed, &habits);
         }
         script.call(Call::FreeAll(seed.below(habits.quotas)));
-        script.call(Call::FreeAll(seed.pick(&[7, 8, u32::MAX])));
+        let last = QUOTAS as u32 - 1;
+        script.call(Call::FreeAll(seed.pick(&[last, last + 1, u32::MAX])));
     }
     script.text
 }

@@ -135,6 +135,7 @@ fn all_barred(tally: &Tally, least: u64) {
 /// Checks what undamaged histories from an opening reach.
 fn histories_reach(tally: &Tally) {
     all_barred(tally, 50);
+    assert!(tally.wide_tables >= 2_000 && tally.high_quotas >= 2_000);
     reached(tally, &[3, 4, 6, 7, 9], 20);
     reached(tally, &[5, 8, 11], 500);
     all_accepted(tally, 100);
@@ -166,6 +167,7 @@ fn more_undamaged_histories_and_the_ledger() {
 fn sound_states_that_no_replay_reaches_and_the_ledger() {
     let tally = SOUND_STATES.tally();
     all_barred(tally, 50);
+    assert!(tally.wide_tables >= 5_000 && tally.high_quotas >= 5_000);
     reached(tally, &[3, 4, 6, 7, 9], 100);
     reached(tally, &[5, 8, 10, 11], 500);
     all_accepted(tally, 20);

@@ -1,9 +1,10 @@
 //! Images compared by the proved code and by the reference, from fixed seeds.
 
 use lokhazim_reference::{Accounts, Difference, MAX_HEAP, QUOTAS};
-use lokhazim_tests::boundary::images::all_differences;
+use lokhazim_tests::boundary::images::{all_differences, compare};
 use lokhazim_tests::calls::Pair;
 use lokhazim_tests::comparisons::pairs;
+use lokhazim_tests::forms::{Form, FORMS, FORM_1, FORM_2};
 use lokhazim_tests::image_cases::image_of;
 use lokhazim_tests::seed::Seed;
 use lokhazim_tests::state::{Call, State};
@@ -20,63 +21,80 @@ fn random_pairs_of_images() {
     }
     println!("{}", pair.tally);
     assert!(pair.tally.images("compared", 0) >= 2_000);
-    for number in [21, 22, 23, 24, 26, 27] {
+    for number in [21, 22, 23, 24, 26, 27, 29] {
         assert!(pair.tally.images("compared", number) >= 20, "{number}");
     }
 }
 
 /// The images of a heap of 128 bytes with one object of this length, and of the same heap changed.
-fn changed(pair: &mut Pair, length: u32, change: impl FnOnce(&mut State)) -> (Vec<u8>, Vec<u8>) {
+fn changed(
+    pair: &mut Pair,
+    form: Form,
+    length: u32,
+    change: impl FnOnce(&mut State),
+) -> (Vec<u8>, Vec<u8>) {
     let mut state = State {
         heap: vec![0; 128],
         accounts: Accounts::default(),
     };
-    for call in [Call::Open([500; QUOTAS]), Call::Allocate(0, length)] {
+    let mut grants = [0; QUOTAS];
+    grants[..form.quotas].fill(500);
+    for call in [Call::Open(grants), Call::Allocate(0, length)] {
         pair.call(&mut state, call).expect("no difference");
     }
-    let first = image_of(pair, &state).expect("no difference");
+    let first = image_of(pair, form, &state).expect("no difference");
     change(&mut state);
-    (first, image_of(pair, &state).expect("no difference"))
+    (first, image_of(pair, form, &state).expect("no difference"))
 }
 
 #[test]
 fn each_kind_of_difference_by_itself() {
     use Difference::{Bytes, LastSerial, Quota, Record};
     let mut pair = Pair::new();
-    let mut expect = |length: u32, change: fn(&mut State), expected: &[Difference]| {
-        let (first, second) = changed(&mut pair, length, change);
+    let mut expect_in = |form: Form, change: &dyn Fn(&mut State), expected: &[Difference]| {
+        let (first, second) = changed(&mut pair, form, 120, change);
         assert_eq!(all_differences(&first, &second), expected);
         pair.compare_images(&first, &second)
             .unwrap_or_else(|failure| panic!("{failure}"));
     };
-    expect(120, |_| {}, &[]);
-    expect(120, |state| state.heap[50] = 1, &[Bytes(50, 1)]);
-    expect(120, |state| state.heap[127] = 1, &[Bytes(127, 1)]);
-    expect(120, |state| state.heap[8..].fill(9), &[Bytes(8, 120)]);
+    for form in FORMS {
+        let (quota, record) = (form.quotas - 1, form.records - 1);
+        expect_in(
+            form,
+            &|state: &mut State| state.accounts.holds.swap(0, record),
+            &[Record(0), Record(record)],
+        );
+        let more = |state: &mut State| {
+            state.accounts.quotas[quota].grant = 600;
+            state.accounts.quotas[quota].remainder = 600;
+        };
+        expect_in(form, &more, &[Quota(quota)]);
+    }
+    for number in 0..QUOTAS {
+        let cleared = |state: &mut State| state.accounts.quotas[number].permissions = 6;
+        expect_in(FORM_2, &cleared, &[Quota(number)]);
+    }
+    let mut expect = |change: fn(&mut State), expected: &[Difference]| {
+        expect_in(FORM_1, &change, expected);
+        expect_in(FORM_2, &change, expected);
+    };
+    expect(|_| {}, &[]);
+    expect(|state| state.heap[50] = 1, &[Bytes(50, 1)]);
+    expect(|state| state.heap[127] = 1, &[Bytes(127, 1)]);
+    expect(|state| state.heap[8..].fill(9), &[Bytes(8, 120)]);
     expect(
-        120,
         |state| state.heap[20..23].copy_from_slice(&[1, 0, 1]),
         &[Bytes(20, 1), Bytes(22, 1)],
     );
-    expect(120, |state| state.accounts.last_serial = 9, &[LastSerial]);
-    expect(
-        120,
-        |state| state.accounts.holds.swap(0, 127),
-        &[Record(0), Record(127)],
-    );
-    expect(120, |state| state.accounts.holds[0].count = 2, &[Record(0)]);
-    let more = |state: &mut State| {
-        state.accounts.quotas[7].grant = 600;
-        state.accounts.quotas[7].remainder = 600;
-    };
-    expect(120, more, &[Quota(7)]);
+    expect(|state| state.accounts.last_serial = 9, &[LastSerial]);
+    expect(|state| state.accounts.holds[0].count = 2, &[Record(0)]);
 }
 
 #[test]
 fn a_run_at_the_first_byte() {
     let mut pair = Pair::new();
-    let (first, _) = changed(&mut pair, 40, |_| {});
-    let (second, _) = changed(&mut pair, 48, |_| {});
+    let (first, _) = changed(&mut pair, FORM_2, 40, |_| {});
+    let (second, _) = changed(&mut pair, FORM_2, 48, |_| {});
     let all = all_differences(&first, &second);
     assert_eq!(all[1], Difference::Bytes(0, 1));
     pair.compare_images(&first, &second)
@@ -109,9 +127,38 @@ fn striped(byte: u8) -> State {
 fn thousands_of_runs_in_the_longest_heap() {
     let mut pair = Pair::new();
     let (first, second) = (striped(1), striped(2));
-    let images = [&first, &second].map(|state| image_of(&mut pair, state).expect("no difference"));
+    let images =
+        [&first, &second].map(|state| image_of(&mut pair, FORM_2, state).expect("no difference"));
     let all = all_differences(&images[0], &images[1]);
     assert!(all.len() > 1_000, "{}", all.len());
     pair.compare_images(&images[0], &images[1])
         .unwrap_or_else(|failure| panic!("{failure}"));
+}
+
+/// Two forms are refused by 29 behind every refusal of one image, and before unequal lengths.
+#[test]
+fn two_forms_come_behind_a_bad_image_and_before_two_lengths() {
+    let mut pair = Pair::new();
+    let mut seed = Seed::new(SEED);
+    let mut image = |form: Form, length: u32| {
+        let state = Plan::in_form(form, &mut seed, length).render(&mut seed);
+        image_of(&mut pair, form, &state).expect("no difference")
+    };
+    let (first, second) = (image(FORM_1, 128), image(FORM_2, 128));
+    let longer = image(FORM_2, 136);
+    let mut damaged = second.clone();
+    damaged[600] ^= 1;
+    for (a, b, refusal, which) in [
+        (&first, &second, 29, 0),
+        (&second, &first, 29, 0),
+        (&first, &longer, 29, 0),
+        (&longer, &first, 29, 0),
+        (&second, &longer, 27, 0),
+        (&first, &damaged, 22, 2),
+        (&damaged, &first, 22, 1),
+    ] {
+        assert_eq!(compare(a, b, 0), Err((refusal, which)));
+        pair.compare_images(a, b)
+            .unwrap_or_else(|failure| panic!("{failure}"));
+    }
 }

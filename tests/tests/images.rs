@@ -1,12 +1,17 @@
 //! Images through the exported boundary and the reference, from fixed seeds.
 
-use lokhazim_reference::{image_length, MAX_HEAP, MIN_HEAP};
+use lokhazim_reference::{HOLDS, MAX_HEAP, MIN_HEAP, QUOTAS};
 use lokhazim_tests::calls::Pair;
 use lokhazim_tests::compare::Failure;
-use lokhazim_tests::image_cases::{every_byte, forged, harmed, round_trip, states, HARMS};
+use lokhazim_tests::forms::{put_byte, Form, FORMS, FORM_1, FORM_2};
+use lokhazim_tests::harms::HARMS;
+use lokhazim_tests::image_cases::{
+    every_byte, forged, harmed, image_of, narrow, round_trip, states, OVERFULL,
+};
 use lokhazim_tests::images::lengths_agree;
 use lokhazim_tests::seed::Seed;
-use lokhazim_tests::states::{permitted, sound, Plan};
+use lokhazim_tests::state::State;
+use lokhazim_tests::states::{sound_in, Plan};
 use lokhazim_tests::tally::Tally;
 
 /// The seed of every case.
@@ -22,44 +27,71 @@ fn compare(cases: u64, mut case: impl FnMut(&mut Pair, u64) -> Result<(), Failur
     pair.tally
 }
 
+/// Reads an image into a heap on both sides.
+fn read(pair: &mut Pair, image: &[u8], heap: &[u8]) -> (u32, State) {
+    pair.read_image(image, heap)
+        .unwrap_or_else(|failure| panic!("{failure}"))
+}
+
 #[test]
 fn states_are_written_and_read_back() {
-    let tally = compare(2_000, |pair, n| states(pair, SEED, n));
-    assert!(tally.images("written", 0) >= 1_500 && tally.images("read", 0) >= 1_500);
-    assert!(tally.images("written", 1) >= 100 && tally.images("written", 2) >= 100);
-    assert!(tally.images("written", 25) >= 1_000 && tally.images("written", 28) >= 1_000);
+    let tally = compare(1_500, |pair, n| states(pair, SEED, n));
+    for (form, accepted) in [(FORM_1, 250), (FORM_2, 1_500)] {
+        let written = |refusal| tally.images(form.written, refusal);
+        assert!(written(0) >= accepted && written(25) >= accepted);
+        assert!(written(1) >= 100 && written(2) >= 100);
+    }
+    assert!(tally.images(FORM_1.written, 28) >= 1_500);
+    assert_eq!(tally.images(FORM_2.written, 28), 0);
+    assert!(tally.images("read", 0) >= 1_800);
+}
+
+#[test]
+fn form_1_is_refused_exactly_for_what_it_can_not_carry() {
+    let tally = compare(900, |pair, n| narrow(pair, SEED, n));
+    assert!(tally.images(FORM_1.written, 0) >= 1_500);
+    assert!(tally.images(FORM_1.written, 28) >= 2_500);
+    for (name, _) in OVERFULL {
+        assert!(tally.cases.get(name).copied().unwrap_or(0) >= 200, "{name}");
+    }
 }
 
 #[test]
 fn the_longest_heap_is_written_and_read_back() {
-    compare(4, |pair, n| {
-        let mut seed = Seed::of_case(SEED, n);
-        let state = Plan::new(&mut seed, MAX_HEAP as u32).render(&mut seed);
-        round_trip(pair, &permitted(&state), &mut seed)
-    });
+    for form in FORMS {
+        let tally = compare(4, |pair, n| {
+            let mut seed = Seed::of_case(SEED, n);
+            let state = Plan::in_form(form, &mut seed, MAX_HEAP as u32).render(&mut seed);
+            round_trip(pair, form, &state, &mut seed)
+        });
+        assert_eq!(tally.images("read", 0), 8);
+    }
 }
 
 #[test]
 fn every_byte_of_a_small_image_is_changed_once() {
-    let tally = compare(6, |pair, n| {
-        let mut seed = Seed::of_case(SEED, n);
-        let length = [64, 72, 128, 400, 408, 416][n as usize];
-        let state = Plan::new(&mut seed, length).render(&mut seed);
-        pair.begin("every byte", SEED, n);
-        every_byte(pair, &state, &mut seed)
-    });
-    for number in [22, 23, 24, 26] {
-        assert!(tally.images("read", number) >= 10, "{number}");
+    for form in FORMS {
+        let tally = compare(4, |pair, n| {
+            let mut seed = Seed::of_case(SEED, n);
+            let length = [64, 72, 128, 416][n as usize];
+            let state = Plan::in_form(form, &mut seed, length).render(&mut seed);
+            pair.begin("every byte", SEED, n);
+            every_byte(pair, form, &state, &mut seed)
+        });
+        for number in [22, 23, 24, 26] {
+            assert!(tally.images("read", number) >= 10, "{number}");
+        }
     }
 }
 
 #[test]
 fn harmed_images_are_refused_alike() {
-    let tally = compare(9_000, |pair, n| harmed(pair, SEED, n));
+    let tally = compare(500 * HARMS.len() as u64, |pair, n| harmed(pair, SEED, n));
     for number in 21..=26 {
         assert!(tally.images("read", number) >= 100, "{number}");
     }
-    for (name, _) in HARMS {
+    for harm in &HARMS {
+        let name = harm.name;
         assert!(tally.cases.get(name).copied().unwrap_or(0) >= 400, "{name}");
     }
 }
@@ -67,28 +99,122 @@ fn harmed_images_are_refused_alike() {
 #[test]
 fn images_of_states_that_are_not_sound_give_26() {
     let tally = compare(3_000, |pair, n| forged(pair, SEED, n));
-    assert!(tally.images("read", 26) >= 1_500);
+    assert!(tally.images("read", 26) >= 1_500 && tally.images("read", 24) >= 20);
+}
+
+/// Every entry of form 2: each number for its permissions, and each spare byte.
+#[test]
+fn permission_bytes_and_spare_bytes_of_every_quota() {
+    let mut pair = Pair::new();
+    let mut seed = Seed::new(SEED);
+    let state = Plan::in_form(FORM_2, &mut seed, 64).render(&mut seed);
+    let image = image_of(&mut pair, FORM_2, &state).expect("no difference");
+    for number in 0..QUOTAS {
+        for bits in 0..=255 {
+            let mut changed = image.clone();
+            put_byte(&mut changed, FORM_2.quota_at(number) + 8, bits);
+            let (refusal, read) = read(&mut pair, &changed, &state.heap);
+            assert_eq!(refusal, if bits <= 7 { 0 } else { 24 }, "{number} {bits}");
+            if refusal == 0 {
+                assert_eq!(read.accounts.quotas[number].permissions, bits);
+            }
+        }
+        for spare in 9..12 {
+            let mut changed = image.clone();
+            put_byte(&mut changed, FORM_2.quota_at(number) + spare, 1);
+            assert_eq!(read(&mut pair, &changed, &state.heap).0, 24, "{number}");
+        }
+    }
+}
+
+/// Every record of both forms: each of its two spare bytes.
+#[test]
+fn spare_bytes_of_every_record() {
+    let mut pair = Pair::new();
+    let mut seed = Seed::new(SEED);
+    for form in FORMS {
+        let state = Plan::in_form(form, &mut seed, 64).render(&mut seed);
+        let image = image_of(&mut pair, form, &state).expect("no difference");
+        for (place, spare) in (0..form.records).flat_map(|place| [(place, 6), (place, 7)]) {
+            let mut changed = image.clone();
+            put_byte(&mut changed, form.record_at(place) + spare, 0x80);
+            assert_eq!(read(&mut pair, &changed, &state.heap).0, 24, "{place}");
+        }
+    }
+}
+
+/// A form's number on the other's stream, and other numbers.
+#[test]
+fn the_form_decides_how_the_rest_is_read() {
+    let mut pair = Pair::new();
+    let mut seed = Seed::new(SEED);
+    for form in FORMS {
+        let state = Plan::in_form(form, &mut seed, 64).render(&mut seed);
+        let image = image_of(&mut pair, form, &state).expect("no difference");
+        let mut other = image.clone();
+        put_byte(&mut other, 0, form.other().number as u8);
+        assert_eq!(read(&mut pair, &other, &state.heap).0, 24);
+        for (place, byte) in [(0, 0), (0, 3), (1, 1), (2, 1), (3, 1), (3, 255)] {
+            let mut changed = image.clone();
+            put_byte(&mut changed, place, byte);
+            assert_eq!(
+                read(&mut pair, &changed, &state.heap).0,
+                23,
+                "{place} {byte}"
+            );
+        }
+    }
+}
+
+#[test]
+fn what_form_1_lacks_is_zero_and_permitted() {
+    let mut pair = Pair::new();
+    let mut seed = Seed::new(SEED);
+    for _ in 0..50 {
+        let state = sound_in(FORM_1, &mut seed);
+        let image = image_of(&mut pair, FORM_1, &state).expect("no difference");
+        let (refusal, restored) = read(&mut pair, &image, &state.heap);
+        assert_eq!((refusal, &restored), (0, &state));
+        let accounts = &restored.accounts;
+        assert!(accounts.quotas.iter().all(|quota| quota.permissions == 7));
+        let quotas = &accounts.quotas[FORM_1.quotas..QUOTAS];
+        assert!(quotas.iter().all(|q| (q.grant, q.remainder) == (0, 0)));
+        assert!(accounts.holds[FORM_1.records..HOLDS]
+            .iter()
+            .all(|hold| !hold.is_used()));
+    }
 }
 
 #[test]
 fn the_length_of_an_image() {
+    let heads = FORMS.map(Form::head);
+    assert_eq!(heads, [1_100, 4_492]);
     for length in (0..=MAX_HEAP + 24).chain([65_536, usize::MAX]) {
         let allowed = length % 8 == 0 && (MIN_HEAP..=MAX_HEAP).contains(&length);
-        assert!(lengths_agree(length, allowed), "{length}");
+        for form in FORMS {
+            assert!(lengths_agree(form, length, allowed), "{length}");
+        }
     }
-    assert_eq!(image_length(64), 3 * 512);
-    assert_eq!(image_length(412), 3 * 512);
-    assert_eq!(image_length(416), 4 * 512);
+    assert_eq!(FORM_1.length(64), 3 * 512);
+    assert_eq!(FORM_1.length(412), 3 * 512);
+    assert_eq!(FORM_1.length(416), 4 * 512);
+    assert_eq!(FORM_2.length(64), 10 * 512);
+    assert_eq!(FORM_2.length(548), 10 * 512);
+    assert_eq!(FORM_2.length(552), 11 * 512);
 }
 
 #[test]
 fn every_lent_length_around_the_image() {
     let mut pair = Pair::new();
     let mut seed = Seed::new(SEED);
-    let state = permitted(&sound(&mut seed));
-    let needed = image_length(state.heap.len());
-    for lent in (0..needed + 600).step_by(37).chain(needed - 2..needed + 3) {
-        pair.write_image(&state, &vec![3; lent])
-            .unwrap_or_else(|failure| panic!("{failure}"));
+    for form in FORMS {
+        let state = sound_in(form, &mut seed);
+        let needed = form.length(state.heap.len());
+        for lent in (0..needed + 600).step_by(37).chain(needed - 2..needed + 3) {
+            let (refusal, _) = pair
+                .write_image(form, &state, &vec![3; lent])
+                .unwrap_or_else(|failure| panic!("{failure}"));
+            assert_eq!(refusal, if lent < needed { 25 } else { 0 });
+        }
     }
 }

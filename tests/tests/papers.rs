@@ -3,6 +3,7 @@
 use lokhazim_reference::{Accounts, Handle, QUOTAS};
 use lokhazim_tests::calls::Pair;
 use lokhazim_tests::programs::{Feed, Programs};
+use lokhazim_tests::script::open_line;
 use lokhazim_tests::state::{Answer, Call, State};
 
 /// Runs both programs on lines and checks that they print these lines.
@@ -11,6 +12,11 @@ fn prints(name: &str, input: &str, output: &str) {
         .and_then(|programs| programs.compare(name, input.as_bytes(), Feed::Whole))
         .unwrap_or_else(|failure| panic!("{failure}"));
     assert_eq!(String::from_utf8_lossy(&compared), output, "{name}");
+}
+
+/// Gives the line of an opening with these grants, zero behind those that are listed.
+fn open(length: u32, first_grants: &[u32]) -> String {
+    open_line(length, grants(first_grants))
 }
 
 /// Makes a handle of its three numbers.
@@ -77,7 +83,7 @@ impl Run {
 fn the_example_of_the_replay_program() {
     prints(
         "papers-example",
-        "open 128 100 1000 0 0 0 0 0 0\nalloc 0 10\nalloc 0 68\nfree 1 8 16 1\nall 0\n",
+        &(open(128, &[100, 1_000]) + "alloc 0 10\nalloc 0 68\nfree 1 8 16 1\nall 0\n"),
         "ok\nok 8 16 1\nno 8\nno 6\nok 24\n0 128 0\n",
     );
 }
@@ -86,9 +92,10 @@ fn the_example_of_the_replay_program() {
 fn the_marked_run_as_a_script() {
     prints(
         "papers-marked-run",
-        "open 128 100 1000 0 0 0 0 0 0\nalloc 0 10\nalloc 0 68\nclaim 1 8 16 1\nfree 0 8 16 1\n\
-         alloc 1 96\nalloc 1 1\nfree 1 8 16 1\nalloc 0 24\nalloc 0 16\nfree 0 8 16 1\n\
-         free 0 32 96 2\nall 1\n",
+        &(open(128, &[100, 1_000])
+            + "alloc 0 10\nalloc 0 68\nclaim 1 8 16 1\nfree 0 8 16 1\n\
+               alloc 1 96\nalloc 1 1\nfree 1 8 16 1\nalloc 0 24\nalloc 0 16\nfree 0 8 16 1\n\
+               free 0 32 96 2\nall 1\n"),
         "ok\nok 8 16 1\nno 8\nok 16\nok 24\nok 32 96 2\nno 11\nok 24\nno 11\nok 8 16 3\nno 5\n\
          no 6\nok 104\n0 24 3\n24 104 0\n",
     );
@@ -139,7 +146,7 @@ fn heap_lengths_on_both_sides_of_their_limits() {
             0 => format!("ok\n0 {length} 0\n"),
             _ => "no 1\n".to_owned(),
         };
-        let input = format!("open {length} 7 0 0 0 0 0 0 0\n");
+        let input = open(length as u32, &[7]);
         prints(&format!("papers-length-{length}"), &input, &output);
     }
 }
@@ -148,27 +155,27 @@ fn heap_lengths_on_both_sides_of_their_limits() {
 fn request_lengths_on_both_sides_of_their_limits() {
     prints(
         "papers-refusal-4",
-        "open 128 9000000 0 0 0 0 0 0 0\nalloc 0 0\nalloc 0 32761\narray 0 65536 65536\narray 0 0 9\n",
+        &(open(128, &[9_000_000]) + "alloc 0 0\nalloc 0 32761\narray 0 65536 65536\narray 0 0 9\n"),
         "ok\nno 4\nno 4\nno 4\nno 4\n0 128 0\n",
     );
     prints(
         "papers-longest-object",
-        "open 32768 9000000 0 0 0 0 0 0 0\nalloc 0 32737\nalloc 0 32760\nalloc 0 32736\n",
+        &(open(32_768, &[9_000_000]) + "alloc 0 32737\nalloc 0 32760\nalloc 0 32736\n"),
         "ok\nno 11\nno 11\nok 32 32736 1\n0 24 0\n24 32744 1\n",
     );
     prints(
         "papers-unit-16",
-        "open 16384 9000000 0 0 0 0 0 0 0\nalloc 0 8192\n",
+        &(open(16_384, &[9_000_000]) + "alloc 0 8192\n"),
         "ok\nok 16 8192 1\n0 8 0\n8 8200 1\n8208 8176 0\n",
     );
     prints(
         "papers-row-crossed-to-16",
-        "open 16384 9000000 0 0 0 0 0 0 0\nalloc 0 8185\nalloc 0 8176\nalloc 0 8168\n",
+        &(open(16_384, &[9_000_000]) + "alloc 0 8185\nalloc 0 8176\nalloc 0 8168\n"),
         "ok\nok 16 8192 1\nno 11\nok 8216 8168 2\n0 8 0\n8 8200 1\n8208 8176 2\n",
     );
     prints(
         "papers-row-crossed-to-32",
-        "open 32768 9000000 0 0 0 0 0 0 0\nalloc 0 16369\nalloc 0 8184\n",
+        &(open(32_768, &[9_000_000]) + "alloc 0 16369\nalloc 0 8184\n"),
         "ok\nok 32 16384 1\nok 16424 8184 2\n0 24 0\n24 16392 1\n16416 8192 2\n24608 8160 0\n",
     );
 }
@@ -201,4 +208,28 @@ fn requests_whose_length_is_in_the_next_row_get_its_unit() {
         let step = format!("{asked}");
         run.gives(&step, Call::Allocate(0, asked), &[base, length, 1]);
     }
+}
+
+/// The last quota, and the number behind it, in a script and in calls.
+#[test]
+fn quotas_up_to_the_last() {
+    let last = QUOTAS as u32 - 1;
+    let mut all = [0; QUOTAS];
+    all[QUOTAS - 1] = 100;
+    let lines = format!("alloc {last} 8\nall {last}\nalloc {QUOTAS} 8\nalloc 30 8\n");
+    prints(
+        "papers-last-quota",
+        &(open_line(64, all) + &lines),
+        "ok\nok 8 8 1\nok 16\nno 3\nno 8\n0 64 0\n",
+    );
+    let (mut run, _) = Run::open(64, &all);
+    run.gives("the last quota", Call::Allocate(last, 8), &[8, 8, 1]);
+    run.refuses("behind it", Call::Allocate(last + 1, 8), 3);
+    run.refuses("behind it", Call::ClearPermissions(last + 1, 0), 3);
+}
+
+/// Eight grants, which were enough once, are too few.
+#[test]
+fn an_opening_with_eight_grants_is_bad() {
+    prints("papers-eight-grants", "open 64 1 2 3 4 5 6 7 8\n", "bad\n");
 }

@@ -1,8 +1,9 @@
 //! Permissions (rules, section 15), on both sides of each line: the proved code and the reference
 //! answer alike, and as the rules say.
 
-use lokhazim_reference::{image_length, Accounts, Handle, ALL_PERMISSIONS, QUOTAS};
+use lokhazim_reference::{Accounts, Handle, ALL_PERMISSIONS, QUOTAS};
 use lokhazim_tests::calls::Pair;
+use lokhazim_tests::forms::{FORM_1, FORM_2};
 use lokhazim_tests::image_cases::image_of;
 use lokhazim_tests::judge::{broken, Sentence};
 use lokhazim_tests::state::{Answer, Call, State};
@@ -180,27 +181,27 @@ fn an_opening_sets_all_and_a_refused_one_none() {
 }
 
 #[test]
-fn a_state_that_lacks_a_permission_is_not_carried() {
+fn form_2_carries_permissions_and_form_1_refuses_them() {
     let mut pair = Pair::new();
     let state = begin(&mut pair);
-    let needed = image_length(state.heap.len());
-    let image = image_of(&mut pair, &state).expect("no difference");
     for quota in 0..QUOTAS {
         for bits in 0..ALL_PERMISSIONS {
             let mut cleared = state.clone();
             cleared.accounts.quotas[quota].permissions = bits;
+            let needed = FORM_1.length(state.heap.len());
             for lent in [0, needed - 1, needed, needed + 1] {
                 let (refusal, _) = pair
-                    .write_image(&cleared, &vec![5; lent])
+                    .write_image(FORM_1, &cleared, &vec![5; lent])
                     .unwrap_or_else(|failure| panic!("{failure}"));
                 assert_eq!(refusal, 28, "{bits} into {lent} bytes");
             }
+            let image = image_of(&mut pair, FORM_2, &cleared).expect("no difference");
+            let (refusal, restored) = pair
+                .read_image(&image, &state.heap)
+                .unwrap_or_else(|failure| panic!("{failure}"));
+            assert_eq!((refusal, restored), (0, cleared));
         }
     }
-    let (refusal, restored) = pair
-        .read_image(&image, &state.heap)
-        .unwrap_or_else(|failure| panic!("{failure}"));
-    assert_eq!((refusal, restored), (0, permitted(&state)));
 }
 
 /// The run of rule 15.10.

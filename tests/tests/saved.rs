@@ -1,13 +1,15 @@
 //! What the harness makes and saves: states are as they claim, and a saved call is read as it was.
 
+use lokhazim_reference::QUOTAS;
 use lokhazim_tests::case::{read_case, write_case};
 use lokhazim_tests::choice::{one_of_each, Habits, MIXED};
 use lokhazim_tests::cut::blocks;
 use lokhazim_tests::forged::View;
+use lokhazim_tests::forms::{lacks_permission, FORM_1};
 use lokhazim_tests::judge::broken;
 use lokhazim_tests::seed::Seed;
 use lokhazim_tests::state::Call;
-use lokhazim_tests::states::{lacks_permission, sound};
+use lokhazim_tests::states::sound;
 
 #[test]
 fn a_state_that_is_made_sound_breaks_no_sentence() {
@@ -29,10 +31,16 @@ fn states_that_are_made_sound_differ_widely() {
     assert!(count(|s| s.heap.len() == 64) >= 5);
     assert!(count(|s| s.heap.len() >= 16_384) >= 10);
     assert!(count(|s| s.accounts.last_serial == u32::MAX) >= 20);
-    assert!(count(|s| s.accounts.holds.iter().all(|hold| hold.is_used())) >= 10);
+    assert!(count(|s| s.accounts.holds.iter().all(|hold| hold.is_used())) >= 5);
     assert!(count(|s| blocks(&s.heap).iter().all(|block| block.serial != 0)) >= 20);
     assert!(count(|s| blocks(&s.heap).len() >= 40) >= 20);
     assert!(count(lacks_permission) >= 100 && count(|s| !lacks_permission(s)) >= 250);
+    let used = |state: &lokhazim_tests::state::State| {
+        let holds = state.accounts.holds.iter();
+        holds.filter(|hold| hold.is_used()).count()
+    };
+    assert!(states.iter().filter(|s| used(s) > FORM_1.records).count() >= 60);
+    assert!(count(|s| FORM_1.carries(s)) >= 100 && count(|s| !FORM_1.carries(s)) >= 250);
     let long = |b: &lokhazim_reference::Block| b.serial != 0 && b.size >= 8_200;
     assert!(
         states
@@ -47,7 +55,7 @@ fn states_that_are_made_sound_differ_widely() {
 fn a_saved_call_is_read_as_it_was() {
     let habits = Habits {
         weights: MIXED,
-        quotas: 8,
+        quotas: QUOTAS as u32,
         wild: 50,
         longest: 100,
     };

@@ -26,7 +26,7 @@ const PARTS: [Part; 13] = [
     ("fragmented", 180, &[("ok", 10_000), ("no 11", 1_000)]),
     ("spent-quotas", 180, &[("ok", 1_000), ("no 8", 1_000)]),
     ("full-counts", 80, &[("ok", 20_000), ("no 7", 30)]),
-    ("full-records", 100, &[("ok", 5_000), ("no 9", 500)]),
+    ("full-records", 60, &[("ok", 5_000), ("no 9", 500)]),
     (
         "forged-handles",
         180,
@@ -43,7 +43,7 @@ const PARTS: [Part; 13] = [
         &[("ok", 1_000), ("no 3", 100), ("no 4", 500)],
     ),
     ("longest-input", 32, &[("ok", 10_000), ("bad", 4)]),
-    ("openings", 160, &[("ok", 200), ("no 1", 40)]),
+    ("openings", 200, &[("ok", 200), ("no 1", 40)]),
     (
         "reallocations",
         180,

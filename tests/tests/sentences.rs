@@ -1,6 +1,6 @@
 //! Each rule about the ledger notices what it is for: a right step, and then one thing wrong.
 
-use lokhazim_reference::{Accounts, Handle};
+use lokhazim_reference::{Accounts, Handle, QUOTAS};
 use lokhazim_tests::ledger::Ledger;
 use lokhazim_tests::sentences::{wrong, Step};
 use lokhazim_tests::state::{Answer, Call, State};
@@ -62,7 +62,7 @@ fn begin() -> State {
         accounts: Accounts::default(),
     };
     let calls = [
-        Call::Open([1_000; 8]),
+        Call::Open([1_000; QUOTAS]),
         Call::Allocate(0, 16),
         Call::Allocate(1, 24),
         Call::Allocate(2, 40),
@@ -89,7 +89,7 @@ fn first() -> Handle {
 #[test]
 fn right_steps_break_nothing() {
     let calls = [
-        Call::Open([5; 8]),
+        Call::Open([5; QUOTAS]),
         Call::Allocate(3, 20),
         Call::Array(3, 5, 5),
         Call::Allocate(3, 200),
@@ -104,7 +104,7 @@ fn right_steps_break_nothing() {
         Call::List(24),
         Call::Check,
         Call::ClearPermissions(0, 3),
-        Call::ClearPermissions(8, 0),
+        Call::ClearPermissions(QUOTAS as u32, 0),
     ];
     for call in calls {
         assert_eq!(Recorded::new(&begin(), call).wrong(), [""; 0], "{call}");

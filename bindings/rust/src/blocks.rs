@@ -21,7 +21,7 @@ impl Block {
     ///
     /// ```
     /// # let mut memory = [0; 128];
-    /// let heap = lokhazim::Heap::open(&mut memory, [100; 8])?;
+    /// let heap = lokhazim::Heap::open(&mut memory, [100; lokhazim::QUOTAS])?;
     /// assert!(heap.block_at(0)?.unwrap().is_free());
     /// # Ok::<(), lokhazim::Refusal>(())
     /// ```

@@ -12,7 +12,7 @@ use crate::raw;
 pub enum Difference {
     /// The last serial.
     LastSerial,
-    /// The quota of this number.
+    /// The quota of this number: its grant, its remainder or its permissions.
     Quota(usize),
     /// The hold record at this place.
     Record(usize),
@@ -39,7 +39,7 @@ pub enum Which {
 /// Why two images are not compared.
 #[derive(Clone, Copy, Debug, PartialEq, Eq, Hash)]
 pub struct CompareRefusal {
-    /// The refusal: 21 to 24 or 26 of one image, or 27.
+    /// The refusal: 21 to 24 or 26 of one image, or 29 or 27 of both.
     pub refusal: ImageRefusal,
     /// The image that it is about.
     pub which: Which,
@@ -58,21 +58,21 @@ impl fmt::Display for CompareRefusal {
 
 impl Error for CompareRefusal {}
 
-/// Lists everything that differs between two images and nothing else: the last serial, quotas,
-/// records, runs of heap bytes, each in rising order. There is nothing exactly if the two images
+/// Lists everything that differs between two images of one form and nothing else: the last serial,
+/// quotas, records, runs of heap bytes, each in rising order. There is nothing exactly if the two images
 /// hold equal states, which is exactly if their bytes are equal.
 ///
 /// # Errors
 ///
-/// Refusals 21 to 24 and 26 of the first image, then of the second, then 27.
+/// Refusals 21 to 24 and 26 of the first image, then of the second, then 29 and 27.
 ///
 /// ```
-/// use lokhazim::{compare_images, Difference, Heap};
+/// use lokhazim::{compare_images, Difference, Heap, QUOTAS};
 ///
 /// let mut memory = [0; 128];
-/// let mut heap = Heap::open(&mut memory, [100; 8])?;
+/// let mut heap = Heap::open(&mut memory, [100; QUOTAS])?;
 /// let handle = heap.allocate(0, 10)?;
-/// let (mut before, mut after) = ([0; 1_536], [0; 1_536]);
+/// let (mut before, mut after) = ([0; 5_120], [0; 5_120]);
 /// heap.save(&mut before)?;
 /// heap.lend_mut(handle)?[2..5].fill(7);
 /// heap.save(&mut after)?;

@@ -18,7 +18,7 @@ use crate::refusal::{verdict, Refusal};
 ///
 /// ```compile_fail,E0506
 /// let mut memory = [0; 128];
-/// let heap = lokhazim::Heap::open(&mut memory, [0; 8])?;
+/// let heap = lokhazim::Heap::open(&mut memory, [0; lokhazim::QUOTAS])?;
 /// memory[0] = 1;
 /// heap.check()?;
 /// # Ok::<(), lokhazim::Refusal>(())
@@ -39,11 +39,11 @@ impl<'a> Heap<'a> {
     /// [`Refusal::HeapLength`]; the bytes are as they were.
     ///
     /// ```
-    /// use lokhazim::{Heap, Refusal};
+    /// use lokhazim::{Heap, Refusal, QUOTAS};
     ///
     /// let mut memory = [7; 65];
-    /// assert!(Heap::open(&mut memory[..64], [100; 8]).is_ok());
-    /// assert_eq!(Heap::open(&mut memory, [100; 8]).unwrap_err(), Refusal::HeapLength);
+    /// assert!(Heap::open(&mut memory[..64], [100; QUOTAS]).is_ok());
+    /// assert_eq!(Heap::open(&mut memory, [100; QUOTAS]).unwrap_err(), Refusal::HeapLength);
     /// ```
     pub fn open(bytes: &'a mut [u8], grants: [u32; QUOTAS]) -> Result<Heap<'a>, Refusal> {
         let reply = raw::open(bytes, Grants { values: grants });
@@ -61,10 +61,10 @@ impl<'a> Heap<'a> {
     /// [`Refusal::HeapLength`] or [`Refusal::Inconsistent`]; the bytes are as they were.
     ///
     /// ```
-    /// use lokhazim::{Heap, Refusal};
+    /// use lokhazim::{Heap, Refusal, QUOTAS};
     ///
     /// let mut memory = [0; 128];
-    /// let mut heap = Heap::open(&mut memory, [100; 8])?;
+    /// let mut heap = Heap::open(&mut memory, [100; QUOTAS])?;
     /// let handle = heap.allocate(0, 10)?;
     /// let (bytes, accounts) = heap.into_parts();
     ///
@@ -96,7 +96,7 @@ impl<'a> Heap<'a> {
     ///
     /// ```
     /// # let mut memory = [0; 128];
-    /// let mut heap = lokhazim::Heap::open(&mut memory, [100; 8])?;
+    /// let mut heap = lokhazim::Heap::open(&mut memory, [100; lokhazim::QUOTAS])?;
     /// heap.allocate(3, 10)?;
     /// assert_eq!(heap.accounts().quotas[3].remainder, 76);
     /// assert_eq!(heap.accounts().holds[0].quota, 3);
@@ -116,17 +116,17 @@ impl<'a> Heap<'a> {
     /// Refusals 3, 12, 4 and 8 to 11.
     ///
     /// ```
-    /// use lokhazim::{Heap, Refusal};
+    /// use lokhazim::{grants, Heap, Refusal};
     ///
     /// # let mut memory = [0; 128];
-    /// let mut heap = Heap::open(&mut memory, [100, 0, 0, 0, 0, 0, 0, 0])?;
+    /// let mut heap = Heap::open(&mut memory, grants([100]))?;
     /// let handle = heap.allocate(0, 10)?;
     /// assert_eq!((handle.base, handle.length), (8, 16));
     /// assert_eq!(heap.allocate(0, 68), Err(Refusal::QuotaExceeded));
     /// assert_eq!(heap.remaining(0)?, 76);
     ///
     /// # let mut memory = [0; 16_384];
-    /// # let mut heap = Heap::open(&mut memory, [10_000, 0, 0, 0, 0, 0, 0, 0])?;
+    /// # let mut heap = Heap::open(&mut memory, grants([10_000]))?;
     /// let handle = heap.allocate(0, 8_185)?; // 8,192 bytes, so at a multiple of 16
     /// assert_eq!((handle.base, handle.length), (16, 8_192));
     /// # Ok::<(), Refusal>(())
@@ -143,10 +143,10 @@ impl<'a> Heap<'a> {
     /// Refusals 3, 12, 4 and 8 to 11.
     ///
     /// ```
-    /// use lokhazim::{Heap, Refusal};
+    /// use lokhazim::{Heap, Refusal, QUOTAS};
     ///
     /// # let mut memory = [0; 128];
-    /// let mut heap = Heap::open(&mut memory, [100; 8])?;
+    /// let mut heap = Heap::open(&mut memory, [100; QUOTAS])?;
     /// assert_eq!(heap.allocate_array(0, 5, 12)?.length, 64);
     /// assert_eq!(heap.allocate_array(0, 65_536, 65_536), Err(Refusal::ObjectLength));
     /// # Ok::<(), Refusal>(())
@@ -167,7 +167,7 @@ impl<'a> Heap<'a> {
     ///
     /// ```
     /// # let mut memory = [0; 128];
-    /// let mut heap = lokhazim::Heap::open(&mut memory, [100; 8])?;
+    /// let mut heap = lokhazim::Heap::open(&mut memory, [100; lokhazim::QUOTAS])?;
     /// let handle = heap.allocate(0, 10)?;
     /// assert_eq!(heap.claim(1, handle)?, 16);
     /// heap.release(0, handle)?;
@@ -189,10 +189,10 @@ impl<'a> Heap<'a> {
     /// Refusals 3, 5 and 6.
     ///
     /// ```
-    /// use lokhazim::{Heap, Refusal};
+    /// use lokhazim::{Heap, Refusal, QUOTAS};
     ///
     /// # let mut memory = [0; 128];
-    /// let mut heap = Heap::open(&mut memory, [100; 8])?;
+    /// let mut heap = Heap::open(&mut memory, [100; QUOTAS])?;
     /// let handle = heap.allocate(0, 10)?;
     /// assert_eq!(heap.release(1, handle), Err(Refusal::NotHeld));
     /// assert_eq!(heap.release(0, handle)?, 24);
@@ -212,7 +212,7 @@ impl<'a> Heap<'a> {
     ///
     /// ```
     /// # let mut memory = [0; 128];
-    /// let mut heap = lokhazim::Heap::open(&mut memory, [100; 8])?;
+    /// let mut heap = lokhazim::Heap::open(&mut memory, [100; lokhazim::QUOTAS])?;
     /// heap.allocate(0, 10)?;
     /// heap.allocate(0, 20)?;
     /// assert_eq!(heap.free_all(0)?, 24 + 32);
@@ -227,17 +227,18 @@ impl<'a> Heap<'a> {
     /// Clears permissions of the quota; gives those that it still has.
     ///
     /// A part can so lend its quota to a helper that may release objects and not drop them all. No
-    /// call gives a permission back; an opening and an image that is read set them all.
+    /// call gives a permission back; an opening sets them all, and an image that is read those that
+    /// were set in it.
     ///
     /// # Errors
     ///
     /// Refusal 3.
     ///
     /// ```
-    /// use lokhazim::{Heap, Permissions, Refusal};
+    /// use lokhazim::{Heap, Permissions, Refusal, QUOTAS};
     ///
     /// # let mut memory = [0; 128];
-    /// let mut heap = Heap::open(&mut memory, [100; 8])?;
+    /// let mut heap = Heap::open(&mut memory, [100; QUOTAS])?;
     /// let handle = heap.allocate(0, 10)?;
     /// let left = heap.clear_permissions(0, Permissions::ALLOCATE | Permissions::FREE_ALL)?;
     /// assert_eq!(left, Permissions::CLAIM);
@@ -268,7 +269,7 @@ impl<'a> Heap<'a> {
     ///
     /// ```
     /// # let mut memory = [0; 128];
-    /// let mut heap = lokhazim::Heap::open(&mut memory, [100; 8])?;
+    /// let mut heap = lokhazim::Heap::open(&mut memory, [100; lokhazim::QUOTAS])?;
     /// let handle = heap.allocate(0, 8)?;
     /// heap.lend_mut(handle)?.copy_from_slice(b"pressure");
     /// let longer = heap.reallocate(0, handle, 16)?;

@@ -1,4 +1,8 @@
 //! Images: a heap with its accounts as bytes that can be kept and read back.
+//!
+//! Form 2 carries every state and is what is written. Form 1 is that of earlier versions, with fewer
+//! quotas and records and no permissions; it is written for boards that read nothing else. Both are
+//! read, by the number that they begin with.
 
 use core::error::Error;
 use core::fmt;
@@ -9,26 +13,50 @@ use crate::raw;
 use crate::refusal::Refusal;
 
 /// The length of the longest image, that of a heap of 32,768 bytes.
-pub const IMAGE_MAX: usize = 34_816;
+pub const IMAGE_MAX: usize = 37_888;
+
+/// The length of the longest image of form 1.
+pub const IMAGE_MAX_FORM_1: usize = 34_816;
+
+/// The number of quotas that form 1 has.
+pub const FORM_1_QUOTAS: usize = 8;
+
+/// The number of hold records that form 1 has.
+pub const FORM_1_HOLDS: usize = 128;
 
 /// The length of the image of a heap of so many bytes; none where no heap can have that length.
 ///
 /// ```
-/// assert_eq!(lokhazim::image_length(64), Some(1_536));
+/// assert_eq!(lokhazim::image_length(64), Some(5_120));
 /// assert_eq!(lokhazim::image_length(lokhazim::HEAP_MAX), Some(lokhazim::IMAGE_MAX));
 /// assert_eq!(lokhazim::image_length(65), None);
 /// ```
 pub fn image_length(heap_length: usize) -> Option<usize> {
-    match raw::image_length(heap_length) {
-        0 => None,
-        length => Some(length),
-    }
+    some_length(raw::image_length(heap_length))
+}
+
+/// The length of the image of form 1 of a heap of so many bytes; none where no heap can have that
+/// length.
+///
+/// ```
+/// use lokhazim::{image_length_form_1, HEAP_MAX, IMAGE_MAX_FORM_1};
+///
+/// assert_eq!(image_length_form_1(64), Some(1_536));
+/// assert_eq!(image_length_form_1(HEAP_MAX), Some(IMAGE_MAX_FORM_1));
+/// ```
+pub fn image_length_form_1(heap_length: usize) -> Option<usize> {
+    some_length(raw::image_length_form_1(heap_length))
+}
+
+/// A length that is not 0.
+fn some_length(length: usize) -> Option<usize> {
+    (length != 0).then_some(length)
 }
 
 /// What an image says of itself before it is read.
 #[derive(Clone, Copy, Debug, PartialEq, Eq, Hash)]
 pub struct ImageFacts {
-    /// The number of its form.
+    /// The number of its form, 1 or 2.
     pub form: u32,
     /// The length of the heap that it holds, which is the length of the bytes to read it into.
     pub heap_length: usize,
@@ -42,13 +70,14 @@ pub struct ImageFacts {
 /// Refusals 21 to 24.
 ///
 /// ```
-/// use lokhazim::{examine_image, Heap, ImageRefusal};
+/// use lokhazim::{examine_image, Heap, ImageRefusal, QUOTAS};
 ///
 /// let mut memory = [0; 128];
-/// let heap = Heap::open(&mut memory, [100; 8])?;
-/// let mut image = [0; 1_536];
+/// let heap = Heap::open(&mut memory, [100; QUOTAS])?;
+/// let mut image = [0; 5_120];
 /// heap.save(&mut image)?;
 /// assert_eq!(examine_image(&image)?.heap_length, 128);
+/// assert_eq!(examine_image(&image)?.form, 2);
 /// assert_eq!(examine_image(&image[..100]), Err(ImageRefusal::ImageLength));
 /// # Ok::<(), Box<dyn std::error::Error>>(())
 /// ```
@@ -80,7 +109,8 @@ pub enum ImageRefusal {
     FrameWrong,
     /// 23: another form of image, or a mark that this form doesn't have.
     FormNumber,
-    /// 24: a heap length that is not allowed or needs another number of frames, or a spare byte that is not zero.
+    /// 24: a heap length that is not allowed or needs another number of frames, a spare byte that is
+    /// not zero, or permissions that don't exist.
     Contents,
     /// 25: the lent image is too short, or the lent heap has another length than the image's.
     Room,
@@ -88,8 +118,12 @@ pub enum ImageRefusal {
     Inconsistent,
     /// 27: the heaps of two images have different lengths.
     HeapLengths,
-    /// 28: a quota lacks a permission, which the form can't carry.
+    /// 28: form 1 can't carry the accounts: one of the quotas behind the first [`FORM_1_QUOTAS`] has
+    /// a grant, one of the records behind the first [`FORM_1_HOLDS`] is used, or some quota is
+    /// without a permission.
     NotCarried,
+    /// 29: two images are of different forms.
+    FormsDiffer,
 }
 
 impl ImageRefusal {
@@ -112,6 +146,7 @@ impl ImageRefusal {
             ImageRefusal::Inconsistent => 26,
             ImageRefusal::HeapLengths => 27,
             ImageRefusal::NotCarried => 28,
+            ImageRefusal::FormsDiffer => 29,
         }
     }
 
@@ -135,6 +170,7 @@ impl ImageRefusal {
             ImageRefusal::Inconsistent,
             ImageRefusal::HeapLengths,
             ImageRefusal::NotCarried,
+            ImageRefusal::FormsDiffer,
         ];
         own.into_iter().find(|refusal| refusal.number() == number)
     }
@@ -149,7 +185,8 @@ impl ImageRefusal {
             ImageRefusal::Contents => "the image states a heap length that it can't have, or has bytes where zeros belong; it was not written by this library",
             ImageRefusal::Room => "the lent image is too short, or the lent heap has not the length of the image's; see image_length",
             ImageRefusal::HeapLengths => "the heaps of the two images have different lengths; only images of one length are compared",
-            ImageRefusal::NotCarried => "a quota lacks a permission, and images of form 1 carry none; save before permissions are cleared",
+            ImageRefusal::NotCarried => "the accounts have more quotas or records than form 1 has, or a quota lacks a permission; save form 2",
+            ImageRefusal::FormsDiffer => "the two images are of different forms; save both in one form to compare them",
             ImageRefusal::Inconsistent => "the heap and the accounts in the image don't agree; it was not written by this library",
         }
     }
@@ -193,14 +230,13 @@ impl<'a> Heap<'a> {
     ///
     /// # Errors
     ///
-    /// [`ImageRefusal::NotCarried`] where a quota lacks a permission, then [`ImageRefusal::Room`]
-    /// where `image` is shorter than [`image_length`] says; it is as it was.
+    /// [`ImageRefusal::Room`] where `image` is shorter than [`image_length`] says; it is as it was.
     ///
     /// ```
-    /// use lokhazim::{Heap, ImageRefusal};
+    /// use lokhazim::{Heap, ImageRefusal, QUOTAS};
     ///
     /// let mut memory = [0; 128];
-    /// let mut heap = Heap::open(&mut memory, [100; 8])?;
+    /// let mut heap = Heap::open(&mut memory, [100; QUOTAS])?;
     /// let handle = heap.allocate(0, 10)?;
     /// let mut image = [0; lokhazim::IMAGE_MAX];
     /// let length = heap.save(&mut image)?;
@@ -217,10 +253,37 @@ impl<'a> Heap<'a> {
         verdict(reply.refusal).map(|()| reply.length)
     }
 
+    /// Writes an image of form 1, for a board that reads nothing else; gives its length.
+    ///
+    /// # Errors
+    ///
+    /// [`ImageRefusal::NotCarried`] where form 1 can't carry the accounts, then
+    /// [`ImageRefusal::Room`] where `image` is shorter than [`image_length_form_1`] says; it is as
+    /// it was.
+    ///
+    /// ```
+    /// use lokhazim::{examine_image, grants, Heap, ImageRefusal, Permissions};
+    ///
+    /// let mut memory = [0; 128];
+    /// let mut heap = Heap::open(&mut memory, grants([100, 1_000]))?;
+    /// let mut image = [0; 1_536];
+    /// heap.save_form_1(&mut image)?;
+    /// assert_eq!(examine_image(&image)?.form, 1);
+    ///
+    /// heap.clear_permissions(1, Permissions::CLAIM)?;
+    /// assert_eq!(heap.save_form_1(&mut image), Err(ImageRefusal::NotCarried));
+    /// # Ok::<(), Box<dyn std::error::Error>>(())
+    /// ```
+    pub fn save_form_1(&self, image: &mut [u8]) -> Result<usize, ImageRefusal> {
+        let reply = raw::image_write_form_1(image, self.bytes, &self.accounts);
+        verdict(reply.refusal).map(|()| reply.length)
+    }
+
     /// Takes up a heap from an image; the bytes have the length of the image's heap.
     ///
     /// A board that was stopped goes on where it was: handles from before the image are good,
-    /// handles that were given out after it mean nothing. Every quota has all permissions.
+    /// handles that were given out after it mean nothing. From form 1 every quota has all
+    /// permissions.
     ///
     /// # Errors
     ///
@@ -245,11 +308,11 @@ impl<'a> Heap<'a> {
     /// Refusals 21 to 26; heap and accounts are as they were, and calls go on with them.
     ///
     /// ```
-    /// use lokhazim::{Heap, ImageRefusal};
+    /// use lokhazim::{Heap, ImageRefusal, QUOTAS};
     ///
     /// let mut memory = [0; 128];
-    /// let mut heap = Heap::open(&mut memory, [100; 8])?;
-    /// let mut image = [0; 1_536];
+    /// let mut heap = Heap::open(&mut memory, [100; QUOTAS])?;
+    /// let mut image = [0; 5_120];
     /// heap.save(&mut image)?;
     /// let handle = heap.allocate(0, 10)?;
     /// assert_eq!(heap.go_back(&image[..512]), Err(ImageRefusal::FrameWrong));

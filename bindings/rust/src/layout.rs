@@ -5,10 +5,10 @@
 use core::mem::{offset_of, size_of};
 
 /// The number of quotas; they are numbered from 0.
-pub const QUOTAS: usize = 8;
+pub const QUOTAS: usize = 32;
 
 /// The number of hold records.
-pub const HOLDS: usize = 128;
+pub const HOLDS: usize = 512;
 
 /// What a quota was granted at the opening, what remains of it, and what it may do.
 #[derive(Clone, Copy, Debug, Default, PartialEq, Eq, Hash)]
@@ -206,17 +206,17 @@ macro_rules! lies {
 
 lies!(Quota, 12: grant at 0, remainder at 4, permissions at 8);
 lies!(Hold, 8: serial at 0, quota at 4, count at 5);
-lies!(Accounts, 1124: quotas at 0, last_serial at 96, holds at 100);
+lies!(Accounts, 4484: quotas at 0, last_serial at 384, holds at 388);
 lies!(Handle, 12: base at 0, length at 4, serial at 8);
-lies!(Grants, 32: values at 0);
-lies!(OpenReply, 1128: accounts at 0, refusal at 1124);
-lies!(HandleReply, 1140: accounts at 0, refusal at 1124, handle at 1128);
-lies!(AmountReply, 1132: accounts at 0, refusal at 1124, amount at 1128);
+lies!(Grants, 128: values at 0);
+lies!(OpenReply, 4488: accounts at 0, refusal at 4484);
+lies!(HandleReply, 4500: accounts at 0, refusal at 4484, handle at 4488);
+lies!(AmountReply, 4492: accounts at 0, refusal at 4484, amount at 4488);
 lies!(Amount, 8: refusal at 0, amount at 4);
 lies!(RangeReply, 24: refusal at 0, start at 8, end at 16);
 lies!(BlockReply, 32: refusal at 0, found at 4, offset at 8, size at 16, serial at 24);
 lies!(ImageReply, 16: refusal at 0, length at 8);
-lies!(RestoreReply, 1128: accounts at 0, refusal at 1124);
+lies!(RestoreReply, 4488: accounts at 0, refusal at 4484);
 lies!(ExamineReply, 16: refusal at 0, form at 4, heap_length at 8);
 lies!(CompareReply, 32: refusal at 0, which at 4, kind at 8, place at 16, length at 24);
 lies!(NextReply, 40: kind at 0, place at 8, length at 16, part at 24, at at 32);

@@ -12,14 +12,14 @@
 //! keeps a buffer alive by a claim, and the valve's close command still finds room.
 //!
 //! ```
-//! use lokhazim::{Aligned, Heap, Refusal};
+//! use lokhazim::{grants, Aligned, Heap, Refusal};
 //!
 //! const VALVE: u32 = 0;
 //! const LOGGER: u32 = 1;
 //! const RADIO: u32 = 2;
 //!
 //! let mut memory = Aligned([0; 256]);
-//! let mut heap = Heap::open(&mut memory.0, [48, 120, 64, 0, 0, 0, 0, 0])?;
+//! let mut heap = Heap::open(&mut memory.0, grants([48, 120, 64]))?;
 //!
 //! let buffer = heap.allocate(LOGGER, 40)?;
 //! heap.lend_mut(buffer)?[..8].copy_from_slice(b"pressure");
@@ -71,7 +71,10 @@ mod refusal;
 pub use blocks::{Block, Blocks};
 pub use comparison::{compare_images, CompareRefusal, Difference, Differences, Which};
 pub use heap::Heap;
-pub use image::{examine_image, image_length, ImageFacts, ImageRefusal, IMAGE_MAX};
+pub use image::{
+    examine_image, image_length, image_length_form_1, ImageFacts, ImageRefusal, FORM_1_HOLDS,
+    FORM_1_QUOTAS, IMAGE_MAX, IMAGE_MAX_FORM_1,
+};
 pub use layout::{Accounts, Handle, Hold, Quota, HOLDS, QUOTAS};
 pub use permissions::Permissions;
 pub use refusal::Refusal;
@@ -85,6 +88,25 @@ pub const HEAP_MAX: usize = 32_768;
 /// The most bytes that can be asked for.
 pub const REQUEST_MAX: u32 = 32_760;
 
+/// The grants of the first quotas, and 0 for the others.
+///
+/// ```
+/// use lokhazim::{grants, QUOTAS};
+///
+/// const GRANTS: [u32; QUOTAS] = grants([100, 1_000]);
+/// assert_eq!(GRANTS[..3], [100, 1_000, 0]);
+/// ```
+pub const fn grants<const N: usize>(first: [u32; N]) -> [u32; QUOTAS] {
+    const { assert!(N <= QUOTAS, "there are more grants than quotas") };
+    let mut all = [0; QUOTAS];
+    let mut number = 0;
+    while number < N {
+        all[number] = first[number];
+        number += 1;
+    }
+    all
+}
+
 /// Bytes that begin at an address which is a multiple of 32.
 ///
 /// An object's base, counted from the heap's first byte, is a multiple of 8; of 16 if the object
@@ -92,10 +114,10 @@ pub const REQUEST_MAX: u32 = 32_760;
 /// object is one too.
 ///
 /// ```
-/// use lokhazim::{Aligned, Heap};
+/// use lokhazim::{Aligned, Heap, QUOTAS};
 ///
 /// let mut memory = Aligned([0; 32_768]);
-/// let mut heap = Heap::open(&mut memory.0, [40_000; 8])?;
+/// let mut heap = Heap::open(&mut memory.0, [40_000; QUOTAS])?;
 /// let handle = heap.allocate(0, 20_000)?;
 /// assert!(heap.lend(handle)?.as_ptr().addr().is_multiple_of(32));
 /// # Ok::<(), lokhazim::Refusal>(())

@@ -5,7 +5,7 @@ use core::ops::{BitOr, BitOrAssign};
 
 /// What a quota may do: a set of permissions.
 ///
-/// An opening and an image that is read give all of them to every quota;
+/// An opening gives all of them to every quota, and
 /// [`Heap::clear_permissions`](crate::Heap::clear_permissions) takes some away. Reallocating needs
 /// [`ALLOCATE`](Permissions::ALLOCATE); releasing needs none.
 ///

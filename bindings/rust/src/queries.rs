@@ -16,7 +16,7 @@ impl Heap<'_> {
     ///
     /// ```
     /// # let mut memory = [0; 128];
-    /// let mut heap = lokhazim::Heap::open(&mut memory, [100; 8])?;
+    /// let mut heap = lokhazim::Heap::open(&mut memory, [100; lokhazim::QUOTAS])?;
     /// let handle = heap.allocate(0, 10)?;
     /// assert_eq!(heap.lend(handle)?, [0; 16]);
     /// # Ok::<(), lokhazim::Refusal>(())
@@ -31,7 +31,7 @@ impl Heap<'_> {
     ///
     /// ```compile_fail,E0499
     /// # let mut memory = [0; 128];
-    /// let mut heap = lokhazim::Heap::open(&mut memory, [100; 8])?;
+    /// let mut heap = lokhazim::Heap::open(&mut memory, [100; lokhazim::QUOTAS])?;
     /// let handle = heap.allocate(0, 10)?;
     /// let object = heap.lend_mut(handle)?;
     /// heap.release(0, handle)?;
@@ -45,7 +45,7 @@ impl Heap<'_> {
     ///
     /// ```
     /// # let mut memory = [0; 128];
-    /// let mut heap = lokhazim::Heap::open(&mut memory, [100; 8])?;
+    /// let mut heap = lokhazim::Heap::open(&mut memory, [100; lokhazim::QUOTAS])?;
     /// let handle = heap.allocate(0, 10)?;
     /// heap.lend_mut(handle)?.fill(7);
     /// assert_eq!(heap.lend(handle)?, [7; 16]);
@@ -66,7 +66,7 @@ impl Heap<'_> {
     ///
     /// ```
     /// # let mut memory = [0; 128];
-    /// let mut heap = lokhazim::Heap::open(&mut memory, [100; 8])?;
+    /// let mut heap = lokhazim::Heap::open(&mut memory, [100; lokhazim::QUOTAS])?;
     /// let handle = heap.allocate(0, 8)?;
     /// heap.write(handle, 1, 255)?;
     /// heap.write(handle, 8, 255)?;
@@ -85,9 +85,9 @@ impl Heap<'_> {
     ///
     /// ```
     /// # let mut memory = [0; 128];
-    /// let heap = lokhazim::Heap::open(&mut memory, [100; 8])?;
-    /// assert_eq!(heap.remaining(7)?, 100);
-    /// assert!(heap.remaining(8).is_err());
+    /// let heap = lokhazim::Heap::open(&mut memory, [100; lokhazim::QUOTAS])?;
+    /// assert_eq!(heap.remaining(31)?, 100);
+    /// assert!(heap.remaining(32).is_err());
     /// # Ok::<(), lokhazim::Refusal>(())
     /// ```
     pub fn remaining(&self, quota: u32) -> Result<u32, Refusal> {
@@ -102,12 +102,12 @@ impl Heap<'_> {
     /// Refusal 3.
     ///
     /// ```
-    /// use lokhazim::{Heap, Permissions};
+    /// use lokhazim::{Heap, Permissions, QUOTAS};
     ///
     /// # let mut memory = [0; 128];
-    /// let heap = Heap::open(&mut memory, [100; 8])?;
-    /// assert_eq!(heap.permissions(7)?, Permissions::ALL);
-    /// assert!(heap.permissions(8).is_err());
+    /// let heap = Heap::open(&mut memory, [100; QUOTAS])?;
+    /// assert_eq!(heap.permissions(31)?, Permissions::ALL);
+    /// assert!(heap.permissions(32).is_err());
     /// # Ok::<(), lokhazim::Refusal>(())
     /// ```
     pub fn permissions(&self, quota: u32) -> Result<Permissions, Refusal> {
@@ -123,10 +123,10 @@ impl Heap<'_> {
     /// The refusal that release would give.
     ///
     /// ```
-    /// use lokhazim::{Heap, Refusal};
+    /// use lokhazim::{Heap, Refusal, QUOTAS};
     ///
     /// # let mut memory = [0; 128];
-    /// let mut heap = Heap::open(&mut memory, [100; 8])?;
+    /// let mut heap = Heap::open(&mut memory, [100; QUOTAS])?;
     /// let handle = heap.allocate(0, 10)?;
     /// assert_eq!(heap.can_release(0, handle), Ok(()));
     /// assert_eq!(heap.can_release(1, handle), Err(Refusal::NotHeld));
@@ -144,7 +144,7 @@ impl Heap<'_> {
     ///
     /// ```
     /// # let mut memory = [0; 128];
-    /// let heap = lokhazim::Heap::open(&mut memory, [100; 8])?;
+    /// let heap = lokhazim::Heap::open(&mut memory, [100; lokhazim::QUOTAS])?;
     /// assert_eq!(heap.block_at(0)?.unwrap().size, 128);
     /// assert_eq!(heap.block_at(8)?, None);
     /// # Ok::<(), lokhazim::Refusal>(())
@@ -163,7 +163,7 @@ impl Heap<'_> {
     ///
     /// ```
     /// # let mut memory = [0; 128];
-    /// let mut heap = lokhazim::Heap::open(&mut memory, [100; 8])?;
+    /// let mut heap = lokhazim::Heap::open(&mut memory, [100; lokhazim::QUOTAS])?;
     /// heap.allocate(0, 10)?;
     /// let sizes: Result<Vec<usize>, _> = heap.blocks().map(|block| Ok(block?.size)).collect();
     /// assert_eq!(sizes?, [24, 104]);
@@ -181,7 +181,7 @@ impl Heap<'_> {
     ///
     /// ```
     /// # let mut memory = [0; 128];
-    /// let heap = lokhazim::Heap::open(&mut memory, [100; 8])?;
+    /// let heap = lokhazim::Heap::open(&mut memory, [100; lokhazim::QUOTAS])?;
     /// assert_eq!(heap.check(), Ok(()));
     /// # Ok::<(), lokhazim::Refusal>(())
     /// ```

@@ -93,7 +93,15 @@ extern "C" {
     ) -> BlockReply;
     fn lokhazim_check(heap: *const u8, length: usize, accounts: Accounts) -> u32;
     fn lokhazim_image_length(heap_length: usize) -> usize;
+    fn lokhazim_image_length_form_1(heap_length: usize) -> usize;
     fn lokhazim_image_write(
+        image: *mut u8,
+        image_length: usize,
+        heap: *const u8,
+        length: usize,
+        accounts: Accounts,
+    ) -> ImageReply;
+    fn lokhazim_image_write_form_1(
         image: *mut u8,
         image_length: usize,
         heap: *const u8,
@@ -165,10 +173,21 @@ pub fn image_length(heap_length: usize) -> usize {
     unsafe { lokhazim_image_length(heap_length) }
 }
 
+pub fn image_length_form_1(heap_length: usize) -> usize {
+    // SAFETY: the function takes and gives a number.
+    unsafe { lokhazim_image_length_form_1(heap_length) }
+}
+
 pub fn image_write(image: &mut [u8], heap: &[u8], accounts: &Accounts) -> ImageReply {
     let (at, room) = (image.as_mut_ptr(), image.len());
     // SAFETY: pointers and lengths are those of two slices that are borrowed for the call.
     unsafe { lokhazim_image_write(at, room, heap.as_ptr(), heap.len(), accounts.clone()) }
+}
+
+pub fn image_write_form_1(image: &mut [u8], heap: &[u8], accounts: &Accounts) -> ImageReply {
+    let (at, room) = (image.as_mut_ptr(), image.len());
+    // SAFETY: pointers and lengths are those of two slices that are borrowed for the call.
+    unsafe { lokhazim_image_write_form_1(at, room, heap.as_ptr(), heap.len(), accounts.clone()) }
 }
 
 pub fn image_examine(image: &[u8]) -> ExamineReply {

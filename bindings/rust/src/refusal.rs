@@ -3,6 +3,8 @@
 use core::error::Error;
 use core::fmt;
 
+use crate::layout::{HOLDS, QUOTAS};
+
 /// Why a call is refused; a refused call changes nothing.
 ///
 /// Calls check in the order of the numbers, but [`Refusal::NotPermitted`] right after
@@ -13,7 +15,7 @@ use core::fmt;
 ///
 /// assert_eq!(
 ///     Refusal::QuotaNumber.to_string(),
-///     "refusal 3: there is no quota of this number; use 0 to 7"
+///     "refusal 3: there is no quota of this number; use 0 to 31"
 /// );
 /// ```
 #[derive(Clone, Copy, Debug, PartialEq, Eq, PartialOrd, Ord, Hash)]
@@ -86,16 +88,16 @@ impl Refusal {
             .find(|refusal| refusal.number() == number)
     }
 
-    /// What is wrong, and what to do.
+    /// What is wrong, and what to do; nothing for what has a number in its text.
     const fn advice(self) -> &'static str {
         match self {
+            Refusal::QuotaNumber | Refusal::HoldsExhausted => "",
             Refusal::HeapLength => {
                 "the heap's length is not allowed; lend 64 to 32,768 bytes, a multiple of 8"
             }
             Refusal::Inconsistent => {
                 "the heap's bytes and its accounts don't agree; something else has written to them, so open the heap anew"
             }
-            Refusal::QuotaNumber => "there is no quota of this number; use 0 to 7",
             Refusal::ObjectLength => {
                 "no object can have this length; ask for 1 to 32,760 bytes in all"
             }
@@ -111,7 +113,6 @@ impl Refusal {
             Refusal::QuotaExceeded => {
                 "the object costs its length plus 8, and less remains of the quota; release something or ask for less"
             }
-            Refusal::HoldsExhausted => "all 128 hold records are used; release something",
             Refusal::SerialsExhausted => "every serial was given; open the heap anew",
             Refusal::NoSpace => "no free run of bytes is long enough; release something or ask for less",
             Refusal::NotPermitted => {
@@ -123,7 +124,17 @@ impl Refusal {
 
 impl fmt::Display for Refusal {
     fn fmt(&self, f: &mut fmt::Formatter<'_>) -> fmt::Result {
-        write!(f, "refusal {}: {}", self.number(), self.advice())
+        write!(f, "refusal {}: {}", self.number(), self.advice())?;
+        match self {
+            Refusal::QuotaNumber => {
+                let last = QUOTAS - 1;
+                write!(f, "there is no quota of this number; use 0 to {last}")
+            }
+            Refusal::HoldsExhausted => {
+                write!(f, "all {HOLDS} hold records are used; release something")
+            }
+            _ => Ok(()),
+        }
     }
 }
 

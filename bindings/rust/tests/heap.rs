@@ -1,12 +1,12 @@
 //! The heap through the crate's own types.
 
 use lokhazim::{
-    Accounts, Block, Handle, Heap, ImageRefusal, Permissions, Refusal, HEAP_MAX, HOLDS, QUOTAS,
+    grants, Accounts, Block, Handle, Heap, Permissions, Refusal, HEAP_MAX, HOLDS, QUOTAS,
 };
 
 /// The lengths and counts of the objects of `fill`, by the place of their record.
 fn length_of(place: usize) -> u32 {
-    8 + 8 * (place as u32 % 32)
+    8 + 8 * (place as u32 % 8)
 }
 
 fn count_of(place: usize) -> u32 {
@@ -35,7 +35,7 @@ fn fill(bytes: &mut [u8]) -> Result<(Heap<'_>, Vec<Handle>), Refusal> {
 #[test]
 fn the_marked_run() -> Result<(), Refusal> {
     let mut memory = [255; 128];
-    let mut heap = Heap::open(&mut memory, [100, 1_000, 0, 0, 0, 0, 0, 0])?;
+    let mut heap = Heap::open(&mut memory, grants([100, 1_000]))?;
     let first = Handle {
         base: 8,
         length: 16,
@@ -111,8 +111,8 @@ fn the_library_notices_a_change_of_any_field() -> Result<(), Refusal> {
     }
     is_noticed(bytes, &accounts, |a| a.last_serial -= 1);
     for place in 0..HOLDS {
-        is_noticed(bytes, &accounts, |a| a.holds[place].serial = 129);
-        is_noticed(bytes, &accounts, |a| a.holds[place].quota = 8);
+        is_noticed(bytes, &accounts, |a| a.holds[place].serial += HOLDS as u32);
+        is_noticed(bytes, &accounts, |a| a.holds[place].quota = QUOTAS as u8);
         is_noticed(bytes, &accounts, |a| a.holds[place].count = 0);
     }
     Ok(())
@@ -191,7 +191,7 @@ fn refused_calls_change_nothing() -> Result<(), Refusal> {
     let mut memory = [0; HEAP_MAX];
     let (mut heap, handles) = fill(&mut memory)?;
     let before = heap.accounts().clone();
-    assert_eq!(heap.allocate(8, 1), Err(Refusal::QuotaNumber));
+    assert_eq!(heap.allocate(QUOTAS as u32, 1), Err(Refusal::QuotaNumber));
     assert_eq!(heap.allocate(0, 0), Err(Refusal::ObjectLength));
     assert_eq!(heap.allocate(0, 32_761), Err(Refusal::ObjectLength));
     assert_eq!(heap.allocate(0, 1), Err(Refusal::HoldsExhausted));
@@ -251,36 +251,6 @@ fn each_call_needs_its_own_permission() -> Result<(), Refusal> {
             assert_eq!(call(&mut heap, 2, handle), Ok(()), "{cleared:?}");
         }
     }
-    Ok(())
-}
-
-#[test]
-fn a_cleared_permission_stays_cleared_until_an_image_is_read(
-) -> Result<(), Box<dyn std::error::Error>> {
-    let mut memory = [0; 128];
-    let mut heap = Heap::open(&mut memory, [100; QUOTAS])?;
-    let handle = heap.allocate(0, 8)?;
-    let mut image = [7; 1_536];
-    heap.save(&mut image)?;
-    let saved = image;
-    assert_eq!(
-        heap.clear_permissions(0, Permissions::ALL)?,
-        Permissions::NONE
-    );
-    heap.release(0, handle)?;
-    assert_eq!(
-        heap.clear_permissions(0, Permissions::NONE)?,
-        Permissions::NONE
-    );
-    for length in [0, 1_535, 1_536] {
-        assert_eq!(
-            heap.save(&mut image[..length]),
-            Err(ImageRefusal::NotCarried)
-        );
-    }
-    assert_eq!(image, saved);
-    heap.go_back(&image)?;
-    assert_eq!(heap.permissions(0)?, Permissions::ALL);
     Ok(())
 }
 

@@ -6,7 +6,8 @@ mod support;
 use std::error::Error;
 
 use lokhazim::{
-    ImageRefusal, Permissions, Refusal, HEAP_MAX, HEAP_MIN, HOLDS, QUOTAS, REQUEST_MAX,
+    ImageRefusal, Permissions, Refusal, FORM_1_HOLDS, FORM_1_QUOTAS, HEAP_MAX, HEAP_MIN, HOLDS,
+    IMAGE_MAX, IMAGE_MAX_FORM_1, QUOTAS, REQUEST_MAX,
 };
 
 /// A header's text.
@@ -55,6 +56,20 @@ fn the_header_has_the_same_constants() {
         ("MAY_CLAIM", Permissions::CLAIM.bits().into()),
         ("MAY_FREE_ALL", Permissions::FREE_ALL.bits().into()),
         ("MAY_ALL", Permissions::ALL.bits().into()),
+    ] {
+        let line = format!("#define LOKHAZIM_{name} {value}\n");
+        assert!(header.contains(&line), "the header lacks the line '{line}'");
+    }
+}
+
+#[test]
+fn the_header_of_images_has_the_same_constants() {
+    let header = text_of("include/lokhazim_image.h");
+    for (name, value) in [
+        ("IMAGE_MAX", IMAGE_MAX),
+        ("IMAGE_MAX_FORM_1", IMAGE_MAX_FORM_1),
+        ("FORM_1_QUOTAS", FORM_1_QUOTAS),
+        ("FORM_1_HOLDS", FORM_1_HOLDS),
     ] {
         let line = format!("#define LOKHAZIM_{name} {value}\n");
         assert!(header.contains(&line), "the header lacks the line '{line}'");

@@ -1,12 +1,13 @@
 -- The listing and its walker on a small heap, computed.
 -- Assumes nothing.
-use Prim.Native.Nat.{ℕ}
+use Prim.Native.Nat.{ℕ, _-_}
 use mathlib.Core.Path.{_≡_, refl}
 use mathlib.Core.List.{List, [], _∷_, _++_}
 use mathlib.Core.Option.{none, some}
 use lib.ListN.{replicate}
 use Rattle.rounding.specs.Rounding.{unit}
 use Rattle.accounts.specs.declared.Accounts.{Accounts}
+use Rattle.accounts.specs.Accounts.{QUOTAS, HOLDS}
 use Rattle.model.specs.declared.ListedBlock.{ListedBlock}
 use Rattle.model.specs.declared.BlockAnswer.the-variants.{Listed, NoBlock}
 use Rattle.model.proofs.Computing.{computing}
@@ -21,9 +22,9 @@ heap = 3 ∷ 0 ∷ 0 ∷ 0 ∷ 1 ∷ 0 ∷ 0 ∷ 0 ∷ (replicate 16 0 ++ (5 ∷
 -- its accounts: quota 0 holds the object, and has so much of its 100 bytes left
 pub accounts : ℕ → Accounts
 accounts left = record {
-  quotas = record { grant = 100; remainder = left; permissions = 7 } ∷ replicate 7 record { grant = 0; remainder = 0; permissions = 7 };
+  quotas = record { grant = 100; remainder = left; permissions = 7 } ∷ replicate (QUOTAS - 1) record { grant = 0; remainder = 0; permissions = 7 };
   «last_serial» = 1;
-  holds = record { serial = 1; quota = 0; count = 1 } ∷ replicate 127 record { serial = 0; quota = 0; count = 0 };
+  holds = record { serial = 1; quota = 0; count = 1 } ∷ replicate (HOLDS - 1) record { serial = 0; quota = 0; count = 0 };
 }
 
 pub object : ListedBlock

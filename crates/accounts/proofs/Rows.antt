@@ -28,9 +28,9 @@ held = put-hold 2 holder five
 -- accounts of zeros, opened ones, and another last serial
 pub opening-rows : (zero-accounts
     ≡ record {
-      quotas = replicate 8 (record { grant = 0; remainder = 0; permissions = 0 });
+      quotas = replicate 32 (record { grant = 0; remainder = 0; permissions = 0 });
       «last_serial» = 0;
-      holds = replicate 128 (record { serial = 0; quota = 0; count = 0 });
+      holds = replicate 512 (record { serial = 0; quota = 0; count = 0 });
     })
     × (opened (5 ∷ 6 ∷ [])
     ≡ record {

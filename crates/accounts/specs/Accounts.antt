@@ -12,10 +12,10 @@ use Rattle.accounts.specs.declared.Place.the-variants.{At, Nothing}
 
 -- rule 3.2: the number of quotas and of hold records
 abbrev pub QUOTAS : ℕ
-QUOTAS = 8
+QUOTAS = 32
 
 abbrev pub HOLDS : ℕ
-HOLDS = 128
+HOLDS = 512
 
 -- rule 15.1: the three permissions by their bits, the number of a quota that has all of them, and which numbers are permissions
 abbrev pub ALLOCATE : ℕ

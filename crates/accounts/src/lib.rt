@@ -6,10 +6,10 @@ ghost use Rattle.accounts.specs.Accounts.{with-permissions, bit-left, cl
 ghost use Rattle.accounts.specs.Accounts.{find-hold, lowest-unused, hold-at, put-hold, drop-hold, drop-records};
 
 // The number of quotas.
-pub const QUOTAS: usize = 8;
+pub const QUOTAS: usize = 32;
 
 // The number of hold records.
-pub const HOLDS: usize = 128;
+pub const HOLDS: usize = 512;
 
 // The greatest number of 32 bits, which a remainder can be.
 pub const GREATEST_NUMBER: u32 = 4294967295;

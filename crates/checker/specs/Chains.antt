@@ -8,9 +8,9 @@ use lib.ListN.{getD, drop}
 use Rattle.accounts.specs.Accounts.{HOLDS}
 use Rattle.checker.specs.Keys.{serial-of, for-serial}
 
--- so many slots that a chain is seldom longer than one place
+-- as many slots as there are places, so that a chain is seldom longer than two of them
 abbrev pub SLOTS : ℕ
-SLOTS = 4 * HOLDS
+SLOTS = HOLDS
 
 -- the first place from n on whose key passes a test, else the length
 unfoldable pub search : (ℕ → Bool) → ℕ → List ℕ → ℕ

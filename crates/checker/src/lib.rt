@@ -37,8 +37,8 @@ use closing::is_paid;
 use closing::is_struck;
 pub use holding::held_each;
 
-// The number of slots: so many that a chain is seldom longer than one record.
-const SLOTS: usize = 4 * HOLDS;
+// The number of slots: as many as records, so that a chain is seldom longer than two records and the index stays small.
+const SLOTS: usize = HOLDS;
 
 // Rule 2.1: whether a heap may have this length.
 pub fn is_allowed(len: usize) -> bool

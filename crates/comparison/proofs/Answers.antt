@@ -1,4 +1,4 @@
--- Comparing two images: the four cases of the answer, that the answers are told apart, and that nothing differs exactly between equal images.
+-- Comparing two images: the cases of the answer, that the answers are told apart, and that nothing differs exactly between equal images.
 -- Assumes nothing.
 use mathlib.Core.Path.{_≡_, refl, ap, sym, _∙_}
 use mathlib.Core.List.{List, [], _∷_}
@@ -18,12 +18,12 @@ use Rattle.image_model.specs.Stream.{image-of}
 use Rattle.image_model.specs.Reading.{form-of, size-in, heap-of, heap-in, accounts-in}
 use Rattle.image_model.specs.Answers.{image-refusal-number}
 use Rattle.image_model.specs.Images.{examine-lines, Accepts}
-use Rattle.image_model.proofs.Places.{one-form}
+use Rattle.image_model.proofs.Places.{same-number}
 use Rattle.image_model.proofs.Refusals.{examined-read}
 use Rattle.image_model.proofs.Read.{read-written}
 use Rattle.image_model.proofs.Answers.{image-refusal-at, image-refusal-is}
 use Rattle.comparison.specs.Differences.{state-in, differences}
-use Rattle.comparison.specs.Compare.{Compared, compared, line-27, unless-refused, nth-of, compare-second, compare-of}
+use Rattle.comparison.specs.Compare.{Compared, compared, line-29, line-27, pair-lines, unless-refused, nth-of, compare-second, compare-of}
 use Rattle.comparison.specs.Listing.{OneSize}
 use Rattle.comparison.specs.declared.Difference.{Difference}
 use Rattle.comparison.specs.declared.Which.{Which}
@@ -47,16 +47,29 @@ module _ (i j : List ℕ) (n : ℕ) where
   unfolding compare-of compare-second nth-of unless-refused
   second-refused a r e = rw (a, e)
 
-  -- then the heaps' lengths
-  pub lengths-refused : Accepted i → Accepted j → size-in i ≢ size-in j → compare-of i j n ≡ record { refusal = 27; which = Neither; found = none }
-  unfolding compare-of compare-second nth-of unless-refused line-27 first-refusal
-  lengths-refused a b d = let t = ne-eqb (size-in i) (size-in j) d in rw (a, b, t)
+  module _ (a : Accepted i) (b : Accepted j) where
+    -- then the forms
+    pub forms-refused : form-of i .number ≢ form-of j .number → compare-of i j n ≡ record { refusal = 29; which = Neither; found = none }
+    unfolding compare-of compare-second nth-of unless-refused line-29 pair-lines first-refusal
+    forms-refused d = let t = ne-eqb (form-of i .number) (form-of j .number) d in rw (a, b, t)
 
-  -- else the n-th is given, or none
-  pub nth-given : Accepted i → Accepted j → size-in i ≡ size-in j
-      → compare-of i j n ≡ record { refusal = 0; which = Neither; found = getElem? (differences (state-in i) (state-in j)) n }
-  unfolding compare-of compare-second nth-of unless-refused line-27 first-refusal
-  nth-given a b e = let t = eq-eqb (size-in i) (size-in j) e in rw (a, b, t)
+    module _ (form : form-of i .number ≡ form-of j .number) where
+      -- then the heaps' lengths
+      pub lengths-refused : size-in i ≢ size-in j → compare-of i j n ≡ record { refusal = 27; which = Neither; found = none }
+      unfolding compare-of compare-second nth-of unless-refused line-29 line-27 pair-lines first-refusal
+      lengths-refused d =
+          let f = eq-eqb (form-of i .number) (form-of j .number) form in
+          let t = ne-eqb (size-in i) (size-in j) d in
+          rw (a, b, f, t)
+
+      -- else the n-th is given, or none
+      pub nth-given : size-in i ≡ size-in j
+          → compare-of i j n ≡ record { refusal = 0; which = Neither; found = getElem? (differences (state-in i) (state-in j)) n }
+      unfolding compare-of compare-second nth-of unless-refused line-29 line-27 pair-lines first-refusal
+      nth-given e =
+          let f = eq-eqb (form-of i .number) (form-of j .number) form in
+          let t = eq-eqb (size-in i) (size-in j) e in
+          rw (a, b, f, t)
 
 -- no two answers come to the same: from what an answer comes to, the answer
 found-answer : Option Difference → CompareAnswer
@@ -92,7 +105,8 @@ heap-length i = length-padded (size-in i) _
 says : (i : List ℕ) → Octets i → Accepted i → Accepts (form-of i) (heap-in i) (accounts-in i) × (image-of (form-of i) (heap-in i) (accounts-in i) ≡ i)
 says i o a = let w = read-written i (heap-in i) o (sym (examined-read i (heap-in i) (heap-length i)) ∙ a) in (w .0, w .1)
 
-module _ (i j : List ℕ) (o : Octets i) (p : Octets j) (a : Accepted i) (b : Accepted j) (e : size-in i ≡ size-in j) where
+module _ (i j : List ℕ) (o : Octets i) (p : Octets j) (a : Accepted i) (b : Accepted j)
+    (form : form-of i .number ≡ form-of j .number) (e : size-in i ≡ size-in j) where
   pub one-size : OneSize (state-in i) (state-in j)
   unfolding state-in
   one-size =
@@ -108,12 +122,13 @@ module _ (i j : List ℕ) (o : Octets i) (p : Octets j) (a : Accepted i) (b : Ac
       there : differences (state-in i) (state-in j) ≡ [] → i ≡ j
       there z =
           let q = differences-empty (state-in i) (state-in j) one-size .0 z in
-          let f = one-form (form-of i) (form-of j) (says i o a .0 .known) (says j p b .0 .known) in
+          let f = same-number (form-of i) (form-of j) (says i o a .0 .known) (says j p b .0 .known) form in
           sym (says i o a .1) ∙ (λ k. image-of (f k) (q k .heap) (q k .accounts)) ∙ says j p b .1
 
--- what is compared: both images are accepted and the heaps have one length
-pub compared-exactly : (i j : List ℕ) (n : ℕ) → (compare-of i j n .refusal ≡ 0) ↔ (Accepted i × Accepted j × (size-in i ≡ size-in j))
-compared-exactly i j n = (there, λ w. ap refusal-of (nth-given i j n (w .0) (w .1) (w .2)))
+-- what is compared: both images are accepted, of one form, and the heaps have one length
+pub compared-exactly : (i j : List ℕ) (n : ℕ)
+    → (compare-of i j n .refusal ≡ 0) ↔ (Accepted i × Accepted j × (form-of i .number ≡ form-of j .number) × (size-in i ≡ size-in j))
+compared-exactly i j n = (there, λ w. ap refusal-of (nth-given i j n (w .0) (w .1) (w .2) (w .3)))
   where
     refusal-of : Compared → ℕ
     refusal-of c = c .refusal
@@ -126,15 +141,22 @@ compared-exactly i j n = (there, λ w. ap refusal-of (nth-given i j n (w .0) (w 
     second e a zero q = q
     second e a (suc r) q = absurd (omega (arith, ap refusal-of (second-refused i j n a r q), e))
 
-    third : compare-of i j n .refusal ≡ 0 → Accepted i → Accepted j → (x : Bool) → eqb (size-in i) (size-in j) ≡ x → size-in i ≡ size-in j
-    third e a b true q = eqb-true (size-in i) (size-in j) q
-    third e a b false q = absurd (omega (arith, ap refusal-of (lengths-refused i j n a b (eqb-false (size-in i) (size-in j) q)), e))
+    third : compare-of i j n .refusal ≡ 0 → Accepted i → Accepted j → (x : Bool) → eqb (form-of i .number) (form-of j .number) ≡ x
+        → form-of i .number ≡ form-of j .number
+    third e a b true q = eqb-true (form-of i .number) (form-of j .number) q
+    third e a b false q = absurd (omega (arith, ap refusal-of (forms-refused i j n a b (eqb-false (form-of i .number) (form-of j .number) q)), e))
 
-    there : compare-of i j n .refusal ≡ 0 → Accepted i × Accepted j × (size-in i ≡ size-in j)
+    fourth : compare-of i j n .refusal ≡ 0 → Accepted i → Accepted j → form-of i .number ≡ form-of j .number → (x : Bool)
+        → eqb (size-in i) (size-in j) ≡ x → size-in i ≡ size-in j
+    fourth e a b f true q = eqb-true (size-in i) (size-in j) q
+    fourth e a b f false q = absurd (omega (arith, ap refusal-of (lengths-refused i j n a b f (eqb-false (size-in i) (size-in j) q)), e))
+
+    there : compare-of i j n .refusal ≡ 0 → Accepted i × Accepted j × (form-of i .number ≡ form-of j .number) × (size-in i ≡ size-in j)
     there e =
         let a = first e (first-refusal (examine-lines i)) refl in
         let b = second e a (first-refusal (examine-lines j)) refl in
-        (a, b, third e a b (eqb (size-in i) (size-in j)) refl)
+        let f = third e a b (eqb (form-of i .number) (form-of j .number)) refl in
+        (a, b, f, fourth e a b f (eqb (size-in i) (size-in j)) refl)
 
 -- asked for the first difference of two images, the answer is that there is none exactly if the first is accepted and the second is the same bytes
 pub nothing-exactly : (i j : List ℕ) → Octets i → Octets j → (compare-of i j 0 ≡ compared Nothing) ↔ (Accepted i × (i ≡ j))
@@ -148,10 +170,10 @@ nothing-exactly i j o p = (there, back)
     there : compare-of i j 0 ≡ record { refusal = 0; which = Neither; found = none } → Accepted i × (i ≡ j)
     there e =
         let w = compared-exactly i j 0 .0 (ap (λ (c : Compared). c .refusal) e) in
-        let g = ap (λ (c : Compared). c .found) (sym (nth-given i j 0 (w .0) (w .1) (w .2)) ∙ e) in
-        (w .0, images-alike i j o p (w .0) (w .1) (w .2) .0 (empty (differences (state-in i) (state-in j)) g))
+        let g = ap (λ (c : Compared). c .found) (sym (nth-given i j 0 (w .0) (w .1) (w .2) (w .3)) ∙ e) in
+        (w .0, images-alike i j o p (w .0) (w .1) (w .2) (w .3) .0 (empty (differences (state-in i) (state-in j)) g))
 
     back : Accepted i × (i ≡ j) → compare-of i j 0 ≡ record { refusal = 0; which = Neither; found = none }
     back w =
         let b : Accepted j = rw (w .1) at (w .0) in
-        nth-given i j 0 (w .0) b (ap size-in (w .1)) ∙ (rw (w .1, differences-self (state-in j)))
+        nth-given i j 0 (w .0) b (ap (λ (x : List ℕ). form-of x .number) (w .1)) (ap size-in (w .1)) ∙ (rw (w .1, differences-self (state-in j)))

@@ -11,7 +11,7 @@ use Rattle.accounts.specs.declared.Accounts.{Accounts}
 use Rattle.model.specs.Refusals.{first-refusal}
 use Rattle.image_model.specs.declared.Form.{Form}
 use Rattle.image_model.specs.declared.ImageRefusal.{ImageRefusal}
-use Rattle.image_model.specs.declared.ImageRefusal.the-variants.{HeapLengths}
+use Rattle.image_model.specs.declared.ImageRefusal.the-variants.{HeapLengths, FormsDiffer}
 use Rattle.image_model.specs.Reading.{form-of, size-in, accounts-in}
 use Rattle.image_model.specs.Answers.{image-refusal-number}
 use Rattle.image_model.specs.Images.{examine-lines}
@@ -21,7 +21,7 @@ use Rattle.image.specs.declared.Shape.the-variants.{Image, Refused as NotImage}
 use Rattle.image.specs.declared.Parsed.{Parsed}
 use Rattle.image.specs.Parsing.{Parts, shape-parts, parts-of, unless-parts, examined-in}
 use Rattle.comparison.specs.Differences.{state-in, differences}
-use Rattle.comparison.specs.Compare.{Compared, compared, line-27, unless-refused, nth-of, compare-second, compare-of}
+use Rattle.comparison.specs.Compare.{Compared, compared, line-29, line-27, pair-lines, unless-refused, nth-of, compare-second, compare-of}
 use Rattle.comparison.specs.declared.Difference.{Difference}
 use Rattle.comparison.specs.declared.Which.{Which}
 use Rattle.comparison.specs.declared.Which.the-variants.{First, Second, Neither}
@@ -37,12 +37,12 @@ module _ (i : List ℕ) (p : Parsed) (told : parts-of p ≡ examined-in i) where
   by-shape s e = ap (λ (x : Shape). shape-parts x (p .accounts)) (sym e) ∙ told
 
   image-from : (m : ℕ) (f : Form) (n : ℕ) (k : Accounts) → record { refusal = 0; form = f; size = n; accounts = k } ≡ unless-parts m said
-      → (m ≡ 0) × (n ≡ size-in i)
+      → (m ≡ 0) × (f ≡ form-of i) × (n ≡ size-in i)
   unfolding unless-parts
-  image-from zero f n k e = (refl, ap (λ (x : Parts). x .size) e)
+  image-from zero f n k e = (refl, ap (λ (x : Parts). x .form) e, ap (λ (x : Parts). x .size) e)
   image-from (suc m) f n k e = let z : 0 ≡ suc m = ap (λ (x : Parts). x .refusal) e in absurd (omega arith)
 
-  pub examined-image : (f : Form) (n : ℕ) → p .shape ≡ Image f n → (first-refusal (examine-lines i) ≡ 0) × (n ≡ size-in i)
+  pub examined-image : (f : Form) (n : ℕ) → p .shape ≡ Image f n → (first-refusal (examine-lines i) ≡ 0) × (f ≡ form-of i) × (n ≡ size-in i)
   unfolding shape-parts
   examined-image f n e = image-from (first-refusal (examine-lines i)) f n (p .accounts) (by-shape (Image f n) e)
 
@@ -82,13 +82,18 @@ module _ (i j : List ℕ) (n : ℕ) where
   second-bad r e = refused-as (first-refusal (examine-lines j)) r Second _ e
 
   module _ (good : first-refusal (examine-lines j) ≡ 0) where
-    pub other-length : (size-in i ≡ size-in j → ⊥) → compared (Refused HeapLengths Neither) ≡ compare-second i j n
-    unfolding compared compare-second line-27 unless-refused first-refusal
-    other-length f = rw (good, ne-eqb (size-in i) (size-in j) f)
+    pub other-form : (form-of i .number ≡ form-of j .number → ⊥) → compared (Refused FormsDiffer Neither) ≡ compare-second i j n
+    unfolding compared compare-second line-29 pair-lines unless-refused first-refusal
+    other-form f = rw (good, ne-eqb (form-of i .number) (form-of j .number) f)
 
-    pub second-good : size-in i ≡ size-in j → nth-of i j n ≡ compare-second i j n
-    unfolding compare-second line-27 unless-refused first-refusal
-    second-good e = rw (good, eq-eqb (size-in i) (size-in j) e)
+    module _ (form : form-of i .number ≡ form-of j .number) where
+      pub other-length : (size-in i ≡ size-in j → ⊥) → compared (Refused HeapLengths Neither) ≡ compare-second i j n
+      unfolding compared compare-second line-29 line-27 pair-lines unless-refused first-refusal
+      other-length f = rw (good, eq-eqb (form-of i .number) (form-of j .number) form, ne-eqb (size-in i) (size-in j) f)
+
+      pub second-good : size-in i ≡ size-in j → nth-of i j n ≡ compare-second i j n
+      unfolding compare-second line-29 line-27 pair-lines unless-refused first-refusal
+      second-good e = rw (good, eq-eqb (form-of i .number) (form-of j .number) form, eq-eqb (size-in i) (size-in j) e)
 
   -- the first image
   pub first-bad : (r : ImageRefusal) → first-refusal (examine-lines i) ≡ image-refusal-number r → compared (Refused r First) ≡ compare-of i j n

@@ -3,14 +3,14 @@
 use mathlib.Core.Path.{_≡_, refl}
 use mathlib.Core.List.{List, [], _∷_, _++_}
 use mathlib.Core.Option.{Option, none, some}
-use Prim.Native.Nat.{ℕ}
+use Prim.Native.Nat.{ℕ, _-_}
 use lib.ListN.{set, replicate, take}
 use Rattle.accounts.specs.declared.Accounts.{Accounts}
 use Rattle.accounts.specs.declared.Quota.{Quota}
 use Rattle.accounts.specs.declared.Hold.{Hold}
-use Rattle.accounts.specs.Accounts.{zero-quota, zero-hold, with-permissions, with-quotas, with-last-serial, with-holds, opened}
+use Rattle.accounts.specs.Accounts.{QUOTAS, HOLDS, zero-quota, zero-hold, with-permissions, with-quotas, with-last-serial, with-holds, opened}
 use Rattle.framing.specs.Frames.{cut}
-use Rattle.image_model.specs.Stream.{form-1, stream, image-of}
+use Rattle.image_model.specs.Stream.{form-1, form-2, stream, image-of}
 use Rattle.comparison.specs.Differences.{State, differences}
 use Rattle.comparison.specs.Positions.{next-of, asked}
 use Rattle.comparison.specs.Compare.{Compared, compare-of}
@@ -35,9 +35,9 @@ hold s q c = record { serial = s; quota = q; count = c }
 accounts : Accounts
 accounts =
     record {
-      quotas = quota 100 84 ∷ quota 1000 984 ∷ replicate 6 (quota 0 0);
+      quotas = quota 100 84 ∷ quota 1000 984 ∷ replicate (QUOTAS - 2) (quota 0 0);
       «last_serial» = 1;
-      holds = hold 1 0 1 ∷ replicate 52 zero-hold ++ (hold 1 1 3 ∷ replicate 74 zero-hold);
+      holds = hold 1 0 1 ∷ replicate 52 zero-hold ++ (hold 1 1 3 ∷ replicate (HOLDS - 54) zero-hold);
     }
 
 -- the state of these, and the same with another heap, other quotas, records or serial
@@ -86,11 +86,11 @@ account-rows : (differences state (with-accounts (with-last-serial 2 accounts)) 
     × (differences state (quotas-with (set (accounts .quotas) 1 (quota 1001 984))) ≡ QuotaAt 1 ∷ [])
     × (differences state (quotas-with (set (accounts .quotas) 1 (quota 1000 983))) ≡ QuotaAt 1 ∷ [])
     × (differences state (quotas-with (set (accounts .quotas) 1 (with-permissions 6 (quota 1000 984)))) ≡ QuotaAt 1 ∷ [])
-    × (differences state (quotas-with (set (set (accounts .quotas) 7 (quota 1 0)) 0 zero-quota)) ≡ QuotaAt 0 ∷ QuotaAt 7 ∷ [])
+    × (differences state (quotas-with (set (set (accounts .quotas) 31 (quota 1 0)) 0 zero-quota)) ≡ QuotaAt 0 ∷ QuotaAt 31 ∷ [])
     × (differences state (holds-with (set (accounts .holds) 53 (hold 2 1 3))) ≡ RecordAt 53 ∷ [])
     × (differences state (holds-with (set (accounts .holds) 53 (hold 1 2 3))) ≡ RecordAt 53 ∷ [])
     × (differences state (holds-with (set (accounts .holds) 53 (hold 1 1 4))) ≡ RecordAt 53 ∷ [])
-    × (differences state (holds-with (set (set (accounts .holds) 127 (hold 0 0 1)) 0 zero-hold)) ≡ RecordAt 0 ∷ RecordAt 127 ∷ [])
+    × (differences state (holds-with (set (set (accounts .holds) 511 (hold 0 0 1)) 0 zero-hold)) ≡ RecordAt 0 ∷ RecordAt 511 ∷ [])
     × (differences state (holds-with (set (set (accounts .holds) 53 (hold 1 0 1)) 0 (hold 1 1 3))) ≡ RecordAt 0 ∷ RecordAt 53 ∷ [])
 unfolding small quotas-with holds-with
 account-rows = (refl, refl, refl, refl, refl, refl, refl, refl, refl, refl)
@@ -102,9 +102,9 @@ other =
       heap = set (set (set (set heap 8 9) 30 1) 31 1) 63 1;
       accounts =
           record {
-            quotas = quota 100 84 ∷ quota 1000 984 ∷ quota 5 5 ∷ replicate 5 (quota 0 0);
+            quotas = quota 100 84 ∷ quota 1000 984 ∷ quota 5 5 ∷ replicate (QUOTAS - 3) (quota 0 0);
             «last_serial» = 3;
-            holds = hold 1 1 3 ∷ replicate 52 zero-hold ++ (hold 1 0 1 ∷ replicate 74 zero-hold);
+            holds = hold 1 1 3 ∷ replicate 52 zero-hold ++ (hold 1 0 1 ∷ replicate (HOLDS - 54) zero-hold);
           };
     }
 
@@ -117,7 +117,7 @@ next-rows : (next-of Start state other ≡ Differs LastSerial (FromQuota 0))
     × (next-of Start state (but (9 ∷ [])) ≡ Differs (Bytes 9 1) (FromByte 10))
     × (next-of (FromQuota 0) state other ≡ Differs (QuotaAt 2) (FromQuota 3))
     × (next-of (FromQuota 3) state other ≡ Differs (RecordAt 0) (FromRecord 1))
-    × (next-of (FromQuota 8) state other ≡ Differs (RecordAt 0) (FromRecord 1))
+    × (next-of (FromQuota 32) state other ≡ Differs (RecordAt 0) (FromRecord 1))
     × (next-of (FromRecord 1) state other ≡ Differs (RecordAt 53) (FromRecord 54))
     × (next-of (FromRecord 1000) state other ≡ Differs (Bytes 8 1) (FromByte 9))
     × (next-of (FromByte 9) state other ≡ Differs (Bytes 30 2) (FromByte 32))
@@ -136,7 +136,7 @@ second : List ℕ
 second = image-of form-1 (other .heap) (other .accounts)
 
 longer : List ℕ
-longer = image-of form-1 (9 ∷ replicate 71 0) (opened (replicate 8 0))
+longer = image-of form-1 (9 ∷ replicate 71 0) (opened (replicate QUOTAS 0))
 
 wrong : ℕ → ℕ → List ℕ
 wrong at b = cut (set (stream form-1 heap accounts) at b)
@@ -157,12 +157,29 @@ nth-rows : (compare-of first second 0 ≡ found (some LastSerial))
 unfolding small other first second found
 nth-rows = (refl, refl, refl, refl, refl, refl)
 
+-- the same states in form 2, and a third one that form 1 does not carry
+full : List ℕ
+full = image-of form-2 heap accounts
+
+full-other : List ℕ
+full-other = image-of form-2 heap (quotas-with (set (accounts .quotas) 31 (with-permissions 3 (quota 0 0))) .accounts)
+
+form-rows : (compare-of full full-other 0 ≡ found (some (QuotaAt 31)))
+    × (compare-of full full-other 1 ≡ found none)
+    × (compare-of full full 0 ≡ found none)
+    × (compare-of first full 0 ≡ refused 29 Neither)
+    × (compare-of full first 0 ≡ refused 29 Neither)
+    × (compare-of full longer 0 ≡ refused 29 Neither)
+    × (compare-of full (take 1535 second) 0 ≡ refused 21 Second)
+unfolding small quotas-with other first second longer full full-other found refused
+form-rows = (refl, refl, refl, refl, refl, refl, refl)
+
 -- each of the reader's refusals of either image; the first image's where both are bad; the lengths last, about neither
 refused-rows : (compare-of [] second 0 ≡ refused 21 First)
     × (compare-of first (take 1535 second) 0 ≡ refused 21 Second)
     × (compare-of (set first 600 9) second 0 ≡ refused 22 First)
     × (compare-of first (set second 600 9) 0 ≡ refused 22 Second)
-    × (compare-of (wrong 0 2) first 0 ≡ refused 23 First)
+    × (compare-of (wrong 0 3) first 0 ≡ refused 23 First)
     × (compare-of first (wrong 3 1) 0 ≡ refused 23 Second)
     × (compare-of (wrong 82 9) first 0 ≡ refused 24 First)
     × (compare-of first (wrong 4 65) 0 ≡ refused 24 Second)

@@ -6,7 +6,7 @@ use mathlib.Core.Option.{Option, none, some}
 use lib.ListN.{getElem?}
 use lib.Dec.{eqb}
 use Rattle.model.specs.Refusals.{Line, _when_, first-refusal}
-use Rattle.image_model.specs.Reading.{size-in}
+use Rattle.image_model.specs.Reading.{form-of, size-in}
 use Rattle.image_model.specs.Answers.{image-refusal-number}
 use Rattle.image_model.specs.Images.{examine-lines}
 use Rattle.comparison.specs.Differences.{state-in, differences}
@@ -28,9 +28,17 @@ compared (Differs d) = record { refusal = 0; which = Neither; found = some d }
 compared Nothing = record { refusal = 0; which = Neither; found = none }
 compared (Refused r w) = record { refusal = image-refusal-number r; which = w; found = none }
 
+-- 29: the images are of two forms
+unfoldable pub line-29 : List ℕ → List ℕ → Line
+line-29 i j = 29 when not (eqb (form-of i .number) (form-of j .number))
+
 -- 27: the heaps have two lengths
 unfoldable pub line-27 : List ℕ → List ℕ → Line
 line-27 i j = 27 when not (eqb (size-in i) (size-in j))
+
+-- the lines of two images that are accepted
+unfoldable pub pair-lines : List ℕ → List ℕ → List Line
+pair-lines i j = line-29 i j ∷ line-27 i j ∷ []
 
 -- what is due where there is no refusal; else the number and what it is about
 unfoldable pub unless-refused : ℕ → Which → Compared → Compared
@@ -41,9 +49,9 @@ unless-refused (suc n) w due = record { refusal = suc n; which = w; found = none
 unfoldable pub nth-of : List ℕ → List ℕ → ℕ → Compared
 nth-of i j n = record { refusal = 0; which = Neither; found = getElem? (differences (state-in i) (state-in j)) n }
 
--- the refusals of the second image, then that of the lengths, then the difference
+-- the refusals of the second image, then those of both together, then the difference
 unfoldable pub compare-second : List ℕ → List ℕ → ℕ → Compared
-compare-second i j n = unless-refused (first-refusal (examine-lines j)) Second (unless-refused (first-refusal (line-27 i j ∷ [])) Neither (nth-of i j n))
+compare-second i j n = unless-refused (first-refusal (examine-lines j)) Second (unless-refused (first-refusal (pair-lines i j)) Neither (nth-of i j n))
 
 -- the refusals of the first image come before all
 unfoldable pub compare-of : List ℕ → List ℕ → ℕ → Compared

@@ -7,7 +7,7 @@ use crate::going::next_difference;
 use image::Shape;
 use image_model::ImageRefusal;
 ghost use mathlib.Core.Path.{_≡_};
-ghost use Rattle.image_model.specs.Reading.{size-in};
+ghost use Rattle.image_model.specs.Reading.{form-of, size-in};
 ghost use Rattle.comparison.specs.Compare.{compared, nth-of, compare-second, compare-of};
 
 // The n-th difference, from 0, of what two images say.
@@ -28,15 +28,18 @@ fn nth_difference(first: &[u8], second: &[u8], n: usize) -> CompareAnswer
     }
 }
 
-// The same once the first image is accepted, with a heap of so many bytes.
-fn with_second(first: &[u8], second: &[u8], size: usize, n: usize) -> CompareAnswer
-    requires { ⌜ size ≡ size-in (now first) ⌝ }
+// The same once the first image is accepted, with its form's number and a heap of so many bytes.
+fn with_second(first: &[u8], second: &[u8], number: u32, size: usize, n: usize) -> CompareAnswer
+    requires { ⌜ (number ≡ form-of (now first) .number) × (size ≡ size-in (now first)) ⌝ }
     ensures { λ r. ⌜ compared r ≡ compare-second (now (first .entry)) (now (second .entry)) n ⌝ }
 {
     let examined = image::examine(second);
     let shape = examined.shape;
     match shape {
         Shape::Image(form, other) => {
+            if number != form.number {
+                return CompareAnswer::Refused(ImageRefusal::FormsDiffer, Which::Neither);
+            }
             if size != other {
                 return CompareAnswer::Refused(ImageRefusal::HeapLengths, Which::Neither);
             }
@@ -53,7 +56,7 @@ pub fn compare(first: &[u8], second: &[u8], n: usize) -> CompareAnswer
     let examined = image::examine(first);
     let shape = examined.shape;
     match shape {
-        Shape::Image(form, size) => with_second(first, second, size, n),
+        Shape::Image(form, size) => with_second(first, second, form.number, size, n),
         Shape::Refused(refusal) => CompareAnswer::Refused(refusal, Which::First),
     }
 }

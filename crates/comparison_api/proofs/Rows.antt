@@ -19,13 +19,15 @@ compare-rows : map compare-reply
     (record { refusal = 0; which = Neither; found = none }
     ∷ record { refusal = 0; which = Neither; found = some LastSerial }
     ∷ record { refusal = 0; which = Neither; found = some (QuotaAt 7) }
-    ∷ record { refusal = 0; which = Neither; found = some (RecordAt 127) }
+    ∷ record { refusal = 0; which = Neither; found = some (RecordAt 511) }
     ∷ record { refusal = 0; which = Neither; found = some (Bytes 8 24) }
     ∷ record { refusal = 22; which = First; found = none }
     ∷ record { refusal = 26; which = Second; found = none }
     ∷ record { refusal = 27; which = Neither; found = none }
+    ∷ record { refusal = 29; which = Neither; found = none }
     ∷ [])
-    ≡ reply 0 0 0 0 0 ∷ reply 0 0 1 0 0 ∷ reply 0 0 2 7 0 ∷ reply 0 0 3 127 0 ∷ reply 0 0 4 8 24 ∷ reply 22 1 0 0 0 ∷ reply 26 2 0 0 0 ∷ reply 27 0 0 0 0 ∷ []
+    ≡ reply 0 0 0 0 0 ∷ reply 0 0 1 0 0 ∷ reply 0 0 2 7 0 ∷ reply 0 0 3 511 0 ∷ reply 0 0 4 8 24
+    ∷ reply 22 1 0 0 0 ∷ reply 26 2 0 0 0 ∷ reply 27 0 0 0 0 ∷ reply 29 0 0 0 0 ∷ []
 unfolding reply
 compare-rows = refl
 

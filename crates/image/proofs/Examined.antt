@@ -4,7 +4,7 @@ use mathlib.Core.Path.{_≡_, ap, sym, _∙_}
 use mathlib.Core.List.{List, [], _∷_}
 use mathlib.Core.Bool.{Bool, true, false}
 use mathlib.Core.Option.{none, some}
-use Prim.Native.Nat.{ℕ, zero, suc, _+_, _*_, _≤_}
+use Prim.Native.Nat.{ℕ, zero, suc, _≤_}
 use native.Mathlib.Omega.{arith}
 use lib.ListN.{take, drop}
 use Rattle.rounding.specs.Rounding.{unit}
@@ -26,7 +26,6 @@ use Rattle.image_model.proofs.Answers.{image-refusal-is}
 use Rattle.image.specs.declared.Shape.the-variants.{Refused}
 use Rattle.image.specs.declared.Parsed.{Parsed}
 use Rattle.image.specs.Parsing.{Parts, parts-of, unless-parts, parts-in, examined-in}
-use Rattle.image.proofs.Heads.{head-extent}
 use Rattle.image.proofs.Parses.{Found, shape-numbered, refused-by, refused-found}
 use Rattle.image.proofs.Restores.{first-kept, first-passed}
 
@@ -57,12 +56,12 @@ examined-refused i p r told e =
     examined-as i p told (kept i (image-refusal-number r) (image-refusal-is r .1) (refused-found i p r told e))
 
 -- one that they do not refuse: what the test of its state finds
-module _ (i : List ℕ) (f : Form) (n : ℕ) (k : Accounts) (w : Found i f n k) (at : ℕ) (is : at ≡ 12 + f .quotas * 8 + f .records * 8) where
+module _ (i : List ℕ) (f : Form) (n : ℕ) (k : Accounts) (w : Found i f n k) (at : ℕ) (is : at ≡ head-length f) where
   module _ (r : Bool) (told : r ≡ is-sound unit (padded n (drop at (stream-of i))) k) where
     state-is : r ≡ is-sound unit (heap-in i) (accounts-in i)
     unfolding heap-in heap-of size-in
     state-is =
-        let start : at ≡ head-length (form-of i) = is ∙ sym (head-extent f) ∙ ap head-length (w .form) in
+        let start : at ≡ head-length (form-of i) = is ∙ ap head-length (w .form) in
         told ∙ (λ j. is-sound unit (padded (w .size j) (drop (start j) (stream-of i))) (w .accounts j))
 
     passed : first-refusal (examine-lines i) ≡ first-refusal (line-26 i ∷ [])

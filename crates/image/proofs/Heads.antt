@@ -2,11 +2,12 @@
 -- Assumes nothing.
 use mathlib.Core.Path.{_≡_, refl, ap, sym, _∙_}
 use mathlib.Core.List.{List, _++_, append-assoc, append-nil}
-use Prim.Native.Nat.{ℕ, _+_, _*_, _≤_, _<_}
+use mathlib.Core.Bool.{Bool, true, false, cond}
+use Prim.Native.Nat.{ℕ, _+_, _*_, _/_, _≤_, _<_}
 use native.Mathlib.Omega.{arith}
-use native.Mathlib.Nat.{mod-eq-of-lt, zero-add}
-use lib.ListN.{length, take, set, replicate, length-append}
-use lib.Seq.{length-take-le, drop-length}
+use native.Mathlib.Nat.{mod-eq-of-lt, zero-add, suc-mul, mul-le-mul-right}
+use lib.ListN.{length, take, drop, set, replicate, length-append}
+use lib.Seq.{length-take-le, drop-length, drop-drop}
 use Rattle.accounts.specs.Accounts.{QUOTAS, HOLDS}
 use Rattle.accounts.specs.declared.Quota.{Quota}
 use Rattle.accounts.specs.declared.Hold.{Hold}
@@ -16,8 +17,8 @@ use Rattle.layout.proofs.Numbers.{bytes-length}
 use Rattle.layout.proofs.Overwrite.{overwrite-two, overwrite-fits, overwrite-one}
 use Rattle.image_model.specs.declared.Form.{Form}
 use Rattle.image_model.specs.Items.{many}
-use Rattle.image.specs.Parsing.{FormFits}
-use Rattle.image_model.specs.Stream.{entry-tail, tail-width, marks-of, record-bytes, entry-bytes, head-length, head-of}
+use Rattle.image.specs.Parsing.{FormFits, width-of}
+use Rattle.image_model.specs.Stream.{entry-tail, tail-width, marks-of, record-bytes, entry-bytes, entry-width, head-length, head-of}
 use Rattle.image_model.proofs.Items.{many-length}
 use Rattle.image_model.proofs.Entries.{entry-length, record-length}
 use Rattle.image.proofs.Rows
@@ -35,14 +36,35 @@ two-zeros : bytes 2 0 ≡ replicate 2 0
 unfolding bytes
 two-zeros = refl
 
+-- a byte as a number of four
+pub four-of-one : (p : ℕ) → p < 256 → bytes 4 p ≡ bytes 1 p ++ replicate 3 0
+unfolding bytes
+four-of-one p h = let d : p / 256 ≡ 0 = omega arith in rw d
+
 module _ (at : ℕ) (s₀ s₁ s₂ : List ℕ) (h : at + 8 ≤ length s₀) where
-  pub entry-written : (f : Form) (q : Quota) → s₁ ≡ write-number 4 at (q .grant) s₀ → s₂ ≡ write-number 4 (at + 4) (q .remainder) s₁
-      → s₂ ≡ overwrite at (entry-bytes f q) s₀
-  unfolding write-number entry-bytes entry-tail
-  entry-written f q e₁ e₂ =
-      let a = bytes-length 4 (q .grant) in
-      let b = bytes-length 4 (q .remainder) in
-      rw append-nil (beside at 4 (bytes 4 (q .grant)) (bytes 4 (q .remainder)) s₀ s₁ s₂ a (omega arith) e₁ e₂)
+  module _ (f : Form) (q : Quota) (e₁ : s₁ ≡ write-number 4 at (q .grant) s₀) (e₂ : s₂ ≡ write-number 4 (at + 4) (q .remainder) s₁) where
+    front : List ℕ
+    front = bytes 4 (q .grant) ++ bytes 4 (q .remainder)
+
+    front-written : s₂ ≡ overwrite at front s₀
+    unfolding front write-number
+    front-written =
+        let a = bytes-length 4 (q .grant) in
+        let b = bytes-length 4 (q .remainder) in
+        beside at 4 (bytes 4 (q .grant)) (bytes 4 (q .remainder)) s₀ s₁ s₂ a (omega arith) e₁ e₂
+
+    pub entry-written : f .full ≡ false → s₂ ≡ overwrite at (entry-bytes f q) s₀
+    unfolding front entry-bytes entry-tail
+    entry-written e = rw (e, append-nil) front-written
+
+    pub full-entry-written : (s₃ : List ℕ) → f .full ≡ true → at + 12 ≤ length s₀ → s₃ ≡ overwrite (at + 8) (bytes 1 (q .permissions) ++ replicate 3 0) s₂
+        → s₃ ≡ overwrite at (entry-bytes f q) s₀
+    unfolding front entry-bytes entry-tail
+    full-entry-written s₃ e l e₃ =
+        let t = bytes 1 (q .permissions) ++ replicate 3 0 in
+        let n : length front ≡ 8 = simp (length-append, bytes-length) in
+        let m : length t ≡ 4 = simp (length-append, bytes-length) in
+        rw (e, ← append-assoc (bytes 4 (q .grant)) (bytes 4 (q .remainder)) t) (beside at 8 front t s₀ s₂ s₃ n (omega arith) front-written e₃)
 
   pub record-written : (s₃ s₄ : List ℕ) (r : Hold) → s₁ ≡ write-number 4 at (r .serial) s₀ → s₂ ≡ overwrite (at + 4) (bytes 1 (r .quota)) s₁
       → s₃ ≡ overwrite (at + 5) (bytes 1 (r .count)) s₂
@@ -60,10 +82,31 @@ module _ (at : ℕ) (s₀ s₁ s₂ : List ℕ) (h : at + 8 ≤ length s₀) whe
       let four = beside at 6 ((bytes 4 (r .serial) ++ bytes 1 (r .quota)) ++ bytes 1 (r .count)) (bytes 2 0) s₀ s₃ s₄ abc (omega arith) three e₄ in
       four ∙ rw (append-assoc, append-assoc, two-zeros)
 
--- the head's length in numbers
-pub head-extent : (f : Form) → head-length f ≡ 12 + f .quotas * 8 + f .records * 8
+-- an entry lies in front of those behind it
+pub entry-inside : (i count w n : ℕ) → i < count → 12 + count * w ≤ n → 12 + (i * w + w) ≤ n
+entry-inside i count w n h l = omega (arith, mul-le-mul-right w h, suc-mul i w)
+
+-- a form that is full or not
+unfoldable pub some-form : Bool → Form
+some-form x = record { number = 0; quotas = 0; records = 0; full = x }
+
+-- an entry's width by whether the form is full, and the place of an entry
+pub width-is : (f : Form) (full : Bool) → f .full ≡ full → width-of full ≡ entry-width f
+unfolding tail-width
+width-is f full e = ap width-of (sym e)
+
+pub entry-place : (f : Form) (full : Bool) → f .full ≡ full → (t : List ℕ) (i r : ℕ) → r ≡ 12 + i * width-of full
+    → drop r t ≡ drop (i * entry-width f) (drop 12 t)
+entry-place f full e t i r g = ap (λ (n : ℕ). drop n t) (g ∙ ap (λ (w : ℕ). 12 + i * w) (width-is f full e)) ∙ sym (drop-drop (i * entry-width f) 12 t)
+
+-- a head is never longer than the longest
+pub head-short : (f : Form) → FormFits f → head-length f ≤ 4492
 unfolding head-length tail-width
-head-extent f = refl
+head-short f fits = go (f .full)
+  where
+    go : (x : Bool) → 12 + f .quotas * (8 + cond x 4 0) + f .records * 8 ≤ 4492
+    go true = omega (arith, fits .quotas, fits .records)
+    go false = omega (arith, fits .quotas, fits .records)
 
 -- a part behind the first k bytes
 behind : (k : ℕ) (a b s s′ s″ : List ℕ) → length a ≡ k → k + length b ≤ length s → s′ ≡ overwrite 0 a s → s″ ≡ overwrite k b s′ → s″ ≡ overwrite 0 (a ++ b) s
@@ -80,11 +123,11 @@ module _ (f : Form) (fits : FormFits f) (n : ℕ) (k : Accounts) (qs : length (k
   records : List ℕ
   records = many record-bytes (take (f .records) (k .holds))
 
-  entries-long : length entries ≡ f .quotas * 8
-  unfolding entries tail-width
+  entries-long : length entries ≡ f .quotas * entry-width f
+  unfolding entries
   entries-long =
-      many-length (entry-bytes f) 8 (entry-length f) (take (f .quotas) (k .quotas))
-      ∙ ap (λ (x : ℕ). x * 8) (length-take-le (f .quotas) (k .quotas) (omega (arith, fits .quotas)))
+      many-length (entry-bytes f) (entry-width f) (entry-length f) (take (f .quotas) (k .quotas))
+      ∙ ap (λ (x : ℕ). x * entry-width f) (length-take-le (f .quotas) (k .quotas) (omega (arith, fits .quotas)))
 
   records-long : length records ≡ f .records * 8
   unfolding records
@@ -95,12 +138,10 @@ module _ (f : Form) (fits : FormFits f) (n : ℕ) (k : Accounts) (qs : length (k
   pub head-written : (s₀ s₁ s₂ s₃ s₄ s₅ s₆ : List ℕ) → length s₀ ≡ head-length f → s₁ ≡ write-number 2 0 (f .number) s₀ → s₂ ≡ write-number 2 2 0 s₁
       → s₃ ≡ write-number 4 4 n s₂
       → s₄ ≡ write-number 4 8 (k .«last_serial») s₃ → s₅ ≡ overwrite 12 (many (entry-bytes f) (take (f .quotas) (k .quotas))) s₄
-      → s₆ ≡ overwrite (12 + f .quotas * 8) (many record-bytes (take (f .records) (k .holds))) s₅ → s₆ ≡ head-of f n k
-  unfolding write-number head-of marks-of entries records
+      → s₆ ≡ overwrite (12 + f .quotas * entry-width f) (many record-bytes (take (f .records) (k .holds))) s₅ → s₆ ≡ head-of f n k
+  unfolding write-number head-of marks-of entries records head-length
   head-written s₀ s₁ s₂ s₃ s₄ s₅ s₆ l e₁ e₂ e₃ e₄ e₅ e₆ =
-      let h = head-extent f in
-      let el = entries-long in
-      let rl = records-long in
+      let h : length s₀ ≡ 12 + length entries + length records = rw (entries-long, records-long) l in
       let a = bytes 2 (f .number) in
       let m = a ++ bytes 2 0 in
       let c = m ++ bytes 4 n in
@@ -113,11 +154,12 @@ module _ (f : Form) (fits : FormFits f) (n : ℕ) (k : Accounts) (qs : length (k
       let ml : length m ≡ 4 = omega (arith, length-append a (bytes 2 0)) in
       let cl : length c ≡ 8 = omega (arith, length-append m (bytes 4 n)) in
       let dl : length d ≡ 12 = omega (arith, length-append c (bytes 4 (k .«last_serial»))) in
-      let xl : length x ≡ 12 + f .quotas * 8 = omega (arith, length-append d entries) in
+      let xl : length x ≡ 12 + length entries = omega (arith, length-append d entries) in
       let two = behind 2 a (bytes 2 0) s₀ s₁ s₂ al (omega arith) e₁ e₂ in
       let three = behind 4 m (bytes 4 n) s₀ s₂ s₃ ml (omega arith) two e₃ in
       let four = behind 8 c (bytes 4 (k .«last_serial»)) s₀ s₃ s₄ cl (omega arith) three e₄ in
       let five = behind 12 d entries s₀ s₄ s₅ dl (omega arith) four e₅ in
-      let six = behind (12 + f .quotas * 8) x records s₀ s₅ s₆ xl (omega arith) five e₆ in
+      let last : s₆ ≡ overwrite (12 + length entries) records s₅ = e₆ ∙ ap (λ (z : ℕ). overwrite (12 + z) records s₅) (sym entries-long) in
+      let six = behind (12 + length entries) x records s₀ s₅ s₆ xl (omega arith) five last in
       let yl : length (x ++ records) ≡ length s₀ = omega (arith, length-append x records) in
       six ∙ whole (x ++ records) s₀ yl ∙ rw (append-assoc, append-assoc, append-assoc, append-assoc, two-zeros)

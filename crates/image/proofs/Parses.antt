@@ -21,7 +21,7 @@ use Rattle.framing.specs.Frames.{stream-of, frames-for, frames-right}
 use Rattle.image_model.specs.declared.Form.{Form}
 use Rattle.image_model.specs.declared.ImageRefusal.{ImageRefusal}
 use Rattle.image_model.specs.Items.{every, all-zero}
-use Rattle.image_model.specs.Stream.{form-1, form-numbered, tail-right, tail-width, marks-right, record-width, head-length}
+use Rattle.image_model.specs.Stream.{form-1, form-2, form-numbered, marks-right, entries-at, entry-width, record-width, records-at, head-length}
 use Rattle.image_model.specs.Reading.{entry-right, record-right, marks-in, length-in, form-in, form-of, size-in, accounts-in, items-right, contents-right}
 use Rattle.image_model.specs.Answers.{image-refusal-number}
 use Rattle.image_model.specs.Images.{line-21, line-22, line-23, line-24, shape-lines}
@@ -31,9 +31,7 @@ use Rattle.image.specs.declared.Shape.{Shape}
 use Rattle.image.specs.declared.Shape.the-variants.{Image, Refused}
 use Rattle.image.specs.declared.Parsed.{Parsed}
 use Rattle.image.specs.Parsing.{FormFits, Parts, shape-parts, parts-of, unless-parts, parts-in}
-use Rattle.image.proofs.Items.{every-passes}
 use Rattle.image.proofs.Zeros.{zeros-number, number-zeros}
-use Rattle.image.proofs.Heads.{head-extent}
 
 -- a form with a number fits
 pub form-fits : (n : ℕ) (f : Form) → form-numbered n ≡ some f → FormFits f
@@ -48,6 +46,10 @@ fits-1 = form-fits 1 form-1 refl
 pub form-1-fits : (f : Form) → f ≡ form-1 → FormFits f
 form-1-fits f e = rw e fits-1
 
+pub form-2-fits : (f : Form) → f ≡ form-2 → FormFits f
+unfolding form-numbered
+form-2-fits f e = rw e (form-fits 2 form-2 refl)
+
 either-fits : (o : Option Form) → ((f : Form) → o ≡ some f → FormFits f) → FormFits (or-else form-1 o)
 unfolding or-else
 either-fits none h = fits-1
@@ -56,10 +58,6 @@ either-fits (some f) h = h f refl
 pub form-of-fits : (i : List ℕ) → FormFits (form-of i)
 unfolding form-of form-in
 form-of-fits i = either-fits (form-in i) (form-fits (number (take 2 (stream-of i))))
-
-entries-pass : (f : Form) (s : List ℕ) → entry-right f s ≡ true
-unfolding entry-right tail-right
-entries-pass f s = refl
 
 -- the contents of an image that is read as form f, test by test; e is where its padding begins
 module _ (i : List ℕ) (f : Form) (n : ℕ) (ef : f ≡ form-of i) (en : n ≡ length-in (stream-of i)) where
@@ -73,28 +71,30 @@ module _ (i : List ℕ) (f : Form) (n : ℕ) (ef : f ≡ form-of i) (en : n ≡ 
   pub not-allowed : allowed n ≡ false → false ≡ contents-right i
   not-allowed a = rw a at tests
 
-  module _ (a : allowed n ≡ true) (e : ℕ) (is : e ≡ 12 + f .quotas * 8 + f .records * 8 + n) where
-    end-is : head-length f + n ≡ e
-    end-is = ap (λ (x : ℕ). x + n) (head-extent f) ∙ sym is
-
+  module _ (a : allowed n ≡ true) (e : ℕ) (is : e ≡ head-length f + n) where
     pub other-count : (length i / 512 ≡ (e + 503) / 504 → ⊥) → false ≡ contents-right i
     unfolding frames-for
-    other-count c = rw (a, end-is, ne-eqb (length i / 512) ((e + 503) / 504) c) at tests
+    other-count c = rw (a, ← is, ne-eqb (length i / 512) ((e + 503) / 504) c) at tests
 
-    module _ (c : length i / 512 ≡ (e + 503) / 504) where
-      pub not-padded : (z : Bool) → z ≡ all-zero (drop e (stream-of i)) → z ≡ false → false ≡ contents-right i
+    module _ (c : length i / 512 ≡ (e + 503) / 504) (z : Bool) (ze : z ≡ all-zero (drop e (stream-of i))) where
+      pub not-padded : z ≡ false → false ≡ contents-right i
       unfolding frames-for
-      not-padded z h g = rw (a, end-is, eq-eqb (length i / 512) ((e + 503) / 504) c, sym h ∙ g) at tests
+      not-padded g = rw (a, ← is, eq-eqb (length i / 512) ((e + 503) / 504) c, sym ze ∙ g) at tests
 
-      items : items-right f (stream-of i) ≡ every record-right record-width (f .records) (drop (12 + f .quotas * 8) (stream-of i))
-      unfolding items-right tail-width
-      items = rw (every-passes (entry-right f) 8 (f .quotas) (drop 12 (stream-of i)) (entries-pass f))
+      module _ (padded : z ≡ true) (t : Bool) (te : t ≡ every (entry-right f) (entry-width f) (f .quotas) (drop entries-at (stream-of i))) where
+        by-items : items-right f (stream-of i) ≡ contents-right i
+        unfolding frames-for
+        by-items = rw (a, ← is, eq-eqb (length i / 512) ((e + 503) / 504) c, sym ze ∙ padded) at tests
 
-      pub by-spares : (z r : Bool) (at : ℕ) → z ≡ all-zero (drop e (stream-of i)) → z ≡ true → at ≡ 12 + f .quotas * 8
-          → r ≡ every record-right record-width (f .records) (drop at (stream-of i)) → r ≡ contents-right i
-      unfolding frames-for
-      by-spares z r at h g l s =
-          s ∙ rw (l, sym items) (rw (a, end-is, eq-eqb (length i / 512) ((e + 503) / 504) c, sym h ∙ g) at tests)
+        pub wrong-entries : t ≡ false → false ≡ contents-right i
+        unfolding items-right
+        wrong-entries g = sym (rw (sym te ∙ g)) ∙ by-items
+
+        pub by-spares : t ≡ true → (r : Bool) (at : ℕ) → at ≡ records-at f
+            → r ≡ every record-right record-width (f .records) (drop at (stream-of i)) → r ≡ contents-right i
+        unfolding items-right
+        by-spares g r at l s =
+            s ∙ ap (λ (x : ℕ). every record-right record-width (f .records) (drop x (stream-of i))) l ∙ sym (rw (sym te ∙ g)) ∙ by-items
 
 -- the first line that holds, as the tests find it
 module _ (i : List ℕ) where

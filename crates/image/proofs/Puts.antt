@@ -2,20 +2,22 @@
 -- Assumes nothing.
 use mathlib.Core.Path.{_≡_, refl, ap, sym, _∙_}
 use mathlib.Core.List.{List, _∷_, _++_}
-use mathlib.Core.Bool.{Bool, true, false}
+use mathlib.Core.Bool.{Bool, true, false, and-true}
 use Prim.Native.Nat.{ℕ, suc, _+_, _*_, _/_, _≤_, _<_}
 use native.Mathlib.Omega.{arith}
-use lib.ListN.{length, length-append}
+use lib.ListN.{length, drop, length-append}
 use lib.Dec.{ltb}
 use borrow.Author.Tests.{ltb-true, ltb-false, lt-ltb, le-ltb, le-leb, lt-leb}
 use Rattle.rounding.specs.Rounding.{unit}
 use Rattle.accounts.specs.declared.Accounts.{Accounts}
+use Rattle.accounts.specs.Accounts.{unused}
 use Rattle.model.specs.declared.Refusal.{Refusal}
 use Rattle.model.specs.declared.Verdict.{Verdict}
 use Rattle.model.specs.declared.Verdict.the-variants.{Accepted, Refused}
 use Rattle.model.specs.Answers.{verdict-values}
 use Rattle.model.specs.Refusals.{first-refusal, line-1, line-2}
 use Rattle.model.specs.Consistent.{allowed}
+use Rattle.model.specs.Lists.{all}
 use Rattle.model.specs.Calls.{check}
 use Rattle.access.proofs.Lines.{check-refuses, check-accepts, number-some}
 use Rattle.framing.specs.declared.FrameAnswer.{FrameAnswer}
@@ -24,11 +26,13 @@ use Rattle.framing.specs.Frames.{frames-for, has-room, Framed, write-frames}
 use Rattle.image_model.specs.declared.Form.{Form}
 use Rattle.image_model.specs.declared.ImageRefusal.the-variants.{Call, Room, NotCarried}
 use Rattle.image_model.specs.declared.WriteAnswer.the-variants.{Written, Refused as NotWritten}
-use Rattle.image_model.specs.Stream.{form-1, carries, head-length, head-of, stream, image-of, image-length}
+use Rattle.image_model.specs.Stream.{no-grant, all-permitted, marks-of, carries, head-length, head-of, stream, image-of, image-length}
 use Rattle.image_model.specs.Answers.{Imaged, imaged}
 use Rattle.image_model.specs.Images.{line-28, put-lines, write-lines, unless-written, write-image}
 use Rattle.image.specs.Parsing.{FormFits, length-for, put-image}
-use Rattle.image.proofs.Heads.{head-extent}
+use Rattle.image_model.specs.Items.{all-zero}
+use Rattle.image_model.proofs.Places.{full-carries}
+use Rattle.image.proofs.Heads.{head-short}
 
 -- what the frames answer, as an image
 unfoldable pub as-image : List ℕ → FrameAnswer → Imaged
@@ -55,9 +59,7 @@ module _ (f : Form) (fits : FormFits f) (o s : List ℕ) (k : Accounts) (carried
   countable : ltb count 65536 ≡ true
   unfolding frames-for
   countable =
-      let e = head-extent f in
-      let q = fits .quotas in
-      let r = fits .records in
+      let e = head-short f fits in
       lt-ltb ((head-length f + length s + 503) / 504) 65536 (omega arith)
 
   framed : Framed → Imaged
@@ -95,11 +97,29 @@ module _ (f : Form) (o s : List ℕ) (k : Accounts) (v : Verdict) (told : verdic
   write-accepted e = rw (check-accepts unit s k v told (put-lines f o s k) e)
 
 -- the length of an image, where a heap has that length and where none has
-pub length-none : (n : ℕ) → allowed n ≡ false → 0 ≡ length-for n
+pub length-none : (f : Form) (n : ℕ) → allowed n ≡ false → 0 ≡ length-for f n
 unfolding length-for
-length-none n a = rw a
+length-none f n a = rw a
 
-pub length-some : (f : Form) (n at : ℕ) → f ≡ form-1 → allowed n ≡ true → at ≡ 12 + f .quotas * 8 + f .records * 8
-    → 512 * ((at + n + 503) / 504) ≡ length-for n
+pub length-some : (f : Form) (n at : ℕ) → allowed n ≡ true → at ≡ head-length f → 512 * ((at + n + 503) / 504) ≡ length-for f n
 unfolding length-for image-length frames-for
-length-some f n at e a l = rw (a, l ∙ sym (head-extent f), e)
+length-some f n at a l = rw (a, l)
+
+-- whether the form carries the accounts, test by test
+module _ (f : Form) (k : Accounts) where
+  pub carried-full : f .full ≡ true → true ≡ carries f k
+  carried-full e = sym (full-carries f k e)
+
+  module _ (lean : f .full ≡ false) (g : Bool) (ge : g ≡ all no-grant (drop (f .quotas) (k .quotas))) where
+    pub carried-grants : g ≡ false → false ≡ carries f k
+    unfolding carries
+    carried-grants e = rw (lean, sym ge ∙ e)
+
+    module _ (granted : g ≡ true) (r : Bool) (re : r ≡ all unused (drop (f .records) (k .holds))) where
+      pub carried-records : r ≡ false → false ≡ carries f k
+      unfolding carries
+      carried-records e = rw (lean, sym ge ∙ granted, sym re ∙ e)
+
+      pub carried-permissions : r ≡ true → (p : Bool) → p ≡ all all-permitted (k .quotas) → p ≡ carries f k
+      unfolding carries marks-of all-zero all
+      carried-permissions e p pe = pe ∙ rw (lean, sym ge ∙ granted, sym re ∙ e) (sym (and-true (all all-permitted (k .quotas))))

@@ -3,7 +3,7 @@
 use mathlib.Core.Path.{_≡_, refl, ap, sym, _∙_}
 use mathlib.Core.List.{List, [], _∷_, _++_}
 use mathlib.Core.Bool.{Bool, true, false, not}
-use Prim.Native.Nat.{ℕ, zero, suc, _+_, _*_, _≤_}
+use Prim.Native.Nat.{ℕ, zero, suc, _≤_}
 use native.Mathlib.Omega.{arith}
 use lib.ListN.{length, drop}
 use lib.Dec.{leb}
@@ -33,7 +33,6 @@ use Rattle.image_model.specs.Answers.{restored-to, image-refusal-number}
 use Rattle.image_model.specs.Images.{line-25, line-26, shape-lines, read-lines, unless-read, read-image}
 use Rattle.image_model.proofs.Answers.{image-refusal-is}
 use Rattle.image.specs.Parsing.{restore}
-use Rattle.image.proofs.Heads.{head-extent}
 use Rattle.image.proofs.Parses.{Found, shape-numbered}
 
 -- an allowed heap is consistent exactly if the check accepts it
@@ -58,19 +57,16 @@ module _ (f : Form) (n : ℕ) (t h : List ℕ) (k : Accounts) where
   unfolding restore restored-to unless-read first-refusal
   restore-room e = rw (ne-eqb (length h) n e)
 
-  module _ (room : length h ≡ n) (at : ℕ) (is : at ≡ 12 + f .quotas * 8 + f .records * 8) where
-    at-is : at ≡ head-length f
-    at-is = is ∙ sym (head-extent f)
-
+  module _ (room : length h ≡ n) (at : ℕ) (is : at ≡ head-length f) where
     pub restore-unsound : (r : Bool) → r ≡ is-sound unit (padded n (drop at t)) k → r ≡ false
         → restored-to h zero-accounts (NotRestored Unsound) ≡ restore f n t h k
     unfolding restore restored-to unless-read first-refusal
-    restore-unsound r e g = rw (eq-eqb (length h) n room, ← at-is, sym e ∙ g)
+    restore-unsound r e g = rw (eq-eqb (length h) n room, ← is, sym e ∙ g)
 
     pub restore-done : (r : Bool) (h′ : List ℕ) → r ≡ is-sound unit (padded n (drop at t)) k → r ≡ true → h′ ≡ padded (length h) (drop at t)
         → restored-to h′ k Restored ≡ restore f n t h k
     unfolding restore restored-to unless-read first-refusal
-    restore-done r h′ e g w = rw (eq-eqb (length h) n room, ← at-is, sym e ∙ g, w, room)
+    restore-done r h′ e g w = rw (eq-eqb (length h) n room, ← is, sym e ∙ g, w, room)
 
 -- lines in front of others
 pub first-kept : (xs ys : List Line) (n : ℕ) → first-refusal xs ≡ suc n → first-refusal (xs ++ ys) ≡ suc n

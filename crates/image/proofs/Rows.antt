@@ -1,19 +1,19 @@
 -- The definitions computed at small images.
 -- Assumes nothing.
 use mathlib.Core.Path.{_≡_, refl}
-use mathlib.Core.List.{List, [], _∷_}
-use Prim.Native.Nat.{ℕ}
+use mathlib.Core.List.{List, [], _∷_, map}
+use Prim.Native.Nat.{ℕ, _-_}
 use lib.ListN.{replicate, take}
 use Rattle.accounts.specs.declared.Accounts.{Accounts}
-use Rattle.accounts.specs.Accounts.{zero-accounts, opened}
-use Rattle.image_model.specs.Stream.{form-1, image-of}
+use Rattle.accounts.specs.Accounts.{QUOTAS, zero-accounts, opened}
+use Rattle.image_model.specs.Stream.{form-1, form-2, image-of}
 use Rattle.image_model.specs.declared.ImageRefusal.the-variants.{Contents}
 use Rattle.image_model.proofs.Computing.{computing}
 use Rattle.image.specs.declared.Shape.the-variants.{Image, Refused}
 use Rattle.image.specs.Parsing.{Parts, shape-parts, unless-parts, parts-in, examined-in, length-for}
 
 accounts : Accounts
-accounts = opened (100 ∷ 1000 ∷ replicate 6 0)
+accounts = opened (100 ∷ 1000 ∷ replicate (QUOTAS - 2) 0)
 
 -- a heap that is not consistent with the accounts: only its own bytes count here
 image : List ℕ
@@ -38,8 +38,8 @@ shape-rows : (shape-parts (Image form-1 64) accounts ≡ record { refusal = 0; f
 unfolding shape-parts no-parts
 shape-rows = (refl, refl)
 
--- no heap has 63 bytes, or 32,776; a frame more from 416 on
-length-rows : (length-for 63 ≡ 0) × (length-for 64 ≡ 1536) × (length-for 408 ≡ 1536)
-    × (length-for 416 ≡ 2048) × (length-for 32768 ≡ 34816) × (length-for 32776 ≡ 0)
+-- no heap has 63 bytes, or 32,776; a frame more from 416 on, and in form 2 from 552 on
+length-rows : (map (length-for form-1) (63 ∷ 64 ∷ 408 ∷ 416 ∷ 32768 ∷ 32776 ∷ []) ≡ 0 ∷ 1536 ∷ 1536 ∷ 2048 ∷ 34816 ∷ 0 ∷ [])
+    × (map (length-for form-2) (63 ∷ 64 ∷ 544 ∷ 552 ∷ 32768 ∷ 32776 ∷ []) ≡ 0 ∷ 5120 ∷ 5120 ∷ 5632 ∷ 37888 ∷ 0 ∷ [])
 unfolding computing length-for
-length-rows = (refl, refl, refl, refl, refl, refl)
+length-rows = (refl, refl)

@@ -1,7 +1,7 @@
 -- What the tests of an image alone find, those before the lent heap and its consistency are looked at.
-use Prim.Native.Nat.{ℕ, zero, suc, _≤_}
+use Prim.Native.Nat.{ℕ, zero, suc, _+_, _≤_}
 use mathlib.Core.List.{List, [], _∷_}
-use mathlib.Core.Bool.{not, cond}
+use mathlib.Core.Bool.{Bool, not, cond}
 use lib.ListN.{length, drop}
 use lib.Dec.{eqb}
 use mathlib.Core.Option.{Option, none, some}
@@ -27,6 +27,10 @@ use Rattle.image.specs.declared.Parsed.{Parsed}
 pub record FormFits (f : Form) : Type 0 where
   pub quotas : f .quotas ≤ QUOTAS
   pub records : f .records ≤ HOLDS
+
+-- how many bytes an entry has, in a form that is full or not
+abbrev pub width-of : Bool → ℕ
+width-of full = 8 + cond full 4 0
 
 abbrev pub known-form : FormAnswer → Option Form
 known-form (Known f) = some f
@@ -58,9 +62,9 @@ parts-in i = unless-parts (first-refusal (shape-lines i)) (record { refusal = 0;
 unfoldable pub examined-in : List ℕ → Parts
 examined-in i = unless-parts (first-refusal (examine-lines i)) (record { refusal = 0; form = form-of i; size = size-in i; accounts = accounts-in i })
 
--- the length of an image of a heap of so many bytes, 0 where no heap has that length
-unfoldable pub length-for : ℕ → ℕ
-length-for n = cond (allowed n) (image-length form-1 n) 0
+-- the length of an image of a heap of so many bytes in a form, 0 where no heap has that length
+unfoldable pub length-for : Form → ℕ → ℕ
+length-for f n = cond (allowed n) (image-length f n) 0
 
 -- what is left of writing once heap and accounts are known to be consistent
 unfoldable pub put-image : Form → List ℕ → List ℕ → Accounts → Imaged

@@ -43,7 +43,7 @@ pub fn heap_place(image: &[u8]) -> HeapPlace
 {
     let form = form_of(image);
     HeapPlace {
-        start: heap_at(form.quotas, form.records) as u32,
+        start: heap_at(form) as u32,
         size: read_quad(image, 4),
     }
 }
@@ -58,7 +58,7 @@ pub fn examine(image: &[u8]) -> Parsed
     let Shape::Image(form, size) = shape else {
         return parsed;
     };
-    let from = heap_at(form.quotas, form.records) as u32;
+    let from = heap_at(form) as u32;
     if !is_sound(image, from, size, accounts) {
         return refused(ImageRefusal::Unsound);
     }

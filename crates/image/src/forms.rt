@@ -3,12 +3,12 @@ use crate::FormAnswer;
 use image_model::Form;
 ghost use mathlib.Core.Path.{_≡_};
 ghost use Prim.Native.Nat.{_+_, _*_, _≤_};
-ghost use Rattle.accounts.specs.Accounts.{QUOTAS, HOLDS};
-ghost use Rattle.image_model.specs.Stream.{form-1, form-numbered};
-ghost use Rattle.image.specs.Parsing.{known-form};
+ghost use Rattle.accounts.specs.Accounts.{QUOTAS};
+ghost use Rattle.image_model.specs.Stream.{form-1, form-2, form-numbered, entries-at, head-length};
+ghost use Rattle.image.specs.Parsing.{FormFits, known-form, width-of};
 
 // The longest head of an image.
-pub(crate) const HEAD: usize = 1100;
+pub(crate) const HEAD: usize = 4492;
 
 // Form 1.
 pub(crate) fn form_1() -> Form
@@ -18,6 +18,19 @@ pub(crate) fn form_1() -> Form
         number: 1,
         quotas: 8,
         records: 128,
+        full: false,
+    }
+}
+
+// Form 2.
+pub(crate) fn form_2() -> Form
+    ensures { λ r. ⌜ r ≡ form-2 ⌝ }
+{
+    Form {
+        number: 2,
+        quotas: 32,
+        records: 512,
+        full: true,
     }
 }
 
@@ -25,23 +38,30 @@ pub(crate) fn form_1() -> Form
 pub(crate) fn form_numbered(number: u32) -> FormAnswer
     ensures { λ r. ⌜ known-form r ≡ form-numbered number ⌝ }
 {
-    if number != 1 {
-        return FormAnswer::Unknown;
+    if number == 1 {
+        return FormAnswer::Known(form_1());
     }
-    FormAnswer::Known(form_1())
+    if number == 2 {
+        return FormAnswer::Known(form_2());
+    }
+    FormAnswer::Unknown
 }
 
-// Where the records of a form begin, and where the heap does.
-pub(crate) fn records_at(quotas: usize) -> usize
-    requires { ⌜ quotas ≤ QUOTAS ⌝ }
-    ensures { λ r. ⌜ r ≡ 12 + quotas * 8 ⌝ }
+// Where an entry begins, in a form that is full or not; the records begin behind the last.
+pub(crate) fn entry_at(entry: usize, full: bool) -> usize
+    requires { ⌜ entry ≤ QUOTAS ⌝ }
+    ensures { λ r. ⌜ (r ≡ entries-at + entry * width-of full) × (r ≤ 12 + entry * 12) ⌝ }
 {
-    12 + quotas * 8
+    if full {
+        return 12 + entry * 12;
+    }
+    12 + entry * 8
 }
 
-pub(crate) fn heap_at(quotas: usize, records: usize) -> usize
-    requires { ⌜ (quotas ≤ QUOTAS) × (records ≤ HOLDS) ⌝ }
-    ensures { λ r. ⌜ r ≡ 12 + quotas * 8 + records * 8 ⌝ }
+// Where the heap begins.
+pub(crate) fn heap_at(form: Form) -> usize
+    requires { ⌜ FormFits form ⌝ }
+    ensures { λ r. ⌜ (r ≡ head-length form) × (r ≤ 4492) ⌝ }
 {
-    records_at(quotas) + records * 8
+    entry_at(form.quotas, form.full) + form.records * 8
 }

@@ -1,28 +1,28 @@
 // The head of an image: what stands in front of the heap.
 use crate::entries::write_entries;
-use crate::forms::records_at;
+use crate::forms::entry_at;
 use crate::records::write_records;
 use accounts::Accounts;
 use image_model::Form;
 ghost use mathlib.Core.Path.{_≡_};
-ghost use Prim.Native.Nat.{_+_, _*_};
 ghost use lib.ListN.{length};
-ghost use Rattle.image_model.specs.Stream.{head-of};
+ghost use Rattle.image_model.specs.Stream.{head-length, head-of};
 ghost use Rattle.image.specs.Parsing.{FormFits};
 
 // The head of a heap of so many bytes and its accounts, in place of bytes that are as many.
 pub(crate) fn write_head(head: &mut [u8], form: Form, size: u32, accounts: Accounts)
-    requires { ⌜ FormFits form × (length (now head) ≡ 12 + form .quotas * 8 + form .records * 8) ⌝ }
+    requires { ⌜ FormFits form × (length (now head) ≡ head-length form) ⌝ }
     ensures { λ _. ⌜ now (head .exit) ≡ head-of form size accounts ⌝ }
 {
     let count = form.quotas;
     let records = form.records;
+    let full = form.full;
     let quotas = accounts.quotas;
     let holds = accounts.holds;
     layout::write_u16(head, 0, form.number);
     layout::write_u16(head, 2, 0);
     layout::write_u32(head, 4, size);
     layout::write_u32(head, 8, accounts.last_serial);
-    write_entries(head, quotas, count);
-    write_records(head, records_at(count), holds, records);
+    write_entries(head, quotas, count, full);
+    write_records(head, entry_at(count, full), holds, records);
 }

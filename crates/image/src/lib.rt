@@ -19,7 +19,9 @@ pub use asking::examine;
 pub use asking::heap_place;
 pub use parsing::parse_image;
 pub use reading::read_image;
+pub use writing::form_1_length;
 pub use writing::image_length;
+pub use writing::write_form_1;
 pub use writing::write_image;
 
 // The form with a number, if there is one.

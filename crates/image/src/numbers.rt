@@ -6,7 +6,7 @@ ghost use Rattle.layout.specs.Bytes.{number};
 ghost use Rattle.framing.specs.Frames.{stream-of};
 
 // A byte as a wider number.
-fn wide(byte: u8) -> u32
+pub(crate) fn wide(byte: u8) -> u32
     ensures { λ r. ⌜ (r ≡ byte) × (r < 256) ⌝ }
 {
     byte as u32

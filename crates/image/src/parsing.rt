@@ -2,10 +2,11 @@
 use crate::FormAnswer;
 use crate::Parsed;
 use crate::Shape;
+use crate::entries::entries_right;
 use crate::entries::read_entries;
+use crate::forms::entry_at;
 use crate::forms::form_numbered;
 use crate::forms::heap_at;
-use crate::forms::records_at;
 use crate::numbers::read_pair;
 use crate::numbers::read_quad;
 use crate::records::read_records;
@@ -44,17 +45,21 @@ fn contents_right(image: &[u8], form: Form, size: usize) -> bool
 {
     let quotas = form.quotas;
     let records = form.records;
+    let full = form.full;
     if !checker::is_allowed(size) {
         return false;
     }
-    let end = heap_at(quotas, records) + size;
+    let end = heap_at(form) + size;
     if image.len() / 512 != (end + 503) / 504 {
         return false;
     }
     if !zero_from(image, end) {
         return false;
     }
-    spares_right(image, records_at(quotas), records)
+    if !entries_right(image, quotas, full) {
+        return false;
+    }
+    spares_right(image, entry_at(quotas, full), records)
 }
 
 // The accounts that an image of a form says.
@@ -64,10 +69,11 @@ pub(crate) fn read_accounts(image: &[u8], form: Form) -> Accounts
 {
     let quotas = form.quotas;
     let records = form.records;
+    let full = form.full;
     Accounts {
-        quotas: read_entries(image, quotas),
+        quotas: read_entries(image, quotas, full),
         last_serial: read_quad(image, 8),
-        holds: read_records(image, records_at(quotas), records),
+        holds: read_records(image, entry_at(quotas, full), records),
     }
 }
 

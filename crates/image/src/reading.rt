@@ -63,7 +63,7 @@ fn restore(image: &[u8], heap: &mut [u8], form: Form, size: usize, accounts: Acc
     ensures { λ r. ⌜ restored-to (now (heap .exit)) (r .accounts) (r .answer) ≡ restore form size (stream-of (now (image .entry))) (now (heap .entry))
         accounts ⌝ }
 {
-    let from = heap_at(form.quotas, form.records) as u32;
+    let from = heap_at(form) as u32;
     if heap.len() != size {
         return refused(ImageRefusal::Room);
     }

@@ -7,13 +7,28 @@ ghost use mathlib.Core.Path.{_≡_};
 ghost use mathlib.Core.List.{_++_};
 ghost use Prim.Native.Nat.{_+_, _*_, _≤_, _<_, _^_};
 ghost use lib.ListN.{length, take, drop};
-ghost use Rattle.accounts.specs.Accounts.{HOLDS};
+ghost use Rattle.accounts.specs.Accounts.{HOLDS, unused};
 ghost use Rattle.layout.specs.Bytes.{bytes, overwrite};
+ghost use Rattle.model.specs.Lists.{all};
 ghost use Rattle.framing.specs.Frames.{stream-of};
 ghost use Rattle.image_model.specs.Items.{many, each, every};
 ghost use Rattle.image_model.specs.Stream.{record-bytes, record-width, blank};
 ghost use Rattle.image_model.specs.Reading.{record-of, record-right};
 ghost use Rattle.image_model.specs.declared.Form.{Form};
+
+// Whether no record from a place on is used.
+pub(crate) fn none_used(holds: [Hold; HOLDS], from: usize) -> bool
+    ensures { λ r. ⌜ r ≡ all unused (drop from holds) ⌝ }
+{
+    let mut i = from;
+    while i < HOLDS {
+        if holds[i].is_used() {
+            return false;
+        }
+        i += 1;
+    }
+    true
+}
 
 // A byte, written at a place of the head.
 fn write_byte(head: &mut [u8], at: usize, byte: u8)

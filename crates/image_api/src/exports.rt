@@ -7,21 +7,33 @@ use crate::replies::reply_of_read;
 use crate::replies::reply_of_write;
 use accounts::Accounts;
 ghost use mathlib.Core.Path.{_≡_};
-ghost use Rattle.image_model.specs.Stream.{form-1};
+ghost use Rattle.image_model.specs.Stream.{form-1, form-2};
 ghost use Rattle.image_model.specs.Images.{write-image, read-image};
 ghost use Rattle.image.specs.Parsing.{length-for};
 ghost use Rattle.image_api.specs.Replies.{image-reply, restore-reply, examine};
 
-// The image of a heap and its accounts, at the front of the lent one; its other bytes stay.
+// The image of a heap and its accounts in form 2, at the front of the lent one; its other bytes stay.
 #[no_mangle]
 pub extern "C" fn lokhazim_image_write(
     image: &mut [u8],
     heap: &[u8],
     accounts: Accounts,
 ) -> ImageReply
-    ensures { λ r. ⌜ image-reply (now (image .exit)) r ≡ write-image form-1 (now (image .entry)) (now (heap .entry)) accounts ⌝ }
+    ensures { λ r. ⌜ image-reply (now (image .exit)) r ≡ write-image form-2 (now (image .entry)) (now (heap .entry)) accounts ⌝ }
 {
     reply_of_write(image::write_image(image, heap, accounts))
+}
+
+// The same in form 1, which not all accounts fit.
+#[no_mangle]
+pub extern "C" fn lokhazim_image_write_form_1(
+    image: &mut [u8],
+    heap: &[u8],
+    accounts: Accounts,
+) -> ImageReply
+    ensures { λ r. ⌜ image-reply (now (image .exit)) r ≡ write-image form-1 (now (image .entry)) (now (heap .entry)) accounts ⌝ }
+{
+    reply_of_write(image::write_form_1(image, heap, accounts))
 }
 
 // The heap of an image into the lent heap, and its accounts back; a heap stays as it is where this is refused.
@@ -32,12 +44,20 @@ pub extern "C" fn lokhazim_image_read(image: &[u8], heap: &mut [u8]) -> RestoreR
     reply_of_read(image::read_image(image, heap))
 }
 
-// How many bytes an image of a heap of so many has, 0 where no heap has that length.
+// How many bytes an image of a heap of so many has in form 2, 0 where no heap has that length.
 #[no_mangle]
 pub extern "C" fn lokhazim_image_length(heap_length: usize) -> usize
-    ensures { λ r. ⌜ r ≡ length-for «heap_length» ⌝ }
+    ensures { λ r. ⌜ r ≡ length-for form-2 «heap_length» ⌝ }
 {
     image::image_length(heap_length)
+}
+
+// The same in form 1.
+#[no_mangle]
+pub extern "C" fn lokhazim_image_length_form_1(heap_length: usize) -> usize
+    ensures { λ r. ⌜ r ≡ length-for form-1 «heap_length» ⌝ }
+{
+    image::form_1_length(heap_length)
 }
 
 // What heap is to be lent for an image: its form's number and the heap's length, by its own bytes alone.

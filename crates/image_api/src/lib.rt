@@ -7,8 +7,10 @@ mod replies;
 
 pub use exports::lokhazim_image_examine;
 pub use exports::lokhazim_image_length;
+pub use exports::lokhazim_image_length_form_1;
 pub use exports::lokhazim_image_read;
 pub use exports::lokhazim_image_write;
+pub use exports::lokhazim_image_write_form_1;
 
 // What the writer gives: how many bytes it wrote.
 #[repr(C)]

@@ -1,31 +1,32 @@
 -- A stream whose bytes are right is the stream of the heap and the accounts that it says.
 -- The parts are put back from the last to the first: each, with what stands behind it, is what stands at its place.
 -- Assumes nothing.
-use mathlib.Core.Path.{_≡_}
+use mathlib.Core.Path.{_≡_, refl}
 use mathlib.Core.List.{List, _++_, append-assoc}
-use mathlib.Core.Bool.{true}
+use mathlib.Core.Bool.{Bool, true, false}
 use Prim.Native.Nat.{ℕ, _+_, _*_, _≤_}
 use native.Mathlib.Omega.{arith}
-use lib.ListN.{length, take, drop, length-append, length-drop}
-use lib.Seq.{take-at, drop-drop}
+use lib.ListN.{length, take, drop, replicate, length-append, length-drop}
+use lib.Seq.{take-at, drop-at, drop-drop}
 use lib.Dec.{lit<}
 use Rattle.accounts.specs.declared.Quota.{Quota}
 use Rattle.accounts.specs.declared.Hold.{Hold}
 use Rattle.accounts.specs.declared.Accounts.{Accounts}
-use Rattle.accounts.specs.Accounts.{QUOTAS, HOLDS, zero-quota, zero-hold, granted}
+use Rattle.accounts.specs.Accounts.{QUOTAS, HOLDS, zero-quota, zero-hold, granted, used, unused}
 use Rattle.layout.specs.Bytes.{bytes, number, Octets}
 use Rattle.layout.proofs.Numbers.{octets-take, octets-drop, part-length}
 use Rattle.model.proofs.Bools.{and-left, and-right}
 use Rattle.framing.proofs.Padding.{length-padded}
-use Rattle.image_model.specs.Items.{many, each, every}
-use Rattle.image_model.specs.Stream.{tail-carries, marks-of, marks-right, carries, blank, entry-bytes, record-bytes, entry-width, record-width, entries-at, records-at}
+use Rattle.image_model.specs.Items.{many, each, every, all-zero}
+use Rattle.image_model.specs.Stream.{form-2, no-grant, all-permitted, marks-of, marks-right, carries, blank}
+use Rattle.image_model.specs.Stream.{entry-bytes, record-bytes, entry-width, record-width, entries-at, records-at}
 use Rattle.image_model.specs.Stream.{head-length, head-of, stream, Typed}
 use Rattle.image_model.specs.Reading.{entry-of, entry-right, record-of, record-right, marks-in, length-in, accounts-of, heap-of, items-right}
 use Rattle.image_model.specs.declared.Form.{Form}
-use Rattle.image_model.proofs.Items.{All, all-places, all-drop, all-both, all-same, all-map, all-tested, each-length, each-all, many-each}
+use Rattle.image_model.proofs.Items.{All, all-places, all-drop, all-both, all-same, each-length, each-all, many-each}
 use Rattle.image_model.proofs.Parts.{split, bytes-split-here}
-use Rattle.image_model.proofs.Places.{Known, known-shaped, marks-again, marks-keep, blank-lengths, blank-is, blank-carried}
-use Rattle.image_model.proofs.Entries.{EntryFits, EntryCarried, RecordFits, four-below, entry-again, entry-fits, record-again, record-fits}
+use Rattle.image_model.proofs.Places.{Known, known-shaped, marks-again, marks-keep, marks-blank, full-carries, facts-carried, blank-lengths, blank-is}
+use Rattle.image_model.proofs.Entries.{EntryFits, RecordFits, four-below, entry-again, entry-fits, entry-permits, record-again, record-fits}
 use Rattle.image_model.proofs.Cuts.{padded-take}
 
 -- what is read is of the accounts' type, whatever the bytes
@@ -50,20 +51,50 @@ module _ (f : Form) (t : List ℕ) where
   keeps = marks-keep f (marks-in t) read-accounts
 
   -- the numbers of quotas and records fit
-  entries-fit : Octets t → All (EntryCarried f) (accounts-of f t .quotas)
+  entries-fit : Octets t → All EntryFits (accounts-of f t .quotas)
   unfolding read-accounts
   entries-fit o =
-      let E = EntryCarried f in
-      let a = each-all E (entry-of f) (entry-fits f) (entry-width f) (f .quotas) (drop entries-at t) (octets-drop entries-at t o) in
-      let z : All E (blank f .quotas) = rw (blank-is f .0) (all-same E QUOTAS (granted 0) ((lit< tt, lit< tt, lit< tt), blank-carried f)) in
-      rw (keeps .0) (all-both E read-quotas (drop (f .quotas) (blank f .quotas)) a (all-drop E (f .quotas) (blank f .quotas) z))
+      let a = each-all EntryFits (entry-of f) (entry-fits f) (entry-width f) (f .quotas) (drop entries-at t) (octets-drop entries-at t o) in
+      let z : All EntryFits (blank f .quotas) = rw (blank-is f .0) (all-same EntryFits QUOTAS (granted 0) (lit< tt, lit< tt, lit< tt)) in
+      rw (keeps .0) (all-both EntryFits read-quotas (drop (f .quotas) (blank f .quotas)) a (all-drop EntryFits (f .quotas) (blank f .quotas) z))
 
-  -- and the form says all of them
+  -- the form carries what it says
+  module _ (lean : f .full ≡ false) where
+    no-grants : All (λ (q : Quota). no-grant q ≡ true) (drop (f .quotas) (accounts-of f t .quotas))
+    unfolding read-accounts
+    no-grants =
+        let l = each-length (entry-of f) (entry-width f) (f .quotas) (drop entries-at t) in
+        let z = all-same (λ (q : Quota). no-grant q ≡ true) QUOTAS (granted 0) refl in
+        rw (keeps .0, drop-at read-quotas (drop (f .quotas) (blank f .quotas)) (f .quotas) l, blank-is f .0)
+        (all-drop (λ (q : Quota). no-grant q ≡ true) (f .quotas) (replicate QUOTAS (granted 0)) z)
+
+    no-records : All (λ (h : Hold). unused h ≡ true) (drop (f .records) (accounts-of f t .holds))
+    unfolding read-accounts unused used
+    no-records =
+        let l = each-length record-of record-width (f .records) (drop (records-at f) t) in
+        let z = all-same (λ (h : Hold). unused h ≡ true) HOLDS zero-hold refl in
+        rw (keeps .2, drop-at read-holds (drop (f .records) (blank f .holds)) (f .records) l, blank-is f .1)
+        (all-drop (λ (h : Hold). unused h ≡ true) (f .records) (replicate HOLDS zero-hold) z)
+
+    permitted : Octets t → All (λ (q : Quota). all-permitted q ≡ true) (accounts-of f t .quotas)
+    unfolding read-accounts
+    permitted o =
+        let P : Quota → Type 0 = λ (q : Quota). all-permitted q ≡ true in
+        let a = each-all P (entry-of f) (λ c h. entry-permits f lean c) (entry-width f) (f .quotas) (drop entries-at t) (octets-drop entries-at t o) in
+        let z : All P (blank f .quotas) = rw (blank-is f .0) (all-same P QUOTAS (granted 0) refl) in
+        rw (keeps .0) (all-both P read-quotas (drop (f .quotas) (blank f .quotas)) a (all-drop P (f .quotas) (blank f .quotas) z))
+
+    unmarked : all-zero (marks-of form-2 (accounts-of f t)) ≡ true
+    unfolding accounts-of read-accounts
+    unmarked = marks-blank f (marks-in t) read-accounts lean
+
   pub carried-read : Octets t → carries f (accounts-of f t) ≡ true
-  unfolding carries
-  carried-read o =
-      let qs = accounts-of f t .quotas in
-      all-tested (tail-carries f) qs (all-map (EntryCarried f) (λ (q : Quota). tail-carries f q ≡ true) (λ q y. y .1) qs (entries-fit o))
+  carried-read o = go (f .full) refl
+    where
+      go : (x : Bool) → f .full ≡ x → carries f (accounts-of f t) ≡ true
+      go true e = full-carries f (accounts-of f t) e
+      go false e =
+          facts-carried f (accounts-of f t) e (record { grants = no-grants e; records = no-records e; permissions = permitted e o; marks = unmarked e })
 
   records-fit : Octets t → All RecordFits (accounts-of f t .holds)
   unfolding read-accounts
@@ -77,7 +108,7 @@ module _ (f : Form) (t : List ℕ) where
   typed-read e o =
       let w = known-shaped f e in
       let b = blank-lengths f in
-      let q = all-map (EntryCarried f) EntryFits (λ x y. y .0) (accounts-of f t .quotas) (entries-fit o) in
+      let q = entries-fit o in
       let r = records-fit o in
       record {
         quotas = rw (keeps .0) (simp (length-append, length-drop, each-length) (omega arith));

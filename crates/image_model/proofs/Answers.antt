@@ -14,7 +14,8 @@ use Rattle.model.specs.Answers.{refusal-number, refusal-at}
 use Rattle.model.proofs.Answers.{refusal-number-is}
 use Rattle.image_model.specs.Answers.{Imaged, Restored-to, image-refusal-number, imaged, restored-to}
 use Rattle.image_model.specs.declared.ImageRefusal.{ImageRefusal}
-use Rattle.image_model.specs.declared.ImageRefusal.the-variants.{Call, ImageLength, FrameWrong, FormNumber, Contents, Room, Unsound, HeapLengths, NotCarried}
+use Rattle.image_model.specs.declared.ImageRefusal.the-variants.{Call, ImageLength, FrameWrong, FormNumber, Contents, Room, Unsound}
+use Rattle.image_model.specs.declared.ImageRefusal.the-variants.{HeapLengths, NotCarried, FormsDiffer}
 use Rattle.image_model.specs.declared.WriteAnswer.{WriteAnswer}
 use Rattle.image_model.specs.declared.WriteAnswer.the-variants.{Written, Refused as NotWritten}
 use Rattle.image_model.specs.declared.ReadAnswer.{ReadAnswer}
@@ -22,9 +23,9 @@ use Rattle.image_model.specs.declared.ReadAnswer.the-variants.{Restored,
 
 -- the images' own refusals in the order of their numbers, from 21 on; and the refusal with a number
 abbrev pub own-refusals : List ImageRefusal
-own-refusals = ImageLength ∷ FrameWrong ∷ FormNumber ∷ Contents ∷ Room ∷ Unsound ∷ HeapLengths ∷ NotCarried ∷ []
+own-refusals = ImageLength ∷ FrameWrong ∷ FormNumber ∷ Contents ∷ Room ∷ Unsound ∷ HeapLengths ∷ NotCarried ∷ FormsDiffer ∷ []
 
-pub own-numbers : map image-refusal-number own-refusals ≡ 21 ∷ 22 ∷ 23 ∷ 24 ∷ 25 ∷ 26 ∷ 27 ∷ 28 ∷ []
+pub own-numbers : map image-refusal-number own-refusals ≡ 21 ∷ 22 ∷ 23 ∷ 24 ∷ 25 ∷ 26 ∷ 27 ∷ 28 ∷ 29 ∷ []
 own-numbers = refl
 
 abbrev pub image-refusal-at : ℕ → ImageRefusal
@@ -43,6 +44,7 @@ image-refusal-is Room = (refl, omega arith)
 image-refusal-is Unsound = (refl, omega arith)
 image-refusal-is HeapLengths = (refl, omega arith)
 image-refusal-is NotCarried = (refl, omega arith)
+image-refusal-is FormsDiffer = (refl, omega arith)
 
 pub image-refusal-number-injective : (r t : ImageRefusal) → image-refusal-number r ≡ image-refusal-number t → r ≡ t
 image-refusal-number-injective r t e = sym (image-refusal-is r .0) ∙ ap image-refusal-at e ∙ image-refusal-is t .0

@@ -2,22 +2,24 @@
 -- Assumes nothing.
 use mathlib.Core.Path.{_≡_, refl, ap, sym, _∙_}
 use mathlib.Core.List.{List, _++_}
-use mathlib.Core.Bool.{true}
+use mathlib.Core.Bool.{true, false, _||_}
 use Prim.Native.Nat.{ℕ, _%_, _≤_, _<_, _^_}
 use native.Mathlib.Omega.{arith}
 use native.Mathlib.Nat.{mod-eq-of-lt, pow-le-pow-right}
 use lib.ListN.{length, take, drop, getD, replicate, length-append, length-take, length-drop}
 use lib.Dec.{lit<}
+use borrow.Author.Tests.{eq-eqb}
 use Rattle.accounts.specs.declared.Quota.{Quota}
 use Rattle.accounts.specs.declared.Hold.{Hold}
+use Rattle.accounts.specs.Accounts.{permissible}
 use Rattle.layout.specs.Bytes.{bytes, number, Octets}
 use Rattle.layout.proofs.Numbers.{bytes-length, number-below, octets-take, octets-drop}
-use Rattle.image_model.specs.Stream.{entry-tail, tail-of, tail-carries, entry-bytes, entry-width, record-bytes}
+use Rattle.image_model.specs.Stream.{entry-tail, tail-of, all-permitted, entry-bytes, entry-width, record-bytes}
 use Rattle.image_model.specs.Reading.{entry-of, entry-right, record-of, record-right}
 use Rattle.image_model.specs.declared.Form.{Form}
 use Rattle.image_model.proofs.Items.{zeros-are, are-zeros}
 use Rattle.image_model.proofs.Parts.{part-behind, number-here, bytes-split-here, one-at}
-use Rattle.image_model.proofs.Places.{tail-length, tail-tested, tail-back, tail-again, tail-keeps, tail-says}
+use Rattle.image_model.proofs.Places.{tail-length, tail-tested, tail-back, tail-again, tail-keeps, tail-narrow, tail-permits}
 
 -- a number of at most four bytes
 pub four-below : (s : List ℕ) → Octets s → number (take 4 s) < 2 ^ 32
@@ -35,9 +37,9 @@ abbrev pub RecordFits : Hold → Type 0
 RecordFits h = (h .serial < 2 ^ 32) × (h .quota < 2 ^ 8) × (h .count < 2 ^ 8)
 
 module _ (f : Form) where
-  -- and the form says all of an entry
+  -- and the form says all of an entry, whose permissions are such
   abbrev pub EntryCarried : Quota → Type 0
-  EntryCarried q = EntryFits q × (tail-carries f q ≡ true)
+  EntryCarried q = EntryFits q × (permissible (q .permissions) ≡ true) × ((f .full || all-permitted q) ≡ true)
 
   pub entry-length : (q : Quota) → length (entry-bytes f q) ≡ entry-width f
   unfolding entry-bytes
@@ -61,11 +63,11 @@ module _ (f : Form) where
   entry-back q y =
       let g = number-here 4 0 (q .grant) (entry-bytes f q) (bytes 4 (q .remainder) ++ entry-tail f q) (entry-first q) (y .0 .0) in
       let r = number-here 4 4 (q .remainder) (entry-bytes f q) (entry-tail f q) (entry-second q) (y .0 .1) in
-      (λ i. tail-of f (entry-third q i) (record { grant = g i; remainder = r i; permissions = 0 })) ∙ tail-back f q (y .1)
+      (λ i. tail-of f (entry-third q i) (record { grant = g i; remainder = r i; permissions = 0 })) ∙ tail-back f q (y .0 .2) (y .2)
 
   pub entry-tested : (q : Quota) → EntryCarried q → entry-right f (entry-bytes f q) ≡ true
   unfolding entry-right
-  entry-tested q y = rw (entry-third q) (tail-tested f q)
+  entry-tested q y = rw (entry-third q) (tail-tested f q (y .0 .2) (y .1))
 
   -- read and written
   pub entry-again : (c : List ℕ) → Octets c → length c ≡ entry-width f → entry-right f c ≡ true → entry-bytes f (entry-of f c) ≡ c
@@ -78,13 +80,16 @@ module _ (f : Form) where
       ∙ ap (λ (x : List ℕ). bytes 4 (number (take 4 c)) ++ x) (bytes-split-here 4 4 c o (omega arith))
       ∙ bytes-split-here 4 0 c o (omega arith)
 
-  pub entry-fits : (c : List ℕ) → Octets c → EntryCarried (entry-of f c)
+  pub entry-fits : (c : List ℕ) → Octets c → EntryFits (entry-of f c)
   unfolding entry-of
   entry-fits c o =
       let q : Quota = record { grant = number (take 4 c); remainder = number (take 4 (drop 4 c)); permissions = 0 } in
       let k = tail-keeps f (drop 8 c) q in
-      let p = tail-says f (drop 8 c) q (octets-drop 8 c o) in
-      ((rw (k .0) (four-below c o), rw (k .1) (four-below (drop 4 c) (octets-drop 4 c o)), p .0), p .1)
+      (rw (k .0) (four-below c o), rw (k .1) (four-below (drop 4 c) (octets-drop 4 c o)), tail-narrow f (drop 8 c) q (octets-drop 8 c o))
+
+  pub entry-permits : f .full ≡ false → (c : List ℕ) → all-permitted (entry-of f c) ≡ true
+  unfolding entry-of
+  entry-permits e c = eq-eqb _ _ (tail-permits f (drop 8 c) (record { grant = number (take 4 c); remainder = number (take 4 (drop 4 c)); permissions = 0 }) e)
 
 pub record-length : (h : Hold) → length (record-bytes h) ≡ 8
 unfolding record-bytes

@@ -3,7 +3,7 @@
 -- Assumes nothing.
 use mathlib.Core.Path.{_≡_, refl, ap, _∙_}
 use mathlib.Core.List.{List, _++_, append-assoc}
-use mathlib.Core.Bool.{true}
+use mathlib.Core.Bool.{true, _||_}
 use Prim.Native.Nat.{ℕ, _+_, _*_, _<_, _^_}
 use native.Mathlib.Omega.{arith}
 use lib.ListN.{length, take, drop, length-append}
@@ -15,13 +15,14 @@ use Rattle.accounts.specs.Accounts.{zero-quota, zero-hold}
 use Rattle.layout.specs.Bytes.{bytes, number}
 use Rattle.layout.proofs.Numbers.{bytes-length}
 use Rattle.image_model.specs.Items.{many, each, every}
-use Rattle.image_model.specs.Stream.{tail-carries, marks-of, with-marks, carries, blank, entry-bytes, record-bytes, entry-width, record-width, entries-at, records-at}
+use Rattle.image_model.specs.Stream.{all-permitted, marks-of, with-marks, carries, blank}
+use Rattle.image_model.specs.Stream.{entry-bytes, record-bytes, entry-width, record-width, entries-at, records-at}
 use Rattle.image_model.specs.Stream.{head-length, head-of, stream, Typed}
 use Rattle.image_model.specs.Reading.{entry-of, entry-right, record-of, record-right, marks-in, length-in, accounts-of, heap-of, items-right}
 use Rattle.image_model.specs.declared.Form.{Form}
-use Rattle.image_model.proofs.Items.{All, places-all, all-take, all-with, many-length, each-many, every-many}
+use Rattle.image_model.proofs.Items.{All, places-all, all-take, all-map, all-two, many-length, each-many, every-many}
 use Rattle.image_model.proofs.Parts.{part-here, part-behind, number-here}
-use Rattle.image_model.proofs.Places.{Known, known-shaped, marks-length, marks-back, quotas-whole, holds-whole}
+use Rattle.image_model.proofs.Places.{Known, QuotaSound, known-shaped, marks-length, marks-back, all-carried, quotas-whole, holds-whole}
 use Rattle.image_model.proofs.Entries.{EntryFits, EntryCarried, RecordFits, entry-length, entry-back, entry-tested, record-length, record-back, record-tested}
 use Rattle.image_model.proofs.Cuts.{padded-take}
 
@@ -54,11 +55,14 @@ module _ (f : Form) (e : Known f) (k : Accounts) (y : Typed k) where
   records-length = many-length record-bytes record-width record-length (carried-holds f k) ∙ ap (λ (n : ℕ). n * record-width) (carried-lengths .1)
 
   -- the numbers of what is carried fit
-  entries-fit : carries f k ≡ true → All (EntryCarried f) (carried-quotas f k)
-  unfolding carries
-  entries-fit c =
+  entries-fit : carries f k ≡ true → All QuotaSound (k .quotas) → All (EntryCarried f) (carried-quotas f k)
+  entries-fit c b =
+      let P : Quota → Type 0 = λ (q : Quota). (f .full || all-permitted q) ≡ true in
       let fit = places-all EntryFits zero-quota (k .quotas) (λ i. (y .grant i, y .remainder i, y .permissions i)) in
-      all-take (EntryCarried f) (f .quotas) (k .quotas) (all-with EntryFits (tail-carries f) (k .quotas) fit c)
+      let both = all-two QuotaSound P (k .quotas) b (all-carried f k c) in
+      all-take (EntryCarried f) (f .quotas) (k .quotas)
+      (all-map (λ (q : Quota). EntryFits q × (QuotaSound q × P q)) (EntryCarried f) (λ q x. (x .0, x .1 .0 .1, x .1 .1)) (k .quotas)
+      (all-two EntryFits (λ (q : Quota). QuotaSound q × P q) (k .quotas) fit both))
 
   records-fit : All RecordFits (carried-holds f k)
   records-fit = all-take RecordFits (f .records) (k .holds) (places-all RecordFits zero-hold (k .holds) (λ i. (y .serial i, y .quota i, y .count i)))
@@ -130,12 +134,13 @@ module _ (f : Form) (e : Known f) (s : List ℕ) (k : Accounts) (y : Typed k) (t
   length-read h = number-here 4 4 (length s) t behind-length at-4 h
 
   -- the accounts and the heap
-  quotas-read : carries f k ≡ true → each (entry-of f) (entry-width f) (f .quotas) (drop entries-at t) ++ drop (f .quotas) (blank f .quotas) ≡ k .quotas
-  quotas-read c =
+  quotas-read : carries f k ≡ true → All QuotaSound (k .quotas)
+      → each (entry-of f) (entry-width f) (f .quotas) (drop entries-at t) ++ drop (f .quotas) (blank f .quotas) ≡ k .quotas
+  quotas-read c b =
       let n = carried-lengths f e k y .0 in
-      let fit = entries-fit f e k y c in
+      let fit = entries-fit f e k y c b in
       let r = each-many (entry-bytes f) (entry-width f) (entry-length f) (EntryCarried f) (entry-of f) (entry-back f) (carried-quotas f k) behind-entries fit in
-      rw (at-12, rw n at r) (quotas-whole f e k y c)
+      rw (at-12, rw n at r) (quotas-whole f e k y c b)
 
   holds-read : carries f k ≡ true → each record-of record-width (f .records) (drop (records-at f) t) ++ drop (f .records) (blank f .holds) ≡ k .holds
   holds-read c =
@@ -143,11 +148,11 @@ module _ (f : Form) (e : Known f) (s : List ℕ) (k : Accounts) (y : Typed k) (t
       let r = each-many record-bytes record-width record-length RecordFits record-of record-back (carried-holds f k) (s ++ q) (records-fit f e k y) in
       rw (at-records, rw n at r) (holds-whole f e k y c)
 
-  pub accounts-read : carries f k ≡ true → accounts-of f t ≡ k
+  pub accounts-read : carries f k ≡ true → All QuotaSound (k .quotas) → accounts-of f t ≡ k
   unfolding accounts-of
-  accounts-read c =
+  accounts-read c z =
       let l = number-here 4 8 (k .«last_serial») t behind-serial at-8 (y .last) in
-      let a = quotas-read c in
+      let a = quotas-read c z in
       let b = holds-read c in
       (λ i. with-marks f (marks-read i) (record { quotas = a i; «last_serial» = l i; holds = b i })) ∙ marks-back f k
 
@@ -156,12 +161,12 @@ module _ (f : Form) (e : Known f) (s : List ℕ) (k : Accounts) (y : Typed k) (t
   heap-read h = rw (length-read h, at-heap) (padded-take (length s) (s ++ q) (simp length-append (omega arith)) ∙ take-at s q (length s) refl)
 
   -- and every byte that carries nothing is right
-  pub items-tested : carries f k ≡ true → items-right f t ≡ true
+  pub items-tested : carries f k ≡ true → All QuotaSound (k .quotas) → items-right f t ≡ true
   unfolding items-right
-  items-tested c =
+  items-tested c z =
       let n = carried-lengths f e k y in
-      let fit = entries-fit f e k y c in
-      let a = every-many (entry-bytes f) (entry-width f) (entry-length f) (EntryCarried f) (entry-right f) (entry-tested f) (carried-quotas f k)
-      behind-entries fit in
+      let fit = entries-fit f e k y c z in
+      let qs = carried-quotas f k in
+      let a = every-many (entry-bytes f) (entry-width f) (entry-length f) (EntryCarried f) (entry-right f) (entry-tested f) qs behind-entries fit in
       let b = every-many record-bytes record-width record-length RecordFits record-right record-tested (carried-holds f k) (s ++ q) (records-fit f e k y) in
       rw (at-12, at-records, rw (n .0) at a, rw (n .1) at b)

@@ -1,12 +1,12 @@
 -- Items of one width: their lengths, that what was written is read again, and that what is right is written again.
 -- Each law is an induction over the items.
 -- Assumes nothing.
-use mathlib.Core.Path.{_≡_, refl, ap}
+use mathlib.Core.Path.{_≡_, refl, ap, sym}
 use mathlib.Core.List.{List, [], _∷_, _++_, append-assoc}
 use mathlib.Core.Bool.{Bool, true}
 use Prim.Native.Nat.{ℕ, zero, suc, _+_, _*_, _≤_}
 use native.Mathlib.Omega.{arith}
-use native.Mathlib.Nat.{suc-mul, zero-mul}
+use native.Mathlib.Nat.{suc-mul, zero-mul, le-of-suc-le-suc}
 use lib.ListN.{length, take, drop, getD, replicate, length-drop, take-append-drop, length-append}
 use lib.Seq.{take-at, drop-at, drop-drop, length-take-le}
 use lib.Dec.{eqb}
@@ -61,10 +61,36 @@ unfolding all
 all-tested p [] a = refl
 all-tested p (x ∷ xs) a = and-both (p x) (all p xs) (a .0) (all-tested p xs (a .1))
 
-pub all-with : {A : Type 0} (P : A → Type 0) (p : A → Bool) (xs : List A) → All P xs → all p xs ≡ true → All (λ (x : A). P x × (p x ≡ true)) xs
+pub tested-all : {A : Type 0} (p : A → Bool) (xs : List A) → all p xs ≡ true → All (λ (x : A). p x ≡ true) xs
 unfolding all
-all-with P p [] a e = tt
-all-with P p (x ∷ xs) a e = ((a .0, and-left (p x) (all p xs) e), all-with P p xs (a .1) (and-right (p x) (all p xs) e))
+tested-all p [] e = tt
+tested-all p (x ∷ xs) e = (and-left (p x) (all p xs) e, tested-all p xs (and-right (p x) (all p xs) e))
+
+-- of two properties at once, and of one that every item has
+pub all-two : {A : Type 0} (P Q : A → Type 0) (xs : List A) → All P xs → All Q xs → All (λ (x : A). P x × Q x) xs
+all-two P Q [] a b = tt
+all-two P Q (x ∷ xs) a b = ((a .0, b .0), all-two P Q xs (a .1) (b .1))
+
+pub all-of : {A : Type 0} (P : A → Type 0) → ((x : A) → P x) → (xs : List A) → All P xs
+all-of P h [] = tt
+all-of P h (x ∷ xs) = (h x, all-of P h xs)
+
+-- no item is behind the last
+pub none-behind : {A : Type 0} (P : A → Type 0) (n : ℕ) (xs : List A) → length xs ≤ n → All P (drop n xs)
+none-behind P zero [] l = tt
+none-behind P zero (x ∷ xs) l = absurd (omega arith)
+none-behind P (suc n) [] l = tt
+none-behind P (suc n) (x ∷ xs) l = none-behind P n xs (le-of-suc-le-suc l)
+
+-- items that are all the same, and the first of a list with as many of one item behind them as there are
+all-are : {A : Type 0} (d : A) (xs : List A) → All (λ (x : A). x ≡ d) xs → xs ≡ replicate (length xs) d
+all-are d [] a = refl
+all-are d (x ∷ xs) a = λ i. a .0 i ∷ all-are d xs (a .1) i
+
+pub filled-behind : {A : Type 0} (d : A) (n : ℕ) (xs : List A) → All (λ (x : A). x ≡ d) (drop n xs) → take n xs ++ drop n (replicate (length xs) d) ≡ xs
+filled-behind d zero xs a = sym (all-are d xs a)
+filled-behind d (suc n) [] a = refl
+filled-behind {A} d (suc n) (x ∷ xs) a = ap (λ (l : List A). x ∷ l) (filled-behind d n xs a)
 
 -- so many items are read
 pub each-length : {A : Type 0} (g : List ℕ → A) (w n : ℕ) (s : List ℕ) → length (each g w n s) ≡ n

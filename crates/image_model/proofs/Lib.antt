@@ -1,10 +1,12 @@
 -- The rows that the definitions are held to, and laws of images.
 pub mod Computing
 pub mod Rows
+pub mod FullRows
 pub mod Refusals
 pub mod Items
 pub mod Parts
 pub mod Places
+pub mod Solvent
 pub mod Entries
 pub mod Cuts
 pub mod Heads

@@ -1,15 +1,16 @@
--- The definitions computed at small heaps: two images in full, and each refusal of the writer and the reader on both sides of its line.
+-- The definitions computed at small heaps, in form 1: two images in full, and each refusal of the writer and the reader on both sides of its line.
+-- Form 2 is `FullRows`.
 -- Assumes nothing.
 use mathlib.Core.Path.{_≡_, refl}
 use mathlib.Core.List.{List, [], _∷_, _++_, map}
-use Prim.Native.Nat.{ℕ}
-use lib.ListN.{length, take, set, replicate}
+use Prim.Native.Nat.{ℕ, _-_}
+use lib.ListN.{length, take, set, getD, replicate}
 use Rattle.accounts.specs.declared.Accounts.{Accounts}
 use Rattle.accounts.specs.declared.Quota.{Quota}
 use Rattle.accounts.specs.declared.Hold.{Hold}
-use Rattle.accounts.specs.Accounts.{zero-hold, zero-accounts, with-permissions, with-quotas, opened}
+use Rattle.accounts.specs.Accounts.{QUOTAS, HOLDS, zero-quota, zero-hold, zero-accounts, with-permissions, with-quotas, with-holds, opened}
 use Rattle.framing.specs.Frames.{frame-of, cut-from, cut}
-use Rattle.image_model.specs.Stream.{form-1, stream, image-of, image-length, head-length}
+use Rattle.image_model.specs.Stream.{form-1, form-2, stream, image-of, image-length, head-length}
 use Rattle.image_model.specs.Answers.{Imaged, Restored-to}
 use Rattle.image_model.specs.Images.{write-image, read-image}
 use Rattle.image_model.proofs.Computing.{computing}
@@ -19,27 +20,27 @@ fresh : List ℕ
 fresh = 8 ∷ replicate 63 0
 
 fresh-accounts : Accounts
-fresh-accounts = opened (100 ∷ 1000 ∷ replicate 6 0)
+fresh-accounts = opened (100 ∷ 1000 ∷ replicate (QUOTAS - 2) 0)
 
 -- an object of 8 bytes with the serial 1, which quotas 0 and 1 hold, in the records 0 and 53; the free block behind it ends with bytes that are not zero
-heap : List ℕ
+unfoldable pub heap : List ℕ
 heap = 2 ∷ 0 ∷ 0 ∷ 0 ∷ 1 ∷ 0 ∷ 0 ∷ 0 ∷ 1 ∷ 2 ∷ 3 ∷ 4 ∷ 5 ∷ 6 ∷ 7 ∷ 8 ∷ 6 ∷ 0 ∷ 2 ∷ replicate 37 0 ++ replicate 8 255
 
-quota : ℕ → ℕ → Quota
+unfoldable pub quota : ℕ → ℕ → Quota
 quota g r = record { grant = g; remainder = r; permissions = 7 }
 
-hold : ℕ → ℕ → ℕ → Hold
+unfoldable pub hold : ℕ → ℕ → ℕ → Hold
 hold s q c = record { serial = s; quota = q; count = c }
 
 accounts : Accounts
 accounts =
     record {
-      quotas = quota 100 84 ∷ quota 1000 984 ∷ replicate 6 (quota 0 0);
+      quotas = quota 100 84 ∷ quota 1000 984 ∷ replicate (QUOTAS - 2) (quota 0 0);
       «last_serial» = 1;
-      holds = hold 1 0 1 ∷ replicate 52 zero-hold ++ (hold 1 1 3 ∷ replicate 74 zero-hold);
+      holds = hold 1 0 1 ∷ replicate 52 zero-hold ++ (hold 1 1 3 ∷ replicate (HOLDS - 54) zero-hold);
     }
 
-small : Unit {0}
+unfoldable pub small : Unit {0}
 unfolding computing fresh fresh-accounts heap quota hold accounts
 small = tt
 
@@ -60,26 +61,27 @@ held-image : image-of form-1 heap accounts
 unfolding small
 held-image = refl
 
--- the head's length, and the lengths of images on both sides of a frame more
-pub head-row : head-length form-1 ≡ 1100
+-- the lengths of both heads, and of images on both sides of a frame more
+pub head-rows : (head-length form-1 ≡ 1100) × (head-length form-2 ≡ 4492)
 unfolding small
-head-row = refl
+head-rows = (refl, refl)
 
 lengths : (image-length form-1 64 ≡ 1536) × (image-length form-1 412 ≡ 1536) × (image-length form-1 413 ≡ 2048) × (image-length form-1 32768 ≡ 34816)
+    × (image-length form-2 64 ≡ 5120) × (image-length form-2 548 ≡ 5120) × (image-length form-2 549 ≡ 5632) × (image-length form-2 32768 ≡ 37888)
 unfolding small
-lengths = (refl, refl, refl, refl)
+lengths = (refl, refl, refl, refl, refl, refl, refl, refl)
 
 -- a lent buffer with bytes of its own
-lent : ℕ → List ℕ
+unfoldable pub lent : ℕ → List ℕ
 lent n = replicate n 170
 
-written : List ℕ → ℕ → Imaged
+unfoldable pub written : List ℕ → ℕ → Imaged
 written o n = record { image = o; refusal = 0; length = n }
 
-not-written : List ℕ → ℕ → Imaged
+unfoldable pub not-written : List ℕ → ℕ → Imaged
 not-written o n = record { image = o; refusal = n; length = 0 }
 
--- the same accounts without a permission of the first quota, and of the last
+-- the same accounts without a permission of the first quota, and of the last that form 1 carries
 cleared-first : Accounts
 cleared-first = with-quotas (set (accounts .quotas) 0 (with-permissions 3 (quota 100 84))) accounts
 
@@ -98,6 +100,29 @@ write-rows : (write-image form-1 (lent 1536) heap accounts ≡ written (image-of
 unfolding small lent written not-written cleared-first cleared-last
 write-rows = (refl, refl, refl, refl, refl, refl, refl, refl)
 
+-- 28 for a grant from quota 8 on, for a record from place 128 on, and for a permission that any quota lacks, right before 25 and behind 2
+quotas-with : List Quota → Accounts
+quotas-with qs = with-quotas qs accounts
+
+granted-at : ℕ → Accounts
+granted-at q = quotas-with (set (accounts .quotas) q (quota 5 5))
+
+holder-at : ℕ → Accounts
+holder-at i = with-holds (set (set (accounts .holds) 53 zero-hold) i (hold 1 1 3)) accounts
+
+barred : ℕ → ℕ → Accounts
+barred q p = quotas-with (set (accounts .quotas) q (with-permissions p (getD (accounts .quotas) q zero-quota)))
+
+refusal-of : List ℕ → Accounts → ℕ
+refusal-of s k = write-image form-1 [] s k .refusal
+
+carried-rows : (map (refusal-of heap) (granted-at 7 ∷ granted-at 8 ∷ granted-at 31 ∷ []) ≡ 25 ∷ 28 ∷ 28 ∷ [])
+    × (map (refusal-of heap) (holder-at 127 ∷ holder-at 128 ∷ holder-at 511 ∷ []) ≡ 25 ∷ 28 ∷ 28 ∷ [])
+    × (map (refusal-of heap) (barred 0 6 ∷ barred 1 5 ∷ barred 7 3 ∷ barred 8 0 ∷ barred 31 6 ∷ barred 31 7 ∷ []) ≡ 28 ∷ 28 ∷ 28 ∷ 28 ∷ 28 ∷ 25 ∷ [])
+    × (map (λ s. refusal-of s (barred 0 6)) (replicate 56 0 ∷ replicate 64 0 ∷ []) ≡ 1 ∷ 2 ∷ [])
+unfolding small quotas-with granted-at holder-at barred refusal-of
+carried-rows = (refl, refl, refl, refl)
+
 -- the reader gives back what was written
 read-rows : (read-image (image-of form-1 heap accounts) (lent 64) ≡ record { heap = heap; accounts = accounts; refusal = 0 })
     × (read-image (image-of form-1 fresh fresh-accounts) (lent 64) ≡ record { heap = fresh; accounts = fresh-accounts; refusal = 0 })
@@ -109,11 +134,11 @@ pub data Refused : Type 0 where
   _into_is_ : List ℕ → ℕ → ℕ → Refused
 
 infix 5 _into_is_
-got : Refused → Restored-to
+unfoldable pub got : Refused → Restored-to
 got (i into n is r) = read-image i (lent n)
 
 -- the lent heap as it was, and accounts of zeros
-wanted : Refused → Restored-to
+unfoldable pub wanted : Refused → Restored-to
 wanted (i into n is r) = record { heap = lent n; accounts = zero-accounts; refusal = r }
 
 -- the image and its stream; and the image of a stream with another byte at a place
@@ -139,16 +164,17 @@ refused =
     ∷ (cut-from 3 0 4 carried into 64 is 22)
     ∷ (image ++ frame-of 3 3 [] into 64 is 22)
     ∷ (take 1024 image into 64 is 22)
-    ∷ (set (but 0 2) 1535 9 into 64 is 22)
+    ∷ (set (but 0 3) 1535 9 into 64 is 22)
     -- 23: another form in each byte, a byte behind it, also where the heap's length is wrong
     ∷ (but 0 0 into 64 is 23)
-    ∷ (but 0 2 into 64 is 23)
+    ∷ (but 0 3 into 64 is 23)
     ∷ (but 1 1 into 64 is 23)
     ∷ (but 2 1 into 64 is 23)
     ∷ (but 3 1 into 64 is 23)
     ∷ (cut (set (set carried 3 1) 4 65) into 64 is 23)
-    -- 24: a heap length that is not allowed; one with other frames; a frame too many; a byte behind the heap; spare bytes of the first and the
-    -- last record, also where the lent heap has another length and the accounts are not consistent
+    -- 24: form 2 with too few frames for it; a heap length that is not allowed; one with other frames; a frame too many; a byte behind the heap; spare
+    -- bytes of the first and the last record, also where the lent heap has another length and the accounts are not consistent
+    ∷ (but 0 2 into 64 is 24)
     ∷ (but 4 65 into 65 is 24)
     ∷ (but 4 56 into 56 is 24)
     ∷ (but 5 128 into 64 is 24)
@@ -164,10 +190,12 @@ refused =
     ∷ (image into 63 is 25)
     ∷ (but 4 72 into 64 is 25)
     ∷ (but 80 8 into 72 is 25)
-    -- 26: that length with a heap of that length; a record that is used and says nothing, a quota that there is not, a remainder that is too high
+    -- 26: that length with a heap of that length; a record that is used and says nothing, a quota with no grant, one that there is not, a remainder
+    -- that is too high
     ∷ (but 4 72 into 72 is 26)
     ∷ (but 96 3 into 64 is 26)
     ∷ (but 80 8 into 64 is 26)
+    ∷ (but 80 32 into 64 is 26)
     ∷ (but 16 85 into 64 is 26)
     ∷ []
 

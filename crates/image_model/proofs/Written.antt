@@ -25,6 +25,7 @@ use Rattle.image_model.specs.Images.{line-21, line-22, line-23, line-24,
 use Rattle.image_model.specs.declared.Form.{Form}
 use Rattle.image_model.proofs.Items.{are-zeros}
 use Rattle.image_model.proofs.Places.{Known, known-shaped, marks-tested}
+use Rattle.image_model.proofs.Solvent.{quotas-sound}
 use Rattle.image_model.proofs.Cuts.{cut-length, cut-stream}
 use Rattle.image_model.proofs.Heads.{stream-length, at-end, number-read, marks-read, length-read, accounts-read, heap-read, items-tested}
 
@@ -88,7 +89,7 @@ module _ (f : Form) (s : List ℕ) (k : Accounts) (a : Accepts f s k) where
 
   accounts-is : accounts-in i ≡ k
   unfolding accounts-in
-  accounts-is = rw form-is (accounts-read f (a .known) s k (a .typed) (stream-of i) zeros whole (a .carried))
+  accounts-is = rw form-is (accounts-read f (a .known) s k (a .typed) (stream-of i) zeros whole (a .carried) (quotas-sound s k (a .sound)))
 
   heap-is : heap-in i ≡ s
   unfolding heap-in
@@ -102,7 +103,7 @@ module _ (f : Form) (s : List ℕ) (k : Accounts) (a : Accepts f s k) where
   unfolding contents-right n L
   contents-is =
       rw (form-is, size-is, a .extent, eq-eqb (length i / 512) (frames-for (head-length f + length s)) count, padding)
-      (items-tested f (a .known) s k (a .typed) (stream-of i) zeros whole (a .carried))
+      (items-tested f (a .known) s k (a .typed) (stream-of i) zeros whole (a .carried) (quotas-sound s k (a .sound)))
 
   frames-are : frames-right n 0 n i ≡ true
   unfolding i image-of cut n L

@@ -4,7 +4,8 @@ use mathlib.Core.List.{List}
 use Rattle.accounts.specs.declared.Accounts.{Accounts}
 use Rattle.model.specs.Answers.{refusal-number}
 use Rattle.image_model.specs.declared.ImageRefusal.{ImageRefusal}
-use Rattle.image_model.specs.declared.ImageRefusal.the-variants.{Call, ImageLength, FrameWrong, FormNumber, Contents, Room, Unsound, HeapLengths, NotCarried}
+use Rattle.image_model.specs.declared.ImageRefusal.the-variants.{Call, ImageLength, FrameWrong, FormNumber, Contents, Room, Unsound}
+use Rattle.image_model.specs.declared.ImageRefusal.the-variants.{HeapLengths, NotCarried, FormsDiffer}
 use Rattle.image_model.specs.declared.WriteAnswer.{WriteAnswer}
 use Rattle.image_model.specs.declared.WriteAnswer.the-variants.{Written, Refused as NotWritten}
 use Rattle.image_model.specs.declared.ReadAnswer.{ReadAnswer}
@@ -21,6 +22,7 @@ image-refusal-number Room = 25
 image-refusal-number Unsound = 26
 image-refusal-number HeapLengths = 27
 image-refusal-number NotCarried = 28
+image-refusal-number FormsDiffer = 29
 
 -- what the writer leaves in the lent image, its refusal's number, 0 where it is accepted, and the bytes that it wrote
 pub record Imaged : Type 0 where

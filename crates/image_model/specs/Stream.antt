@@ -1,46 +1,46 @@
 -- What an image carries (rules 13.2 to 13.4): a head with the accounts, then the heap, as one stream of bytes; and the stream in frames.
--- One definition is to serve every form. What forms differ in beyond their three numbers stands in four places, each marked below; form 1 has
--- nothing in them but two zero bytes, and so its quotas have every permission.
+-- One definition serves every form. What forms differ in beyond their three numbers stands in four places, each marked below: a full form says all
+-- that accounts have, and the other ones have nothing there but two zero bytes, and so every permission.
 use Prim.Native.Nat.{ℕ, _+_, _*_, _<_, _^_}
 use mathlib.Core.Path.{_≡_}
 use mathlib.Core.List.{List, [], _++_}
-use mathlib.Core.Bool.{Bool, true, cond}
+use mathlib.Core.Bool.{Bool, true, false, cond, not, _&&_, _||_}
 use mathlib.Core.Option.{Option, none, some}
-use lib.ListN.{length, take, replicate, getD}
+use lib.ListN.{length, take, drop, replicate, getD}
 use lib.Dec.{eqb}
 use Rattle.accounts.specs.declared.Quota.{Quota}
 use Rattle.accounts.specs.declared.Hold.{Hold}
 use Rattle.accounts.specs.declared.Accounts.{Accounts}
-use Rattle.accounts.specs.Accounts.{QUOTAS, HOLDS, ALL-PERMISSIONS, zero-quota, zero-hold, with-permissions, opened}
+use Rattle.accounts.specs.Accounts.{QUOTAS, HOLDS, ALL-PERMISSIONS, permissible, zero-quota, zero-hold, with-permissions, opened, unused}
 use Rattle.layout.specs.Bytes.{bytes}
 use Rattle.model.specs.Lists.{all}
 use Rattle.framing.specs.Frames.{frames-for, cut}
 use Rattle.image_model.specs.Items.{many, all-zero}
 use Rattle.image_model.specs.declared.Form.{Form}
 
--- form 1, and the form with a number
+-- form 1 and form 2, and the form with a number
 unfoldable pub form-1 : Form
-form-1 = record { number = 1; quotas = 8; records = 128 }
+form-1 = record { number = 1; quotas = 8; records = 128; full = false }
+
+unfoldable pub form-2 : Form
+form-2 = record { number = 2; quotas = 32; records = 512; full = true }
 
 unfoldable pub form-numbered : ℕ → Option Form
-form-numbered n = cond (eqb n 1) (some form-1) none
+form-numbered n = cond (eqb n 1) (some form-1) (cond (eqb n 2) (some form-2) none)
 
--- First place: what an entry has behind grant and remainder. Its bytes, how many they are, the quota with what they say, and whether they are right
+-- First place: what an entry has behind grant and remainder, in a full form a byte of permissions and three zero bytes. Its bytes, how many they are,
+-- the quota with what they say, and whether they are right
 unfoldable pub entry-tail : Form → Quota → List ℕ
-entry-tail f q = []
+entry-tail f q = cond (f .full) (bytes 1 (q .permissions) ++ replicate 3 0) []
 
 unfoldable pub tail-width : Form → ℕ
-tail-width f = 0
+tail-width f = cond (f .full) 4 0
 
 unfoldable pub tail-of : Form → List ℕ → Quota → Quota
-tail-of f s q = with-permissions ALL-PERMISSIONS q
+tail-of f s q = with-permissions (cond (f .full) (getD s 0 0) ALL-PERMISSIONS) q
 
 unfoldable pub tail-right : Form → List ℕ → Bool
-tail-right f s = true
-
--- and whether they say all that the quota has beyond grant and remainder
-unfoldable pub tail-carries : Form → Quota → Bool
-tail-carries f q = eqb (q .permissions) ALL-PERMISSIONS
+tail-right f s = not (f .full) || (permissible (getD s 0 0) && all-zero (drop 1 s))
 
 -- Second place: the two bytes behind the form's number. The bytes, whether they are right, and the accounts with what they say
 unfoldable pub marks-of : Form → Accounts → List ℕ
@@ -52,9 +52,21 @@ marks-right f m = all-zero m
 unfoldable pub with-marks : Form → List ℕ → Accounts → Accounts
 with-marks f m k = k
 
--- Third place: whether the form has room for everything in these accounts
+-- Third place: whether the form has room for everything in these accounts. A full form has; another one where no quota behind those that it carries has
+-- a grant, no record behind those that it carries is used, every quota has every permission, and a full form's marks would be zero
+abbrev pub no-grant : Quota → Bool
+no-grant q = eqb (q .grant) 0
+
+abbrev pub all-permitted : Quota → Bool
+all-permitted q = eqb (q .permissions) ALL-PERMISSIONS
+
 unfoldable pub carries : Form → Accounts → Bool
-carries f k = all (tail-carries f) (k .quotas)
+carries f k =
+    f .full
+    || (all no-grant (drop (f .quotas) (k .quotas))
+    && (all unused (drop (f .records) (k .holds))
+    && (all all-permitted (k .quotas)
+    && all-zero (marks-of form-2 k))))
 
 -- Fourth place: what accounts have wherever the form carries nothing of them
 unfoldable pub blank : Form → Accounts

@@ -5,11 +5,12 @@ use model::Refusal;
 ghost use mathlib.Core.Path.{_≡_};
 ghost use Rattle.image_model.specs.Answers.{image-refusal-number};
 
-// What tells one form of image from another: its number, and how many quotas and hold records it carries.
+// What tells one form of image from another: its number, how many quotas and hold records it carries, and whether it says all that accounts have.
 pub struct Form {
     pub number: u32,
     pub quotas: usize,
     pub records: usize,
+    pub full: bool,
 }
 
 // Why an image is not written, not read or not compared: a refusal that every call has, or one of the images' own, in the order of their numbers.
@@ -23,6 +24,7 @@ pub enum ImageRefusal {
     Unsound,
     HeapLengths,
     NotCarried,
+    FormsDiffer,
 }
 
 // The answer of the writer: how many bytes it wrote.
@@ -58,6 +60,7 @@ impl ImageRefusal {
             ImageRefusal::Unsound => 26,
             ImageRefusal::HeapLengths => 27,
             ImageRefusal::NotCarried => 28,
+            ImageRefusal::FormsDiffer => 29,
         }
     }
 }

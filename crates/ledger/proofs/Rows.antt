@@ -1,11 +1,12 @@
 -- The ledger of short lists of events, computed: what rules 9.2 to 9.5, 13.15 to 13.18 and 15.9 make of them.
 -- Assumes nothing.
-use Prim.Native.Nat.{ℕ}
+use Prim.Native.Nat.{ℕ, _-_}
 use mathlib.Core.Path.{_≡_, refl}
 use mathlib.Core.List.{List, [], _∷_}
 use mathlib.Core.Bool.{true, false}
 use lib.ListN.{replicate}
 use Rattle.rounding.specs.Rounding.{unit}
+use Rattle.accounts.specs.Accounts.{QUOTAS}
 use Rattle.model.specs.Lists.{any, keep}
 use Rattle.model.specs.Answers.{accepted, refused, given, amount-of}
 use Rattle.model.specs.Calls.{Outcome, open-heap}
@@ -17,7 +18,7 @@ use Rattle.model.proofs.Computing.{computing}
 use Rattle.ledger.specs.Ledger.{Entry, Event, Called, Wrote, Saved, Restored, empty, change-holds, at-serial, is-held, leave, add-object, add-hold, take-hold, take-all, record-accepted, record-call, values-from, read-entry, read-ledger, record-event, unrestored, ledger-of}
 
 pub grants : List ℕ
-grants = 100 ∷ 1000 ∷ replicate 6 0
+grants = 100 ∷ 1000 ∷ replicate (QUOTAS - 2) 0
 
 pub a : Handle
 a = record { base = 8; length = 16; serial = 1 }
@@ -27,7 +28,7 @@ b = record { base = 32; length = 96; serial = 2 }
 
 -- an object with holds of quotas 0 and 1
 pub entry : Handle → ℕ → ℕ → Entry
-entry o x y = record { object = o; holds = x ∷ y ∷ replicate 6 0 }
+entry o x y = record { object = o; holds = x ∷ y ∷ replicate (QUOTAS - 2) 0 }
 
 pub entries : List Event → List Entry
 entries es = ledger-of (empty grants) es .entries
@@ -72,8 +73,8 @@ restored = Restored (state .heap) (state .accounts)
 pub image-rows : (entries (saved ∷ made) ≡ entry a 1 0 ∷ [])
     × (entries (restored ∷ made) ≡ entry a 1 2 ∷ entry b 0 1 ∷ [])
     × (entries (Called (Release 1 a) (amount-of 0) ∷ restored ∷ []) ≡ entry a 1 1 ∷ entry b 0 1 ∷ [])
-    × (ledger-of (empty (replicate 8 5)) (restored ∷ []) .grants ≡ grants)
-    × (ledger-of (empty (replicate 8 5)) (saved ∷ []) .grants ≡ replicate 8 5)
+    × (ledger-of (empty (replicate QUOTAS 5)) (restored ∷ []) .grants ≡ grants)
+    × (ledger-of (empty (replicate QUOTAS 5)) (saved ∷ []) .grants ≡ replicate QUOTAS 5)
     × (unrestored (saved ∷ Wrote ∷ made) ≡ true)
     × (unrestored (Wrote ∷ restored ∷ made) ≡ false)
 unfolding computing keep change-holds at-serial is-held leave add-object take-hold record-accepted record-call record-event ledger-of read-ledger read-entry values-from unrestored empty entries grants a b entry made after state saved restored

@@ -2,19 +2,21 @@
 use Prim.Native.Nat.{ℕ, _-_}
 use mathlib.Core.List.{List, [], _∷_}
 use mathlib.Core.Option.{none, some}
-use lib.ListN.{replicate}
-use Rattle.accounts.specs.Accounts.{QUOTAS, zero-hold}
+use lib.ListN.{replicate, take}
+use Rattle.accounts.specs.Accounts.{QUOTAS, zero-hold, with-holds}
 use Rattle.rounding.specs.Rounding.{unit}
 use Rattle.model.specs.Answers.{Values, refused, accepted, given, amount-of, lent, listed}
 use Rattle.model.specs.Calls.{Outcome, open-heap}
 use Rattle.model.specs.Marked.{handle}
-use Rattle.model.specs.Tables.{Case, case, run, head, zeros, parts, quota-with, quota, hold, accounts-of, state, written}
+use Rattle.model.specs.Tables.{Case, case, run, head, zeros, parts, quota-with, quota, hold, places, accounts-of, state, written}
 use Rattle.model.specs.declared.Call.{Call}
 use Rattle.model.specs.declared.Call.the-variants.{Allocate, AllocateArray, Claim, Release, FreeAll, Reallocate, Lend, Remaining, CanRelease, ListBlock, ClearPermissions}
 
--- a fresh heap of H bytes with two grants
+-- a fresh heap of H bytes with two grants, and with as many records as the accounts of a case have
 unfoldable pub opened-heap : ℕ → ℕ → ℕ → Outcome
-opened-heap H g₀ g₁ = open-heap (replicate H 255) (g₀ ∷ g₁ ∷ replicate (QUOTAS - 2) 0)
+opened-heap H g₀ g₁ =
+    let t = open-heap (replicate H 255) (g₀ ∷ g₁ ∷ replicate (QUOTAS - 2) 0) in
+    state (t .heap) (with-holds (take places (t .accounts .holds)) (t .accounts))
 
 -- a block of the listing
 unfoldable pub block : ℕ → ℕ → ℕ → Values

@@ -1,14 +1,16 @@
 -- In which order the lines of each call are looked at, and on which side of each line a refusal begins (rules, section 7). How cases are run is `Tables`.
 use Prim.Native.Nat.{ℕ, zero, suc, _+_, _*_, _-_, _/_}
 use mathlib.Core.List.{List, [], _∷_, _++_, map}
-use lib.ListN.{replicate, take}
+use lib.ListN.{replicate, take, drop}
+use Rattle.rounding.specs.Rounding.{unit}
 use Rattle.accounts.specs.declared.Hold.{Hold}
 use Rattle.accounts.specs.declared.Accounts.{Accounts}
 use Rattle.accounts.specs.Accounts.{QUOTAS, HOLDS}
 use Rattle.model.specs.Answers.{Values, refused, accepted, amount-of, lent}
 use Rattle.model.specs.Calls.{Outcome, open-heap}
 use Rattle.model.specs.Marked.{handle}
-use Rattle.model.specs.Tables.{Case, case, head, zeros, parts, quota-with, quota, hold, accounts-of, state}
+use Rattle.model.specs.Refusals.{Line, allocate-lines, reallocate-lines, claim-lines}
+use Rattle.model.specs.Tables.{Case, case, head, zeros, parts, quota-with, quota, hold, accounts-to, accounts-of, state}
 use Rattle.model.specs.Cases.{block}
 use Rattle.model.specs.declared.Call.{Call}
 use Rattle.model.specs.declared.Call.the-variants.{Allocate, AllocateArray, Claim, Release, FreeAll, Reallocate, Lend, Remaining, CanRelease, ListBlock, ClearPermissions}
@@ -21,10 +23,10 @@ opening H =
 
 -- a refused open leaves the bytes and gives accounts of zeros, which have no permission
 abbrev pub not-opened : ℕ → Values × List ℕ × Accounts
-not-opened n = (refused 1, replicate n 170, accounts-of (replicate QUOTAS (quota-with 0 0 0)) 0 [])
+not-opened n = (refused 1, replicate n 170, accounts-to HOLDS (replicate QUOTAS (quota-with 0 0 0)) 0 [])
 
 abbrev pub is-opened : List ℕ → Values × List ℕ × Accounts
-is-opened bytes = (accepted, bytes, accounts-of (quota 5 5 ∷ quota 4294967295 4294967295 ∷ []) 0 [])
+is-opened bytes = (accepted, bytes, accounts-to HOLDS (quota 5 5 ∷ quota 4294967295 4294967295 ∷ []) 0 [])
 
 abbrev pub heap-lengths : List ℕ
 heap-lengths = 0 ∷ 56 ∷ 64 ∷ 65 ∷ 32768 ∷ 32776 ∷ []
@@ -61,43 +63,46 @@ unfoldable pub filled-from : ℕ → ℕ → ℕ → List ℕ
 filled-from zero back serial = []
 filled-from (suc n) back serial = head 2 back serial ++ (zeros 8 ++ filled-from n 2 (suc serial))
 
--- a record of each quota below n for an object; and of each quota below m for so many objects, from one with a serial on
-unfoldable pub holders : ℕ → ℕ → List Hold
-holders zero serial = []
-holders (suc n) serial = hold serial n 1 ∷ holders n serial
+-- a record for an object of each of n quotas, from one on; and of these quotas for so many objects, from one with a serial on
+unfoldable pub holders : ℕ → ℕ → ℕ → List Hold
+holders q zero serial = []
+holders q (suc n) serial = hold serial (q + n) 1 ∷ holders q n serial
 
-unfoldable pub records-from : ℕ → ℕ → ℕ → List Hold
-records-from m zero serial = []
-records-from m (suc n) serial = holders m serial ++ records-from m n (suc serial)
+unfoldable pub records-from : ℕ → ℕ → ℕ → ℕ → List Hold
+records-from q m zero serial = []
+records-from q m (suc n) serial = holders q m serial ++ records-from q m n (suc serial)
 
--- a full table: every quota holds so many objects, and quota 0 alone as many more as there are quotas. The last
--- quota holds the first object n times. Nothing is free, no serial is left, 15 remain to quota 0, 1,000 to quota 1 and nothing to the others
+-- a full table: every quota holds so many objects, and the upper half of the quotas two more. The last quota holds the first object n times.
+-- Nothing is free, no serial is left, 15 remain to quota 0, 1,000 to quota 1 and nothing to the others
 abbrev pub common : ℕ
 common = HOLDS / QUOTAS - 1
 
+abbrev pub half : ℕ
+half = QUOTAS / 2
+
 unfoldable pub full-heap : List ℕ
-full-heap = filled-from (common + QUOTAS) 0 1
+full-heap = filled-from (common + 2) 0 1
 
 unfoldable pub full-accounts : ℕ → Accounts
 full-accounts n =
     let all = 16 * common in
-    accounts-of (quota (all + 16 * QUOTAS + 15) 15 ∷ quota (all + 1000) 1000 ∷ replicate (QUOTAS - 2) (quota all 0)) 4294967295
-    (hold 1 (QUOTAS - 1) n ∷ (holders (QUOTAS - 1) 1 ++ (records-from QUOTAS (common - 1) 2 ++ records-from 1 QUOTAS (common + 1))))
+    accounts-of (quota (all + 15) 15 ∷ quota (all + 1000) 1000 ∷ (replicate (half - 2) (quota all 0) ++ replicate half (quota (all + 32) 0))) 4294967295
+    (hold 1 (QUOTAS - 1) n ∷ (holders 0 (QUOTAS - 1) 1 ++ (records-from 0 QUOTAS (common - 1) 2 ++ records-from half half 2 (common + 1))))
 
--- 8 before 9 before 10; a claim of a quota that has a record needs neither remainder nor record, and is refused by its count alone
-unfoldable pub full-lines : List Case
-full-lines =
+-- the lines of calls on it, but 1 and 2, which ask nothing of a table that is full
+unfoldable pub full-lines : ℕ → List (List Line)
+full-lines n =
+    let s = full-heap in
+    let k = full-accounts n in
     let h = handle 8 8 1 in
-    let only-0 = handle (16 * common + 8) 8 (common + 1) in
-    case (state full-heap (full-accounts 254))
-    (Allocate 2 8 ∷ Allocate 1 8 ∷ Reallocate 0 h 8 ∷ Reallocate 1 h 8 ∷ Claim 2 only-0 ∷ Claim 1 only-0 ∷ Claim (QUOTAS - 1) h ∷ Claim (QUOTAS - 1) h ∷ [])
-    (refused 8 ∷ refused 9 ∷ refused 8 ∷ refused 9 ∷ refused 8 ∷ refused 9 ∷ amount-of 8 ∷ refused 7 ∷ [])
-    0 full-heap (full-accounts 255)
-    ∷ []
+    let upper = handle (16 * common + 8) 8 (common + 1) in
+    map (drop 2)
+    (allocate-lines unit s k 2 8 ∷ allocate-lines unit s k 1 8 ∷ reallocate-lines unit s k 0 h 8 ∷ reallocate-lines unit s k 1 h 8
+    ∷ claim-lines unit s k 2 upper ∷ claim-lines unit s k 1 upper ∷ claim-lines unit s k (QUOTAS - 1) h ∷ [])
 
 -- four objects that fill a heap; quota 0 holds all of them, quota 1 the first
 unfoldable pub four-accounts : ℕ → Accounts
-four-accounts last = accounts-of (quota 79 15 ∷ quota 1000 984 ∷ []) last (hold 1 1 1 ∷ records-from 1 4 1)
+four-accounts last = accounts-of (quota 79 15 ∷ quota 1000 984 ∷ []) last (hold 1 1 1 ∷ records-from 0 1 4 1)
 
 unfoldable pub four-objects : ℕ → Outcome
 four-objects last = state (filled-from 4 0 1) (four-accounts last)
@@ -135,7 +140,7 @@ last-lines =
 -- the same objects; quota 0 may not allocate, quota 1 not claim, quota 2 not free all, and quota 3 nothing
 unfoldable pub barred-accounts : Accounts
 barred-accounts =
-    accounts-of (quota-with 6 79 15 ∷ quota-with 5 1000 984 ∷ quota-with 3 8 8 ∷ quota-with 0 8 8 ∷ []) 4294967295 (hold 1 1 1 ∷ records-from 1 4 1)
+    accounts-of (quota-with 6 79 15 ∷ quota-with 5 1000 984 ∷ quota-with 3 8 8 ∷ quota-with 0 8 8 ∷ []) 4294967295 (hold 1 1 1 ∷ records-from 0 1 4 1)
 
 -- what a refused open hands back, over one free block
 unfoldable pub zero-state : Outcome

@@ -6,7 +6,7 @@ use lib.ListN.{length, take, drop, replicate}
 use Rattle.accounts.specs.declared.Quota.{Quota}
 use Rattle.accounts.specs.declared.Hold.{Hold}
 use Rattle.accounts.specs.declared.Accounts.{Accounts}
-use Rattle.accounts.specs.Accounts.{QUOTAS, HOLDS, zero-hold}
+use Rattle.accounts.specs.Accounts.{QUOTAS, zero-hold}
 use Rattle.model.specs.Answers.{Values, accepted}
 use Rattle.model.specs.Calls.{Outcome, unchanged}
 use Rattle.model.specs.Step.{step}
@@ -59,14 +59,22 @@ quota g r = quota-with 7 g r
 abbrev pub hold : ℕ → ℕ → ℕ → Hold
 hold s q n = record { serial = s; quota = q; count = n }
 
--- accounts whose tables begin with these quotas and these records; behind them are quotas with no grant and every permission, and unused records
-unfoldable pub accounts-of : List Quota → ℕ → List Hold → Accounts
-accounts-of qs last hs =
+-- how many records the accounts of a case have: few, since a check looks at all of them for each object and quota, and no line but 9 counts them
+abbrev pub places : ℕ
+places = 8
+
+-- accounts with so many records whose tables begin with these quotas and these records; behind them are quotas with no grant and every permission, and
+-- unused records
+abbrev pub accounts-to : ℕ → List Quota → ℕ → List Hold → Accounts
+accounts-to n qs last hs =
     record {
       quotas = qs ++ replicate (QUOTAS - length qs) (quota 0 0);
       «last_serial» = last;
-      holds = hs ++ replicate (HOLDS - length hs) zero-hold;
+      holds = hs ++ replicate (n - length hs) zero-hold;
     }
+
+unfoldable pub accounts-of : List Quota → ℕ → List Hold → Accounts
+accounts-of qs last hs = accounts-to places qs last hs
 
 -- a state of these bytes and accounts, and one in which other bytes were written from a place on
 abbrev pub state : List ℕ → Accounts → Outcome

@@ -16,6 +16,13 @@ fn two_objects() -> (Vec<u8>, Accounts) {
     (heap, accounts)
 }
 
+/// The image of a state in form 1.
+fn image_1(heap: &[u8], accounts: &Accounts) -> Vec<u8> {
+    let mut image = vec![0; image_length_form_1(heap.len())];
+    write_form_1(&mut image, heap, accounts).expect("form 1 has room for the state");
+    image
+}
+
 /// The image of a state.
 fn image(heap: &[u8], accounts: &Accounts) -> Vec<u8> {
     let mut image = vec![0; image_length(heap.len())];
@@ -81,4 +88,64 @@ fn refusals_name_the_image_that_they_are_about() {
     assert_eq!(refused(&good, damaged), (22, Which::Second));
     assert_eq!(refused(&[], damaged), (21, Which::First));
     assert_eq!(refused(&good, &other), (27, Which::Neither));
+}
+
+#[test]
+fn permissions_are_a_part_of_a_quota() {
+    let (heap, accounts) = two_objects();
+    let mut changed = accounts.clone();
+    for quota in [0, 9, 31] {
+        clear_permissions(&heap, &mut changed, quota, 2).expect("the state is sound");
+    }
+    changed.quotas[9].grant = 3;
+    changed.quotas[9].remainder = 3;
+    assert_eq!(
+        differences(&image(&heap, &accounts), &image(&heap, &changed)),
+        Ok(vec![Quota(0), Quota(9), Quota(31)])
+    );
+}
+
+#[test]
+fn records_of_all_places_are_listed() {
+    let (heap, accounts) = two_objects();
+    let mut changed = accounts.clone();
+    changed.holds.swap(1, 128);
+    changed.holds.swap(0, 511);
+    assert_eq!(
+        differences(&image(&heap, &accounts), &image(&heap, &changed)),
+        Ok(vec![Record(0), Record(1), Record(128), Record(511)])
+    );
+}
+
+#[test]
+fn two_images_of_form_1_are_compared_as_well() {
+    let (heap, accounts) = two_objects();
+    let mut changed = accounts.clone();
+    changed.holds.swap(1, 127);
+    changed.quotas[7].grant = 1;
+    changed.quotas[7].remainder = 1;
+    let (first, second) = (image_1(&heap, &accounts), image_1(&heap, &changed));
+    assert_eq!(differences(&first, &first), Ok(vec![]));
+    assert_eq!(
+        differences(&first, &second),
+        Ok(vec![Quota(7), Record(1), Record(127)])
+    );
+}
+
+#[test]
+fn two_forms_are_refused_behind_a_bad_image_and_before_unequal_heaps() {
+    let (heap, accounts) = two_objects();
+    let mut short = vec![0; 64];
+    let (fresh, _) = open(&mut short, grants(&[500, 500]));
+    let number = |a: &[u8], b: &[u8]| {
+        let (refusal, which) = differences(a, b).expect_err("a refusal");
+        (refusal.number(), which)
+    };
+    let (one, two) = (image_1(&heap, &accounts), image(&heap, &accounts));
+    assert_eq!(number(&one, &two), (29, Which::Neither));
+    assert_eq!(number(&two, &one), (29, Which::Neither));
+    assert_eq!(number(&one, &image(&short, &fresh)), (29, Which::Neither));
+    assert_eq!(number(&image_1(&short, &fresh), &one), (27, Which::Neither));
+    assert_eq!(number(&one, &two[..512]), (22, Which::Second));
+    assert_eq!(number(&two[..511], &one[..512]), (21, Which::First));
 }

@@ -1,4 +1,4 @@
-//! Images: the worked example of rule 13.20 byte by byte, and each refusal of the reader.
+//! Images of form 1: the worked example of rule 13.20 byte by byte, and each refusal of the reader.
 
 use lokhazim_reference::*;
 
@@ -10,12 +10,12 @@ fn example() -> (Vec<u8>, Accounts, Vec<u8>) {
     let (accounts, opened) = open(&mut heap, grants(&[100, 1_000]));
     assert_eq!(opened, Ok(()));
     let mut image = vec![0; 1_536];
-    assert_eq!(write_image(&mut image, &heap, &accounts), Ok(1_536));
+    assert_eq!(write_form_1(&mut image, &heap, &accounts), Ok(1_536));
     (heap, accounts, image)
 }
 
 /// The number of the refusal by which the image is not read into a heap of so many bytes.
-fn refused(image: &[u8], heap_bytes: usize) -> u8 {
+pub fn refused(image: &[u8], heap_bytes: usize) -> u8 {
     let mut heap = vec![9; heap_bytes];
     let answer = read_image(image, &mut heap);
     assert_eq!(heap, vec![9; heap_bytes], "a refused read changes nothing");
@@ -23,7 +23,7 @@ fn refused(image: &[u8], heap_bytes: usize) -> u8 {
 }
 
 /// Writes the check of every frame anew.
-fn seal(image: &mut [u8]) {
+pub fn seal(image: &mut [u8]) {
     for frame in image.chunks_mut(512) {
         let words = frame[..508].chunks(4);
         let sum = words.fold(0_u32, |sum, w| {
@@ -34,7 +34,7 @@ fn seal(image: &mut [u8]) {
 }
 
 /// The image with another byte at a place, and right checks.
-fn with(image: &[u8], place: usize, byte: u8) -> Vec<u8> {
+pub fn with(image: &[u8], place: usize, byte: u8) -> Vec<u8> {
     let mut changed = image.to_vec();
     changed[place] = byte;
     seal(&mut changed);
@@ -84,7 +84,7 @@ fn what_is_written_is_read_back() {
 fn the_writers_refusals() {
     let (heap, accounts, _) = example();
     let number = |image: &mut [u8], heap: &[u8], accounts: &Accounts| {
-        write_image(image, heap, accounts).map_err(ImageRefusal::number)
+        write_form_1(image, heap, accounts).map_err(ImageRefusal::number)
     };
     let mut short = [5; 1_535];
     assert_eq!(number(&mut short, &heap, &accounts), Err(25));
@@ -105,7 +105,10 @@ fn the_readers_refusals_in_their_order() {
     assert_eq!(refused(&[image.clone(), vec![0; 512]].concat(), 64), 22);
     assert_eq!(refused(&with(&image, 0, 1), 64), 22);
     assert_eq!(refused(&with(&image, 2, 4), 64), 22);
-    assert_eq!(refused(&with(&image, 4, 2), 64), 23);
+    assert_eq!(refused(&with(&image, 4, 0), 64), 23);
+    assert_eq!(refused(&with(&image, 4, 3), 64), 23);
+    assert_eq!(refused(&with(&image, 5, 1), 64), 23);
+    assert_eq!(refused(&with(&image, 4, 2), 64), 24, "form 2 is longer");
     assert_eq!(refused(&with(&image, 6, 1), 64), 23);
     assert_eq!(refused(&with(&image, 7, 1), 64), 23);
     assert_eq!(refused(&with(&image, 8, 65), 64), 24);

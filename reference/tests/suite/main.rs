@@ -3,6 +3,7 @@
 mod bytes;
 mod comparison;
 mod damage;
+mod form_2;
 mod images;
 mod ledger;
 mod ledger_checks;

@@ -129,7 +129,7 @@ fn form_1_carries_no_cleared_permission() {
         state.number(Call::ClearPermissions(quota, 4));
         let State { heap, accounts } = &state;
         let number = |image: &mut [u8], heap: &[u8]| {
-            write_image(image, heap, accounts).map_err(ImageRefusal::number)
+            write_form_1(image, heap, accounts).map_err(ImageRefusal::number)
         };
         let mut image = [7; 2_048];
         assert_eq!(number(&mut image, heap), Err(28));
@@ -143,8 +143,8 @@ fn form_1_carries_no_cleared_permission() {
 #[test]
 fn the_reader_of_form_1_sets_all() {
     let (state, _) = held_twice();
-    let mut image = vec![0; image_length(256)];
-    assert!(write_image(&mut image, &state.heap, &state.accounts).is_ok());
+    let mut image = vec![0; image_length_form_1(256)];
+    assert!(write_form_1(&mut image, &state.heap, &state.accounts).is_ok());
     let mut heap = vec![0; 256];
     let accounts = read_image(&image, &mut heap).expect("the image is good");
     assert_eq!(State { heap, accounts }, state);

@@ -26,8 +26,9 @@ fn after_open(lines: &str) -> String {
         .to_string()
 }
 
-/// The example of rule 11.16, for eight quotas.
-const EXAMPLE: &str = "open 128 100 1000 0 0 0 0 0 0\n\
+/// The example of rule 11.16, for 32 quotas.
+const EXAMPLE: &str = "open 128 100 1000 0 0 0 0 0 0 0 0 0 0 0 0 0 0 \
+                       0 0 0 0 0 0 0 0 0 0 0 0 0 0 0 0\n\
                        alloc 0 10\nalloc 0 68\nfree 1 8 16 1\nall 0\n";
 
 /// The answer to the example.
@@ -59,6 +60,9 @@ fn line_shape_is_checked_before_meaning() {
     assert_eq!(run(&format!("open 56{}\n", zeros(QUOTAS + 1))), "bad\n");
     assert_eq!(run(&format!("open 56{}\n", zeros(QUOTAS))), "no 1\n");
     assert_eq!(run("open\n"), "bad\n");
+    assert_eq!(QUOTAS, 32);
+    assert_eq!(run(&format!("open 128{}\n", zeros(8))), "bad\n");
+    assert_eq!(run(&format!("open 128{}\n", zeros(32))), "ok\n0 128 0\n");
 }
 
 #[test]

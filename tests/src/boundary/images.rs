@@ -3,6 +3,7 @@
 use lokhazim_reference::{Accounts, Difference};
 
 use super::CAccounts;
+use crate::forms::Form;
 
 /// What writing an image gives back.
 #[repr(C)]
@@ -55,6 +56,14 @@ extern "C" {
         at: usize,
     ) -> NextReply;
     fn lokhazim_image_length(heap_length: usize) -> usize;
+    fn lokhazim_image_length_form_1(heap_length: usize) -> usize;
+    fn lokhazim_image_write_form_1(
+        image: *mut u8,
+        image_length: usize,
+        heap: *const u8,
+        heap_length: usize,
+        accounts: CAccounts,
+    ) -> ImageReply;
     fn lokhazim_image_write(
         image: *mut u8,
         image_length: usize,
@@ -71,20 +80,29 @@ extern "C" {
 }
 
 /// Gives the length of the image of a heap of this length, 0 for a length that is not allowed.
-pub fn image_length(heap_length: usize) -> usize {
-    // Safety: the function takes and gives a number.
-    unsafe { lokhazim_image_length(heap_length) }
+pub fn image_length(form: Form, heap_length: usize) -> usize {
+    // Safety: the functions take and give a number.
+    unsafe {
+        match form.number {
+            1 => lokhazim_image_length_form_1(heap_length),
+            _ => lokhazim_image_length(heap_length),
+        }
+    }
 }
 
 /// Writes an image by the proved code and gives the refusal and the length.
 ///
 /// What is lent for reading gets a pointer made from a mutable borrow too, so that comparing the
 /// bytes afterwards would see a write.
-pub fn write(image: &mut [u8], heap: &mut [u8], accounts: &Accounts) -> (u32, usize) {
+pub fn write(form: Form, image: &mut [u8], heap: &mut [u8], accounts: &Accounts) -> (u32, usize) {
+    let write = match form.number {
+        1 => lokhazim_image_write_form_1,
+        _ => lokhazim_image_write,
+    };
     // Safety: each pointer and length are those of one borrowed slice, the struct has the layout
     // of the boundary, and the function accepts any bytes and any numbers.
     let reply = unsafe {
-        lokhazim_image_write(
+        write(
             image.as_mut_ptr(),
             image.len(),
             heap.as_mut_ptr(),

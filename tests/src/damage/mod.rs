@@ -139,12 +139,12 @@ pub const DAMAGES: [Damage; 39] = [
         Way::Plan(|p, n| add_record(p, n, 0, 3, 0)),
     ),
     kind(
-        "a further record of a quota above 7",
+        "a further record of a quota that there is not",
         Sentence::Records,
         Way::Plan(further_high_quota),
     ),
     kind(
-        "a quota above 7 in a record",
+        "a quota that there is not in a record",
         Sentence::Records,
         Way::Plan(|p, n| change_record(p, n, |h, q| h.quota |= q)),
     ),

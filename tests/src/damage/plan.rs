@@ -139,22 +139,23 @@ pub(super) fn record_of_no_object(plan: &mut Plan, seed: &mut Seed) -> Option<()
     (!live).then(|| add_record(plan, seed, serial, quota, 1))?
 }
 
-/// Adds a record of a live serial with a quota above 7.
+/// Adds a record of a live serial with a quota that there is not.
 pub(super) fn further_high_quota(plan: &mut Plan, seed: &mut Seed) -> Option<()> {
     let place = seed.any_of(&plan.live())?;
-    let quota = seed.pick(&[8, 9, 15, 16, 64, 128, 255]);
+    let first = QUOTAS as u8;
+    let quota = seed.pick(&[first, first + 1, 2 * first - 1, 2 * first, 128, 255]);
     let serial = plan.pieces[place].serial;
     add_record(plan, seed, serial, quota, 1)
 }
 
-/// Changes one used record; the change is handed a number with a bit above 7.
+/// Changes one used record; the change is handed a number with a bit that no quota's number has.
 pub(super) fn change_record(
     plan: &mut Plan,
     seed: &mut Seed,
     change: fn(&mut Hold, u8),
 ) -> Option<()> {
     let place = seed.any_of(&plan.record_places(true))?;
-    let high = 8 << seed.below(5);
+    let high = (QUOTAS as u8) << seed.below((QUOTAS as u8).leading_zeros() + 1);
     change(&mut plan.records[place], high);
     Some(())
 }

@@ -18,8 +18,8 @@ fn distinct() -> Accounts {
         last_serial: mark(2 * QUOTAS),
         holds: core::array::from_fn(|i| Hold {
             serial: mark(2 * QUOTAS + 1 + i),
-            quota: 2 * i as u8,
-            count: 2 * i as u8 + 1,
+            quota: (2 * i) as u8,
+            count: (2 * i + 1) as u8,
         }),
     }
 }

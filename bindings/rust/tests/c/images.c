@@ -1,7 +1,7 @@
 /*
  * Images from C: a heap with every record used is written and read back, a refused image leaves heap
  * and accounts alone, the caller's null pointer for the length is taken, two images are compared, and
- * accounts with a cleared permission are not written.
+ * form 1 is written of what it can carry and of nothing else.
  */
 #include "lokhazim_image.h"
 
@@ -33,7 +33,7 @@ static void fill(void)
     CHECK(lokhazim_heap_open(heap, sizeof heap, &accounts, grants) == LOKHAZIM_ACCEPTED);
     for (uint32_t i = 0; i < LOKHAZIM_HOLDS; i++) {
         struct lokhazim_handle handle;
-        CHECK(lokhazim_heap_allocate(heap, sizeof heap, &accounts, i % LOKHAZIM_QUOTAS, 100 + i, &handle) == LOKHAZIM_ACCEPTED);
+        CHECK(lokhazim_heap_allocate(heap, sizeof heap, &accounts, i % LOKHAZIM_QUOTAS, 1 + i % 40, &handle) == LOKHAZIM_ACCEPTED);
         memset(heap + handle.base, (int)i, handle.length);
     }
 }
@@ -54,7 +54,7 @@ static int same(const struct lokhazim_accounts *a, const struct lokhazim_account
     return equal;
 }
 
-/* The second image has one byte of the first object changed, and one record's count. */
+/* The second image has one byte of the first object changed, one record's count, and the last quota's permissions. */
 static void compare(void)
 {
     struct lokhazim_compare_reply reply;
@@ -62,18 +62,23 @@ static void compare(void)
     const size_t length = LOKHAZIM_IMAGE_MAX;
     heap[8] ^= 1;
     accounts.holds[5].count = 2;
+    accounts.quotas[LOKHAZIM_QUOTAS - 1].permissions = LOKHAZIM_MAY_CLAIM;
     CHECK(lokhazim_heap_save(heap, sizeof heap, &accounts, changed, sizeof changed, NULL) == LOKHAZIM_IMAGE_ACCEPTED);
 
     reply = lokhazim_image_compare(image, length, changed, length, 0);
-    CHECK(reply.refusal == 0 && reply.kind == LOKHAZIM_RECORD_DIFFERS && reply.place == 5 && reply.length == 0);
+    CHECK(reply.refusal == 0 && reply.kind == LOKHAZIM_QUOTA_DIFFERS && reply.place == LOKHAZIM_QUOTAS - 1 && reply.length == 0);
     reply = lokhazim_image_compare(image, length, changed, length, 1);
-    CHECK(reply.refusal == 0 && reply.kind == LOKHAZIM_BYTES_DIFFER && reply.place == 8 && reply.length == 1);
+    CHECK(reply.refusal == 0 && reply.kind == LOKHAZIM_RECORD_DIFFERS && reply.place == 5 && reply.length == 0);
     reply = lokhazim_image_compare(image, length, changed, length, 2);
+    CHECK(reply.refusal == 0 && reply.kind == LOKHAZIM_BYTES_DIFFER && reply.place == 8 && reply.length == 1);
+    reply = lokhazim_image_compare(image, length, changed, length, 3);
     CHECK(reply.refusal == 0 && reply.kind == LOKHAZIM_NO_DIFFERENCE);
     reply = lokhazim_image_compare(image, length, changed, length - 1, 0);
     CHECK(reply.refusal == LOKHAZIM_IMAGE_LENGTH && reply.which == 2 && reply.kind == 0);
 
     next = lokhazim_image_compare_next(image, length, changed, length, 0, 0);
+    CHECK(next.kind == LOKHAZIM_QUOTA_DIFFERS && next.place == LOKHAZIM_QUOTAS - 1);
+    next = lokhazim_image_compare_next(image, length, changed, length, next.part, next.at);
     CHECK(next.kind == LOKHAZIM_RECORD_DIFFERS && next.place == 5);
     next = lokhazim_image_compare_next(image, length, changed, length, next.part, next.at);
     CHECK(next.kind == LOKHAZIM_BYTES_DIFFER && next.place == 8 && next.length == 1);
@@ -81,18 +86,66 @@ static void compare(void)
     CHECK(next.kind == LOKHAZIM_NO_DIFFERENCE);
 }
 
-/* A cleared permission is refused before the room is looked at, and nothing is written. */
-static void cleared(void)
+/* Writes form 1, which has to give a refusal, whether there is room or not, and to leave the bytes alone. */
+static void not_carried(const char *why)
 {
     size_t length = 1;
-    const uint32_t last = LOKHAZIM_QUOTAS - 1;
     memset(changed, 7, sizeof changed);
-    CHECK(lokhazim_heap_clear_permissions(heap, sizeof heap, &accounts, last, LOKHAZIM_MAY_CLAIM, NULL) == LOKHAZIM_ACCEPTED);
-    CHECK(lokhazim_heap_save(heap, sizeof heap, &accounts, changed, sizeof changed, &length) == LOKHAZIM_IMAGE_NOT_CARRIED);
+    if (lokhazim_heap_save_form_1(heap, sizeof heap, &accounts, changed, sizeof changed, &length) != LOKHAZIM_IMAGE_NOT_CARRIED
+        || lokhazim_heap_save_form_1(heap, sizeof heap, &accounts, changed, 0, NULL) != LOKHAZIM_IMAGE_NOT_CARRIED) {
+        fprintf(stderr, "FAILED: form 1 is written though %s.\n", why);
+        exit(EXIT_FAILURE);
+    }
     CHECK(length == 0 && changed[0] == 7);
-    CHECK(lokhazim_heap_save(heap, sizeof heap, &accounts, changed, 0, NULL) == LOKHAZIM_IMAGE_NOT_CARRIED);
-    CHECK(lokhazim_heap_restore(heap, sizeof heap, &accounts, image, LOKHAZIM_IMAGE_MAX) == LOKHAZIM_IMAGE_ACCEPTED);
-    CHECK(accounts.quotas[last].permissions == LOKHAZIM_MAY_ALL);
+}
+
+/* A heap whose first and last place of form 1 are used. */
+static void fill_form_1(void)
+{
+    struct lokhazim_grants grants = { { 1000 } };
+    struct lokhazim_handle handle;
+    grants.values[LOKHAZIM_FORM_1_QUOTAS - 1] = 2000;
+    CHECK(lokhazim_heap_open(heap, sizeof heap, &accounts, grants) == LOKHAZIM_ACCEPTED);
+    CHECK(lokhazim_heap_allocate(heap, sizeof heap, &accounts, LOKHAZIM_FORM_1_QUOTAS - 1, 40, &handle) == LOKHAZIM_ACCEPTED);
+    accounts.holds[LOKHAZIM_FORM_1_HOLDS - 1] = accounts.holds[0];
+    accounts.holds[0] = (struct lokhazim_hold){ 0, 0, 0 };
+    CHECK(lokhazim_heap_check(heap, sizeof heap, &accounts) == LOKHAZIM_ACCEPTED);
+}
+
+/* Form 1 carries what fits it, and is refused by 28 for each single thing that doesn't. */
+static void form_1(void)
+{
+    size_t length = 1;
+    struct lokhazim_accounts back;
+    struct lokhazim_accounts kept;
+    fill_form_1();
+    kept = accounts;
+    memset(&back, 0, sizeof back);
+    CHECK(lokhazim_image_length_form_1(sizeof heap) == LOKHAZIM_IMAGE_MAX_FORM_1 && lokhazim_image_length_form_1(65) == 0);
+    CHECK(lokhazim_heap_save_form_1(heap, sizeof heap, &accounts, image, LOKHAZIM_IMAGE_MAX_FORM_1 - 1, &length) == LOKHAZIM_IMAGE_ROOM);
+    CHECK(lokhazim_heap_save_form_1(heap, sizeof heap, &accounts, image, sizeof image, &length) == LOKHAZIM_IMAGE_ACCEPTED);
+    CHECK(length == LOKHAZIM_IMAGE_MAX_FORM_1);
+    CHECK(lokhazim_image_examine(image, length).form == 1);
+    CHECK(lokhazim_heap_restore(other, sizeof other, &back, image, length) == LOKHAZIM_IMAGE_ACCEPTED);
+    CHECK(memcmp(heap, other, sizeof heap) == 0 && same(&accounts, &back));
+
+    accounts.quotas[LOKHAZIM_FORM_1_QUOTAS].grant = 1;
+    accounts.quotas[LOKHAZIM_FORM_1_QUOTAS].remainder = 1;
+    not_carried("a quota behind its own has a grant");
+    accounts = kept;
+    accounts.holds[LOKHAZIM_FORM_1_HOLDS] = accounts.holds[LOKHAZIM_FORM_1_HOLDS - 1];
+    accounts.holds[LOKHAZIM_FORM_1_HOLDS - 1] = (struct lokhazim_hold){ 0, 0, 0 };
+    not_carried("a record behind its own is used");
+    accounts = kept;
+    CHECK(lokhazim_heap_clear_permissions(heap, sizeof heap, &accounts, LOKHAZIM_QUOTAS - 1, LOKHAZIM_MAY_CLAIM, NULL)
+          == LOKHAZIM_ACCEPTED);
+    not_carried("a quota lacks a permission");
+
+    CHECK(lokhazim_heap_save(heap, sizeof heap, &accounts, changed, sizeof changed, &length) == LOKHAZIM_IMAGE_ACCEPTED);
+    CHECK(lokhazim_image_examine(changed, length).form == 2);
+    CHECK(lokhazim_heap_restore(other, sizeof other, &back, changed, length) == LOKHAZIM_IMAGE_ACCEPTED && same(&accounts, &back));
+    const struct lokhazim_compare_reply reply = lokhazim_image_compare(image, LOKHAZIM_IMAGE_MAX_FORM_1, changed, length, 0);
+    CHECK(reply.refusal == LOKHAZIM_IMAGE_FORMS_DIFFER && reply.which == 0);
 }
 
 int main(void)
@@ -122,6 +175,6 @@ int main(void)
     CHECK(lokhazim_heap_restore(other, sizeof other - 8, &back, image, length) == LOKHAZIM_IMAGE_ROOM);
     CHECK(other[0] == 9 && other[sizeof other - 1] == 9 && same(&accounts, &back));
     compare();
-    cleared();
+    form_1();
     return EXIT_SUCCESS;
 }

@@ -106,7 +106,7 @@ static void accounts_come_back(void)
 /* The object of record i has a length and a count of its own. */
 static uint32_t length_of(uint32_t i)
 {
-    return 8 + 8 * (i % 32);
+    return 8 + 8 * (i % 8);
 }
 
 static uint32_t count_of(uint32_t i)
@@ -246,9 +246,12 @@ static void numbers_in_order(void)
 /* Quota q loses the permissions with the bits of q. Then each call goes by its own bit of its own quota. */
 static void permissions_are_read(void)
 {
-    const struct lokhazim_grants grants = { { 500, 500, 500, 500, 500, 500, 500, 500 } };
+    struct lokhazim_grants grants;
     struct lokhazim_handle object;
     struct lokhazim_handle given;
+    for (uint32_t q = 0; q < LOKHAZIM_QUOTAS; q++) {
+        grants.values[q] = 500;
+    }
     ACCEPTED(lokhazim_heap_open(HEAP, &accounts, grants));
     ACCEPTED(lokhazim_heap_allocate(HEAP, &accounts, 0, 8, &object));
     for (uint32_t q = 1; q <= LOKHAZIM_MAY_ALL; q++) {

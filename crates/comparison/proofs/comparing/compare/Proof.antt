@@ -1,7 +1,8 @@
 -- The first image's refusal comes before all (`Compared`).
 -- Assumes nothing.
-use mathlib.Core.Path.{_∙_}
+use mathlib.Core.Path.{ap, _∙_}
 use borrow.Author.Needs.{needs}
+use Rattle.image_model.specs.declared.Form.{Form}
 use Rattle.comparison.proofs.Compared.{examined-image, examined-number, first-bad, first-good}
 use Rattle.comparison.proofs.comparing.compare.Statement.{statement}
 use Rattle.comparison.proofs.comparing.compare.Tie as tie
@@ -17,7 +18,8 @@ with-second-requires c κs =
     let s = c .before in
     let p = s .before .before in
     let a = p .before .before .before .args in
-    examined-image (a .first .now) (p .examine .result) (p .examine .ensures) _ (s .shape .given .0 .1 .0) (s .shape .given .1) .1
+    let e = examined-image (a .first .now) (p .examine .result) (p .examine .ensures) _ (s .shape .given .0 .1 .0) (s .shape .given .1) in
+    (ap (λ (f : Form). f .number) (e .1), e .2)
 
 enum-known-shape-2 : tie.Need-enum-known-shape-2
 enum-known-shape-2 c = search needs

@@ -1,8 +1,9 @@
--- The second image's refusal, then the lengths, then the difference (`Compared`).
+-- The second image's refusal, then the forms, then the lengths, then the difference (`Compared`).
 -- Assumes nothing.
-use mathlib.Core.Path.{sym, _∙_}
+use mathlib.Core.Path.{ap, sym, _∙_}
 use borrow.Author.Needs.{needs}
-use Rattle.comparison.proofs.Compared.{examined-image, examined-number, second-bad, other-length, second-good}
+use Rattle.image_model.specs.declared.Form.{Form}
+use Rattle.comparison.proofs.Compared.{examined-image, examined-number, second-bad, other-form, other-length, second-good}
 use Rattle.comparison.proofs.comparing.with_second.Statement.{statement}
 use Rattle.comparison.proofs.comparing.with_second.Tie as tie
 
@@ -14,11 +15,22 @@ enum-known-shape c = search needs
 
 returns : tie.Need-returns
 returns c =
-    let s = c .before .before in
+    let s = c .before .before .before in
     let p = s .before .before in
-    let a = p .before .before .before .args in
+    let start = p .before .before .before in
+    let a = start .args in
     let e = examined-image (a .second .now) (p .examine .result) (p .examine .ensures) _ (s .shape .given .0 .1 .0) (s .shape .given .1) in
-    other-length (a .first .now) (a .second .now) (a .n) (e .0) (λ q. c .if1 .taken (p .before .before .before .pre ∙ q ∙ sym (e .1)))
+    other-form (a .first .now) (a .second .now) (a .n) (e .0) (λ q. c .if1 .taken (start .pre .0 ∙ q ∙ sym (ap (λ (f : Form). f .number) (e .1))))
+
+returns-2 : tie.Need-returns-2
+returns-2 c =
+    let s = c .before .before .before .before in
+    let p = s .before .before in
+    let start = p .before .before .before in
+    let a = start .args in
+    let e = examined-image (a .second .now) (p .examine .result) (p .examine .ensures) _ (s .shape .given .0 .1 .0) (s .shape .given .1) in
+    let same = sym (start .pre .0) ∙ c .before .if1 .left ∙ ap (λ (f : Form). f .number) (e .1) in
+    other-length (a .first .now) (a .second .now) (a .n) (e .0) same (λ q. c .if2 .taken (start .pre .1 ∙ q ∙ sym (e .2)))
 
 nth-difference-requires : tie.Need-nth-difference-requires
 nth-difference-requires c κs = search needs
@@ -26,16 +38,18 @@ nth-difference-requires c κs = search needs
 enum-known-shape-2 : tie.Need-enum-known-shape-2
 enum-known-shape-2 c = search needs
 
-returns-2 : tie.Need-returns-2
-returns-2 c =
-    let s = c .before .before .before in
-    let p = s .before .before in
-    let a = p .before .before .before .args in
-    let e = examined-image (a .second .now) (p .examine .result) (p .examine .ensures) _ (s .shape .given .0 .1 .0) (s .shape .given .1) in
-    c .nth-difference .ensures ∙ second-good (a .first .now) (a .second .now) (a .n) (e .0) (sym (p .before .before .before .pre) ∙ c .before .if1 .left ∙ e .1)
-
 returns-3 : tie.Need-returns-3
 returns-3 c =
+    let s = c .before .before .before .before .before in
+    let p = s .before .before in
+    let start = p .before .before .before in
+    let a = start .args in
+    let e = examined-image (a .second .now) (p .examine .result) (p .examine .ensures) _ (s .shape .given .0 .1 .0) (s .shape .given .1) in
+    let same = sym (start .pre .0) ∙ c .before .before .if1 .left ∙ ap (λ (f : Form). f .number) (e .1) in
+    c .nth-difference .ensures ∙ second-good (a .first .now) (a .second .now) (a .n) (e .0) same (sym (start .pre .1) ∙ c .before .if2 .left ∙ e .2)
+
+returns-4 : tie.Need-returns-4
+returns-4 c =
     let s = c .before in
     let p = s .before .before in
     let a = p .before .before .before .args in
@@ -49,7 +63,8 @@ with-second-spec =
     examine-requires
     enum-known-shape
     returns
+    returns-2
     nth-difference-requires
     enum-known-shape-2
-    returns-2
-    returns-3)
+    returns-3
+    returns-4)

@@ -32,10 +32,10 @@ found c =
     (p .parse-image .ensures) (c .shape .given .1)
 
 heap-at-requires : tie.Need-heap-at-requires
-heap-at-requires c κs = let f = found-fits _ _ _ _ (found (c .before)) in (f .quotas, f .records)
+heap-at-requires c κs = found-fits _ _ _ _ (found (c .before))
 
 cast-from : tie.Need-cast-from
-cast-from c = let f = found-fits _ _ _ _ (found (c .before .before)) in search needs
+cast-from c = search needs
 
 is-sound-requires : tie.Need-is-sound-requires
 is-sound-requires c κs = found-allowed _ _ _ _ (found (c .before .before))
@@ -48,7 +48,7 @@ returns-2 c =
     let t = c .before .before in
     let h = t .before in
     let s = h .before .before in
-    examined-unsound (s .before .before .before .before .before .args .image .now) _ _ _ (found s) (h .heap-at .result) (h .heap-at .ensures)
+    examined-unsound (s .before .before .before .before .before .args .image .now) _ _ _ (found s) (h .heap-at .result) (h .heap-at .ensures .0)
     (t .is-sound .result) (t .is-sound .ensures)
     (not-true _ (c .before .if1 .taken)) (c .refused .result) (c .refused .ensures)
 
@@ -58,7 +58,8 @@ returns-3 c =
     let h = t .before in
     let s = h .before .before in
     let p = s .before .before .before in
-    examined-sound (p .before .before .args .image .now) _ _ _ (found s) (h .heap-at .result) (h .heap-at .ensures) (t .is-sound .result) (t .is-sound .ensures)
+    examined-sound (p .before .before .args .image .now) _ _ _ (found s) (h .heap-at .result) (h .heap-at .ensures .0)
+    (t .is-sound .result) (t .is-sound .ensures)
     (not-false _ (c .if1 .left)) (p .parse-image .result) (p .parse-image .ensures)
 
 pub examine-spec : {M : Type 1} → statement M

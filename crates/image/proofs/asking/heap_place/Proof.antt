@@ -1,11 +1,9 @@
 -- The heap begins behind the head of the form.
 -- Assumes nothing.
-use mathlib.Core.Path.{ap, sym, _∙_}
+use mathlib.Core.Path.{ap, _∙_}
 use borrow.Author.Needs.{needs}
 use Rattle.image_model.specs.Stream.{head-length}
 use Rattle.image_model.specs.Reading.{size-in}
-use Rattle.image.specs.Parsing.{FormFits}
-use Rattle.image.proofs.Heads.{head-extent}
 use Rattle.image.proofs.Parses.{form-of-fits}
 use Rattle.image.proofs.asking.heap_place.Statement.{statement}
 use Rattle.image.proofs.asking.heap_place.Tie as tie
@@ -14,23 +12,20 @@ form-of-requires : tie.Need-form-of-requires
 form-of-requires c κs = search needs
 
 heap-at-requires : tie.Need-heap-at-requires
-heap-at-requires c κs = let f = form-of-fits (c .before .before .args .image .now) in rw (c .form-of .ensures) (f .quotas, f .records)
+heap-at-requires c κs = rw (c .form-of .ensures) (form-of-fits (c .before .before .args .image .now))
 
 read-quad-requires : tie.Need-read-quad-requires
 read-quad-requires c κs = search needs
 
 cast-t4 : tie.Need-cast-t4
-cast-t4 c =
-    let f = form-of-fits (c .before .before .before .args .image .now) in
-    let e : FormFits (c .before .form-of .result) = rw (c .before .form-of .ensures) f in
-    search needs
+cast-t4 c = search needs
 
 returns : tie.Need-returns
 unfolding size-in
 returns c =
     let h = c .before in
     let f = h .before in
-    let start = h .heap-at .ensures ∙ sym (head-extent (f .form-of .result)) ∙ ap head-length (f .form-of .ensures) in
+    let start = h .heap-at .ensures .0 ∙ ap head-length (f .form-of .ensures) in
     λ i. record { start = start i; size = c .read-quad .ensures i }
 
 pub heap-place-spec : {M : Type 1} → statement M

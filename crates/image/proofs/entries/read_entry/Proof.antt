@@ -1,8 +1,6 @@
--- Grant and remainder stand at 0 and 4 of an entry, and every permission is set (`entry-read`).
+-- Grant and remainder stand at 0 and 4 of an entry, and the permissions at 8 (`entry-read`).
 -- Assumes nothing.
-use mathlib.Core.Path.{_∙_}
 use borrow.Author.Needs.{needs}
-use Rattle.accounts.specs.Accounts.{ALL-PERMISSIONS}
 use Rattle.framing.specs.Frames.{stream-of}
 use Rattle.image_model.specs.declared.Form.{Form}
 use Rattle.image.proofs.Decoding.{entry-read}
@@ -18,12 +16,26 @@ add-read-quad c = search needs
 read-quad-requires-2 : tie.Need-read-quad-requires-2
 read-quad-requires-2 c κs = search needs
 
+add-read-permissions : tie.Need-add-read-permissions
+add-read-permissions c = search needs
+
+read-permissions-requires : tie.Need-read-permissions-requires
+read-permissions-requires c κs = search needs
+
 returns : tie.Need-returns
 returns c =
-    let a = c .before .before .before .args in
-    λ (f : Form). (λ i. record { grant = c .before .read-quad .ensures i; remainder = c .read-quad2 .ensures i; permissions = ALL-PERMISSIONS })
-    ∙ entry-read (a .at) (stream-of (a .image .now)) f
+    let r = c .before in
+    let a = r .before .before .before .args in
+    λ (f : Form) e. entry-read (a .at) (stream-of (a .image .now)) f (a .full) e _
+    (λ i. record { grant = r .before .read-quad .ensures i; remainder = r .read-quad2 .ensures i; permissions = c .read-permissions .ensures i })
 
 pub read-entry-spec : {M : Type 1} → statement M
 read-entry-spec =
-    tie.close (tie.spec read-quad-requires add-read-quad read-quad-requires-2 returns)
+    tie.close
+    (tie.spec
+    read-quad-requires
+    add-read-quad
+    read-quad-requires-2
+    add-read-permissions
+    read-permissions-requires
+    returns)

@@ -1,52 +1,61 @@
 -- The invariant: the first `i` items stand behind each other (`written-more`). The measure is what is left of them.
 -- Assumes nothing.
 use native.Mathlib.Omega.{arith}
-use mathlib.Core.Path.{_≡_, ap, _∙_}
-use Prim.Native.Nat.{ℕ, _-_, _≤_}
-use lib.ListN.{length, take}
+use mathlib.Core.Path.{_≡_, refl, ap, sym, _∙_}
+use Prim.Native.Nat.{ℕ, _+_, _*_, _-_, _≤_}
+use mathlib.Core.List.{List}
+use lib.ListN.{length, take, getD}
 use borrow.Author.Needs.{needs}
 use Rattle.accounts.specs.Accounts.{QUOTAS, zero-quota}
 use Rattle.layout.specs.Bytes.{overwrite}
 use Rattle.layout.proofs.Overwrite.{length-overwrite}
 use Rattle.image_model.specs.Items.{many}
-use Rattle.image_model.specs.Stream.{tail-width, entry-bytes}
+use Rattle.image_model.specs.Stream.{entry-bytes, entry-width}
 use Rattle.image_model.specs.declared.Form.{Form}
-use Rattle.image_model.specs.Stream.{form-1}
-use Rattle.image.proofs.Items.{written-none, written-more}
 use Rattle.image_model.proofs.Entries.{entry-length}
+use Rattle.image.specs.Parsing.{width-of}
+use Rattle.image.proofs.Items.{written-none, written-more}
+use Rattle.image.proofs.Heads.{some-form, entry-inside, width-is}
 use Rattle.image.proofs.entries.write_entries.Statement.{statement}
 use Rattle.image.proofs.entries.write_entries.Tie as tie
 
 abbrev Inv-loop : tie.InvT-loop
-Inv-loop head₀ count quotas i₀ head i = (i ≤ count) × ((f : Form) → head ≡ overwrite 12 (many (entry-bytes f) (take i quotas)) head₀)
+Inv-loop head₀ count full quotas i₀ head i =
+    (i ≤ count) × ((f : Form) → f .full ≡ full → head ≡ overwrite 12 (many (entry-bytes f) (take i quotas)) head₀)
 
 abbrev μ-loop : tie.MeasureT-loop
-μ-loop head₀ count quotas i₀ head i = count - i
+μ-loop head₀ count full quotas i₀ head i = count - i
 
 -- the length stays
 len : (c : tie.At-loop Inv-loop μ-loop) → length (c .loop .head) ≡ length (c .before .before .args .head .now)
+unfolding some-form
 len c =
     let a = c .before .before .args in
-    ap length (c .loop .inv .1 form-1) ∙ length-overwrite 12 (many (entry-bytes form-1) (take (c .loop .i) (a .t2))) (a .head .now)
+    let f = some-form (a .full) in
+    ap length (c .loop .inv .1 f refl) ∙ length-overwrite 12 (many (entry-bytes f) (take (c .loop .i) (a .t2))) (a .head .now)
 
 loop-holds : tie.Need-loop-holds Inv-loop μ-loop
-unfolding tail-width
-loop-holds c = let a = c .before .args in (omega arith, λ (f : Form). written-none (entry-bytes f) 8 (entry-length f) 12 (a .t2) (a .head .now))
+loop-holds c =
+    let a = c .before .args in
+    (omega arith, λ (f : Form) e. written-none (entry-bytes f) (entry-width f) (entry-length f) 12 (a .t2) (a .head .now))
+
+entry-at-requires : tie.Need-entry-at-requires Inv-loop μ-loop
+entry-at-requires c κs = search needs
 
 mul-write-entry : tie.Need-mul-write-entry Inv-loop μ-loop
 mul-write-entry c = search needs
-
-add-write-entry : tie.Need-add-write-entry Inv-loop μ-loop
-add-write-entry c = search needs
-
-mul-write-entry-2 : tie.Need-mul-write-entry-2 Inv-loop μ-loop
-mul-write-entry-2 c = search needs
 
 array-copy-out-write-entry : tie.Need-array-copy-out-write-entry Inv-loop μ-loop
 array-copy-out-write-entry c = search needs
 
 write-entry-requires : tie.Need-write-entry-requires Inv-loop μ-loop
-write-entry-requires c κs = let l = len (c .before .before .before) in omega arith
+write-entry-requires c κs =
+    let e = c .before in
+    let at = e .before .before .before in
+    let start = at .before .before in
+    let a = start .args in
+    let n = entry-inside (at .loop .i) (a .count) (width-of (a .full)) (length (a .head .now)) (omega arith) (start .pre .1) in
+    omega (arith, n, len at, e .entry-at .ensures .0)
 
 add-i : tie.Need-add-i Inv-loop μ-loop
 add-i c = search needs
@@ -55,16 +64,23 @@ loop-less : tie.Need-loop-less Inv-loop μ-loop
 loop-less c = omega arith
 
 loop-again : tie.Need-loop-again Inv-loop μ-loop
-unfolding tail-width
 loop-again c =
     let w = c .before .before in
-    let at = w .before .before .before .before in
+    let p = w .before .before in
+    let at = p .before .before .before in
     let start = at .before .before in
     let a = start .args in
-    let l : length (a .t2) ≡ QUOTAS = start .good .1 .0 .1 .0 .1 in (
+    let i = at .loop .i in
+    let l : length (a .t2) ≡ QUOTAS = start .good .1 .0 .1 .0 .1 in
+    let last = w .write-entry .last .0 in (
       omega arith,
-      λ (f : Form). written-more (entry-bytes f) 8 (entry-length f) 12 (at .loop .i) (a .t2) zero-quota (a .head .now) (at .loop .head)
-          (w .write-entry .last .0) (omega arith) (omega arith) (at .loop .inv .1 f) (w .write-entry .ensures f),
+      λ (f : Form) e. written-more (entry-bytes f) (entry-width f) (entry-length f) 12 i (a .t2) zero-quota (a .head .now) (at .loop .head) last
+          (omega arith)
+          (entry-inside i (a .count) (entry-width f) (length (a .head .now)) (omega arith) (rw (width-is f (a .full) e) at (start .pre .1)))
+          (at .loop .inv .1 f e)
+          (w .write-entry .ensures f e
+          ∙ ap (λ (n : ℕ). overwrite n (entry-bytes f (getD (a .t2) i zero-quota)) (at .loop .head))
+          (p .entry-at .ensures .0 ∙ ap (λ (k : ℕ). 12 + i * k) (width-is f (a .full) e))),
     )
 
 same-length : tie.Need-same-length Inv-loop μ-loop
@@ -75,7 +91,7 @@ returns c =
     let at = c .before in
     let a = at .before .before .args in
     let e : at .loop .i ≡ a .count = omega arith in
-    λ (f : Form). at .loop .inv .1 f ∙ ap (λ (n : ℕ). overwrite 12 (many (entry-bytes f) (take n (a .t2))) (a .head .now)) e
+    λ (f : Form) g. at .loop .inv .1 f g ∙ ap (λ (n : ℕ). overwrite 12 (many (entry-bytes f) (take n (a .t2))) (a .head .now)) e
 
 pub write-entries-spec : {M : Type 1} → statement M
 write-entries-spec =
@@ -84,9 +100,8 @@ write-entries-spec =
     Inv-loop
     μ-loop
     loop-holds
+    entry-at-requires
     mul-write-entry
-    add-write-entry
-    mul-write-entry-2
     array-copy-out-write-entry
     write-entry-requires
     add-i

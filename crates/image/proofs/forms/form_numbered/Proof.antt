@@ -1,21 +1,31 @@
--- One number has a form.
+-- Two numbers have a form.
 -- Assumes nothing.
 use borrow.Author.Needs.{needs}
 use borrow.Author.Tests.{eq-eqb, ne-eqb}
-use Rattle.image_model.specs.Stream.{form-1, form-numbered}
+use Rattle.image_model.specs.Stream.{form-numbered}
 use Rattle.image.proofs.forms.form_numbered.Statement.{statement}
 use Rattle.image.proofs.forms.form_numbered.Tie as tie
-
-returns : tie.Need-returns
-unfolding form-numbered
-returns c = rw (ne-eqb (c .before .args .number) 1 (c .if1 .taken))
 
 form-1-requires : tie.Need-form-1-requires
 form-1-requires c κs = search needs
 
+returns : tie.Need-returns
+unfolding form-numbered
+returns c = rw (eq-eqb (c .before .before .args .number) 1 (c .before .if1 .taken), c .form-1 .ensures)
+
+form-2-requires : tie.Need-form-2-requires
+form-2-requires c κs = search needs
+
 returns-2 : tie.Need-returns-2
 unfolding form-numbered
-returns-2 c = rw (eq-eqb (c .before .before .args .number) 1 (c .before .if1 .left), c .form-1 .ensures)
+returns-2 c =
+    let t = c .before in
+    let a = t .before .before .args in
+    rw (ne-eqb (a .number) 1 (t .before .if1 .left), eq-eqb (a .number) 2 (t .if2 .taken), c .form-2 .ensures)
+
+returns-3 : tie.Need-returns-3
+unfolding form-numbered
+returns-3 c = let a = c .before .before .args in rw (ne-eqb (a .number) 1 (c .before .if1 .left), ne-eqb (a .number) 2 (c .if2 .left))
 
 pub form-numbered-spec : {M : Type 1} → statement M
-form-numbered-spec = tie.close (tie.spec returns form-1-requires returns-2)
+form-numbered-spec = tie.close (tie.spec form-1-requires returns form-2-requires returns-2 returns-3)

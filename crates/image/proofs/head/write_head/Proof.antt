@@ -1,15 +1,15 @@
 -- The parts are written one behind the other (`head-written`).
 -- Assumes nothing.
 use native.Mathlib.Omega.{arith}
-use mathlib.Core.Path.{_≡_, ap, sym, _∙_}
+use mathlib.Core.Path.{_≡_, refl, ap, _∙_}
 use borrow.Author.Needs.{needs}
 use Prim.Native.Nat.{ℕ}
 use lib.ListN.{length, take, length-map}
 use Rattle.layout.specs.Bytes.{overwrite}
 use Rattle.image_model.specs.Items.{many}
-use Rattle.image_model.specs.Stream.{record-bytes}
+use Rattle.image_model.specs.Stream.{tail-width, record-bytes, head-length}
 use Rattle.accounts.specs.Accounts.{QUOTAS, HOLDS}
-use Rattle.image.proofs.Heads.{head-extent, head-written}
+use Rattle.image.proofs.Heads.{head-written}
 use Rattle.image.proofs.head.write_head.Statement.{statement}
 use Rattle.image.proofs.head.write_head.Tie as tie
 
@@ -26,18 +26,21 @@ write-u32-requires-2 : tie.Need-write-u32-requires-2
 write-u32-requires-2 c κs = search needs
 
 write-entries-requires : tie.Need-write-entries-requires
+unfolding head-length tail-width
 write-entries-requires c κs = (search needs, omega arith)
 
-records-at-requires : tie.Need-records-at-requires
-records-at-requires c κs = search needs
+entry-at-requires : tie.Need-entry-at-requires
+entry-at-requires c κs = search needs
 
 write-records-requires : tie.Need-write-records-requires
+unfolding head-length tail-width
 write-records-requires c κs = (search needs, omega arith)
 
 same-length : tie.Need-same-length
 same-length c = search needs
 
 returns : tie.Need-returns
+unfolding tail-width
 returns c =
     let w₆ = c .before .before in
     let w₅ = w₆ .before .before .before .before .before in
@@ -52,10 +55,10 @@ returns c =
     let hs : length (k .holds) ≡ HOLDS = simp length-map at (start .good .1 .1 .1 .0 .1 .1 .1 .1 .0 .1 .0 .1) in
     head-written (a .form) (start .pre .0) (a .size) k qs hs (a .head .now) (w₁ .write-u16 .last .0) (w₂ .write-u162 .last .0) (w₃ .write-u32 .last .0)
     (w₄ .write-u322 .last .0)
-    (w₅ .write-entries .last .0) (w₆ .write-records .last .0) (start .pre .1 ∙ sym (head-extent (a .form)))
-    (w₁ .write-u16 .ensures) (w₂ .write-u162 .ensures) (w₃ .write-u32 .ensures) (w₄ .write-u322 .ensures) (w₅ .write-entries .ensures (a .form))
+    (w₅ .write-entries .last .0) (w₆ .write-records .last .0) (start .pre .1)
+    (w₁ .write-u16 .ensures) (w₂ .write-u162 .ensures) (w₃ .write-u32 .ensures) (w₄ .write-u322 .ensures) (w₅ .write-entries .ensures (a .form) refl)
     (w₆ .write-records .ensures
-    ∙ ap (λ (x : ℕ). overwrite x (many record-bytes (take (a .form .records) (k .holds))) (w₅ .write-entries .last .0)) (w₆ .before .records-at .ensures))
+    ∙ ap (λ (x : ℕ). overwrite x (many record-bytes (take (a .form .records) (k .holds))) (w₅ .write-entries .last .0)) (w₆ .before .entry-at .ensures .0))
 
 pub write-head-spec : {M : Type 1} → statement M
 write-head-spec =
@@ -66,7 +69,7 @@ write-head-spec =
     write-u32-requires
     write-u32-requires-2
     write-entries-requires
-    records-at-requires
+    entry-at-requires
     write-records-requires
     same-length
     returns)

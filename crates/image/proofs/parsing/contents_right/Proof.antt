@@ -1,12 +1,13 @@
 -- The tests are the definition's, in its order (`Parses`).
 -- Assumes nothing.
 use native.Mathlib.Omega.{arith}
-use mathlib.Core.Path.{ap, sym, _∙_}
+use mathlib.Core.Path.{refl, ap, sym, _∙_}
 use borrow.Author.Needs.{needs}
 use Prim.Native.Nat.{ℕ, _+_}
 use borrow.Author.Tests.{not-true, not-false}
+use Rattle.image_model.specs.Stream.{tail-width}
 use Rattle.image_model.proofs.Written.{allowed-most}
-use Rattle.image.proofs.Parses.{not-allowed, other-count, not-padded, by-spares}
+use Rattle.image.proofs.Parses.{not-allowed, other-count, not-padded, wrong-entries, by-spares}
 use Rattle.image.proofs.parsing.contents_right.Statement.{statement}
 use Rattle.image.proofs.parsing.contents_right.Tie as tie
 
@@ -27,13 +28,13 @@ add-end : tie.Need-add-end
 add-end c =
     let k = c .before .before in
     let l = allowed-most (k .before .before .args .size) (sym (k .is-allowed .ensures) ∙ not-false _ (c .before .if1 .left)) in
-    omega arith
+    omega (arith, l, c .heap-at .ensures .1)
 
 add-if2 : tie.Need-add-if2
 add-if2 c =
     let k = c .before .before in
     let l = allowed-most (k .before .before .args .size) (sym (k .is-allowed .ensures) ∙ not-false _ (c .before .if1 .left)) in
-    omega arith
+    omega (arith, l, c .heap-at .ensures .1)
 
 returns-2 : tie.Need-returns-2
 returns-2 c =
@@ -42,7 +43,7 @@ returns-2 c =
     let start = k .before .before in
     let a = start .args in
     other-count (a .image .now) (a .form) (a .size) (start .pre .1) (start .pre .2) (sym (k .is-allowed .ensures) ∙ not-false _ (h .before .if1 .left)) _
-    (ap (λ (n : ℕ). n + a .size) (h .heap-at .ensures)) (c .if2 .taken)
+    (ap (λ (n : ℕ). n + a .size) (h .heap-at .ensures .0)) (c .if2 .taken)
 
 zero-from-requires : tie.Need-zero-from-requires
 zero-from-requires c κs = search needs
@@ -55,26 +56,45 @@ returns-3 c =
     let start = k .before .before in
     let a = start .args in
     not-padded (a .image .now) (a .form) (a .size) (start .pre .1) (start .pre .2) (sym (k .is-allowed .ensures) ∙ not-false _ (h .before .if1 .left)) _
-    (ap (λ (n : ℕ). n + a .size) (h .heap-at .ensures)) (z .before .if2 .left)
+    (ap (λ (n : ℕ). n + a .size) (h .heap-at .ensures .0)) (z .before .if2 .left)
     (z .zero-from .result) (z .zero-from .ensures) (not-true _ (c .if3 .taken))
 
-records-at-requires : tie.Need-records-at-requires
-records-at-requires c κs = search needs
+entries-right-requires : tie.Need-entries-right-requires
+entries-right-requires c κs = search needs
+
+returns-4 : tie.Need-returns-4
+returns-4 c =
+    let t = c .before in
+    let z = t .before .before in
+    let h = z .before .before in
+    let k = h .before .before in
+    let start = k .before .before in
+    let a = start .args in
+    wrong-entries (a .image .now) (a .form) (a .size) (start .pre .1) (start .pre .2) (sym (k .is-allowed .ensures) ∙ not-false _ (h .before .if1 .left)) _
+    (ap (λ (n : ℕ). n + a .size) (h .heap-at .ensures .0)) (z .before .if2 .left)
+    (z .zero-from .result) (z .zero-from .ensures) (not-false _ (t .before .if3 .left))
+    (t .entries-right .result) (t .entries-right .ensures (a .form) refl) (not-true _ (c .if4 .taken))
+
+entry-at-requires : tie.Need-entry-at-requires
+entry-at-requires c κs = search needs
 
 spares-right-requires : tie.Need-spares-right-requires
 spares-right-requires c κs = search needs
 
-returns-4 : tie.Need-returns-4
-returns-4 c =
-    let z = c .before .before .before in
+returns-5 : tie.Need-returns-5
+unfolding tail-width
+returns-5 c =
+    let t = c .before .before .before in
+    let z = t .before .before in
     let h = z .before .before in
     let k = h .before .before in
     let start = k .before .before in
     let a = start .args in
     by-spares (a .image .now) (a .form) (a .size) (start .pre .1) (start .pre .2) (sym (k .is-allowed .ensures) ∙ not-false _ (h .before .if1 .left)) _
-    (ap (λ (n : ℕ). n + a .size) (h .heap-at .ensures)) (z .before .if2 .left)
-    (z .zero-from .result) (c .spares-right .result) (c .before .records-at .result) (z .zero-from .ensures) (not-false _ (c .before .before .if3 .left))
-    (c .before .records-at .ensures) (c .spares-right .ensures)
+    (ap (λ (n : ℕ). n + a .size) (h .heap-at .ensures .0)) (z .before .if2 .left)
+    (z .zero-from .result) (z .zero-from .ensures) (not-false _ (t .before .if3 .left))
+    (t .entries-right .result) (t .entries-right .ensures (a .form) refl) (not-false _ (c .before .before .if4 .left))
+    (c .spares-right .result) (c .before .entry-at .result) (c .before .entry-at .ensures .0) (c .spares-right .ensures)
 
 pub contents-right-spec : {M : Type 1} → statement M
 contents-right-spec =
@@ -88,6 +108,8 @@ contents-right-spec =
     returns-2
     zero-from-requires
     returns-3
-    records-at-requires
+    entries-right-requires
+    returns-4
+    entry-at-requires
     spares-right-requires
-    returns-4)
+    returns-5)

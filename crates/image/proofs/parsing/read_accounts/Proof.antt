@@ -1,6 +1,6 @@
 -- The quotas, the last serial and the records stand where the definition reads them.
 -- Assumes nothing.
-use mathlib.Core.Path.{ap, _∙_}
+use mathlib.Core.Path.{refl, ap, _∙_}
 use borrow.Author.Needs.{needs}
 use Prim.Native.Nat.{ℕ}
 use mathlib.Core.List.{_++_}
@@ -18,8 +18,8 @@ read-entries-requires c κs = search needs
 read-quad-requires : tie.Need-read-quad-requires
 read-quad-requires c κs = search needs
 
-records-at-requires : tie.Need-records-at-requires
-records-at-requires c κs = search needs
+entry-at-requires : tie.Need-entry-at-requires
+entry-at-requires c κs = search needs
 
 read-records-requires : tie.Need-read-records-requires
 read-records-requires c κs = search needs
@@ -33,8 +33,8 @@ returns c =
     let t = stream-of (a .image .now) in
     let hs =
     c .read-records .ensures f
-    ∙ ap (λ (n : ℕ). each record-of record-width (f .records) (drop n t) ++ drop (f .records) (blank f .holds)) (c .before .records-at .ensures) in
-    λ i. record { quotas = e .read-entries .ensures f i; «last_serial» = c .before .before .read-quad .ensures i; holds = hs i }
+    ∙ ap (λ (n : ℕ). each record-of record-width (f .records) (drop n t) ++ drop (f .records) (blank f .holds)) (c .before .entry-at .ensures .0) in
+    λ i. record { quotas = e .read-entries .ensures f refl i; «last_serial» = c .before .before .read-quad .ensures i; holds = hs i }
 
 pub read-accounts-spec : {M : Type 1} → statement M
 read-accounts-spec =
@@ -42,6 +42,6 @@ read-accounts-spec =
     (tie.spec
     read-entries-requires
     read-quad-requires
-    records-at-requires
+    entry-at-requires
     read-records-requires
     returns)

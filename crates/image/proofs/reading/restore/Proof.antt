@@ -38,7 +38,7 @@ returns-2 c =
     let a = f .before .before .before .args in
     ap (λ (x : ReadResult). restored-to (a .heap .now) (x .accounts) (x .answer)) (c .refused2 .ensures)
     ∙ restore-unsound (a .form) (a .size) (stream-of (a .image .now)) (a .heap .now) (a .accounts) (s .before .if1 .left) (f .heap-at .result)
-    (f .heap-at .ensures)
+    (f .heap-at .ensures .0)
     (s .is-sound .result) (s .is-sound .ensures) (not-true _ (c .before .if2 .taken))
 
 copy-stream-requires : tie.Need-copy-stream-requires
@@ -54,7 +54,7 @@ returns-3 c =
     let f = s .before .before in
     let a = f .before .before .before .args in
     restore-done (a .form) (a .size) (stream-of (a .image .now)) (a .heap .now) (a .accounts) (s .before .if1 .left) (f .heap-at .result)
-    (f .heap-at .ensures)
+    (f .heap-at .ensures .0)
     (s .is-sound .result) (w .copy-stream .last .1 .1 .0) (s .is-sound .ensures) (not-false _ (w .before .before .if2 .left)) (w .copy-stream .ensures)
 
 pub restore-spec : {M : Type 1} → statement M

@@ -6,19 +6,17 @@ use borrow.Author.Needs.{needs}
 use borrow.Author.Tests.{not-true, not-false}
 use lib.ListN.{length, take}
 use lib.Seq.{length-take-le}
-use Rattle.image_model.specs.Stream.{carries}
 use Rattle.image.proofs.Puts.{put-uncarried}
 use Rattle.image.proofs.writing.put_image.Statement.{statement}
 use Rattle.image.proofs.writing.put_image.Tie as tie
 
-are-carried-requires : tie.Need-are-carried-requires
-are-carried-requires c κs = search needs
+is-carried-requires : tie.Need-is-carried-requires
+is-carried-requires c κs = search needs
 
 returns : tie.Need-returns
-unfolding carries
 returns c =
-    let a = c .before .before .before .before .before .args in
-    put-uncarried (a .form) (a .image .now) (a .heap .now) (a .accounts) (sym (c .before .are-carried .ensures (a .form)) ∙ not-true _ (c .if1 .taken))
+    let a = c .before .before .before .before .args in
+    put-uncarried (a .form) (a .image .now) (a .heap .now) (a .accounts) (sym (c .before .is-carried .ensures) ∙ not-true _ (c .if1 .taken))
 
 heap-at-requires : tie.Need-heap-at-requires
 heap-at-requires c κs = search needs
@@ -33,20 +31,20 @@ array-borrow-prefix-head c = search needs
 sized : (c : tie.After-head)
     → c .before .before .before .heap-at .result ≡ length (take (c .before .before .before .heap-at .result) (c .before .before .head-space .result))
 sized c =
-    let n : length (c .before .before .head-space .result) ≡ 1100 = c .before .before .head-space .ok .1 .0 .1 in
-    sym (length-take-le (c .before .before .before .heap-at .result) (c .before .before .head-space .result) (omega arith))
+    let n : length (c .before .before .head-space .result) ≡ 4492 = c .before .before .head-space .ok .1 .0 .1 in
+    let h = c .before .before .before in
+    sym (length-take-le (h .heap-at .result) (c .before .before .head-space .result) (omega (arith, n, h .heap-at .ensures .1)))
 
 slice-aggregate-put-with : tie.Need-slice-aggregate-put-with
 slice-aggregate-put-with c = sized c
 
 put-with-requires : tie.Need-put-with-requires
-unfolding carries
 put-with-requires c κs =
     let h = c .before .before .before in
     let k = h .before .before in
-    let start = k .before .before .before .before in
+    let start = k .before .before .before in
     let p = start .pre in
-    (sym (k .are-carried .ensures (start .args .form)) ∙ not-false _ (h .before .if1 .left), p .0, sym (sized c) ∙ h .heap-at .ensures, p .1)
+    (sym (k .is-carried .ensures) ∙ not-false _ (h .before .if1 .left), p .0, sym (sized c) ∙ h .heap-at .ensures .0, p .1)
 
 same-length : tie.Need-same-length
 same-length c = search needs
@@ -58,7 +56,7 @@ pub put-image-spec : {M : Type 1} → statement M
 put-image-spec =
     tie.close
     (tie.spec
-    are-carried-requires
+    is-carried-requires
     returns
     heap-at-requires
     head-space-requires

@@ -3,7 +3,6 @@
 use native.Mathlib.Omega.{arith}
 use borrow.Author.Needs.{needs}
 use Rattle.framing.specs.declared.FrameAnswer.the-variants.{Written, NoRoom}
-use Rattle.image.proofs.Heads.{head-extent}
 use Rattle.image.proofs.Puts.{as-image, put-by-frames}
 use Rattle.image.proofs.writing.put_with.Statement.{statement}
 use Rattle.image.proofs.writing.put_with.Tie as tie
@@ -38,7 +37,7 @@ returns c =
     let a = start .args in
     put-by-frames (a .form) (start .pre .1) (a .image .now) (a .heap .now) (a .accounts) (start .pre .0) (start .pre .3)
     (h .write-head .last .0) (h .write-head .ensures)
-    (omega (arith, head-extent (a .form)))
+    (omega (arith, start .pre .2))
     (w .write-frames .last .0) (w .write-frames .result) (Written (c .before .length .given .0 .0)) (w .write-frames .ensures) (c .before .length .given .1)
 
 same-length-3 : tie.Need-same-length-3
@@ -56,7 +55,7 @@ returns-2 c =
     let a = start .args in
     put-by-frames (a .form) (start .pre .1) (a .image .now) (a .heap .now) (a .accounts) (start .pre .0) (start .pre .3)
     (h .write-head .last .0) (h .write-head .ensures)
-    (omega (arith, head-extent (a .form)))
+    (omega (arith, start .pre .2))
     (w .write-frames .last .0) (w .write-frames .result) NoRoom (w .write-frames .ensures) (c .enum-told .given .1)
 
 pub put-with-spec : {M : Type 1} → statement M

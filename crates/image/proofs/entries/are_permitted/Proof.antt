@@ -12,10 +12,9 @@ use lib.Dec.{eqb}
 use lib.ListN.{length, getD}
 use Rattle.accounts.specs.Accounts.{QUOTAS, ALL-PERMISSIONS, zero-quota}
 use Rattle.checker.proofs.Tables.{all-places, all-fails}
-use Rattle.image_model.specs.declared.Form.{Form}
-use Rattle.image_model.specs.Stream.{tail-carries}
-use Rattle.image.proofs.entries.are_carried.Statement.{statement}
-use Rattle.image.proofs.entries.are_carried.Tie as tie
+use Rattle.image_model.specs.Stream.{all-permitted}
+use Rattle.image.proofs.entries.are_permitted.Statement.{statement}
+use Rattle.image.proofs.entries.are_permitted.Tie as tie
 
 abbrev Inv-loop : tie.InvT-loop
 Inv-loop quotas i₀ i = (i ≤ QUOTAS) × ((j : ℕ) → j < i → eqb (getD quotas j zero-quota .permissions) ALL-PERMISSIONS ≡ true)
@@ -36,11 +35,10 @@ element-copy-out-if1 : tie.Need-element-copy-out-if1 Inv-loop μ-loop
 element-copy-out-if1 c = search needs
 
 returns : tie.Need-returns Inv-loop μ-loop
-unfolding tail-carries
 returns c =
     let l = c .before .before in
     let qs = l .before .args .t1 in
-    λ (f : Form). sym (all-fails (tail-carries f) zero-quota qs (l .loop .i) (omega (arith, long (l .before))) (ne-eqb _ _ (c .if1 .taken)))
+    sym (all-fails all-permitted zero-quota qs (l .loop .i) (omega (arith, long (l .before))) (ne-eqb _ _ (c .if1 .taken)))
 
 add-i : tie.Need-add-i Inv-loop μ-loop
 add-i c = search needs
@@ -54,13 +52,12 @@ loop-again c =
     (search needs, below-more _ _ (l .loop .inv .1) (eq-eqb _ _ (c .if1 .left)))
 
 returns-2 : tie.Need-returns-2 Inv-loop μ-loop
-unfolding tail-carries
 returns-2 c =
     let l = c .before in
-    λ (f : Form). sym (all-places (tail-carries f) zero-quota (l .before .args .t1) (λ j h. l .loop .inv .1 j (omega (arith, long (l .before)))))
+    sym (all-places all-permitted zero-quota (l .before .args .t1) (λ j h. l .loop .inv .1 j (omega (arith, long (l .before)))))
 
-pub are-carried-spec : {M : Type 1} → statement M
-are-carried-spec =
+pub are-permitted-spec : {M : Type 1} → statement M
+are-permitted-spec =
     tie.close
     (tie.spec
     Inv-loop

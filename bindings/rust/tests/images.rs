@@ -1,0 +1,149 @@
+//! Images of both forms through the crate's own types.
+
+use std::error::Error;
+
+use lokhazim::{
+    compare_images, examine_image, grants, image_length, image_length_form_1, Accounts, Difference,
+    Heap, Hold, ImageRefusal, Permissions, Which, FORM_1_HOLDS, FORM_1_QUOTAS, HOLDS, QUOTAS,
+};
+
+/// The images of a heap in form 2 and in form 1.
+fn images(heap: &Heap) -> Result<[Vec<u8>; 2], ImageRefusal> {
+    let length = heap.parts().0.len();
+    let mut form_2 = vec![0; image_length(length).expect("an allowed length")];
+    let mut form_1 = vec![0; image_length_form_1(length).expect("an allowed length")];
+    heap.save(&mut form_2)?;
+    heap.save_form_1(&mut form_1)?;
+    Ok([form_2, form_1])
+}
+
+#[test]
+fn a_state_that_form_1_carries_is_the_same_in_both() -> Result<(), Box<dyn Error>> {
+    let mut memory = [0; 128];
+    let mut heap = Heap::open(&mut memory, grants([100; FORM_1_QUOTAS]))?;
+    let handle = heap.allocate(7, 8)?;
+    heap.lend_mut(handle)?.fill(9);
+    for (form, image) in [2, 1].into_iter().zip(images(&heap)?) {
+        assert_eq!(examine_image(&image)?.form, form);
+        let mut elsewhere = [7; 128];
+        let again = Heap::restore(&mut elsewhere, &image)?;
+        assert_eq!(again.parts(), heap.parts());
+    }
+    Ok(())
+}
+
+#[test]
+fn two_forms_are_not_compared() -> Result<(), Box<dyn Error>> {
+    let mut memory = [0; 128];
+    let heap = Heap::open(&mut memory, grants([100]))?;
+    let [form_2, form_1] = images(&heap)?;
+    let refused = compare_images(&form_2, &form_1).expect_err("two forms");
+    assert_eq!(
+        (refused.refusal, refused.which),
+        (ImageRefusal::FormsDiffer, Which::Neither)
+    );
+    assert_eq!(compare_images(&form_1, &form_1)?.count(), 0);
+    Ok(())
+}
+
+/// A heap of 128 bytes with one object, of which one thing is changed.
+fn changed(
+    bytes: &mut [u8],
+    change: impl FnOnce(&mut Accounts),
+) -> Result<Heap<'_>, Box<dyn Error>> {
+    let mut heap = Heap::open(bytes, grants([100; FORM_1_QUOTAS]))?;
+    heap.allocate(0, 8)?;
+    let (bytes, mut accounts) = heap.into_parts();
+    change(&mut accounts);
+    Ok(Heap::from_parts(bytes, accounts)?)
+}
+
+/// Moves the one record to a place.
+fn moved(accounts: &mut Accounts, place: usize) {
+    let record = accounts.holds[0];
+    accounts.holds[0] = Hold::default();
+    accounts.holds[place] = record;
+}
+
+/// Gives a quota a grant.
+fn granted(accounts: &mut Accounts, number: usize, grant: u32) {
+    accounts.quotas[number].grant = grant;
+    accounts.quotas[number].remainder = grant;
+}
+
+/// Saves the changed heap: form 2 always, form 1 where it is carried, whatever room there is.
+fn is_carried(carried: bool, change: impl FnOnce(&mut Accounts)) -> Result<(), Box<dyn Error>> {
+    let mut memory = [0; 128];
+    let heap = changed(&mut memory, change)?;
+    let mut image = [5; 5_120];
+    assert_eq!(heap.save(&mut image)?, 5_120);
+    let mut elsewhere = [7; 128];
+    assert_eq!(Heap::restore(&mut elsewhere, &image)?.parts(), heap.parts());
+    let (enough, short) = match carried {
+        true => (Ok(1_536), Err(ImageRefusal::Room)),
+        false => (Err(ImageRefusal::NotCarried), Err(ImageRefusal::NotCarried)),
+    };
+    assert_eq!(heap.save_form_1(&mut image[..1_535]), short);
+    assert_eq!(heap.save_form_1(&mut image), enough);
+    Ok(())
+}
+
+#[test]
+fn form_1_is_refused_exactly_for_what_it_can_not_carry() -> Result<(), Box<dyn Error>> {
+    is_carried(true, |_| {})?;
+    for number in 0..QUOTAS {
+        is_carried(number < FORM_1_QUOTAS, |a| {
+            let more = a.quotas[number].grant - a.quotas[number].remainder;
+            granted(a, number, 500);
+            a.quotas[number].remainder -= more;
+        })?;
+        is_carried(false, |a| a.quotas[number].permissions = 6)?;
+    }
+    for place in [
+        0,
+        1,
+        FORM_1_HOLDS - 1,
+        FORM_1_HOLDS,
+        FORM_1_HOLDS + 1,
+        HOLDS - 1,
+    ] {
+        is_carried(place < FORM_1_HOLDS, |a| moved(a, place))?;
+    }
+    Ok(())
+}
+
+#[test]
+fn permissions_come_back_as_they_were_saved() -> Result<(), Box<dyn Error>> {
+    let mut memory = [0; 128];
+    let mut heap = Heap::open(&mut memory, grants([100, 100]))?;
+    let [_, form_1] = images(&heap)?;
+    heap.clear_permissions(0, Permissions::ALLOCATE)?;
+    heap.clear_permissions(31, Permissions::ALL)?;
+    let mut form_2 = [0; 5_120];
+    heap.save(&mut form_2)?;
+    heap.clear_permissions(0, Permissions::ALL)?;
+    heap.go_back(&form_2)?;
+    assert_eq!(
+        heap.permissions(0)?,
+        Permissions::CLAIM | Permissions::FREE_ALL
+    );
+    assert_eq!(heap.permissions(31)?, Permissions::NONE);
+    heap.go_back(&form_1)?;
+    assert_eq!(heap.permissions(0)?, Permissions::ALL);
+    assert_eq!(heap.permissions(31)?, Permissions::ALL);
+    Ok(())
+}
+
+#[test]
+fn a_quota_differs_by_its_permissions_alone() -> Result<(), Box<dyn Error>> {
+    let mut memory = [0; 128];
+    let mut heap = Heap::open(&mut memory, grants([100]))?;
+    let mut before = [0; 5_120];
+    heap.save(&mut before)?;
+    heap.clear_permissions(31, Permissions::FREE_ALL)?;
+    let mut after = [0; 5_120];
+    heap.save(&mut after)?;
+    let differences: Vec<Difference> = compare_images(&before, &after)?.collect();
+    assert_eq!(differences, [Difference::Quota(31)]);
+    Ok(())
+}

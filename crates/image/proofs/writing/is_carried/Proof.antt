@@ -1,0 +1,53 @@
+-- The tests are the definition's, in its order (`Puts`).
+-- Assumes nothing.
+use borrow.Author.Needs.{needs}
+use borrow.Author.Tests.{not-true, not-false}
+use Rattle.image.proofs.Puts.{carried-full, carried-grants, carried-records, carried-permissions}
+use Rattle.image.proofs.writing.is_carried.Statement.{statement}
+use Rattle.image.proofs.writing.is_carried.Tie as tie
+
+returns : tie.Need-returns
+returns c = let a = c .before .before .before .args in carried-full (a .form) (a .accounts) (c .if1 .taken)
+
+no-grants-requires : tie.Need-no-grants-requires
+no-grants-requires c κs = search needs
+
+returns-2 : tie.Need-returns-2
+returns-2 c =
+    let g = c .before in
+    let a = g .before .before .before .before .args in
+    carried-grants (a .form) (a .accounts) (g .before .if1 .left) (g .no-grants .result) (g .no-grants .ensures) (not-true _ (c .if2 .taken))
+
+none-used-requires : tie.Need-none-used-requires
+none-used-requires c κs = search needs
+
+returns-3 : tie.Need-returns-3
+returns-3 c =
+    let u = c .before in
+    let g = u .before .before in
+    let a = g .before .before .before .before .args in
+    carried-records (a .form) (a .accounts) (g .before .if1 .left) (g .no-grants .result) (g .no-grants .ensures) (not-false _ (u .before .if2 .left))
+    (u .none-used .result) (u .none-used .ensures) (not-true _ (c .if3 .taken))
+
+are-permitted-requires : tie.Need-are-permitted-requires
+are-permitted-requires c κs = search needs
+
+returns-4 : tie.Need-returns-4
+returns-4 c =
+    let u = c .before .before in
+    let g = u .before .before in
+    let a = g .before .before .before .before .args in
+    carried-permissions (a .form) (a .accounts) (g .before .if1 .left) (g .no-grants .result) (g .no-grants .ensures) (not-false _ (u .before .if2 .left))
+    (u .none-used .result) (u .none-used .ensures) (not-false _ (c .before .if3 .left)) (c .are-permitted .result) (c .are-permitted .ensures)
+
+pub is-carried-spec : {M : Type 1} → statement M
+is-carried-spec =
+    tie.close
+    (tie.spec
+    returns
+    no-grants-requires
+    returns-2
+    none-used-requires
+    returns-3
+    are-permitted-requires
+    returns-4)

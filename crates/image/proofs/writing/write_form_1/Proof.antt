@@ -1,0 +1,28 @@
+-- The image in form 1.
+-- Assumes nothing.
+use mathlib.Core.Path.{ap, _∙_}
+use borrow.Author.Needs.{needs}
+use Rattle.image_model.specs.declared.Form.{Form}
+use Rattle.image_model.specs.Images.{write-image}
+use Rattle.image.proofs.Parses.{form-1-fits}
+use Rattle.image.proofs.writing.write_form_1.Statement.{statement}
+use Rattle.image.proofs.writing.write_form_1.Tie as tie
+
+form-1-requires : tie.Need-form-1-requires
+form-1-requires c κs = search needs
+
+write-as-requires : tie.Need-write-as-requires
+write-as-requires c κs = form-1-fits (c .form-1 .result) (c .form-1 .ensures)
+
+same-length : tie.Need-same-length
+same-length c = search needs
+
+returns : tie.Need-returns
+returns c =
+    let w = c .before .before in
+    let g = w .before in
+    let a = g .before .before .before .before .args in
+    w .write-as .ensures ∙ ap (λ (f : Form). write-image f (a .image .now) (a .heap .now) (a .accounts)) (g .form-1 .ensures)
+
+pub write-form-1-spec : {M : Type 1} → statement M
+write-form-1-spec = tie.close (tie.spec form-1-requires write-as-requires same-length returns)
