@@ -32,6 +32,8 @@ pub struct Form {
     pub entry: usize,
     /// The name under which written images are counted.
     pub written: &'static str,
+    /// The name under which images moved from this form are counted.
+    pub moved: &'static str,
 }
 
 /// The form of earlier versions.
@@ -41,6 +43,7 @@ pub const FORM_1: Form = Form {
     records: 128,
     entry: 8,
     written: "written in form 1",
+    moved: "moved up",
 };
 
 /// The form that carries every state.
@@ -50,6 +53,7 @@ pub const FORM_2: Form = Form {
     records: HOLDS,
     entry: 12,
     written: "written in form 2",
+    moved: "moved down",
 };
 
 /// Both forms.

@@ -151,8 +151,9 @@ pub fn every_byte(
     Ok(())
 }
 
-/// Reads the n-th harmed image of a seed, with one kind of harm or two.
-pub fn harmed(pair: &mut Pair, seed: u64, n: u64) -> Result<(), Failure> {
+/// Gives the n-th harmed image of a seed, with one kind of harm or two, and the heap that is lent for
+/// it.
+pub fn harmed_image(pair: &mut Pair, seed: u64, n: u64) -> Result<(Vec<u8>, Vec<u8>), Failure> {
     let Harm { name, forms, way } = HARMS[(n % HARMS.len() as u64) as usize];
     pair.begin(&format!("image with {name}"), seed, n);
     let mut numbers = Seed::of_case(seed, n);
@@ -168,26 +169,37 @@ pub fn harmed(pair: &mut Pair, seed: u64, n: u64) -> Result<(), Failure> {
         }
     }
     pair.tally.count_case(name);
+    Ok((image, heap))
+}
+
+/// Reads the n-th harmed image of a seed.
+pub fn harmed(pair: &mut Pair, seed: u64, n: u64) -> Result<(), Failure> {
+    let (image, heap) = harmed_image(pair, seed, n)?;
     pair.read_image(&image, &heap)?;
     Ok(())
 }
 
-/// Reads an image whose frames carry a state that is not sound, or bytes of any kind.
-pub fn forged(pair: &mut Pair, seed: u64, n: u64) -> Result<(), Failure> {
+/// Gives the n-th image of a seed whose frames carry a state that is not sound, or bytes of any kind,
+/// and a heap to lend for it; none where no such state was made.
+pub fn forged_image(pair: &mut Pair, seed: u64, n: u64) -> Option<(Vec<u8>, Vec<u8>)> {
     pair.begin("forged-image", seed, n);
     let mut numbers = Seed::of_case(seed, n);
     let form = numbers.pick(&FORMS);
     let damage = &DAMAGES[(n % DAMAGES.len() as u64) as usize];
-    let Some(state) = damaged_alone(&mut numbers, damage) else {
-        return Ok(());
-    };
+    let state = damaged_alone(&mut numbers, damage)?;
     if numbers.percent(15) {
         let mut image = vec![0; FRAME * numbers.between(1, 12) as usize];
         image.fill_with(|| numbers.byte());
         renumber(&mut image);
-        pair.read_image(&image, &vec![0; heap_length(&mut numbers) as usize])?;
-        return Ok(());
+        return Some((image, vec![0; heap_length(&mut numbers) as usize]));
     }
-    pair.read_image(&carry(form, &state), &state.heap)?;
+    Some((carry(form, &state), state.heap))
+}
+
+/// Reads the n-th forged image of a seed.
+pub fn forged(pair: &mut Pair, seed: u64, n: u64) -> Result<(), Failure> {
+    if let Some((image, heap)) = forged_image(pair, seed, n) {
+        pair.read_image(&image, &heap)?;
+    }
     Ok(())
 }

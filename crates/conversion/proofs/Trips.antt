@@ -13,11 +13,11 @@ use Rattle.accounts.specs.declared.Accounts.{Accounts}
 use Rattle.layout.specs.Bytes.{Octets, overwrite}
 use Rattle.layout.proofs.Overwrite.{overwrite-fits}
 use Rattle.image_model.specs.declared.Form.{Form}
-use Rattle.image_model.specs.Stream.{form-1, form-2, form-numbered, image-of, image-length}
+use Rattle.image_model.specs.Stream.{form-1, form-2, image-of, image-length}
 use Rattle.image_model.specs.Reading.{form-of, size-in, accounts-in, heap-in}
 use Rattle.image_model.specs.Answers.{Imaged, Restored-to}
 use Rattle.image_model.specs.Images.{write-image, read-image, Accepts}
-use Rattle.image_model.proofs.Places.{Known, same-number}
+use Rattle.image_model.proofs.Places.{Known, known-1, known-2, same-number}
 use Rattle.image_model.proofs.Refusals.{accepted-read}
 use Rattle.image_model.proofs.Written.{image-has-length, written-read, image-says}
 use Rattle.image_model.proofs.Read.{read-written}
@@ -102,14 +102,6 @@ module _ (from to : Form) (known : Known from) (other : Known to) (i o : List �
   back-again o′ l =
       let w : overwrite 0 i o′ ≡ i ++ drop (length i) o′ = overwrite-fits 0 i o′ (omega arith) ∙ rw (zero-add (length i)) in
       rw (back o′ l) (refl, ap (take (length i)) w ∙ take-at i (drop (length i) o′) (length i) refl)
-
-known-1 : Known form-1
-unfolding form-1 form-numbered
-known-1 = refl
-
-known-2 : Known form-2
-unfolding form-2 form-numbered
-known-2 = refl
 
 module _ (i o o′ : List ℕ) (octets : Octets i) (room : length i ≤ length o′) where
   -- up and then down, down and then up: the same bytes
