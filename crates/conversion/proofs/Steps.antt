@@ -4,10 +4,10 @@
 use mathlib.Core.Path.{_≡_, refl, ap, sym, _∙_}
 use mathlib.Core.List.{List, [], _∷_}
 use mathlib.Core.Bool.{Bool, true, false, not}
-use Prim.Native.Nat.{ℕ, zero, suc, _≤_}
+use Prim.Native.Nat.{ℕ, zero, suc, _≤_, _<_}
 use native.Mathlib.Omega.{arith}
 use lib.ListN.{length, drop}
-use borrow.Author.Tests.{ne-eqb}
+use borrow.Author.Tests.{ne-eqb, lt-ltb, le-ltb}
 use Rattle.rounding.specs.Rounding.{unit}
 use Rattle.accounts.specs.declared.Accounts.{Accounts}
 use Rattle.model.specs.Consistent.{allowed, sound as is-sound}
@@ -53,6 +53,16 @@ first-other false true c d ls = refl
 first-other false false true d ls = refl
 first-other false false false true ls = refl
 first-other false false false false ls = refl
+
+pub other-behind : (n : ℕ) → 22 < n → 23 ≡ other-form n
+unfolding other-form
+other-behind zero h = absurd (omega arith)
+other-behind (suc n) h = rw (lt-ltb 22 (suc n) h)
+
+pub other-before : (n : ℕ) → 1 ≤ n → n ≤ 22 → n ≡ other-form n
+unfolding other-form
+other-before zero l h = absurd (omega arith)
+other-before (suc n) l h = rw (le-ltb 22 (suc n) h)
 
 -- a refusal's number is not 0
 unless-some : (m : ℕ) (o : List ℕ) (x : Imaged) → 1 ≤ m → record { image = o; refusal = m; length = 0 } ≡ unless-written m o x
@@ -140,9 +150,10 @@ module _ (to : Form) (o o′ s : List ℕ) (k : Accounts) (a : WriteAnswer) (ext
   rewrite-written n e =
       sound-kept (is-sound unit s k) refl (λ t. let z : 0 ≡ 2 = sym (ap (λ (x : WriteAnswer). imaged o′ x .refusal) e) ∙ t in absurd (omega (arith, z)))
 
-  pub rewrite-refused : (r : ImageRefusal) → a ≡ NotWritten r → (image-refusal-number r ≡ 2 → ⊥) → imaged o′ a ≡ rewritten to o s k
+  pub rewrite-refused : (r : ImageRefusal) → a ≡ NotWritten r → (image-refusal-number r ≡ 2 → ⊥) → imaged o′ (NotWritten r) ≡ rewritten to o s k
   unfolding imaged
-  rewrite-refused r e h = sound-kept (is-sound unit s k) refl (λ t. h (sym (ap (λ (x : WriteAnswer). imaged o′ x .refusal) e) ∙ t))
+  rewrite-refused r e h =
+      ap (imaged o′) (sym e) ∙ sound-kept (is-sound unit s k) refl (λ t. h (sym (ap (λ (x : WriteAnswer). imaged o′ x .refusal) e) ∙ t))
 
   pub rewrite-unsound : (r : ImageRefusal) → a ≡ NotWritten r → image-refusal-number r ≡ 2 → imaged o′ (NotWritten Unsound) ≡ rewritten to o s k
   unfolding imaged

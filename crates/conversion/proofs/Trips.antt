@@ -13,7 +13,7 @@ use Rattle.accounts.specs.declared.Accounts.{Accounts}
 use Rattle.layout.specs.Bytes.{Octets, overwrite}
 use Rattle.layout.proofs.Overwrite.{overwrite-fits}
 use Rattle.image_model.specs.declared.Form.{Form}
-use Rattle.image_model.specs.Stream.{form-1, form-2, image-of, image-length}
+use Rattle.image_model.specs.Stream.{form-1, form-2, carries, image-of, image-length}
 use Rattle.image_model.specs.Reading.{form-of, size-in, accounts-in, heap-in}
 use Rattle.image_model.specs.Answers.{Imaged, Restored-to}
 use Rattle.image_model.specs.Images.{write-image, read-image, Accepts}
@@ -48,7 +48,10 @@ module _ (from to : Form) (known : Known from) (other : Known to) (i o : List �
   is-from = same-number (form-of i) from (accepts .known) known (m .form)
 
   accepts-from : Accepts from s k
-  accepts-from = rw (← is-from) accepts
+  accepts-from =
+      let a = accepts in
+      let c = ap (λ (f : Form). carries f k) (sym is-from) ∙ a .carried in
+      record { known = known; extent = a .extent; octets = a .octets; sound = a .sound; typed = a .typed; carried = c }
 
   image-is : image-of from s k ≡ i
   unfolding s k
