@@ -83,7 +83,7 @@ module _ (from to : Form) (known : Known from) (other : Known to) (i o : List �
   move-exactly = (
     ap form-of is-image ∙ image-says to s k accepts-to .0,
     λ h l. reads-back h (l ∙ sym (heap-length i))
-    ∙ sym (rw image-is at (written-read from s k accepts-from h (l ∙ sym (heap-length i)))),
+        ∙ sym (rw image-is at (written-read from s k accepts-from h (l ∙ sym (heap-length i)))),
   )
 
   -- and moved back it is the image, byte for byte
