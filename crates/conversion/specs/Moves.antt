@@ -1,4 +1,4 @@
--- Moving an image to the other form (rules 17.1 to 17.5): the lines in the rule's order, and what a move leaves and answers.
+-- Moving an image to the other form (rules 17.1 to 17.4): the lines in the rule's order, and what a move leaves and answers.
 use Prim.Native.Nat.{ℕ}
 use mathlib.Core.List.{List, _∷_}
 use mathlib.Core.Bool.{not}
