@@ -3,17 +3,15 @@
 -- up only ever asks for room, and moving down is refused by 28 exactly if form 1's writer gives it.
 -- Assumes nothing.
 use mathlib.Core.Path.{_≡_, refl, ap, sym, _∙_}
-use mathlib.Core.List.{List, [], _∷_, _++_}
+use mathlib.Core.List.{List}
 use mathlib.Core.Bool.{true, false, not}
 use mathlib.Core.Logic.{_↔_}
 use Prim.Native.Nat.{ℕ, _≤_}
-use native.Mathlib.Omega.{arith}
 use lib.ListN.{length, drop}
 use lib.Dec.{ltb, eqb}
-use borrow.Author.Tests.{eqb-true, eq-eqb, ltb-false, le-ltb, not-true, not-false}
-use Rattle.rounding.specs.Rounding.{unit}
+use borrow.Author.Tests.{eqb-true, eq-eqb, ltb-false, le-ltb, not-false}
 use Rattle.model.specs.Lists.{all, any}
-use Rattle.model.specs.Consistent.{allowed, sound as is-sound}
+use Rattle.model.specs.Consistent.{allowed}
 use Rattle.model.specs.Refusals.{line-holds, first-refusal, line-1, line-2}
 use Rattle.model.proofs.Bools.{and-left, or-neither}
 use Rattle.model.proofs.Refusals.{Numbered}
@@ -23,8 +21,8 @@ use Rattle.image_model.specs.declared.Form.{Form}
 use Rattle.image_model.specs.Stream.{form-1, form-2, carries, head-length, image-length}
 use Rattle.image_model.specs.Reading.{length-in, form-of, size-in, accounts-in, heap-of, heap-in, contents-right}
 use Rattle.image_model.specs.Answers.{Imaged}
-use Rattle.image_model.specs.Images.{line-21, line-22, line-23, line-24, line-25, line-26, line-28, put-lines, write-lines, shape-lines, read-lines, examine-lines}
-use Rattle.image_model.specs.Images.{write-image, read-image}
+use Rattle.image_model.specs.Images.{line-21, line-22, line-23, line-24, line-25, line-26, line-28, put-lines, write-lines, shape-lines, read-lines}
+use Rattle.image_model.specs.Images.{examine-lines, write-image, read-image}
 use Rattle.image_model.proofs.Places.{full-carries}
 use Rattle.image_model.proofs.Refusals.{read-accepted-exactly, examined-read}
 use Rattle.image_model.proofs.Read.{accepted-right}

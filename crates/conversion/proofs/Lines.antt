@@ -15,7 +15,6 @@ use Rattle.model.proofs.Refusals.{Numbered, FirstToHold, refused-exactly, accep
 use Rattle.image_model.specs.declared.Form.{Form}
 use Rattle.image_model.specs.Stream.{image-of, image-length}
 use Rattle.image_model.specs.Reading.{form-of, heap-in, accounts-in}
-use Rattle.image_model.specs.Answers.{Imaged}
 use Rattle.image_model.specs.Images.{line-21, line-22, line-23, line-24, line-26, line-28, put-lines, shape-lines, unless-written}
 use Rattle.conversion.specs.Moves.{line-from, move-lines, moved, up-lines, down-lines}
 use Rattle.conversion.proofs.Rows

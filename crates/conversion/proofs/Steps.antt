@@ -72,7 +72,8 @@ unless-some (suc m) o x l = refl
 
 -- 26, then what is left of writing
 in-two : (b : Bool) (o : List ℕ) (ls : List Line) (x : Imaged)
-    → unless-written (first-refusal ((26 when not b) ∷ [])) o (unless-written (first-refusal ls) o x) ≡ unless-written (first-refusal ((26 when not b) ∷ ls)) o x
+    → unless-written (first-refusal ((26 when not b) ∷ [])) o (unless-written (first-refusal ls) o x)
+    ≡ unless-written (first-refusal ((26 when not b) ∷ ls)) o x
 unfolding unless-written first-refusal
 in-two true o ls x = refl
 in-two false o ls x = refl
@@ -137,7 +138,8 @@ module _ (to : Form) (o o′ s : List ℕ) (k : Accounts) (a : WriteAnswer) (ext
   sound-kept true e n = told ∙ by-state true e ∙ as-26 true e
   sound-kept false e n = absurd (n (ap (λ (x : Imaged). x .refusal) (told ∙ by-state false e)))
 
-  unsound-told : (b : Bool) → is-sound unit s k ≡ b → imaged o′ a .refusal ≡ 2 → record { image = imaged o′ a .image; refusal = 26; length = 0 } ≡ rewritten to o s k
+  unsound-told : (b : Bool) → is-sound unit s k ≡ b → imaged o′ a .refusal ≡ 2
+      → record { image = imaged o′ a .image; refusal = 26; length = 0 } ≡ rewritten to o s k
   unfolding unless-written first-refusal
   unsound-told true e n = absurd (put-not-2 (sym (ap (λ (x : Imaged). x .refusal) (told ∙ by-state true e)) ∙ n))
   unsound-told false e n =

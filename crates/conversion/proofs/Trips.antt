@@ -3,7 +3,6 @@
 -- Assumes nothing.
 use mathlib.Core.Path.{_≡_, refl, ap, sym, _∙_}
 use mathlib.Core.List.{List, _++_}
-use mathlib.Core.Bool.{true}
 use Prim.Native.Nat.{ℕ, _≤_}
 use native.Mathlib.Omega.{arith}
 use native.Mathlib.Nat.{zero-add}
@@ -18,7 +17,6 @@ use Rattle.image_model.specs.Reading.{form-of, size-in, accounts-in, heap-in}
 use Rattle.image_model.specs.Answers.{Imaged, Restored-to}
 use Rattle.image_model.specs.Images.{write-image, read-image, Accepts}
 use Rattle.image_model.proofs.Places.{Known, known-1, known-2, same-number}
-use Rattle.image_model.proofs.Refusals.{accepted-read}
 use Rattle.image_model.proofs.Written.{image-has-length, written-read, image-says}
 use Rattle.image_model.proofs.Read.{read-written}
 use Rattle.image_model.proofs.Trips.{accepts-write, write-answer}
@@ -78,7 +76,8 @@ module _ (from to : Form) (known : Known from) (other : Known to) (i o : List �
   reads-back h l = ap (λ (j : List ℕ). read-image j h) is-image ∙ written-read to s k accepts-to h l
 
   -- so read from either it is the same, into any heap of that length
-  pub move-exactly : (form-of (front (moved from to i o)) ≡ to) × ((h : List ℕ) → length h ≡ size-in i → read-image (front (moved from to i o)) h ≡ read-image i h)
+  pub move-exactly : (form-of (front (moved from to i o)) ≡ to)
+      × ((h : List ℕ) → length h ≡ size-in i → read-image (front (moved from to i o)) h ≡ read-image i h)
   unfolding s
   move-exactly = (
     ap form-of is-image ∙ image-says to s k accepts-to .0,

@@ -6,7 +6,6 @@ use image_model::WriteAnswer;
 use layout::GREATEST_HEAP;
 ghost use mathlib.Core.Path.{_≡_};
 ghost use mathlib.Core.Bool.{true};
-ghost use Prim.Native.Nat.{ℕ};
 ghost use lib.ListN.{length, drop};
 ghost use Rattle.accounts.specs.declared.Accounts.{Accounts};
 ghost use Rattle.model.specs.Consistent.{allowed};
@@ -69,7 +68,7 @@ fn rewrite_in(
     answer
 }
 
-// The same of a heap of so many bytes. Neither the image nor the lent bytes have room for it in one piece.
+// The same of a heap of so many bytes, which the image has in pieces; in one piece it stands on the stack.
 fn rewrite(image: &[u8], out: &mut [u8], size: usize, accounts: Accounts, up: bool) -> WriteAnswer
     requires { ⌜ allowed size ≡ true ⌝ }
     ensures { λ r. ⌜ imaged (now (out .exit)) r ≡ rewritten (form-to up) (now (out .entry))

@@ -31,7 +31,8 @@ returns c =
     let a = p .before .before .before .args in
     move-other (form-from (a .up)) (form-to (a .up)) (a .image .now) (a .out .now)
     (λ q. t .if1 .taken (ap (λ (x : Form). x .number) (f .form-of .ensures) ∙ q ∙ sym (n .number-from .ensures))) (c .other-form .result)
-    (c .other-form .ensures (p .parse-image .result .accounts) ∙ ap other-form (own-refusal (a .image .now) (p .parse-image .result) (p .parse-image .ensures)))
+    (c .other-form .ensures (p .parse-image .result .accounts)
+    ∙ ap other-form (own-refusal (a .image .now) (p .parse-image .result) (p .parse-image .ensures)))
 
 -- the image is of the form to move from
 of-form : (c : tie.Else1)
@@ -46,8 +47,8 @@ enum-known-shape c = search needs
 
 -- what the image was found to be
 found : (c : tie.After-shape)
-    → Found (c .before .before .before .before .before .before .before .before .before .before .args .image .now) (c .shape .given .0 .0) (c .shape .given .0 .1 .0)
-    (c .before .before .before .before .before .before .before .parse-image .result .accounts)
+    → Found (c .before .before .before .before .before .before .before .before .before .before .args .image .now) (c .shape .given .0 .0)
+    (c .shape .given .0 .1 .0) (c .before .before .before .before .before .before .before .parse-image .result .accounts)
 found c =
     let p = c .before .before .before .before .before .before .before in
     image-found (p .before .before .before .args .image .now) (p .parse-image .result) (c .shape .given .0 .0) (c .shape .given .0 .1 .0)

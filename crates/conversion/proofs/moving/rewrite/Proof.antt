@@ -50,7 +50,8 @@ returns c =
     let r = c .before .before .before in
     let a = r .before .before .before .before .before .before .args in
     r .rewrite-in .ensures
-    ∙ ap (λ (n : ℕ). rewritten (form-to (a .up)) (a .out .now) (padded n (drop (head-length (form-of (a .image .now))) (stream-of (a .image .now)))) (a .accounts))
+    ∙ ap
+    (λ (n : ℕ). rewritten (form-to (a .up)) (a .out .now) (padded n (drop (head-length (form-of (a .image .now))) (stream-of (a .image .now)))) (a .accounts))
     (sym (sized (r .before)))
 
 pub rewrite-spec : {M : Type 1} → statement M
