@@ -152,13 +152,18 @@ pub fn every_byte(
 }
 
 /// Gives the n-th harmed image of a seed, with one kind of harm or two, and the heap that is lent for
-/// it.
-pub fn harmed_image(pair: &mut Pair, seed: u64, n: u64) -> Result<(Vec<u8>, Vec<u8>), Failure> {
+/// it; where asked for, of a state that form 1 carries, whatever the image's form.
+pub fn harmed_image(
+    pair: &mut Pair,
+    narrow: bool,
+    seed: u64,
+    n: u64,
+) -> Result<(Vec<u8>, Vec<u8>), Failure> {
     let Harm { name, forms, way } = HARMS[(n % HARMS.len() as u64) as usize];
     pair.begin(&format!("image with {name}"), seed, n);
     let mut numbers = Seed::of_case(seed, n);
     let form = numbers.pick(forms);
-    let state = sound_in(form, &mut numbers);
+    let state = sound_in(if narrow { FORM_1 } else { form }, &mut numbers);
     let mut image = image_of(pair, form, &state)?;
     let mut heap = state.heap;
     way(&mut numbers, form, &mut image, &mut heap);
@@ -174,7 +179,7 @@ pub fn harmed_image(pair: &mut Pair, seed: u64, n: u64) -> Result<(Vec<u8>, Vec<
 
 /// Reads the n-th harmed image of a seed.
 pub fn harmed(pair: &mut Pair, seed: u64, n: u64) -> Result<(), Failure> {
-    let (image, heap) = harmed_image(pair, seed, n)?;
+    let (image, heap) = harmed_image(pair, false, seed, n)?;
     pair.read_image(&image, &heap)?;
     Ok(())
 }

@@ -6,6 +6,7 @@ use crate::boundary::images as proved;
 use crate::calls::Pair;
 use crate::compare::{file_stem, save, Failure};
 use crate::forms::{carry, Form, FORMS, FORM_1, FORM_2};
+use crate::harms::HARMS;
 use crate::image_cases::{forged_image, harmed_image, image_of, OVERFULL};
 use crate::seed::Seed;
 use crate::state::State;
@@ -152,6 +153,9 @@ pub fn states(pair: &mut Pair, seed: u64, n: u64) -> Result<(), Failure> {
         let image = image_of(pair, form, &state)?;
         there_and_back(pair, form, &state, &image, &mut numbers)?;
     }
+    if !FORM_1.carries(&state) {
+        return Ok(());
+    }
     let (_, overfill) = OVERFULL[(n % OVERFULL.len() as u64) as usize];
     overfill(&mut numbers, &mut state);
     let image = image_of(pair, FORM_2, &state)?;
@@ -173,9 +177,10 @@ fn both_ways(
     Ok(())
 }
 
-/// Moves the n-th harmed image of a seed, which may also be the one of a lent heap alone.
+/// Moves the n-th harmed image of a seed, of a state that its form carries or of one that form 1 does.
 pub fn harmed(pair: &mut Pair, seed: u64, n: u64) -> Result<(), Failure> {
-    let (image, heap) = harmed_image(pair, seed, n)?;
+    let narrow = (n / HARMS.len() as u64).is_multiple_of(2);
+    let (image, heap) = harmed_image(pair, narrow, seed, n)?;
     both_ways(pair, &image, heap.len(), &mut Seed::of_case(seed, n))
 }
 

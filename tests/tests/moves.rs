@@ -54,7 +54,7 @@ fn states_are_moved_there_and_back() {
 
 #[test]
 fn images_of_histories_are_moved() {
-    let tally = compare(60, |pair, n| {
+    let tally = compare(120, |pair, n| {
         let beginning = match n % 6 {
             0 => Beginning::Crowd,
             _ => Beginning::Opening,
@@ -81,11 +81,11 @@ fn the_longest_heap_is_moved() {
 fn harmed_images_are_refused_alike() {
     let tally = compare(200 * HARMS.len() as u64, |pair, n| harmed(pair, SEED, n));
     for form in FORMS {
-        for number in [21, 22, 23, 24, 25, 26] {
-            assert!(tally.images(form.moved, number) >= 50, "{number}");
+        for number in [0, 21, 22, 23, 24, 25, 26] {
+            assert!(tally.images(form.moved, number) >= 30, "{number}");
         }
     }
-    assert!(tally.images(FORM_2.moved, 28) >= 200);
+    assert!(tally.images(FORM_2.moved, 28) >= 100);
     for harm in &HARMS {
         let name = harm.name;
         assert!(tally.cases.get(name).copied().unwrap_or(0) >= 200, "{name}");
@@ -115,6 +115,8 @@ fn every_byte_of_a_small_image_is_changed_once() {
                 refusal(&mut pair, from, &changed, 6_000);
             }
         }
+    }
+    for form in FORMS {
         for number in [22, 23, 24, 26] {
             assert!(pair.tally.images(form.moved, number) >= 10, "{number}");
         }
