@@ -21,7 +21,7 @@ module _ (from to : Form) (i o : List ℕ) where
   unfoldable pub move-lines : List Line
   move-lines = line-21 i ∷ line-22 i ∷ line-23 i ∷ line-from from i ∷ line-24 i ∷ line-26 i ∷ put-lines to o (heap-in i) (accounts-in i)
 
-  -- the other form's image of the state read, at the front of the lent bytes o, of which the others stay; the answer is how many bytes it has
+  -- what i says, as an image of the form to, at the front of the lent bytes o, of which the others stay; the answer is how many bytes it has
   unfoldable pub moved : Imaged
   moved =
       let s = heap-in i in
