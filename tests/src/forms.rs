@@ -1,4 +1,4 @@
-//! The forms of an image, by the harness's own reading of rule 13.2.
+//! The forms of an image, by the harness's own reading of rules 13.2 to 13.4 and 16.3.
 
 use lokhazim_reference::{ALL_PERMISSIONS, HOLDS, QUOTAS};
 
@@ -88,8 +88,8 @@ impl Form {
         FRAME * (self.head() + heap_length).div_ceil(PIECE)
     }
 
-    /// Tells whether the form can carry a state: a form without permissions those alone in which all
-    /// are set, and no form a grant or a used record behind its own.
+    /// Tells whether the form can carry a state (rule 16.6): a form without permissions those alone in
+    /// which all are set, and no form a grant or a used record behind its own.
     pub fn carries(self, state: &State) -> bool {
         let accounts = &state.accounts;
         let permissions = self.entry == 12 || !lacks_permission(state);

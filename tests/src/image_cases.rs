@@ -12,8 +12,8 @@ use crate::seed::Seed;
 use crate::state::State;
 use crate::states::{heap_length, sound, sound_in};
 
-/// Gives the refusal of writing an image into so many lent bytes (rule 13.5), by the harness's own
-/// reading, or 0.
+/// Gives the refusal of writing an image into so many lent bytes (rules 13.5 and 16.6), by the
+/// harness's own reading, or 0.
 fn writers_refusal(form: Form, state: &State, lent: usize) -> u32 {
     match check_refusal(state) {
         0 if !form.carries(state) => 28,
@@ -79,7 +79,7 @@ pub fn states(pair: &mut Pair, seed: u64, n: u64) -> Result<(), Failure> {
 /// A change of a state, by its name.
 type Change = (&'static str, fn(&mut Seed, &mut State));
 
-/// Why form 1 can't carry a state, one reason at a time.
+/// Why form 1 can't carry a state (rule 16.6), one reason at a time.
 pub const OVERFULL: [Change; 3] = [
     ("a grant behind the form's quotas", |seed, state| {
         let number = seed.between(FORM_1.quotas as u32, QUOTAS as u32 - 1);
