@@ -11,6 +11,7 @@ use crate::forged::View;
 use crate::forms::FORMS;
 use crate::judge::broken;
 use crate::ledger::Ledger;
+use crate::moves::there_and_back;
 use crate::seed::Seed;
 use crate::sentences::{wrong, Step};
 use crate::state::{Answer, Call, State};
@@ -188,6 +189,7 @@ impl History<'_> {
             return Err(self.wrong_image("is not written as the rules say"));
         }
         if refusal == 0 {
+            there_and_back(self.pair, form, &self.state, &image, &mut seed.clone())?;
             let (ledger, state) = (self.ledger.clone(), self.state.clone());
             let saved = Saved {
                 image,

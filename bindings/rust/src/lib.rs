@@ -62,6 +62,7 @@ mod comparison;
 mod heap;
 mod image;
 mod layout;
+mod moves;
 mod permissions;
 mod queries;
 #[allow(unsafe_code)]
@@ -76,6 +77,7 @@ pub use image::{
     FORM_1_QUOTAS, IMAGE_MAX, IMAGE_MAX_FORM_1,
 };
 pub use layout::{Accounts, Handle, Hold, Quota, HOLDS, QUOTAS};
+pub use moves::{move_image_down, move_image_up};
 pub use permissions::Permissions;
 pub use refusal::Refusal;
 
