@@ -130,6 +130,7 @@ fn habits(seed: &mut Seed, heap_length: u32) -> Habits {
         weights: GROWING,
         quotas: seed.pick(&[1, 2, 8, QUOTAS as u32]),
         wild: seed.pick(&[3, 10, 25]),
+        narrow: seed.pick(&[0, 20, 60]),
         longest: seed.pick(&[8, 24, 64, heap_length / 16, heap_length / 5]),
     }
 }

@@ -31,6 +31,7 @@ pub mod judge;
 pub mod ledger;
 pub mod lent;
 pub mod malformed;
+pub mod narrowing;
 pub mod programs;
 pub mod rounds;
 pub mod script;
