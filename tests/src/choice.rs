@@ -4,7 +4,7 @@ use lokhazim_reference::{Accounts, Handle, QUOTAS};
 
 use crate::forged::{forged_handle, live_handle, View};
 use crate::forms::FORM_1;
-use crate::narrowing::now_and_then_narrowed;
+use crate::narrowing::sometimes_narrowed;
 use crate::seed::Seed;
 use crate::state::Call;
 
@@ -113,7 +113,7 @@ fn handle(seed: &mut Seed, habits: &Habits, view: &View) -> Handle {
         return forged_handle(seed, view);
     }
     let whole = live_handle(seed, view);
-    now_and_then_narrowed(seed, habits, whole)
+    sometimes_narrowed(seed, habits.narrow, whole)
 }
 
 /// Makes a call of a quota on an object that it most often has a record for.
@@ -130,7 +130,7 @@ fn held(
     let object = record.and_then(|hold| view.live.iter().find(|h| h.serial == hold.serial));
     match (record, object) {
         (Some(hold), Some(object)) if !seed.percent(habits.wild) => {
-            let handle = now_and_then_narrowed(seed, habits, *object);
+            let handle = sometimes_narrowed(seed, habits.narrow, *object);
             call(u32::from(hold.quota), handle)
         }
         _ => call(quota(seed, habits), handle(seed, habits, view)),

@@ -49,16 +49,16 @@ pub fn live_handle(seed: &mut Seed, view: &View) -> Handle {
 
 /// Gives a handle that most likely names no live object.
 pub fn forged_handle(seed: &mut Seed, view: &View) -> Handle {
-    match seed.below(10) {
+    match seed.below(12) {
         0 => seed.any_of(view.old).unwrap_or_default(),
         1 => handle_of_free_block(seed, view),
-        2..=4 => handle_to_look_alike(seed, view),
-        5 => Handle {
+        2..=6 => handle_to_look_alike(seed, view),
+        7 => Handle {
             base: seed.odd_word(),
             length: seed.odd_word(),
             serial: seed.odd_word(),
         },
-        6 | 7 => {
+        8 | 9 => {
             let whole = seed.any_of(&view.live).unwrap_or_default();
             beside_handle(seed, whole)
         }

@@ -2,7 +2,6 @@
 
 use lokhazim_reference::Handle;
 
-use crate::choice::Habits;
 use crate::script::Script;
 use crate::seed::Seed;
 use crate::state::Call;
@@ -62,9 +61,9 @@ pub fn beside_handle(seed: &mut Seed, whole: Handle) -> Handle {
     }
 }
 
-/// Gives the handle of a live object as it is, or narrower as often as the habits say.
-pub fn now_and_then_narrowed(seed: &mut Seed, habits: &Habits, whole: Handle) -> Handle {
-    match seed.percent(habits.narrow) {
+/// Gives a handle of a part of an object in so many of a hundred cases, and else the whole one.
+pub fn sometimes_narrowed(seed: &mut Seed, percent: u32, whole: Handle) -> Handle {
+    match seed.percent(percent) {
         true => narrowed_handle(seed, whole),
         false => whole,
     }
