@@ -153,10 +153,10 @@ struct lokhazim_accounts {
  * lokhazim_handle_narrowed: with its serial, any range of at least one byte inside
  * the object names it, as long as any quota holds it, and afterwards nothing.
  *
- * Claim, release and can release act on the whole object, whatever part of it the
- * handle has. Lend and write keep to the part. Reallocate takes the whole handle
- * alone. The library doesn't know which handles were handed out: whoever may fill in
- * the three numbers can widen a handle again, so let the trusted place keep them.
+ * A hold is always on the whole object, by whatever part of it a quota claims or
+ * releases. Lend and write keep to the part. Reallocate takes the whole handle alone.
+ * The library doesn't know which handles were handed out: whoever may fill in the
+ * three numbers can widen a handle again, so let the trusted place keep them.
  */
 struct lokhazim_handle {
     uint32_t base;

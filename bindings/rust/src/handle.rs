@@ -9,10 +9,10 @@ impl Handle {
     /// has no byte or is not inside.
     ///
     /// It names what this handle names. [`Heap::lend`](crate::Heap::lend),
-    /// [`lend_mut`](crate::Heap::lend_mut) and [`write`](crate::Heap::write) keep to the part;
-    /// [`claim`](crate::Heap::claim), [`release`](crate::Heap::release) and
-    /// [`can_release`](crate::Heap::can_release) act on the whole object.
-    /// [`reallocate`](crate::Heap::reallocate) refuses it unless it is still the whole object's.
+    /// [`lend_mut`](crate::Heap::lend_mut) and [`write`](crate::Heap::write) keep to the part. A
+    /// hold that is [claimed](crate::Heap::claim) or [released](crate::Heap::release) by it is on
+    /// the whole object. [`reallocate`](crate::Heap::reallocate) refuses it unless it has the whole
+    /// object.
     ///
     /// Only the numbers are looked at. The heap keeps no list of the handles that were handed out:
     /// whoever can fill in the three numbers can widen a handle again.
