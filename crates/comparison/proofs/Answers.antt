@@ -105,7 +105,8 @@ heap-length i = length-padded (size-in i) _
 says : (i : List ℕ) → Octets i → Accepted i → Accepts (form-of i) (heap-in i) (accounts-in i) × (image-of (form-of i) (heap-in i) (accounts-in i) ≡ i)
 says i o a = let w = read-written i (heap-in i) o (sym (examined-read i (heap-in i) (heap-length i)) ∙ a) in (w .0, w .1)
 
-module _ (i j : List ℕ) (o : Octets i) (p : Octets j) (a : Accepted i) (b : Accepted j) (form : form-of i .number ≡ form-of j .number) (e : size-in i ≡ size-in j) where
+module _ (i j : List ℕ) (o : Octets i) (p : Octets j) (a : Accepted i) (b : Accepted j)
+    (form : form-of i .number ≡ form-of j .number) (e : size-in i ≡ size-in j) where
   pub one-size : OneSize (state-in i) (state-in j)
   unfolding state-in
   one-size =

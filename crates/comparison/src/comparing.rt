@@ -29,13 +29,7 @@ fn nth_difference(first: &[u8], second: &[u8], n: usize) -> CompareAnswer
 }
 
 // The same once the first image is accepted, with its form's number and a heap of so many bytes.
-fn with_second(
-    first: &[u8],
-    second: &[u8],
-    number: u32,
-    size: usize,
-    n: usize,
-) -> CompareAnswer
+fn with_second(first: &[u8], second: &[u8], number: u32, size: usize, n: usize) -> CompareAnswer
     requires { ⌜ (number ≡ form-of (now first) .number) × (size ≡ size-in (now first)) ⌝ }
     ensures { λ r. ⌜ compared r ≡ compare-second (now (first .entry)) (now (second .entry)) n ⌝ }
 {

@@ -26,7 +26,8 @@ compare-rows : map compare-reply
     ∷ record { refusal = 27; which = Neither; found = none }
     ∷ record { refusal = 29; which = Neither; found = none }
     ∷ [])
-    ≡ reply 0 0 0 0 0 ∷ reply 0 0 1 0 0 ∷ reply 0 0 2 7 0 ∷ reply 0 0 3 511 0 ∷ reply 0 0 4 8 24 ∷ reply 22 1 0 0 0 ∷ reply 26 2 0 0 0 ∷ reply 27 0 0 0 0 ∷ reply 29 0 0 0 0 ∷ []
+    ≡ reply 0 0 0 0 0 ∷ reply 0 0 1 0 0 ∷ reply 0 0 2 7 0 ∷ reply 0 0 3 511 0 ∷ reply 0 0 4 8 24
+    ∷ reply 22 1 0 0 0 ∷ reply 26 2 0 0 0 ∷ reply 27 0 0 0 0 ∷ reply 29 0 0 0 0 ∷ []
 unfolding reply
 compare-rows = refl
 

@@ -106,8 +106,8 @@ fn read_entry(image: &[u8], at: usize, full: bool) -> Quota
 // The quotas of the first entries, so many of them; the others are blank.
 pub(crate) fn read_entries(image: &[u8], count: usize, full: bool) -> [Quota; QUOTAS]
     requires { ⌜ count ≤ QUOTAS ⌝ }
-    ensures { λ r. ⌜
-        ((f : Form) → f .full ≡ full → r ≡ each (entry-of f) (entry-width f) count (drop entries-at (stream-of (now (image .entry)))) ++ drop count (blank f .quotas)) ⌝ }
+    ensures { λ r. ⌜ ((f : Form) → f .full ≡ full
+        → r ≡ each (entry-of f) (entry-width f) count (drop entries-at (stream-of (now (image .entry)))) ++ drop count (blank f .quotas)) ⌝ }
 {
     let blank = Quota {
         grant: 0,

@@ -18,7 +18,8 @@ use Rattle.layout.proofs.Numbers.{octets-take, octets-drop, part-length}
 use Rattle.model.proofs.Bools.{and-left, and-right}
 use Rattle.framing.proofs.Padding.{length-padded}
 use Rattle.image_model.specs.Items.{many, each, every, all-zero}
-use Rattle.image_model.specs.Stream.{form-2, no-grant, all-permitted, marks-of, marks-right, carries, blank, entry-bytes, record-bytes, entry-width, record-width, entries-at, records-at}
+use Rattle.image_model.specs.Stream.{form-2, no-grant, all-permitted, marks-of, marks-right, carries, blank}
+use Rattle.image_model.specs.Stream.{entry-bytes, record-bytes, entry-width, record-width, entries-at, records-at}
 use Rattle.image_model.specs.Stream.{head-length, head-of, stream, Typed}
 use Rattle.image_model.specs.Reading.{entry-of, entry-right, record-of, record-right, marks-in, length-in, accounts-of, heap-of, items-right}
 use Rattle.image_model.specs.declared.Form.{Form}

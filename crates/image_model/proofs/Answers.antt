@@ -14,7 +14,8 @@ use Rattle.model.specs.Answers.{refusal-number, refusal-at}
 use Rattle.model.proofs.Answers.{refusal-number-is}
 use Rattle.image_model.specs.Answers.{Imaged, Restored-to, image-refusal-number, imaged, restored-to}
 use Rattle.image_model.specs.declared.ImageRefusal.{ImageRefusal}
-use Rattle.image_model.specs.declared.ImageRefusal.the-variants.{Call, ImageLength, FrameWrong, FormNumber, Contents, Room, Unsound, HeapLengths, NotCarried, FormsDiffer}
+use Rattle.image_model.specs.declared.ImageRefusal.the-variants.{Call, ImageLength, FrameWrong, FormNumber, Contents, Room, Unsound}
+use Rattle.image_model.specs.declared.ImageRefusal.the-variants.{HeapLengths, NotCarried, FormsDiffer}
 use Rattle.image_model.specs.declared.WriteAnswer.{WriteAnswer}
 use Rattle.image_model.specs.declared.WriteAnswer.the-variants.{Written, Refused as NotWritten}
 use Rattle.image_model.specs.declared.ReadAnswer.{ReadAnswer}

@@ -3,7 +3,8 @@ use Rattle.layout.specs.Bytes.{bytes, number, overwrite}
 use Rattle.model.proofs.Computing.{computing as computing-calls}
 use Rattle.framing.specs.Frames.{padded, word-sum, check-of, front-of, frame-of, cut-from, frames-for, cut, uncut, stream-of, frame-right, frames-right}
 use Rattle.image_model.specs.Items.{many, each, every, all-zero}
-use Rattle.image_model.specs.Stream.{form-1, form-2, form-numbered, entry-tail, tail-width, tail-of, tail-right, marks-of, marks-right, with-marks, carries, blank}
+use Rattle.image_model.specs.Stream.{form-1, form-2, form-numbered, entry-tail, tail-width, tail-of, tail-right}
+use Rattle.image_model.specs.Stream.{marks-of, marks-right, with-marks, carries, blank}
 use Rattle.image_model.specs.Stream.{record-bytes, entry-bytes, head-length, head-of, stream, image-of, image-length}
 use Rattle.image_model.specs.Reading.{entry-of, entry-right, record-of, record-right, accounts-of, heap-of, items-right, form-in, form-of, size-in}
 use Rattle.image_model.specs.Reading.{accounts-in, heap-in, contents-right}

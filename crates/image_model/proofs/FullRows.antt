@@ -41,7 +41,7 @@ image = image-of form-2 heap accounts
 carried : List ℕ
 carried = stream form-2 heap accounts
 
-check-row : map (λ b. number (take 4 (drop (512 * b + 508) image))) (0 ∷ 1 ∷ 2 ∷ 3 ∷ 4 ∷ 5 ∷ 6 ∷ 7 ∷ 8 ∷ 9 ∷ []) 
+check-row : map (λ b. number (take 4 (drop (512 * b + 508) image))) (0 ∷ 1 ∷ 2 ∷ 3 ∷ 4 ∷ 5 ∷ 6 ∷ 7 ∷ 8 ∷ 9 ∷ [])
     ≡ 658078 ∷ 655361 ∷ 655362 ∷ 655363 ∷ 655364 ∷ 655365 ∷ 655366 ∷ 655367 ∷ 202771225 ∷ 655367 ∷ []
 unfolding small accounts image
 check-row = refl

@@ -15,7 +15,8 @@ use Rattle.accounts.specs.Accounts.{zero-quota, zero-hold}
 use Rattle.layout.specs.Bytes.{bytes, number}
 use Rattle.layout.proofs.Numbers.{bytes-length}
 use Rattle.image_model.specs.Items.{many, each, every}
-use Rattle.image_model.specs.Stream.{all-permitted, marks-of, with-marks, carries, blank, entry-bytes, record-bytes, entry-width, record-width, entries-at, records-at}
+use Rattle.image_model.specs.Stream.{all-permitted, marks-of, with-marks, carries, blank}
+use Rattle.image_model.specs.Stream.{entry-bytes, record-bytes, entry-width, record-width, entries-at, records-at}
 use Rattle.image_model.specs.Stream.{head-length, head-of, stream, Typed}
 use Rattle.image_model.specs.Reading.{entry-of, entry-right, record-of, record-right, marks-in, length-in, accounts-of, heap-of, items-right}
 use Rattle.image_model.specs.declared.Form.{Form}
@@ -165,6 +166,7 @@ module _ (f : Form) (e : Known f) (s : List ℕ) (k : Accounts) (y : Typed k) (t
   items-tested c z =
       let n = carried-lengths f e k y in
       let fit = entries-fit f e k y c z in
-      let a = every-many (entry-bytes f) (entry-width f) (entry-length f) (EntryCarried f) (entry-right f) (entry-tested f) (carried-quotas f k) behind-entries fit in
+      let qs = carried-quotas f k in
+      let a = every-many (entry-bytes f) (entry-width f) (entry-length f) (EntryCarried f) (entry-right f) (entry-tested f) qs behind-entries fit in
       let b = every-many record-bytes record-width record-length RecordFits record-right record-tested (carried-holds f k) (s ++ q) (records-fit f e k y) in
       rw (at-12, at-records, rw (n .0) at a, rw (n .1) at b)

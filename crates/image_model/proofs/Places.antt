@@ -53,6 +53,15 @@ form-has-number n f e = by-number (λ m g. g .number ≡ m) refl refl n f e
 pub form-is-known : (n : ℕ) (f : Form) → form-numbered n ≡ some f → Known f
 form-is-known n f e = ap form-numbered (form-has-number n f e) ∙ e
 
+-- forms 1 and 2 have theirs
+pub known-1 : Known form-1
+unfolding form-numbered form-1
+known-1 = refl
+
+pub known-2 : Known form-2
+unfolding form-numbered form-2
+known-2 = refl
+
 -- two forms with one number are the same
 pub same-number : (f g : Form) → Known f → Known g → f .number ≡ g .number → f ≡ g
 same-number f g e h n = let w : some f ≡ some g = sym e ∙ ap form-numbered n ∙ h in cc
@@ -70,13 +79,15 @@ shaped-1 : Shaped form-1
 unfolding form-1
 shaped-1 =
     let h = head-rows .0 in
-    record { number = omega arith; quotas = omega arith; records = omega arith; whole = λ e. absurd (true≢false (sym e)); least = omega arith; most = omega arith }
+    let no : form-1 .full ≡ true → (QUOTAS ≤ form-1 .quotas) × (HOLDS ≤ form-1 .records) = λ e. absurd (true≢false (sym e)) in
+    record { number = omega arith; quotas = omega arith; records = omega arith; whole = no; least = omega arith; most = omega arith }
 
 shaped-2 : Shaped form-2
 unfolding form-2
 shaped-2 =
     let h = head-rows .1 in
-    record { number = omega arith; quotas = omega arith; records = omega arith; whole = λ e. (omega arith, omega arith); least = omega arith; most = omega arith }
+    let all-of-them : form-2 .full ≡ true → (QUOTAS ≤ form-2 .quotas) × (HOLDS ≤ form-2 .records) = λ e. (omega arith, omega arith) in
+    record { number = omega arith; quotas = omega arith; records = omega arith; whole = all-of-them; least = omega arith; most = omega arith }
 
 pub known-shaped : (f : Form) → Known f → Shaped f
 known-shaped f e = by-number (λ n g. Shaped g) shaped-1 shaped-2 (f .number) f e
@@ -104,9 +115,10 @@ module _ (f : Form) where
   unfolding entry-tail tail-right bytes
   tail-tested q h p = go (f .full)
     where
-      go : (x : Bool)
-          → (not x || (permissible (getD (cond x (bytes 1 (q .permissions) ++ replicate 3 0) []) 0 0) && all-zero (drop 1 (cond x (bytes 1 (q .permissions) ++ replicate 3 0) []))))
-          ≡ true
+      tail : Bool → List ℕ
+      tail x = cond x (bytes 1 (q .permissions) ++ replicate 3 0) []
+
+      go : (x : Bool) → (not x || (permissible (getD (tail x) 0 0) && all-zero (drop 1 (tail x)))) ≡ true
       go true = rw (tail-first q h, p) (are-zeros 3)
       go false = refl
 

@@ -104,6 +104,9 @@ write-rows = (refl, refl, refl, refl, refl, refl, refl, refl)
 quotas-with : List Quota → Accounts
 quotas-with qs = with-quotas qs accounts
 
+granted-at : ℕ → Accounts
+granted-at q = quotas-with (set (accounts .quotas) q (quota 5 5))
+
 holder-at : ℕ → Accounts
 holder-at i = with-holds (set (set (accounts .holds) 53 zero-hold) i (hold 1 1 3)) accounts
 
@@ -113,12 +116,11 @@ barred q p = quotas-with (set (accounts .quotas) q (with-permissions p (getD (ac
 refusal-of : List ℕ → Accounts → ℕ
 refusal-of s k = write-image form-1 [] s k .refusal
 
-carried-rows : (map (refusal-of heap) (quotas-with (set (accounts .quotas) 7 (quota 5 5)) ∷ quotas-with (set (accounts .quotas) 8 (quota 5 5)) ∷ quotas-with (set (accounts .quotas) 31 (quota 1 1)) ∷ [])
-    ≡ 25 ∷ 28 ∷ 28 ∷ [])
+carried-rows : (map (refusal-of heap) (granted-at 7 ∷ granted-at 8 ∷ granted-at 31 ∷ []) ≡ 25 ∷ 28 ∷ 28 ∷ [])
     × (map (refusal-of heap) (holder-at 127 ∷ holder-at 128 ∷ holder-at 511 ∷ []) ≡ 25 ∷ 28 ∷ 28 ∷ [])
     × (map (refusal-of heap) (barred 0 6 ∷ barred 1 5 ∷ barred 7 3 ∷ barred 8 0 ∷ barred 31 6 ∷ barred 31 7 ∷ []) ≡ 28 ∷ 28 ∷ 28 ∷ 28 ∷ 28 ∷ 25 ∷ [])
     × (map (λ s. refusal-of s (barred 0 6)) (replicate 56 0 ∷ replicate 64 0 ∷ []) ≡ 1 ∷ 2 ∷ [])
-unfolding small quotas-with holder-at barred refusal-of
+unfolding small quotas-with granted-at holder-at barred refusal-of
 carried-rows = (refl, refl, refl, refl)
 
 -- the reader gives back what was written
@@ -170,8 +172,8 @@ refused =
     ∷ (but 2 1 into 64 is 23)
     ∷ (but 3 1 into 64 is 23)
     ∷ (cut (set (set carried 3 1) 4 65) into 64 is 23)
-    -- 24: form 2 with too few frames for it; a heap length that is not allowed; one with other frames; a frame too many; a byte behind the heap; spare bytes of the first and the
-    -- last record, also where the lent heap has another length and the accounts are not consistent
+    -- 24: form 2 with too few frames for it; a heap length that is not allowed; one with other frames; a frame too many; a byte behind the heap; spare
+    -- bytes of the first and the last record, also where the lent heap has another length and the accounts are not consistent
     ∷ (but 0 2 into 64 is 24)
     ∷ (but 4 65 into 65 is 24)
     ∷ (but 4 56 into 56 is 24)
@@ -188,7 +190,8 @@ refused =
     ∷ (image into 63 is 25)
     ∷ (but 4 72 into 64 is 25)
     ∷ (but 80 8 into 72 is 25)
-    -- 26: that length with a heap of that length; a record that is used and says nothing, a quota with no grant, one that there is not, a remainder that is too high
+    -- 26: that length with a heap of that length; a record that is used and says nothing, a quota with no grant, one that there is not, a remainder
+    -- that is too high
     ∷ (but 4 72 into 72 is 26)
     ∷ (but 96 3 into 64 is 26)
     ∷ (but 80 8 into 64 is 26)

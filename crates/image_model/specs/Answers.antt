@@ -4,7 +4,8 @@ use mathlib.Core.List.{List}
 use Rattle.accounts.specs.declared.Accounts.{Accounts}
 use Rattle.model.specs.Answers.{refusal-number}
 use Rattle.image_model.specs.declared.ImageRefusal.{ImageRefusal}
-use Rattle.image_model.specs.declared.ImageRefusal.the-variants.{Call, ImageLength, FrameWrong, FormNumber, Contents, Room, Unsound, HeapLengths, NotCarried, FormsDiffer}
+use Rattle.image_model.specs.declared.ImageRefusal.the-variants.{Call, ImageLength, FrameWrong, FormNumber, Contents, Room, Unsound}
+use Rattle.image_model.specs.declared.ImageRefusal.the-variants.{HeapLengths, NotCarried, FormsDiffer}
 use Rattle.image_model.specs.declared.WriteAnswer.{WriteAnswer}
 use Rattle.image_model.specs.declared.WriteAnswer.the-variants.{Written, Refused as NotWritten}
 use Rattle.image_model.specs.declared.ReadAnswer.{ReadAnswer}

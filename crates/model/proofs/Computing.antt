@@ -18,7 +18,8 @@ unfolding opened remaining set-remaining less-paid paid-back charge refund used 
     unit object-length alignment
     all any total first change-first is-none or-else
     objects-from objects blocks-of objects-of whole names lookup lookup-whole found
-    allowed long-enough starts-free free-apart well-cut serials-differ serials-given record-valid records-differ is-of held has-record charged-for charges balanced-from consistent-blocks consistent-parsed consistent in-units
+    allowed long-enough starts-free free-apart well-cut serials-differ serials-given record-valid records-differ is-of held has-record charged-for
+    charges balanced-from consistent-blocks consistent-parsed consistent in-units
     outside-occupied suitable first-candidate lowest-base left-over cut-block carve-from carve vacate vacate-unheld join-front join-free settle body-of copy-into
     count-of take-record raise-count less-one lower-count drop-records
     first-refusal line-1 line-2 line-3 line-4 line-5 line-6 line-7 line-8 line-9 line-10 line-12 only-if claims-first

@@ -19,7 +19,8 @@ unfolding computing run values-of got wanted parts accounts-of block every-call 
 first-lines-run = refl
 
 -- 8 before 9 before 10; a claim of a quota that has a record needs neither remainder nor record, and is refused by its count alone
-pub full-lines-run : (map first-refusal (full-lines 254) ≡ 8 ∷ 9 ∷ 8 ∷ 9 ∷ 8 ∷ 9 ∷ 0 ∷ []) × (map first-refusal (full-lines 255) ≡ 8 ∷ 9 ∷ 8 ∷ 9 ∷ 8 ∷ 9 ∷ 7 ∷ [])
+pub full-lines-run : (map first-refusal (full-lines 254) ≡ 8 ∷ 9 ∷ 8 ∷ 9 ∷ 8 ∷ 9 ∷ 0 ∷ [])
+    × (map first-refusal (full-lines 255) ≡ 8 ∷ 9 ∷ 8 ∷ 9 ∷ 8 ∷ 9 ∷ 7 ∷ [])
 unfolding computing-but-sound accounts-of filled-from holders records-from full-heap full-accounts full-lines
 full-lines-run = (refl, refl)
 

@@ -35,7 +35,7 @@ objects-of s = objects (blocks-of s)
 unfoldable pub whole : Handle → Handle → Bool
 whole h o = eqb (h .base) (o .base) && (eqb (h .length) (o .length) && eqb (h .serial) (o .serial))
 
--- rule 4.3: a handle names an object; it has its serial, and its range has at least one byte and lies inside it
+-- rule 4.3: a handle names an object; the serial is the same, and the range is not empty and does not leave the object
 unfoldable pub names : Handle → Handle → Bool
 names h o = eqb (h .serial) (o .serial) && (leb 1 (h .length) && (leb (o .base) (h .base) && leb (h .base + h .length) (o .base + o .length)))
 

@@ -58,7 +58,8 @@ returns-3 c =
     let h = t .before in
     let s = h .before .before in
     let p = s .before .before .before in
-    examined-sound (p .before .before .args .image .now) _ _ _ (found s) (h .heap-at .result) (h .heap-at .ensures .0) (t .is-sound .result) (t .is-sound .ensures)
+    examined-sound (p .before .before .args .image .now) _ _ _ (found s) (h .heap-at .result) (h .heap-at .ensures .0)
+    (t .is-sound .result) (t .is-sound .ensures)
     (not-false _ (c .if1 .left)) (p .parse-image .result) (p .parse-image .ensures)
 
 pub examine-spec : {M : Type 1} → statement M

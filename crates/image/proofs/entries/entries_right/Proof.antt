@@ -37,7 +37,8 @@ returns c =
 loop-holds : tie.Need-loop-holds Inv-loop μ-loop
 loop-holds c =
     let a = c .before .before .args in
-    (omega arith, not-false _ (c .if1 .left), λ (f : Form) e. every-all (entry-right f) (entry-width f) (a .count) (drop entries-at (stream-of (a .image .now))))
+    let t = stream-of (a .image .now) in
+    (omega arith, not-false _ (c .if1 .left), λ (f : Form) e. every-all (entry-right f) (entry-width f) (a .count) (drop entries-at t))
 
 mul-are-permissions : tie.Need-mul-are-permissions Inv-loop μ-loop
 mul-are-permissions c = search needs

@@ -21,7 +21,8 @@ returns : tie.Need-returns
 unfolding tail-width head-length
 returns c =
     let w = c .before .before in
-    (ap (λ (n : ℕ). n + w .args .form .records * 8) (c .before .entry-at .ensures .0), omega (arith, c .before .entry-at .ensures .1, w .pre .quotas, w .pre .records))
+    let e = c .before .entry-at .ensures in
+    (ap (λ (n : ℕ). n + w .args .form .records * 8) (e .0), omega (arith, e .1, w .pre .quotas, w .pre .records))
 
 pub heap-at-spec : {M : Type 1} → statement M
 heap-at-spec = tie.close (tie.spec entry-at-requires mul-result add-result returns)

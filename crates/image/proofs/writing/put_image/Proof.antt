@@ -32,7 +32,8 @@ sized : (c : tie.After-head)
     → c .before .before .before .heap-at .result ≡ length (take (c .before .before .before .heap-at .result) (c .before .before .head-space .result))
 sized c =
     let n : length (c .before .before .head-space .result) ≡ 4492 = c .before .before .head-space .ok .1 .0 .1 in
-    sym (length-take-le (c .before .before .before .heap-at .result) (c .before .before .head-space .result) (omega (arith, c .before .before .before .heap-at .ensures .1)))
+    let h = c .before .before .before in
+    sym (length-take-le (h .heap-at .result) (c .before .before .head-space .result) (omega (arith, n, h .heap-at .ensures .1)))
 
 slice-aggregate-put-with : tie.Need-slice-aggregate-put-with
 slice-aggregate-put-with c = sized c

@@ -35,7 +35,8 @@ returns c =
     let h = w .before .before .before .before .before in
     let start = h .before .before .before .before .before in
     let a = start .args in
-    put-by-frames (a .form) (start .pre .1) (a .image .now) (a .heap .now) (a .accounts) (start .pre .0) (start .pre .3) (h .write-head .last .0) (h .write-head .ensures)
+    put-by-frames (a .form) (start .pre .1) (a .image .now) (a .heap .now) (a .accounts) (start .pre .0) (start .pre .3)
+    (h .write-head .last .0) (h .write-head .ensures)
     (omega (arith, start .pre .2))
     (w .write-frames .last .0) (w .write-frames .result) (Written (c .before .length .given .0 .0)) (w .write-frames .ensures) (c .before .length .given .1)
 
@@ -52,7 +53,8 @@ returns-2 c =
     let h = w .before .before .before .before .before in
     let start = h .before .before .before .before .before in
     let a = start .args in
-    put-by-frames (a .form) (start .pre .1) (a .image .now) (a .heap .now) (a .accounts) (start .pre .0) (start .pre .3) (h .write-head .last .0) (h .write-head .ensures)
+    put-by-frames (a .form) (start .pre .1) (a .image .now) (a .heap .now) (a .accounts) (start .pre .0) (start .pre .3)
+    (h .write-head .last .0) (h .write-head .ensures)
     (omega (arith, start .pre .2))
     (w .write-frames .last .0) (w .write-frames .result) NoRoom (w .write-frames .ensures) (c .enum-told .given .1)
 
