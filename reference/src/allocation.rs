@@ -47,7 +47,7 @@ pub fn allocate_array(
 }
 
 /// Allocates a new object, copies the old one into it and releases the old one once
-/// (rules 8.23 to 8.27).
+/// (rules 8.23 to 8.27). The handle is that of the whole old object.
 pub fn reallocate(
     heap: &mut [u8],
     accounts: &mut Accounts,
@@ -58,7 +58,7 @@ pub fn reallocate(
     let layout = sound_layout(heap, accounts)?;
     let quota = accounts.permitted(quota, Permission::Allocate)?;
     let rounded = round_request(u64::from(length))?;
-    let (old, record) = held_object(&layout, accounts, quota, handle)?;
+    let (old, record) = held_object(layout.named(handle), accounts, quota)?;
     let plan = Plan::new(&layout, accounts, quota, rounded)?;
     let with_both = plan.carry_out(heap, accounts, &layout);
     copy_object(heap, old, plan.block);

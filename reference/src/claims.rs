@@ -6,7 +6,8 @@ use crate::permissions::Permission;
 use crate::sound::sound_layout;
 use crate::Refusal;
 
-/// Adds one hold of the quota on the object and gives the object's length (rules 8.13 to 8.15).
+/// Adds one hold of the quota on the object and gives the whole object's length (rules 8.13 to
+/// 8.15).
 ///
 /// Only the first hold of a quota on an object is charged.
 pub fn claim(
@@ -17,7 +18,7 @@ pub fn claim(
 ) -> Result<u32, Refusal> {
     let layout = sound_layout(heap, accounts)?;
     let quota = accounts.permitted(quota, Permission::Claim)?;
-    let object = layout.named(handle).ok_or(Refusal::NoObject)?;
+    let object = layout.found(handle).ok_or(Refusal::NoObject)?;
     match accounts.find_hold(quota, object.serial) {
         Some(record) => {
             let count = accounts.holds[record].count;
@@ -28,7 +29,7 @@ pub fn claim(
             accounts.add_hold(record, quota, object.serial, object.charge());
         }
     }
-    Ok(handle.length)
+    Ok(object.handle().length)
 }
 
 /// Takes one hold of the quota off the object and gives the quota given back (rules 8.16 to 8.19).
@@ -40,7 +41,7 @@ pub fn release(
 ) -> Result<u32, Refusal> {
     let layout = sound_layout(heap, accounts)?;
     let quota = QuotaNumber::new(quota)?;
-    let (object, record) = held_object(&layout, accounts, quota, handle)?;
+    let (object, record) = held_object(layout.found(handle), accounts, quota)?;
     Ok(release_once(heap, accounts, &layout, quota, object, record))
 }
 
@@ -73,18 +74,17 @@ pub fn can_release(
 ) -> Result<(), Refusal> {
     let layout = sound_layout(heap, accounts)?;
     let quota = QuotaNumber::new(quota)?;
-    held_object(&layout, accounts, quota, handle).map(|_| ())
+    held_object(layout.found(handle), accounts, quota).map(|_| ())
 }
 
-/// Finds the object that the handle names and the place of the quota's record
-/// for it, or gives refusal 5 or 6.
+/// Gives the object that was looked up and the place of the quota's record for
+/// it, or refusal 5 or 6.
 pub(crate) fn held_object(
-    layout: &Layout,
+    looked_up: Option<Block>,
     accounts: &Accounts,
     quota: QuotaNumber,
-    handle: Handle,
 ) -> Result<(Block, usize), Refusal> {
-    let object = layout.named(handle).ok_or(Refusal::NoObject)?;
+    let object = looked_up.ok_or(Refusal::NoObject)?;
     let record = accounts.find_hold(quota, object.serial);
     Ok((object, record.ok_or(Refusal::NoRecord)?))
 }

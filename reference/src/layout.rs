@@ -11,15 +11,28 @@ pub const HEADER_BYTES: u32 = 8;
 /// The unit, in bytes, in which a header states the two sizes.
 pub const SIZE_UNIT: u32 = 8;
 
-/// What a caller has of an object: it names the object if all three agree (rule 4.3).
+/// What a caller has of an object, or of a part of it: it names the object if all three agree
+/// (rule 4.3), and finds it from any part with its serial.
 #[derive(Clone, Copy, Debug, Default, PartialEq, Eq, Hash)]
 pub struct Handle {
-    /// Offset of the first byte after the header.
+    /// Offset of the first byte; for a whole object the first after the header.
     pub base: u32,
-    /// Length of the object in bytes.
+    /// Length in bytes.
     pub length: u32,
     /// Serial of the object.
     pub serial: u32,
+}
+
+impl Handle {
+    /// Gives the offset of the first byte behind the range, in whole numbers.
+    fn end(self) -> u64 {
+        u64::from(self.base) + u64::from(self.length)
+    }
+
+    /// Gives the place of the range in the heap.
+    pub(crate) fn bytes(self) -> Range<usize> {
+        bytes(self.base, self.length)
+    }
 }
 
 /// A block of the heap.
@@ -62,7 +75,7 @@ impl Block {
 
     /// Gives the place of the object's bytes in the heap.
     pub(crate) fn object_bytes(self) -> Range<usize> {
-        bytes(self.handle().base, self.handle().length)
+        self.handle().bytes()
     }
 }
 
@@ -168,7 +181,16 @@ impl Layout {
         blocks
     }
 
-    /// Finds the live block whose object the handle names.
+    /// Finds the live block whose object has the handle's serial and all bytes of its range,
+    /// of which there must be at least one.
+    pub(crate) fn found(&self, handle: Handle) -> Option<Block> {
+        let object = self.live().find(|block| block.serial == handle.serial)?;
+        let whole = object.handle();
+        let inside = handle.base >= whole.base && handle.end() <= whole.end();
+        (inside && handle.length > 0).then_some(object)
+    }
+
+    /// Finds the live block whose whole object the handle names.
     pub(crate) fn named(&self, handle: Handle) -> Option<Block> {
         let offset = handle.base.checked_sub(HEADER_BYTES)?;
         let block = *self.live.get(&offset)?;

@@ -7,14 +7,15 @@ use crate::layout::{Block, Handle};
 use crate::sound::sound_layout;
 use crate::Refusal;
 
-/// Gives the range of the heap that holds the object's bytes.
+/// Gives the range of the heap that the handle has of an object.
 pub fn lend(heap: &[u8], accounts: &Accounts, handle: Handle) -> Result<Range<usize>, Refusal> {
     let layout = sound_layout(heap, accounts)?;
-    let object = layout.named(handle).ok_or(Refusal::NoObject)?;
-    Ok(object.object_bytes())
+    layout.found(handle).ok_or(Refusal::NoObject)?;
+    Ok(handle.bytes())
 }
 
-/// Gives the part of the heap that is the object, to be read and written (rule 8.29).
+/// Gives the part of the heap that the handle has of an object, to be read and written
+/// (rule 8.29).
 pub fn lend_mut<'heap>(
     heap: &'heap mut [u8],
     accounts: &Accounts,

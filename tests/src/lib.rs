@@ -32,6 +32,7 @@ pub mod ledger;
 pub mod lent;
 pub mod malformed;
 pub mod moves;
+pub mod narrowing;
 pub mod programs;
 pub mod rounds;
 pub mod script;

@@ -30,14 +30,16 @@
 //! assert_eq!(heap.allocate(LOGGER, 32), Err(Refusal::QuotaExceeded));
 //! assert_eq!(heap.remaining(LOGGER)?, 24);
 //!
-//! heap.claim(RADIO, buffer)?;
+//! // The radio gets a handle of the reading alone, and holds the whole buffer by it.
+//! let reading = buffer.narrowed(..8).unwrap();
+//! assert_eq!(heap.claim(RADIO, reading)?, 40);
 //! heap.release(LOGGER, buffer)?;
-//! assert_eq!(&heap.lend(buffer)?[..8], b"pressure");
+//! assert_eq!(heap.lend(reading)?, b"pressure");
 //!
 //! let close = heap.allocate(VALVE, 32)?;
 //! assert_eq!(close.base, 104);
 //!
-//! heap.release(RADIO, buffer)?;
+//! heap.release(RADIO, reading)?;
 //! assert_eq!(heap.lend(buffer), Err(Refusal::NoSuchObject));
 //! # Ok::<(), Refusal>(())
 //! ```
@@ -59,6 +61,7 @@ compile_error!(concat!(
 
 mod blocks;
 mod comparison;
+mod handle;
 mod heap;
 mod image;
 mod layout;

@@ -1,5 +1,5 @@
 -- What lend and the write of a byte give, from what the check and the lookup answered. The block that the lookup found is one of the heap's, so its
--- object lies in the heap.
+-- object, and the handle's range in it, lies in the heap.
 -- Assumes nothing.
 use mathlib.Core.Path.{_≡_, ap, sym, _∙_}
 use mathlib.Core.List.{List, [], _∷_}
@@ -28,6 +28,7 @@ use Rattle.finder.specs.declared.Met.{Met}
 use Rattle.finder.specs.declared.Lookup.the-variants.{Found, Missing}
 use Rattle.finder.specs.Walk.{object-met, find-object}
 use Rattle.finder.proofs.Parsed.{total-parsed, Stands}
+use Rattle.finder.proofs.Reached.{found-narrowed}
 use Rattle.finder.proofs.Named.{Named, lookup-found, lookup-missing}
 use Rattle.access.specs.Lending.{written, write-object, Spans}
 use Rattle.access.proofs.Lookups.{line-5-refuses, line-5-passes}
@@ -67,13 +68,14 @@ module _ (unit : ℕ → ℕ) (s : List ℕ) (k : Accounts) (h : Handle) (v : Ve
       unfolding lend-lines first-refusal
       lend-accepted = check-accepts unit s k v told (line-5 (lookup h s) ∷ []) e ∙ line-5-passes (lookup h s) (object-met m) [] (named .named)
 
-      -- for that block's object
-      pub lend-object : found (lookup h s) ≡ object-met m
-      unfolding found or-else
-      lend-object = rw (named .named)
-
-      pub lend-inside : (8 ≤ m .size) × (m .at + m .size ≤ length s)
-      lend-inside = stands-inside s (blocks-of s) cut m (named .stands)
+      -- the handle's range lies in the block's object, and so in the heap
+      pub lend-inside : h .base + h .length ≤ length s
+      lend-inside =
+          let i = stands-inside s (blocks-of s) cut m (named .stands) in
+          let i₀ = i .0 in
+          let i₁ = i .1 in
+          let r = found-narrowed h s m q .high in
+          omega arith
 
 module _ (unit : ℕ → ℕ) (s : List ℕ) (k : Accounts) (h : Handle) where
   -- the range of a refused lend is empty
@@ -89,37 +91,30 @@ module _ (unit : ℕ → ℕ) (s : List ℕ) (k : Accounts) (h : Handle) where
         inside = omega arith;
       }
 
-  module _ (m : Met) (e : first-refusal (lend-lines unit s k h) ≡ 0) (o : found (lookup h s) ≡ object-met m) (i : (8 ≤ m .size) × (m .at + m .size ≤ length s)) where
-    -- that of an accepted one is the object's
-    pub spans-lent : Spans unit s k h 0 (m .at + 8) (m .at + m .size)
+  module _ (e : first-refusal (lend-lines unit s k h) ≡ 0) where
+    -- that of an accepted one is the handle's
+    pub spans-lent : h .base + h .length ≤ length s → Spans unit s k h 0 (h .base) (h .base + h .length)
     unfolding lend
-    spans-lent =
-        let ob = found (lookup h s) in
-        let q : unchanged s k (lent (record { start = ob .base; end = ob .base + ob .length })) ≡ lend unit s k h = accepted-is (first-refusal (lend-lines unit s k h)) s k _ e in
-        let b : ob .base ≡ m .at + 8 = ap (λ (x : Handle). x .base) o in
-        let l : ob .length ≡ m .size - 8 = ap (λ (x : Handle). x .length) o in
-        let i₀ = i .0 in
-        let i₁ = i .1 in
-        let t : m .at + m .size ≡ ob .base + ob .length = omega arith in
+    spans-lent i =
+        let q : unchanged s k (lent (record { start = h .base; end = h .base + h .length })) ≡ lend unit s k h =
+        accepted-is (first-refusal (lend-lines unit s k h)) s k _ e in
         record {
           refuses = ap (λ (x : Outcome). x .values .refusal) q;
-          starts = sym b ∙ ap (λ (x : Outcome). x .values .range .start) q;
-          ends = t ∙ ap (λ (x : Outcome). x .values .range .end) q;
+          starts = ap (λ (x : Outcome). x .values .range .start) q;
+          ends = ap (λ (x : Outcome). x .values .range .end) q;
           ordered = omega arith;
-          inside = i .1;
+          inside = i;
         }
 
-    -- a byte in the object is written, and one beyond it is not
-    pub writes : (at byte : ℕ) → at < m .size - 8 → unchanged (set s (m .at + 8 + at) byte) k accepted ≡ write-object unit s k h at byte
+    -- a byte in the range is written, and one beyond it is not
+    pub writes : (at byte : ℕ) → at < h .length → unchanged (set s (h .base + at) byte) k accepted ≡ write-object unit s k h at byte
     unfolding write-object written
     writes at byte l =
-        let t : ltb at (m .size - 8) ≡ true = lt-ltb at (m .size - 8) l in
-        let w : set s (m .at + 8 + at) byte ≡ written s (found (lookup h s)) at byte = rw (o, t) in
+        let w : set s (h .base + at) byte ≡ written s h at byte = rw (lt-ltb at (h .length) l) in
         ap (λ (x : List ℕ). unchanged x k accepted) w ∙ accepted-is (first-refusal (lend-lines unit s k h)) s k _ e
 
-    pub passes : (at byte : ℕ) → m .size - 8 ≤ at → unchanged s k accepted ≡ write-object unit s k h at byte
+    pub passes : (at byte : ℕ) → h .length ≤ at → unchanged s k accepted ≡ write-object unit s k h at byte
     unfolding write-object written
     passes at byte l =
-        let t : ltb at (m .size - 8) ≡ false = le-ltb at (m .size - 8) l in
-        let w : s ≡ written s (found (lookup h s)) at byte = rw (o, t) in
+        let w : s ≡ written s h at byte = rw (le-ltb at (h .length) l) in
         ap (λ (x : List ℕ). unchanged x k accepted) w ∙ accepted-is (first-refusal (lend-lines unit s k h)) s k _ e

@@ -25,8 +25,7 @@ use Rattle.model.proofs.Lists.{total-append}
 use Rattle.model.proofs.Listing.{listed-at, block-at, block-at-from, list-block-step, step-at, step-end}
 use Rattle.finder.proofs.Parsed.{met-of, met-parsed, total-parsed}
 use Rattle.access.specs.Results.{outcome}
-use Rattle.finder.specs.Walk.{stands-at}
-use Rattle.access.specs.Listing.{answered, find-block, end-of, place-after, Stepped, Walks, in-steps}
+use Rattle.access.specs.Listing.{answered, stands-at, find-block, end-of, place-after, Stepped, Walks, in-steps}
 
 -- among the blocks from a place on
 listing-met : (at from back : ℕ) (bs : List Block) → block-values (answered (first (stands-at at) (met-of from back bs))) ≡ listed (block-at-from from bs at)

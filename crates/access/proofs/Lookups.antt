@@ -117,15 +117,10 @@ module _ (unit : ℕ → ℕ) (s : List ℕ) (k : Accounts) (v : Verdict) (told 
         check-accepts unit s k v told (line-5 (lookup h s) ∷ []) accepts
         ∙ line-5-passes (lookup h s) (object-met m) [] (located unit s k v told accepts h m e .named)
 
-    -- the part from behind the block's header to the block's end is what lend gives
-    pub lend-is : unchanged s k (lent (record { start = m .at + 8; end = m .at + m .size })) ≡ lend unit s k h
+    -- the handle's range is what lend gives
+    pub lend-is : unchanged s k (lent (record { start = h .base; end = h .base + h .length })) ≡ lend unit s k h
     unfolding lend
-    lend-is =
-        let w = located unit s k v told accepts h m e in
-        let d : m .at + m .size ≡ m .at + 8 + (m .size - 8) = omega (arith, w .header) in
-        ap (λ (n : ℕ). unchanged s k (lent (record { start = m .at + 8; end = n }))) d
-        ∙ ap (λ (o : Handle). unchanged s k (lent (record { start = o .base; end = o .base + o .length }))) (sym (w .object))
-        ∙ accepted-is _ s k _ lend-found
+    lend-is = accepted-is _ s k _ lend-found
 
     module _ (q : ℕ) (l : q < QUOTAS) where
       sixth : first-refusal (release-lines unit s k q h) ≡ first-refusal (line-6 k q (object-met m) ∷ [])

@@ -1,4 +1,4 @@
--- An object's bytes: the write of one byte, and the part of the heap that lend gives, after model's `lend`.
+-- An object's bytes through a handle: the write of one byte, and the part of the heap that lend gives, after model's `lend`.
 use Prim.Native.Nat.{ℕ, _+_, _-_, _≤_}
 use mathlib.Core.Path.{_≡_}
 use mathlib.Core.List.{List}
@@ -7,20 +7,19 @@ use lib.ListN.{length, set, take, drop}
 use lib.Dec.{ltb}
 use Rattle.accounts.specs.declared.Accounts.{Accounts}
 use Rattle.model.specs.Answers.{accepted}
-use Rattle.model.specs.Objects.{lookup, found}
 use Rattle.model.specs.Refusals.{first-refusal, lend-lines}
 use Rattle.model.specs.Calls.{Outcome, unless, unchanged, lend}
 use Rattle.model.specs.declared.Handle.{Handle}
 use Rattle.model.specs.declared.Range.{Range}
 
--- the heap with another byte at a place of an object, which counts from the base; a place at or beyond the object's length writes nothing
+-- the heap with another byte at a place of a handle's range, which counts from its base; a place at or beyond its length writes nothing
 unfoldable pub written : List ℕ → Handle → ℕ → ℕ → List ℕ
-written s o at byte = cond (ltb at (o .length)) (set s (o .base + at) byte) s
+written s h at byte = cond (ltb at (h .length)) (set s (h .base + at) byte) s
 
--- the write of a history: lend's refusals, and else the byte in the object
+-- the write of a history: lend's refusals, and else the byte in the range
 unfoldable pub write-object : (ℕ → ℕ) → List ℕ → Accounts → Handle → ℕ → ℕ → Outcome
 write-object unit s k h at byte =
-    let done = unchanged (written s (found (lookup h s)) at byte) k accepted in
+    let done = unchanged (written s h at byte) k accepted in
     unless (first-refusal (lend-lines unit s k h)) s k done
 
 -- lend's refusal, 0 where there is none; its range, from 0 to 0 where it is refused; and the bytes in that range

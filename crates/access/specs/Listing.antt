@@ -2,7 +2,9 @@
 use Prim.Native.Nat.{ℕ, zero, suc, _+_}
 use mathlib.Core.Path.{_≡_}
 use mathlib.Core.List.{List, [], _∷_}
+use mathlib.Core.Bool.{Bool}
 use mathlib.Core.Option.{Option, none, some}
+use lib.Dec.{eqb}
 use Rattle.accounts.specs.declared.Accounts.{Accounts}
 use Rattle.model.specs.Lists.{first}
 use Rattle.model.specs.Answers.{block-values}
@@ -11,7 +13,7 @@ use Rattle.model.specs.declared.ListedBlock.{ListedBlock}
 use Rattle.model.specs.declared.BlockAnswer.{BlockAnswer}
 use Rattle.model.specs.declared.BlockAnswer.the-variants.{Listed, NoBlock}
 use Rattle.finder.specs.declared.Met.{Met}
-use Rattle.finder.specs.Walk.{met, stands-at}
+use Rattle.finder.specs.Walk.{met}
 use Rattle.access.specs.Results.{outcome}
 
 -- a block that was met, as the listing gives it
@@ -21,6 +23,10 @@ listed-met m = record { offset = m .at; size = m .size; serial = m .serial }
 abbrev pub answered : Option Met → BlockAnswer
 answered none = NoBlock
 answered (some m) = Listed (listed-met m)
+
+-- a block that was met starts at a place
+abbrev pub stands-at : ℕ → Met → Bool
+stands-at at m = eqb (m .at) at
 
 unfoldable pub find-block : ℕ → List ℕ → BlockAnswer
 find-block at s = answered (first (stands-at at) (met s))

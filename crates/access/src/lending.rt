@@ -1,4 +1,4 @@
-// An object's bytes: a write of one byte, and the part of the heap where they lie.
+// An object's bytes through a handle: a write of one byte, and the part of the heap where they lie.
 use accounts::Accounts;
 use finder::Lookup;
 use model::Handle;
@@ -11,14 +11,14 @@ ghost use Rattle.access.specs.Results.{outcome};
 ghost use Rattle.rounding.specs.Rounding.{unit};
 ghost use Rattle.access.specs.Lending.{Spans, write-object, lent-bytes, lent-range, lent-refusal};
 
-// Where an object lies, and the refusal's number, 0 where there is none.
+// Where the lent bytes lie, and the refusal's number, 0 where there is none.
 pub(crate) struct Span {
     refusal: u32,
     start: usize,
     end: usize,
 }
 
-// Rule 8.29: the range of the object that a handle names; an empty one with the refusal's number where lend is refused.
+// Rule 8.29: the range of a handle that names an object; an empty one with the refusal's number where lend is refused.
 fn span_of(heap: &[u8], accounts: Accounts, handle: Handle) -> Span
     ensures { λ r. ⌜ Spans unit (now (heap .entry)) accounts handle (r .refusal) (r .start) (r .end) ⌝ }
 {
@@ -29,21 +29,23 @@ fn span_of(heap: &[u8], accounts: Accounts, handle: Handle) -> Span
             end: 0,
         };
     }
-    let Lookup::Found(block) = finder::find_object(heap, handle) else {
+    let Lookup::Found(_) = finder::find_object(heap, handle) else {
         return Span {
             refusal: Refusal::NoSuchObject.number(),
             start: 0,
             end: 0,
         };
     };
+    let start = handle.base as usize;
     Span {
         refusal: 0,
-        start: block.at + 8,
-        end: block.at + block.size,
+        start: start,
+        end: start + handle.length as usize,
     }
 }
 
-// Rule 8.36: one byte of an object is written, at a place that counts from its base. A place at or beyond its length is accepted, and nothing is written.
+// Rule 8.36: one byte of a handle's range is written, at a place that counts from the handle's base. A place at or beyond its length is accepted, and nothing
+// is written.
 pub fn write_object(
     heap: &mut [u8],
     accounts: Accounts,
@@ -56,18 +58,18 @@ pub fn write_object(
     if let Verdict::Refused(refusal) = checker::check(heap, accounts) {
         return Verdict::Refused(refusal);
     }
-    let Lookup::Found(block) = finder::find_object(heap, handle) else {
+    let Lookup::Found(_) = finder::find_object(heap, handle) else {
         return Verdict::Refused(Refusal::NoSuchObject);
     };
-    let place = at as usize;
-    if place < block.size - 8 {
-        let index = block.at + 8 + place;
+    if at < handle.length {
+        let index = handle.base as usize + at as usize;
         heap[index] = byte;
     }
     Verdict::Accepted
 }
 
-// Rule 8.29: an object's bytes, as a part of the heap; an empty part where it is refused. The refusal's number, 0 where there is none, is left in refusal.
+// Rule 8.29: the bytes of a handle's range, as a part of the heap; an empty part where it is refused. The refusal's number, 0 where there is none, is left
+// in refusal.
 pub fn lend<'a>(
     heap: &'a mut [u8],
     accounts: Accounts,

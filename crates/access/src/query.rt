@@ -48,18 +48,19 @@ pub fn can_release(heap: &[u8], accounts: Accounts, quota: u32, handle: Handle) 
     Verdict::Accepted
 }
 
-// Rule 8.29: the part of the heap where the object that a handle names has its bytes.
+// Rule 8.29: the range of a handle that names an object, as a part of the heap.
 pub fn object_range(heap: &[u8], accounts: Accounts, handle: Handle) -> RangeAnswer
     ensures { λ r. ⌜ outcome (now (heap .entry)) accounts (range-values r) ≡ lend unit (now (heap .entry)) accounts handle ⌝ }
 {
     if let Verdict::Refused(refusal) = checker::check(heap, accounts) {
         return RangeAnswer::Refused(refusal);
     }
-    let Lookup::Found(block) = finder::find_object(heap, handle) else {
+    let Lookup::Found(_) = finder::find_object(heap, handle) else {
         return RangeAnswer::Refused(Refusal::NoSuchObject);
     };
+    let start = handle.base as usize;
     RangeAnswer::Lent(Range {
-        start: block.at + 8,
-        end: block.at + block.size,
+        start: start,
+        end: start + handle.length as usize,
     })
 }

@@ -30,10 +30,10 @@ use Rattle.model.specs.declared.Refusal.{Refusal}
 use Rattle.model.specs.declared.HandleAnswer.{HandleAnswer}
 use Rattle.model.specs.declared.HandleAnswer.the-variants.{Given, Refused}
 use Rattle.model.specs.declared.Call.the-variants.{Allocate}
-use Rattle.model.proofs.Bools.{fails, and-both}
+use Rattle.model.proofs.Bools.{fails, and-right, and-both}
 use Rattle.model.proofs.Consistent.{sound-fits, sound-permissible}
 use Rattle.model.proofs.Permissions.{allocated-permissions}
-use Rattle.model.proofs.Lookup.{lookup-exactly, lookup-whole-is}
+use Rattle.model.proofs.Lookup.{lookup-named, lookup-exactly, lookup-whole-exactly}
 use Rattle.model.proofs.Refusals.{by-lines, refusal-of-lines, accepted-exactly, unless-refused}
 use Rattle.writer.proofs.CopyBytes.{copied-bytes}
 use Rattle.invariant.proofs.Good.{Good}
@@ -70,10 +70,12 @@ module _ (serial q : ℕ) (w : Hold) (other : is-for serial q w ≡ false) where
       go true e ih = rw (e, other, not-used h e) refl
       go false e ih = rw (e, ih) refl
 
--- a handle that names an object names it to reallocate too
-pub whole-named : (h old : Handle) (s : List ℕ) → lookup h s ≡ some old → (lookup-whole h s ≡ some old) × (found (lookup-whole h s) ≡ old)
+-- a handle that is the whole of an object that it names names it to reallocate too
+pub whole-named : (h old : Handle) (s : List ℕ) → h ≡ old → lookup h s ≡ some old → (lookup-whole h s ≡ some old) × (found (lookup-whole h s) ≡ old)
 unfolding found or-else
-whole-named h old s e = rw (lookup-whole-is h s, e) (refl, refl)
+whole-named h old s is e =
+    let w = lookup-whole-exactly h s old .1 (is, rw is (lookup-named h s old e .1)) in
+    (w, rw w)
 
 -- line 6 does not hold where the quota has a record
 line-6-passes : (k : Accounts) (q : ℕ) (o : Handle) (rest : List Line) → has-record (k .holds) q (o .serial) ≡ true → first-refusal (line-6 k q o ∷ rest) ≡ first-refusal rest
@@ -94,12 +96,12 @@ module _ (unit : ℕ → ℕ) (s : List ℕ) (k : Accounts) (q : ℕ) (h old : H
   release-leaves = rw (release-passes, named) (refl, refl)
 
 -- a request that passes lines 1 to 6: h names the object old, and the quota has a record for it
-module _ (unit : ℕ → ℕ) (units : Units unit) (s : List ℕ) (k : Accounts) (q : ℕ) (h : Handle) (n : ℕ) (r : Ready unit s k q n) (old : Handle) (named : lookup h s ≡ some old) (held : has-record (k .holds) q (old .serial) ≡ true) where
+module _ (unit : ℕ → ℕ) (units : Units unit) (s : List ℕ) (k : Accounts) (q : ℕ) (h : Handle) (n : ℕ) (r : Ready unit s k q n) (old : Handle) (handle-is : h ≡ old) (named : lookup h s ≡ some old) (held : has-record (k .holds) q (old .serial) ≡ true) where
   -- the lines behind them are allocate's
   same-number : first-refusal (reallocate-lines unit s k q h n) ≡ first-refusal (allocate-lines unit s k q n)
   unfolding reallocate-lines allocate-lines
   same-number =
-      let w = whole-named h old s named in
+      let w = whole-named h old s handle-is named in
       let o = found (lookup-whole h s) in
       ready-passes unit s k q n (line-5 (lookup-whole h s) ∷ line-6 k q o ∷ from-8 unit s k q n) r
       ∙ line-5-passes (lookup-whole h s) old (line-6 k q o ∷ from-8 unit s k q n) (w .0)
@@ -140,12 +142,9 @@ module _ (unit : ℕ → ℕ) (units : Units unit) (s : List ℕ) (k : Accounts)
     made-good = allocated-good q new (state-of s k) start room
 
     -- the old object is there, and its serial is not the new one
-    handle-is : h ≡ old
-    handle-is = lookup-exactly h s old .0 named .0
-
     there : List·Memᴰ old (objects (blocks-of s))
     unfolding objects-of
-    there = rw handle-is at (lookup-exactly h s old .0 named .1)
+    there = lookup-named h s old named .1
 
     fresh : old .serial ≡ new .serial → ⊥
     fresh = requested-fresh unit units s k start (heap-again s k o (r .checked .consistent)) q n p old there
@@ -185,7 +184,8 @@ module _ (unit : ℕ → ℕ) (units : Units unit) (s : List ℕ) (k : Accounts)
     filled-named : lookup h (render (filled .blocks)) ≡ some old
     filled-named =
         let x = still-releasable (state-of s k) start q old new room fresh there held in
-        lookup-exactly h (render (filled .blocks)) old .1 (handle-is, rw (written .objects, handle-is) (x .0))
+        lookup-exactly h (render (filled .blocks)) old (rw (written .objects) (copied-good old new made made-good .tests .differ)) .1
+        (lookup-named h s old named .0, rw (written .objects) (x .0))
 
     filled-releases : (release unit (render (filled .blocks)) (filled .accounts) q h .heap ≡ render (released q old filled .blocks))
         × (release unit (render (filled .blocks)) (filled .accounts) q h .accounts ≡ released q old filled .accounts)
@@ -246,4 +246,4 @@ module _ (unit : ℕ → ℕ) (units : Units unit) (s : List ℕ) (k : Accounts)
         (λ i. outcome (heap-is i) (left-is i) (given (new-is i)))
         ∙ accepted-is (first-refusal (reallocate-lines unit s k q h n)) s k done (same-number ∙ no-refusal)
         ∙ ap (λ (z : Handle). unless (first-refusal (reallocate-lines unit s k q h n)) s k (leaves (released q z (copied z (new-object unit s k n) (made o l passed))) (given (new-object unit s k n))))
-        (sym (whole-named h old s named .1))
+        (sym (whole-named h old s handle-is named .1))

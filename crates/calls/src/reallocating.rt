@@ -56,7 +56,7 @@ fn exchange(
     requires { ⌜ Ready unit (now heap) accounts quota length ⌝ }
     ensures { λ r. ⌜ handle-outcome (now (heap .exit)) r ≡ reallocate-of unit (now (heap .entry)) accounts quota handle length ⌝ }
 {
-    let Lookup::Found(old) = finder::find_object(heap, handle) else {
+    let Lookup::Found(old) = finder::find_whole(heap, handle) else {
         return HandleResult::refused(accounts, Refusal::NoSuchObject);
     };
     let Place::At(place) = accounts.find_hold(old.serial, quota as u8) else {

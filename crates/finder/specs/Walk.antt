@@ -11,7 +11,7 @@ use Rattle.layout.specs.declared.Header.{Header}
 use Rattle.layout.specs.declared.Start.{Start}
 use Rattle.layout.specs.declared.Start.the-variants.{Block as Starts, Nothing}
 use Rattle.model.specs.Lists.{first}
-use Rattle.model.specs.Objects.{names}
+use Rattle.model.specs.Objects.{names, whole}
 use Rattle.model.specs.declared.Handle.{Handle}
 use Rattle.finder.specs.declared.Met.{Met}
 use Rattle.finder.specs.declared.Lookup.{Lookup}
@@ -68,17 +68,22 @@ abbrev pub looked-up : Option Met → Lookup
 looked-up none = Missing
 looked-up (some m) = Found m
 
--- a block that was met starts at a place
-abbrev pub stands-at : ℕ → Met → Bool
-stands-at at m = eqb (m .at) at
-
--- the block that the walk meets at a place
-unfoldable pub find-at : ℕ → List ℕ → Lookup
-find-at at s = looked-up (first (stands-at at) (met s))
-
 -- the first block that holds the object that a handle names
 unfoldable pub find-object : Handle → List ℕ → Lookup
 find-object h s = looked-up (first (holds-named h) (met s))
+
+-- what was met, if it holds the object that the handle names
+abbrev pub named-met : Handle → Lookup → Lookup
+named-met h Missing = Missing
+named-met h (Found m) = cond (holds-named h m) (Found m) Missing
+
+-- what was found, if the handle is the whole of its object
+abbrev pub whole-met : Handle → Lookup → Lookup
+whole-met h Missing = Missing
+whole-met h (Found m) = cond (whole h (object-met m)) (Found m) Missing
+
+unfoldable pub find-whole : Handle → List ℕ → Lookup
+find-whole h s = whole-met h (find-object h s)
 
 -- the lowest multiple of a that is at least x
 unfoldable pub multiple-from : ℕ → ℕ → ℕ

@@ -3,9 +3,7 @@ use layout::Start;
 use model::Handle;
 ghost use mathlib.Core.Path.{_≡_};
 ghost use Prim.Native.Nat.{_+_, _^_, _<_};
-ghost use mathlib.Core.Bool.{cond};
-ghost use Rattle.finder.specs.declared.Lookup.the-variants.{Missing};
-ghost use Rattle.finder.specs.Walk.{Bounded, met-at, find-at, holds-named, fit-in, fit-met, find-object, find-fit};
+ghost use Rattle.finder.specs.Walk.{Bounded, met-at, holds-named, named-met, fit-in, fit-met, find-object, find-whole, find-fit};
 
 // A block that the walk met: its place, its size in bytes with the header, the units of the block before it, and its serial.
 pub struct Met {
@@ -42,46 +40,43 @@ fn met_at(heap: &[u8], at: usize) -> Lookup
     })
 }
 
-// Whether a block is live, and its object is the one that a handle names: base, length and serial are the same.
+// Rule 4.3: whether a block is live, and a handle names its object.
 fn holds_named(block: Met, handle: Handle) -> bool
     requires { ⌜ Bounded block ⌝ }
     ensures { λ r. ⌜ r ≡ holds-named handle block ⌝ }
 {
     let base = handle.base as usize;
-    let length = handle.length as usize;
-    let start = block.at + 8;
-    let room = block.size - 8;
+    let end = base + handle.length as usize;
     if block.serial == 0 {
         return false;
     }
-    if base != start {
+    if handle.serial != block.serial {
         return false;
     }
-    if length != room {
+    if handle.length == 0 {
         return false;
     }
-    handle.serial == block.serial
+    if base < block.at + 8 {
+        return false;
+    }
+    end <= block.at + block.size
 }
 
-// Whether the walk comes to a place. Sizes alone lead it there.
-fn comes_to(heap: &[u8], target: usize) -> bool
-    ensures { λ r. ⌜ find-at target (now (heap .entry)) ≡ cond r (met-at target (now (heap .entry))) Missing ⌝ }
+// The block that starts at a place, if a handle names its object.
+fn named_at(heap: &[u8], at: usize, handle: Handle) -> Lookup
+    ensures { λ r. ⌜ r ≡ named-met handle (met-at at (now (heap .entry))) ⌝ }
 {
-    if heap.len() <= target {
-        return false;
+    let Lookup::Found(block) = met_at(heap, at) else {
+        return Lookup::Missing;
+    };
+    if holds_named(block, handle) {
+        return Lookup::Found(block);
     }
-    let mut at: usize = 0;
-    while at < target {
-        let size = 8 * layout::read_u16(heap, at) as usize;
-        if size == 0 {
-            return false;
-        }
-        at += size;
-    }
-    at == target
+    Lookup::Missing
 }
 
-// The block whose object a handle names. It can stand at one place only: its header there is compared first, then the walk has to come there.
+// Rule 4.4: the block whose object a handle names. The base lies at least a header behind the block's start: sizes alone lead the walk to the last block that
+// starts so far in front of it, and that block is compared.
 pub fn find_object(heap: &[u8], handle: Handle) -> Lookup
     ensures { λ r. ⌜ r ≡ find-object handle (now (heap .entry)) ⌝ }
 {
@@ -89,14 +84,30 @@ pub fn find_object(heap: &[u8], handle: Handle) -> Lookup
     if base < 8 {
         return Lookup::Missing;
     }
-    let place = base - 8;
-    let Lookup::Found(block) = met_at(heap, place) else {
-        return Lookup::Missing;
-    };
-    if !holds_named(block, handle) {
+    if heap.len() < base {
         return Lookup::Missing;
     }
-    if !comes_to(heap, place) {
+    let last = base - 8;
+    let mut at: usize = 0;
+    let mut size: usize = 0;
+    while at <= last {
+        size = 8 * layout::read_u16(heap, at) as usize;
+        if size == 0 {
+            return Lookup::Missing;
+        }
+        at += size;
+    }
+    named_at(heap, at - size, handle)
+}
+
+// The same, if the handle is the whole of the object (rule 4.6). A range inside the object that is as long as it has its base too.
+pub fn find_whole(heap: &[u8], handle: Handle) -> Lookup
+    ensures { λ r. ⌜ r ≡ find-whole handle (now (heap .entry)) ⌝ }
+{
+    let Lookup::Found(block) = find_object(heap, handle) else {
+        return Lookup::Missing;
+    };
+    if handle.length as usize != block.size - 8 {
         return Lookup::Missing;
     }
     Lookup::Found(block)

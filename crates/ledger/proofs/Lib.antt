@@ -18,5 +18,6 @@ pub mod Staying
 pub mod Bytes
 pub mod NewBytes
 pub mod Permissions
+pub mod Narrowing
 pub mod Rejoining
 pub mod Lengths

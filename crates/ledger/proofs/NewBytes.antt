@@ -24,14 +24,14 @@ use Rattle.model.specs.Refusals.{first-refusal, allocate-lines, reallocate-line
 use Rattle.model.specs.declared.Handle.{Handle}
 use Rattle.model.specs.declared.Call.the-variants.{Allocate, Reallocate}
 use Rattle.model.proofs.Refusals.{accepted-exactly, by-lines}
-use Rattle.model.proofs.Lookup.{lookup-exactly, lookup-whole-is}
+use Rattle.model.proofs.Lookup.{lookup-whole-exactly}
 use Rattle.ledger.specs.Ledger.{Ledger}
 use Rattle.ledger.specs.Contents.{contents}
 use Rattle.invariant.proofs.Good.{Good}
 use Rattle.ledger.proofs.Agreement.{Agrees}
 use Rattle.ledger.proofs.Contents.{contents-stay, contents-are, block-of, object-of}
 use Rattle.ledger.proofs.Staying.{copied-live, body-there}
-use Rattle.invariant.proofs.Transitions.{Room, allocated-objects, allocated-counts, released-objects, copied-objects}
+use Rattle.invariant.proofs.Transitions.{Room, allocated-objects, allocated-counts, released-objects, released-good, copied-objects}
 use Rattle.invariant.proofs.Heaps.{good-heap, good-ordered}
 use Rattle.ledger.proofs.Fields.{inside-of}
 use Rattle.invariant.proofs.Members.{added-old, added-new, keep-exactly}
@@ -61,6 +61,10 @@ module _ (unit : ℕ → ℕ) (units : Units unit) (l : Ledger) (s : List ℕ) (
   new-there : List·Memᴰ o (objects (t .blocks))
   unfolding t o
   new-there = added-new (new-object unit s k n) (objects (blocks-of s)) _ (allocated-objects q (new-object unit s k n) (state-of s k) (good l s k a) (room unit units l s k a q n p))
+
+  live-there : List·Memᴰ o (objects-of (render (t .blocks)))
+  unfolding t o
+  live-there = rw (good-heap t (new-good unit units l s k a q n p) .objects) new-there
 
   zero-bytes : contents o (render (t .blocks)) ≡ replicate (object-length unit n) 0
   zero-bytes = let b = block-of (t .blocks) o new-there in b .bytes ∙ new-block-is (b .block) (b .alive) (b .member) (b .serial)
@@ -127,6 +131,16 @@ module _ (unit : ℕ → ℕ) (units : Units unit) (l : Ledger) (s : List ℕ) (
       (zero-bytes unit units l s k a q n
       (allocate-passed unit s k q n (accepted-exactly (allocate-lines unit s k q n) (by-lines unit (Allocate q n) s k .numbered) .0 (d .0))))
 
+  -- and is live in the heap that is left
+  pub allocated-live-there : (n : ℕ) → allocate unit s k q n .values .refusal ≡ 0
+      → List·Memᴰ (allocate unit s k q n .values .handle) (objects-of (allocate unit s k q n .heap))
+  unfolding allocate o t
+  allocated-live-there n e =
+      let d = accepted-done (first-refusal (allocate-lines unit s k q n)) s k _ e in
+      rw (d .1)
+      (live-there unit units l s k a q n
+      (allocate-passed unit s k q n (accepted-exactly (allocate-lines unit s k q n) (by-lines unit (Allocate q n) s k .numbered) .0 (d .0))))
+
 contents-length : (o : Handle) (s : List ℕ) → o .base + o .length ≤ length s → length (contents o s) ≡ o .length
 unfolding contents
 contents-length o s h = simp (length-take, length-drop) (omega arith)
@@ -184,6 +198,14 @@ module _ (unit : ℕ → ℕ) (units : Units unit) (l : Ledger) (s : List ℕ) (
       let x = still-releasable (state-of s k) g q was will r ne was-here (p .recorded) in
       new-kept q was will (state-of s k) g r ne (made-good unit units l s k a q h n p) (x .0) (x .1) will-there
 
+  last-live : List·Memᴰ will (objects-of (render (released q was (copied was will t₁) .blocks)))
+  unfolding t₁ will was objects-of
+  last-live =
+      let g = good l s k a in
+      let r = room unit units l s k a q n (p .new) in
+      let x = still-releasable (state-of s k) g q was will r (fresh-serial unit units l s k a q n (p .new) was was-here) was-here (p .recorded) in
+      rw (good-heap _ (released-good q was (copied was will t₁) (made-good unit units l s k a q h n p) (x .0) (x .1)) .objects) last-there
+
   moved-bytes : contents will (render (released q was (copied was will t₁) .blocks)) ≡ take N (contents was s) ++ replicate (N - was .length) 0
   unfolding t₁ will was
   moved-bytes =
@@ -194,7 +216,7 @@ module _ (unit : ℕ → ℕ) (units : Units unit) (l : Ledger) (s : List ℕ) (
   -- the old object is the handle's
   was-handle : was ≡ h
   unfolding was found or-else
-  was-handle = ap found (p .names) ∙ sym (lookup-exactly h s (p .object) .0 (sym (lookup-whole-is h s) ∙ p .names) .0)
+  was-handle = ap found (p .names) ∙ sym (lookup-whole-exactly h s (p .object) .0 (p .names) .0)
 
   handle-bytes : contents will (render (released q was (copied was will t₁) .blocks)) ≡ take N (contents h s) ++ replicate (N - h .length) 0
   handle-bytes = subst (λ (x : Handle). contents will (render (released q was (copied was will t₁) .blocks)) ≡ take N (contents x s) ++ replicate (N - x .length) 0) was-handle moved-bytes
@@ -209,4 +231,15 @@ reallocated-bytes unit units l s k a q h n e =
     let d = accepted-done (first-refusal (reallocate-lines unit s k q h n)) s k _ e in
     rw (d .1)
     (handle-bytes unit units l s k a q h n
+    (reallocate-passed unit s k q h n (accepted-exactly (reallocate-lines unit s k q h n) (by-lines unit (Reallocate q h n) s k .numbered) .0 (d .0))))
+
+-- and is live in the heap that is left
+pub reallocated-live-there : (unit : ℕ → ℕ) (units : Units unit) (l : Ledger) (s : List ℕ) (k : Accounts) → Agrees l s k → (q : ℕ) (h : Handle) (n : ℕ)
+    → reallocate unit s k q h n .values .refusal ≡ 0
+    → List·Memᴰ (reallocate unit s k q h n .values .handle) (objects-of (reallocate unit s k q h n .heap))
+unfolding reallocate was will t₁
+reallocated-live-there unit units l s k a q h n e =
+    let d = accepted-done (first-refusal (reallocate-lines unit s k q h n)) s k _ e in
+    rw (d .1)
+    (last-live unit units l s k a q h n
     (reallocate-passed unit s k q h n (accepted-exactly (reallocate-lines unit s k q h n) (by-lines unit (Reallocate q h n) s k .numbered) .0 (d .0))))

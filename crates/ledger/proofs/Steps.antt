@@ -26,7 +26,7 @@ use Rattle.model.specs.declared.Handle.{Handle}
 use Rattle.model.specs.declared.Call.{Call}
 use Rattle.model.specs.declared.Call.the-variants.{Allocate, AllocateArray, Claim, Release, FreeAll, Reallocate, Lend, Remaining, CanRelease, ListBlock, ClearPermissions}
 use Rattle.model.proofs.Refusals.{accepted-exactly, by-lines}
-use Rattle.model.proofs.Lookup.{lookup-exactly, lookup-whole-is}
+use Rattle.model.proofs.Lookup.{lookup-named, found-serial, lookup-whole-exactly}
 use Rattle.model.proofs.Settle.{object-held}
 use Rattle.model.proofs.Permissions.{clear-kept}
 use Rattle.model.proofs.Frame.{clear-keeps, allocated-keeps, claimed-keeps, released-keeps, freed-keeps}
@@ -116,15 +116,15 @@ release-good l t g e m q o x there held =
     agrees-from (take-hold q (o .serial) l) (released q o t) (released-good q o t g there held) (released-keeps q o t .grants ∙ e)
     (rw (released-objects q o t g there held) (released-matches l t m q o x (lower-ordered hs r (o .serial) q held) (lower-counted hs r (o .serial) q held)))
 
--- the object that a handle names is there, and is the handle
+-- the object that a handle names is there, and has its serial
 module _ (l : Ledger) (s : List ℕ) (k : Accounts) (a : Agrees l s k) (q : ℕ) (h : Handle) where
   pub there : (o : Handle) → lookup h s ≡ some o → List·Memᴰ (found (lookup h s)) (objects (blocks-of s))
   unfolding found or-else objects-of
-  there o e = let p = lookup-exactly h s o .0 e in rw (e, ← p .0) (p .1)
+  there o e = rw e (lookup-named h s o e .1)
 
   pub same-serial-as : (o : Handle) → lookup h s ≡ some o → found (lookup h s) .serial ≡ h .serial
   unfolding found or-else
-  same-serial-as o e = rw e (ap (λ (x : Handle). x .serial) (sym (lookup-exactly h s o .0 e .0)))
+  same-serial-as o e = rw e (found-serial h s o e)
 
   claims : Claimable s k q h → Agrees (add-hold q (h .serial) l) s (claimed q (found (lookup h s)) k)
   unfolding add-hold
@@ -183,10 +183,12 @@ reallocate-good l t g e m q old new r fresh there held =
 
 module _ (unit : ℕ → ℕ) (units : Units unit) (l : Ledger) (s : List ℕ) (k : Accounts) (a : Agrees l s k) (q : ℕ) (h : Handle) (n : ℕ) where
   pub old-there : (o : Handle) → lookup-whole h s ≡ some o → List·Memᴰ (found (lookup-whole h s)) (objects (blocks-of s))
-  old-there o e = let w = lookup-whole-is h s in rw w (there l s k a q h o (sym w ∙ e))
+  unfolding found or-else objects-of
+  old-there o e = let p = lookup-whole-exactly h s o .0 e in rw (e, ← p .0) (p .1)
 
   old-serial : (o : Handle) → lookup-whole h s ≡ some o → found (lookup-whole h s) .serial ≡ h .serial
-  old-serial o e = let w = lookup-whole-is h s in rw w (same-serial-as l s k a q h o (sym w ∙ e))
+  unfolding found or-else
+  old-serial o e = rw e (ap (λ (x : Handle). x .serial) (sym (lookup-whole-exactly h s o .0 e .0)))
 
   reallocates : Reallocatable unit s k q h n
       → Agrees (take-hold q (h .serial) (add-object q (new-object unit s k n) l))

@@ -5,6 +5,7 @@ use mathlib.Core.List.{map}
 use Rattle.rounding.specs.Rounding.{unit}
 use Rattle.model.specs.Tables.{run, values-of, got, wanted, parts, accounts-of, written}
 use Rattle.model.specs.Cases.{opened-heap, block, with-gaps, used-heap, next-serial-last, shared, held-times, several, sixteen, copying}
+use Rattle.model.specs.Cases.{neighbours, narrowed}
 use Rattle.model.specs.Cases.{lengths, allocations, wide, claims, releases, reallocations, walks, clearings}
 use Rattle.model.proofs.Computing.{computing}
 
@@ -31,6 +32,10 @@ releases-run = refl
 pub reallocations-run : map (got unit) reallocations ≡ map wanted reallocations
 unfolding computing run values-of got wanted parts accounts-of written opened-heap sixteen copying reallocations
 reallocations-run = refl
+
+pub narrowed-run : map (got unit) narrowed ≡ map wanted narrowed
+unfolding computing run values-of got wanted parts accounts-of written opened-heap sixteen neighbours narrowed
+narrowed-run = refl
 
 pub walks-run : map (got unit) walks ≡ map wanted walks
 unfolding computing run values-of got wanted parts accounts-of opened-heap block with-gaps walks

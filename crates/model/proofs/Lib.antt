@@ -19,6 +19,7 @@ pub mod Refusals
 pub mod Answers
 pub mod Consistent
 pub mod Lookup
+pub mod Narrowing
 pub mod Listing
 pub mod Same
 pub mod SettleBytes

@@ -140,6 +140,13 @@ unfolding unless
 unless-has P zero s k done d r = d
 unless-has P (suc n) s k done d r = r n
 
+-- and so does what holds of the outcome where it is due
+pub unless-where : (P : Outcome → Type 0) (n : ℕ) (s : List ℕ) (k : Accounts) (done : Outcome) → (n ≡ 0 → P done)
+    → ((m : ℕ) → P (unchanged s k (refused (suc m)))) → P (unless n s k done)
+unfolding unless
+unless-where P zero s k done d r = d refl
+unless-where P (suc n) s k done d r = r n
+
 -- a refusal hands back the state with zeros and its number
 pub unless-refused : (n m : ℕ) (s : List ℕ) (k : Accounts) (done : Outcome) → n ≡ suc m → unless n s k done ≡ unchanged s k (refused (suc m))
 unfolding unless

@@ -139,11 +139,10 @@ module _ (unit : ℕ → ℕ) where
       let done = leaves (released q old (copied old new (allocated q new (state-of s k)))) (given new) in
       unless (first-refusal (reallocate-lines unit s k q h n)) s k done
 
-  -- Lend, rule 8.29
+  -- Lend, rule 8.29: the handle's range
   unfoldable pub lend : List ℕ → Accounts → Handle → Outcome
   lend s k h =
-      let o = found (lookup h s) in
-      let done = unchanged s k (lent (record { start = o .base; end = o .base + o .length })) in
+      let done = unchanged s k (lent (record { start = h .base; end = h .base + h .length })) in
       unless (first-refusal (lend-lines unit s k h)) s k done
 
   -- Remaining and can release, rules 8.30 and 8.31

@@ -182,6 +182,44 @@ reallocations =
     (accounts-of (quota 1000 896 ∷ quota 100 100 ∷ []) 2 (zero-hold ∷ hold 2 0 1 ∷ []))
     ∷ []
 
+-- two objects, the first with bytes in it
+unfoldable pub neighbours : Outcome
+neighbours = written 8 sixteen (run unit (opened-heap 64 100 100) (Allocate 0 16 ∷ Allocate 0 8 ∷ []))
+
+-- handles whose range is not the whole object's (rules 4.3 and 4.6 to 4.10)
+unfoldable pub narrowed : List Case
+narrowed =
+    let left = parts (head 3 0 1 ∷ sixteen ∷ head 2 3 2 ∷ zeros 8 ∷ head 3 2 0 ∷ zeros 16 ∷ []) in
+    let accounts = accounts-of (quota 100 60 ∷ quota 100 100 ∷ []) 2 (hold 1 0 1 ∷ hold 2 0 1 ∷ []) in
+    -- lend gives the range: the whole, the first byte, one byte behind it, the last byte, all but the first
+    case neighbours (Lend (handle 8 16 1) ∷ Lend (handle 8 1 1) ∷ Lend (handle 9 1 1) ∷ Lend (handle 23 1 1) ∷ Lend (handle 9 15 1) ∷ [])
+    (lent (record { start = 8; end = 24 }) ∷ lent (record { start = 8; end = 9 }) ∷ lent (record { start = 9; end = 10 })
+    ∷ lent (record { start = 23; end = 24 }) ∷ lent (record { start = 9; end = 24 }) ∷ [])
+    0 left accounts
+    -- no byte; a byte too many behind, in front and on both sides; the sums are true ones; the serial of another object, of none and of a free block
+    ∷ case neighbours
+    (Lend (handle 8 0 1) ∷ Lend (handle 16 0 1) ∷ Lend (handle 8 17 1) ∷ Lend (handle 23 2 1)
+    ∷ Lend (handle 7 1 1) ∷ Lend (handle 7 2 1) ∷ Lend (handle 7 18 1) ∷ Lend (handle 24 1 1)
+    ∷ Lend (handle 4294967295 1 1) ∷ Lend (handle 4294967295 4294967295 1) ∷ Lend (handle 8 4294967295 1) ∷ Lend (handle 4294967295 16 1)
+    ∷ Lend (handle 9 1 2) ∷ Lend (handle 33 1 1) ∷ Lend (handle 9 1 3) ∷ Lend (handle 49 1 0) ∷ [])
+    (replicate 16 (refused 5)) 0 left accounts
+    -- claim, can release and release act on the whole object
+    ∷ case neighbours
+    (Claim 1 (handle 9 1 1) ∷ Claim 1 (handle 8 17 1) ∷ CanRelease 1 (handle 23 1 1) ∷ CanRelease 1 (handle 33 1 2) ∷ CanRelease 1 (handle 8 0 1)
+    ∷ Release 0 (handle 23 1 1) ∷ Lend (handle 10 2 1) ∷ Release 1 (handle 8 17 1) ∷ Release 1 (handle 8 1 1) ∷ Lend (handle 8 16 1) ∷ [])
+    (amount-of 16 ∷ refused 5 ∷ accepted ∷ refused 6 ∷ refused 5
+    ∷ amount-of 24 ∷ lent (record { start = 10; end = 12 }) ∷ refused 5 ∷ amount-of 24 ∷ refused 5 ∷ [])
+    0 (parts (head 3 0 0 ∷ zeros 16 ∷ head 2 3 2 ∷ zeros 8 ∷ head 3 2 0 ∷ zeros 16 ∷ []))
+    (accounts-of (quota 100 84 ∷ quota 100 100 ∷ []) 2 (zero-hold ∷ hold 2 0 1 ∷ []))
+    -- reallocate takes the whole handle alone, behind line 4 and before line 6
+    ∷ case neighbours
+    (Reallocate 0 (handle 9 15 1) 0 ∷ Reallocate 0 (handle 9 15 1) 8 ∷ Reallocate 0 (handle 8 15 1) 8
+    ∷ Reallocate 0 (handle 9 1 1) 8 ∷ Reallocate 1 (handle 9 1 1) 8 ∷ Reallocate 1 (handle 8 16 1) 8 ∷ Reallocate 0 (handle 8 16 1) 8 ∷ [])
+    (refused 4 ∷ refused 5 ∷ refused 5 ∷ refused 5 ∷ refused 5 ∷ refused 6 ∷ given (handle 48 8 3) ∷ [])
+    0 (parts (head 3 0 0 ∷ zeros 16 ∷ head 2 3 2 ∷ zeros 8 ∷ head 2 2 3 ∷ eight ∷ head 1 2 0 ∷ []))
+    (accounts-of (quota 100 68 ∷ quota 100 100 ∷ []) 3 (zero-hold ∷ hold 2 0 1 ∷ hold 3 0 1 ∷ []))
+    ∷ []
+
 -- a walk over the blocks, a place inside a block, the end and a place past it
 unfoldable pub walks : List Case
 walks =

@@ -126,7 +126,7 @@ last-lines =
     ∷ case (four-objects 4)
     (Release 2 missing ∷ Release 2 h ∷ Release 1 (handle 24 8 2) ∷ CanRelease 2 missing ∷ CanRelease 2 h ∷ CanRelease 1 (handle 24 8 2) ∷ CanRelease 1 h ∷ [])
     (refused 5 ∷ refused 6 ∷ refused 6 ∷ refused 5 ∷ refused 6 ∷ refused 6 ∷ accepted ∷ []) 0 (filled-from 4 0 1) (four-accounts 4)
-    -- a handle that differs from an object's in one number names nothing
+    -- a handle with the serial of an object, but a byte outside of it or none, names nothing; nor does one with another serial
     ∷ case (four-objects 4)
     (Lend h ∷ Lend (handle 16 8 1) ∷ Lend (handle 24 8 1) ∷ Lend (handle 8 16 1)
     ∷ Lend (handle 8 0 1) ∷ Lend (handle 8 8 2) ∷ Lend (handle 8 8 0) ∷ Lend (handle 0 0 0) ∷ [])

@@ -4,7 +4,7 @@ use mathlib.Core.List.{List, [], _∷_}
 use mathlib.Core.Bool.{Bool, cond, _&&_}
 use mathlib.Core.Option.{Option}
 use lib.ListN.{length}
-use lib.Dec.{eqb}
+use lib.Dec.{leb, eqb}
 use Rattle.layout.specs.Blocks.{Block, size, live, parse}
 use Rattle.model.specs.Lists.{first, or-else}
 use Rattle.model.specs.Answers.{zero-handle}
@@ -31,15 +31,15 @@ blocks-of s = or-else [] (parse s)
 unfoldable pub objects-of : List ℕ → List Handle
 objects-of s = objects (blocks-of s)
 
--- a handle is the whole of an object: all three are the same
+-- rule 4.6: a handle is the whole of an object; all three are the same
 unfoldable pub whole : Handle → Handle → Bool
 whole h o = eqb (h .base) (o .base) && (eqb (h .length) (o .length) && eqb (h .serial) (o .serial))
 
--- rule 4.3: a handle names an object
+-- rule 4.3: a handle names an object; the serial is the same, and the range is not empty and does not leave the object
 unfoldable pub names : Handle → Handle → Bool
-names h o = whole h o
+names h o = eqb (h .serial) (o .serial) && (leb 1 (h .length) && (leb (o .base) (h .base) && leb (h .base + h .length) (o .base + o .length)))
 
--- rule 4.4, the lookup: the object that a handle names; and for reallocate, the object that it is the whole of
+-- rule 4.4, the lookup: the object that a handle names; and for reallocate (rule 4.10), the object that it is the whole of
 unfoldable pub lookup : Handle → List ℕ → Option Handle
 lookup h s = first (names h) (objects-of s)
 

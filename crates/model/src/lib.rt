@@ -12,7 +12,7 @@ pub const GREATEST_COUNT: u8 = 255;
 // The greatest serial (rule 7.1, line 10).
 pub const GREATEST_SERIAL: u32 = 4294967295;
 
-// Base, length and serial. They name the object that has all three (rule 4.3).
+// A range and a serial. They name the object that has the serial and the whole range in it (rule 4.3). A handle that a call answers has the whole object.
 #[repr(C)]
 pub struct Handle {
     pub base: u32,

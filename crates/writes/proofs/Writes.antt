@@ -1,5 +1,5 @@
--- What `write_object` leaves is a heap that was written inside live objects alone, so a history goes on with it. The byte stands in the object that the
--- handle names; a refused write, and one at or beyond the object's length, leaves the heap as it is.
+-- What `write_object` leaves is a heap that was written inside live objects alone, so a history goes on with it. The byte stands in the handle's range, and
+-- so in the object that the handle names; a refused write, and one at or beyond the range's length, leaves the heap as it is.
 -- Assumes nothing.
 use Prim.Native.Nat.{ℕ, zero, suc, _+_, _<_}
 use native.Mathlib.Omega.{arith}
@@ -13,15 +13,14 @@ use borrow.Author.Tests.{ltb-true}
 use Rattle.accounts.specs.declared.Accounts.{Accounts}
 use Rattle.rounding.specs.Rounding.{Units}
 use Rattle.layout.specs.Bytes.{Octets}
-use Rattle.model.specs.Objects.{objects-of, lookup, found}
 use Rattle.model.specs.Refusals.{first-refusal, lend-lines}
 use Rattle.model.specs.Calls.{Outcome}
 use Rattle.model.specs.Step.{step}
 use Rattle.model.specs.declared.Handle.{Handle}
-use Rattle.model.proofs.Refusals.{unless-has}
+use Rattle.model.proofs.Refusals.{unless-has, unless-where}
 use Rattle.ledger.specs.Ledger.{Ledger, Event, Wrote}
 use Rattle.ledger.specs.History.{in-object, Written, History}
-use Rattle.ledger.proofs.LentParts.{found-inside}
+use Rattle.ledger.proofs.LentParts.{range-inside}
 use Rattle.ledger.proofs.Theorem.{history-agrees}
 use Rattle.access.specs.Lending.{written, write-object}
 
@@ -41,26 +40,26 @@ module _ (unit : ℕ → ℕ) (s : List ℕ) (k : Accounts) (h : Handle) (at byt
     same : Written s s
     same = record { same-length = refl; octets = octets; inside = λ i e. refl }
 
-    -- the byte stands in the object
-    byte-written : Written s (written s (found (lookup h s)) at byte)
+    -- the byte stands in the handle's range, which lies in the object
+    byte-written : first-refusal (lend-lines unit s k h) ≡ 0 → Written s (written s h at byte)
     unfolding written
-    byte-written = go (ltb at (o .length)) refl
+    byte-written e = go (ltb at (h .length)) refl
       where
-        o : Handle
-        o = found (lookup h s)
-
-        go : (t : Bool) → ltb at (o .length) ≡ t → Written s (cond t (set s (o .base + at) byte) s)
+        go : (t : Bool) → ltb at (h .length) ≡ t → Written s (cond t (set s (h .base + at) byte) s)
         go true l =
             record {
-              same-length = length-set s (o .base + at) byte;
-              octets = octets-set s (o .base + at) byte small octets;
-              inside = λ i e. getD-set-other s (o .base + at) i byte 0 (λ q. found-inside unit s k h i e (omega arith) (omega (arith, ltb-true at (o .length) l)));
+              same-length = length-set s (h .base + at) byte;
+              octets = octets-set s (h .base + at) byte small octets;
+              inside =
+                  λ i out.
+                  getD-set-other s (h .base + at) i byte 0
+                  (λ q. range-inside unit s k h e i out (omega arith) (omega (arith, ltb-true at (h .length) l)));
             }
         go false l = same
 
     pub write-written : Written s (write-object unit s k h at byte .heap)
     unfolding write-object
-    write-written = unless-has (λ (t : Outcome). Written s (t .heap)) (first-refusal (lend-lines unit s k h)) s k _ byte-written (λ n. same)
+    write-written = unless-where (λ (t : Outcome). Written s (t .heap)) (first-refusal (lend-lines unit s k h)) s k _ byte-written (λ n. same)
 
 -- a history goes on with a write, accepted or refused
 module _ (unit : ℕ → ℕ) (units : Units unit) (begun : Ledger) (es : List Event) (s : List ℕ) (k : Accounts) (past : History unit (step unit) begun es s k) where

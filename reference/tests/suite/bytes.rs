@@ -183,9 +183,9 @@ fn places_that_start_no_block_give_no_block() {
 fn header_like_bytes_inside_an_object_mean_nothing() {
     let mut state = opened(128, &[1_000]);
     let object = state.allocated(0, 48);
-    put(&mut state.heap, 16, header(24, 16, 1));
+    put(&mut state.heap, 16, header(24, 16, 2));
     put(&mut state.heap, 40, header(16, 24, 7));
-    state.refused(Call::Lend(handle(24, 16, 1)), 5);
+    state.refused(Call::Lend(handle(24, 16, 2)), 5);
     state.refused(Call::Release(0, handle(48, 8, 7)), 5);
     assert_eq!(state.number(Call::Release(0, object)), 56);
 }

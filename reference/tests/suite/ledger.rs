@@ -117,6 +117,18 @@ impl Ledger {
         self.objects.iter().find(|object| object.handle == handle)
     }
 
+    /// Finds the object with the handle's serial that has every byte of its range, if the
+    /// range has a byte.
+    pub fn found(&self, handle: Handle) -> Option<&Object> {
+        let first = u64::from(handle.base);
+        let last = (first + u64::from(handle.length)).checked_sub(1)?;
+        let with_serial = |object: &&Object| object.handle.serial == handle.serial;
+        let object = self.objects.iter().find(with_serial)?;
+        let bytes = u64::from(object.handle.base)..u64::from(object.end());
+        let inside = first <= last && bytes.contains(&first) && bytes.contains(&last);
+        inside.then_some(object)
+    }
+
     /// Gives the grant less the charges of the objects that the quota holds.
     pub fn remainder(&self, quota: usize) -> i128 {
         let held = self.objects.iter().filter(|object| object.holds[quota] > 0);
@@ -185,11 +197,11 @@ impl Ledger {
             Call::Reallocate(q, h, n) => self.predict_request(q, u64::from(n), Some(h)),
             Call::Claim(q, h) => self.predict_claim(q, h),
             Call::Release(q, h) => {
-                let object = self.releasable(q, h)?;
+                let object = self.releasable(q, self.found(h))?;
                 let last = object.holds[q as usize] == 1;
                 Ok(Answer::Number(if last { object.charge() } else { 0 }))
             }
-            Call::CanRelease(q, h) => self.releasable(q, h).map(|_| Answer::Yes),
+            Call::CanRelease(q, h) => self.releasable(q, self.found(h)).map(|_| Answer::Yes),
             Call::FreeAll(q) => {
                 self.permitted(q, 2)?;
                 let left = self.remaining(q)?;
@@ -198,8 +210,8 @@ impl Ledger {
             }
             Call::Remaining(q) => Ok(Answer::Number(self.remaining(q)? as u32)),
             Call::Lend(h) => {
-                let object = self.named(h).ok_or(5)?;
-                Ok(Answer::Part(h.base as usize..object.end() as usize))
+                self.found(h).ok_or(5)?;
+                Ok(Answer::Part(h.base as usize..(h.base + h.length) as usize))
             }
             Call::ClearPermissions(q, bits) => {
                 self.remaining(q)?;
@@ -228,10 +240,10 @@ impl Ledger {
         permission.then_some(()).ok_or(12)
     }
 
-    /// Gives the object that the quota can release, or refusal 3, 5 or 6.
-    fn releasable(&self, quota: u32, handle: Handle) -> Result<&Object, u8> {
+    /// Gives the object if the quota can release it, or refusal 3, 5 or 6.
+    fn releasable<'a>(&self, quota: u32, object: Option<&'a Object>) -> Result<&'a Object, u8> {
         self.remaining(quota)?;
-        let object = self.named(handle).ok_or(5)?;
+        let object = object.ok_or(5)?;
         let held = object.holds[quota as usize] > 0;
         held.then_some(object).ok_or(6)
     }
@@ -250,13 +262,13 @@ impl Ledger {
     /// Gives the answer of a claim.
     fn predict_claim(&self, quota: u32, handle: Handle) -> Result<Answer, u8> {
         self.permitted(quota, 1)?;
-        let object = self.named(handle).ok_or(5)?;
+        let object = self.found(handle).ok_or(5)?;
         match object.holds[quota as usize] {
             0 => self.payable(quota, object.charge())?,
             255 => return Err(7),
             _ => {}
         }
-        Ok(Answer::Number(handle.length))
+        Ok(Answer::Number(object.handle.length))
     }
 
     /// Gives the answer of an allocate, array or reallocate.
@@ -264,7 +276,7 @@ impl Ledger {
         self.permitted(quota, 0)?;
         let unit = unit_of(request).ok_or(4)?;
         if let Some(old) = old {
-            self.releasable(quota, old)?;
+            self.releasable(quota, self.named(old))?;
         }
         let length = object_length(request, unit);
         self.payable(quota, length + 8)?;

@@ -10,6 +10,7 @@ mod ledger_checks;
 mod lines;
 mod moves;
 mod naive;
+mod narrowed;
 mod permissions;
 mod prng;
 mod random_bytes;

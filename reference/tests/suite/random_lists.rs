@@ -131,8 +131,12 @@ impl Run {
         assert_eq!(asked.err(), released.err());
     }
 
-    /// Checks that a handle of header-like bytes inside an object gives 5.
+    /// Checks that a handle of header-like bytes inside an object gives 5, unless it happens to
+    /// be a part of the object with its serial.
     fn forged_handle_names_nothing(&mut self, forged: Handle) {
+        if self.ledger.found(forged).is_some() {
+            return;
+        }
         self.state.refused(Call::Lend(forged), 5);
         self.state.refused(Call::CanRelease(0, forged), 5);
         self.state.refused(Call::Release(0, forged), 5);
@@ -209,6 +213,10 @@ impl Run {
                 wrong.length = wrong.length.wrapping_add(part);
                 wrong
             }
+            4..8 if !live.is_empty() => {
+                let whole = prng.pick(&live);
+                narrowed(prng, whole)
+            }
             _ if !live.is_empty() => prng.pick(&live),
             _ => prng.pick(&self.seen),
         }
@@ -254,6 +262,14 @@ impl Run {
         let size = 1 + self.prng.below(9);
         Call::Array(quota, self.length() / size, size)
     }
+}
+
+/// Gives a handle of a part of an object, seldom of no byte or with bytes outside.
+fn narrowed(prng: &mut Prng, whole: Handle) -> Handle {
+    let front = prng.below(whole.length);
+    let outside = prng.below(2);
+    let length = prng.below(whole.length - front + 1 + outside);
+    handle(whole.base + front, length, whole.serial)
 }
 
 /// Makes lists of a style with several seeds and adds up what was given.

@@ -140,14 +140,15 @@ fn refusal_numbers_run_from_1_to_12() {
 }
 
 #[test]
-fn handles_that_differ_in_one_number_name_no_object() {
+fn handles_with_bytes_outside_or_another_serial_find_no_object() {
     let mut state = opened(128, &[100]);
     let object = state.allocated(0, 16);
     let wrong = [
         handle(object.base + 8, object.length, object.serial),
         handle(object.base - 8, object.length, object.serial),
         handle(object.base, object.length + 8, object.serial),
-        handle(object.base, object.length - 1, object.serial),
+        handle(object.base, object.length + 1, object.serial),
+        handle(object.base, 0, object.serial),
         handle(object.base, object.length, object.serial + 1),
         handle(object.base, object.length, 0),
         handle(32, 96, 0),

@@ -1,101 +1,102 @@
--- `finder::find_object` meets its contract: where the header at the one place is not that of the object, no block holds it (`named-none`), and where it
--- is, the block is found exactly if the walk comes there (`named-some`).
+-- `finder::find_object` meets its contract. The loop's invariant is `Walked`: the search came to the start of a block that has `size` bytes and ends at `at`.
+-- It goes on by the size that is read at `at`, and where it has passed `last`, that block is the one to compare (`walked-last`).
 -- Assumes nothing.
 use borrow.Author.Needs.{needs}
-use borrow.Author.Tests.{not-true, not-false}
 use native.Mathlib.Omega.{arith}
-use mathlib.Core.Path.{_≡_, sym, _∙_}
-use mathlib.Core.Bool.{false, cond}
-use Prim.Native.Nat.{ℕ, _-_, _≤_}
-use Rattle.finder.specs.declared.Met.{Met}
-use Rattle.finder.specs.declared.Lookup.the-variants.{Found, Missing}
-use Rattle.finder.specs.Walk.{met-at, holds-named, find-object}
-use Rattle.finder.proofs.Walk.{met-known}
-use Rattle.finder.proofs.Reached.{named-none, named-some}
+use mathlib.Core.Path.{_≡_, refl, sym, _∙_}
+use Prim.Native.Nat.{ℕ, _+_, _-_, _≤_}
+use Rattle.finder.proofs.Walk.{met-zero}
+use Rattle.finder.proofs.Reached.{Walked, object-low, object-high, object-ended, walked-start, walked-to, walked-on, walked-last}
 use Rattle.finder.proofs.find_object.Statement.{statement}
 use Rattle.finder.proofs.find_object.Tie as tie
 
--- the one place where the block can stand
-abbrev place : tie.Start → ℕ
-place c = c .args .handle .base - 8
+abbrev Inv-loop : tie.InvT-loop
+Inv-loop heap handle base last at₀ size₀ at size = Walked handle heap at size
 
--- where no block at the place is the one that the handle names, none is
-no-other : (c : tie.Start) → 8 ≤ c .args .handle .base → ((m : Met) → met-at (place c) (c .args .heap .now) ≡ Found m → holds-named (c .args .handle) m ≡ false)
-    → find-object (c .args .handle) (c .args .heap .now) ≡ Missing
-no-other c l f = named-none (c .args .handle) (c .args .heap .now) (λ x m b e. let q : x ≡ place c = omega arith in f m (rw q at e))
+abbrev μ-loop : tie.MeasureT-loop
+μ-loop heap handle base last at₀ size₀ at size = last + 1 - at
 
-cast-base : tie.Need-cast-base
+cast-base : tie.Need-cast-base Inv-loop μ-loop
 cast-base c = search needs
 
-returns : tie.Need-returns
-returns c =
-    let a = c .before .before .before .args in
-    sym (named-none (a .handle) (a .heap .now) (λ x m b e. absurd (omega (arith, c .if1 .taken))))
+returns : tie.Need-returns Inv-loop μ-loop
+returns c = let a = c .before .before .before .args in sym (object-low (a .handle) (a .heap .now) (c .if1 .taken))
 
-met-at-requires : tie.Need-met-at-requires
-met-at-requires c κs = search needs
+returns-2 : tie.Need-returns-2 Inv-loop μ-loop
+returns-2 c = let a = c .before .before .before .before .args in sym (object-high (a .handle) (a .heap .now) (c .if2 .taken))
 
-enum-known-block : tie.Need-enum-known-block
-enum-known-block c = search needs
+loop-holds : tie.Need-loop-holds Inv-loop μ-loop
+loop-holds c = let a = c .before .before .before .before .args in walked-start (a .handle) (a .heap .now)
 
-enum-told : tie.Need-enum-told
-enum-told c = search needs
+read-u16-requires : tie.Need-read-u16-requires Inv-loop μ-loop
+read-u16-requires c κs = search needs
 
-returns-2 : tie.Need-returns-2
-returns-2 c =
-    let s = c .before .before .before .before .before .before in
-    let missing = sym (c .before .before .met-at .ensures) ∙ c .enum-told .given .1 in
-    sym (no-other s (omega arith) (λ m e. let z : _≡_ {A = ℕ} 0 1 = cc in absurd (omega arith)))
+cast-size : tie.Need-cast-size Inv-loop μ-loop
+cast-size c = search needs
 
--- the block that starts at the place
-found : (c : tie.After-block) → met-at (place (c .before .before .before .before .before .before)) (c .before .before .before .before .before .before .args .heap .now) ≡ Found (c .block .given .0 .0)
-found c = sym (c .before .before .met-at .ensures) ∙ c .block .given .1
+mul-size : tie.Need-mul-size Inv-loop μ-loop
+mul-size c = search needs
 
-holds-named-requires : tie.Need-holds-named-requires
-holds-named-requires c κs =
-    let s = c .before .before .before .before .before .before .before in
-    let k = met-known (place s) (s .args .heap .now) (c .before .block .given .0 .0) (found (c .before)) in
-    record { header = k .header; end = omega arith }
+-- the place is not behind the base
+at-most : (i : tie.In-loop Inv-loop μ-loop) → let a = i .before .before .before .before .before .before .args in i .before .loop .at ≤ a .handle .base
+at-most i = omega (arith, i .loop-test .taken, i .before .before .before .if1 .left)
 
-returns-3 : tie.Need-returns-3
+returns-3 : tie.Need-returns-3 Inv-loop μ-loop
 returns-3 c =
-    let b = c .before .before .before in
-    let s = b .before .before .before .before .before .before in
-    let f = found b in
-    sym (no-other s (omega arith) (λ m e. let z : b .block .given .0 .0 ≡ m = cc in rw z at (sym (c .before .holds-named .ensures) ∙ not-true _ (c .if2 .taken))))
+    let i = c .before .before in
+    let l = i .before in
+    let a = l .before .before .before .before .before .args in
+    let u = c .before .read-u16 .ensures in
+    sym (object-ended (a .handle) (a .heap .now) (l .loop .at) (walked-to (a .handle) (a .heap .now) (l .loop .at) (l .loop .size) (l .loop .inv) (at-most i))
+    (met-zero (l .loop .at) (a .heap .now) (omega (arith, c .if3 .taken))))
 
-comes-to-requires : tie.Need-comes-to-requires
-comes-to-requires c κs = search needs
+add-at : tie.Need-add-at Inv-loop μ-loop
+add-at c = search needs
 
--- the handle names the block, which is found if the walk comes to its place
-named : (c : tie.After-comes-to)
-    → let b = c .before .before .before .before in
-    let a = b .before .before .before .before .before .before .args in
-    find-object (a .handle) (a .heap .now) ≡ cond (c .comes-to .result) (Found (b .block .given .0 .0)) Missing
-named c =
-    let b = c .before .before .before .before in
-    let s = b .before .before .before .before .before .before in
-    named-some (s .args .handle) (s .args .heap .now) (place s) (b .block .given .0 .0) (omega arith) (found b)
-    (sym (c .before .before .holds-named .ensures) ∙ not-false _ (c .before .if2 .left)) (c .comes-to .result) (c .comes-to .ensures)
+loop-less : tie.Need-loop-less Inv-loop μ-loop
+loop-less c = search needs
 
-returns-4 : tie.Need-returns-4
-returns-4 c = sym (rw (not-true (c .before .comes-to .result) (c .if3 .taken)) at (named (c .before)))
+loop-again : tie.Need-loop-again Inv-loop μ-loop
+loop-again c =
+    let r = c .before in
+    let i = r .before in
+    let l = i .before in
+    let a = l .before .before .before .before .before .args in
+    let u = r .read-u16 .ensures in
+    walked-on (a .handle) (a .heap .now) (l .loop .at) (l .loop .size) (l .loop .inv) _ (at-most i) (omega (arith, c .if3 .left)) (omega arith)
 
-returns-5 : tie.Need-returns-5
-returns-5 c = sym (rw (not-false (c .before .comes-to .result) (c .if3 .left)) at (named (c .before)))
+sub-named-at : tie.Need-sub-named-at Inv-loop μ-loop
+sub-named-at c = let place = c .before .loop .inv .place in omega arith
+
+named-at-requires : tie.Need-named-at-requires Inv-loop μ-loop
+named-at-requires c κs = search needs
+
+returns-4 : tie.Need-returns-4 Inv-loop μ-loop
+returns-4 c =
+    let e = c .before in
+    let l = e .before in
+    let a = l .before .before .before .before .before .args in
+    let b = l .before .before .if1 .left in
+    c .named-at .ensures
+    ∙ walked-last (a .handle) (a .heap .now) (l .loop .at) (l .loop .size) (l .loop .inv) b (omega (arith, e .loop-test .left, b)) _ refl
 
 pub find-object-spec : {M : Type 1} → statement M
 find-object-spec =
     tie.close
     (tie.spec
+    Inv-loop
+    μ-loop
     cast-base
     returns
-    met-at-requires
-    enum-known-block
-    enum-told
     returns-2
-    holds-named-requires
+    loop-holds
+    read-u16-requires
+    cast-size
+    mul-size
     returns-3
-    comes-to-requires
-    returns-4
-    returns-5)
+    add-at
+    loop-less
+    loop-again
+    sub-named-at
+    named-at-requires
+    returns-4)

@@ -1,4 +1,4 @@
--- `access::span_of` meets its contract: the check refuses first, then the lookup; the block that it found lies in the heap, and its object behind its header.
+-- `access::span_of` meets its contract: the check refuses first, then the lookup; the handle's range lies in the object that it found, and so in the heap.
 -- Assumes nothing.
 use mathlib.Core.Path.{_≡_, sym, _∙_}
 use Prim.Native.Nat.{_+_, _≤_}
@@ -7,9 +7,7 @@ use borrow.Author.Needs.{needs}
 use lib.ListN.{length}
 use Rattle.rounding.specs.Rounding.{unit}
 use Rattle.model.specs.declared.Refusal.the-variants.{NoSuchObject}
-use Rattle.finder.specs.declared.Lookup.the-variants.{Found}
-use Rattle.finder.specs.Walk.{find-object}
-use Rattle.access.proofs.Lent.{lend-refused, lend-missing, lend-accepted, lend-object, lend-inside, spans-refused, spans-lent}
+use Rattle.access.proofs.Lent.{lend-refused, lend-missing, lend-accepted, lend-inside, spans-refused, spans-lent}
 use Rattle.access.proofs.lending.span_of.Statement.{statement}
 use Rattle.access.proofs.lending.span_of.Tie as tie
 
@@ -36,11 +34,11 @@ enum-told c = search needs
 find-object-requires : tie.Need-find-object-requires
 find-object-requires c κs = search needs
 
-enum-known-block : tie.Need-enum-known-block
-enum-known-block c = search needs
-
 enum-told-2 : tie.Need-enum-told-2
 enum-told-2 c = search needs
+
+enum-told-3 : tie.Need-enum-told-3
+enum-told-3 c = search needs
 
 number-requires-2 : tie.Need-number-requires-2
 number-requires-2 c κs = search needs
@@ -53,40 +51,28 @@ returns-2 c =
     let a = k .before .before .args in
     spans-refused unit (a .heap .now) (a .accounts) (a .handle) (c .number2 .result) NoSuchObject (c .number2 .ensures)
     (lend-missing unit (a .heap .now) (a .accounts) (a .handle) (k .check .result) (k .check .ensures) (f .before .enum-told .given .1)
-    (sym (f .find-object .ensures) ∙ n .enum-told2 .given .1))
+    (sym (f .find-object .ensures) ∙ n .enum-told3 .given .1))
 
--- the block that was found
-found : (c : tie.After-block)
-    → let a = c .before .before .before .before .before .before .before .args in
-    find-object (a .handle) (a .heap .now) ≡ Found (c .block .given .0 .0)
-found c = sym (c .before .before .find-object .ensures) ∙ c .block .given .1
+cast-start : tie.Need-cast-start
+cast-start c = search needs
 
-inside : (c : tie.After-block)
-    → let a = c .before .before .before .before .before .before .before .args in
-    (8 ≤ c .block .given .0 .0 .size) × (c .block .given .0 .0 .at + c .block .given .0 .0 .size ≤ length (a .heap .now))
-inside c =
-    let t = c .before .before .before in
-    let k = t .before .before in
-    let a = k .before .before .args in
-    lend-inside unit (a .heap .now) (a .accounts) (a .handle) (k .check .result) (k .check .ensures) (t .enum-told .given .1) (c .block .given .0 .0) (found c)
-
-add-t11 : tie.Need-add-t11
-add-t11 c = let i = inside (c .before .before) in omega arith
+cast-t11 : tie.Need-cast-t11
+cast-t11 c = search needs
 
 add-t12 : tie.Need-add-t12
-add-t12 c = let i = inside (c .before .before .before) in omega arith
+add-t12 c = search needs
 
 returns-3 : tie.Need-returns-3
 returns-3 c =
-    let b = c .before .before .before in
+    let b = c .before .before in
     let t = b .before .before .before in
     let k = t .before .before in
     let a = k .before .before .args in
-    let m = b .block .given .0 .0 in
-    spans-lent unit (a .heap .now) (a .accounts) (a .handle) m
-    (lend-accepted unit (a .heap .now) (a .accounts) (a .handle) (k .check .result) (k .check .ensures) (t .enum-told .given .1) m (found b))
-    (lend-object unit (a .heap .now) (a .accounts) (a .handle) (k .check .result) (k .check .ensures) (t .enum-told .given .1) m (found b))
-    (inside b)
+    let m = b .enum-told2 .given .0 .0 in
+    let f = sym (b .before .before .find-object .ensures) ∙ b .enum-told2 .given .1 in
+    spans-lent unit (a .heap .now) (a .accounts) (a .handle)
+    (lend-accepted unit (a .heap .now) (a .accounts) (a .handle) (k .check .result) (k .check .ensures) (t .enum-told .given .1) m f)
+    (lend-inside unit (a .heap .now) (a .accounts) (a .handle) (k .check .result) (k .check .ensures) (t .enum-told .given .1) m f)
 
 pub span-of-spec : {M : Type 1} → statement M
 span-of-spec =
@@ -98,10 +84,11 @@ span-of-spec =
     returns
     enum-told
     find-object-requires
-    enum-known-block
     enum-told-2
+    enum-told-3
     number-requires-2
     returns-2
-    add-t11
+    cast-start
+    cast-t11
     add-t12
     returns-3)

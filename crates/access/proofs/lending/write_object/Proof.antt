@@ -1,5 +1,5 @@
--- `access::write_object` meets its contract: the check refuses first, then the lookup; the block that it found lies in the heap, so a place below the
--- object's length is a place of the heap.
+-- `access::write_object` meets its contract: the check refuses first, then the lookup; the handle's range lies in the heap, so a place below its
+-- length is a place of the heap.
 -- Assumes nothing.
 use mathlib.Core.Path.{_≡_, sym, _∙_}
 use Prim.Native.Nat.{_+_, _≤_}
@@ -8,12 +8,11 @@ use borrow.Author.Needs.{needs}
 use lib.ListN.{length}
 use Rattle.rounding.specs.Rounding.{unit}
 use Rattle.model.specs.Answers.{verdict-values}
+use Rattle.model.specs.Refusals.{first-refusal, lend-lines}
 use Rattle.model.specs.declared.Refusal.the-variants.{NoSuchObject}
-use Rattle.finder.specs.declared.Lookup.the-variants.{Found}
-use Rattle.finder.specs.Walk.{find-object}
 use Rattle.access.specs.Lending.{write-object}
 use Rattle.access.proofs.Lines.{refused-is}
-use Rattle.access.proofs.Lent.{lend-refused, lend-missing, lend-accepted, lend-object, lend-inside, writes, passes}
+use Rattle.access.proofs.Lent.{lend-refused, lend-missing, lend-accepted, lend-inside, writes, passes}
 use Rattle.access.proofs.lending.write_object.Statement.{statement}
 use Rattle.access.proofs.lending.write_object.Tie as tie
 
@@ -41,11 +40,11 @@ enum-told c = search needs
 find-object-requires : tie.Need-find-object-requires
 find-object-requires c κs = search needs
 
-enum-known-block : tie.Need-enum-known-block
-enum-known-block c = search needs
-
 enum-told-2 : tie.Need-enum-told-2
 enum-told-2 c = search needs
+
+enum-told-3 : tie.Need-enum-told-3
+enum-told-3 c = search needs
 
 same-length-2 : tie.Need-same-length-2
 same-length-2 c = search needs
@@ -59,34 +58,37 @@ returns-2 c =
     let a = k .before .before .before .args in
     refused-is _ (a .heap .now) (a .accounts) _ NoSuchObject
     (lend-missing unit (a .heap .now) (a .accounts) (a .handle) (k .check .result) (k .check .ensures) (t .enum-told .given .1)
-    (sym (f .find-object .ensures) ∙ c .enum-told2 .given .1))
+    (sym (f .find-object .ensures) ∙ c .enum-told3 .given .1))
 
--- the block that was found
-found : (c : tie.After-block)
-    → let a = c .before .before .before .before .before .before .before .before .before .args in
-    find-object (a .handle) (a .heap .now) ≡ Found (c .block .given .0 .0)
-found c = sym (c .before .before .find-object .ensures) ∙ c .block .given .1
-
-inside : (c : tie.After-block)
-    → let a = c .before .before .before .before .before .before .before .before .before .args in
-    (8 ≤ c .block .given .0 .0 .size) × (c .block .given .0 .0 .at + c .block .given .0 .0 .size ≤ length (a .heap .now))
-inside c =
-    let t = c .before .before .before .before in
+-- what the lookup found: the write is accepted, and the range lies in the heap
+accepts : (b : tie.After-enum-told2)
+    → let a = b .before .before .before .before .before .before .before .before .before .args in
+    first-refusal (lend-lines unit (a .heap .now) (a .accounts) (a .handle)) ≡ 0
+accepts b =
+    let t = b .before .before .before .before in
     let k = t .before .before in
     let a = k .before .before .before .args in
-    lend-inside unit (a .heap .now) (a .accounts) (a .handle) (k .check .result) (k .check .ensures) (t .enum-told .given .1) (c .block .given .0 .0) (found c)
+    lend-accepted unit (a .heap .now) (a .accounts) (a .handle) (k .check .result) (k .check .ensures) (t .enum-told .given .1) (b .enum-told2 .given .0 .0)
+    (sym (b .before .before .find-object .ensures) ∙ b .enum-told2 .given .1)
 
-sub-if1 : tie.Need-sub-if1
-sub-if1 c = let i = inside (c .before .before) in omega arith
+inside : (b : tie.After-enum-told2)
+    → let a = b .before .before .before .before .before .before .before .before .before .args in
+    a .handle .base + a .handle .length ≤ length (a .heap .now)
+inside b =
+    let t = b .before .before .before .before in
+    let k = t .before .before in
+    let a = k .before .before .before .args in
+    lend-inside unit (a .heap .now) (a .accounts) (a .handle) (k .check .result) (k .check .ensures) (t .enum-told .given .1) (b .enum-told2 .given .0 .0)
+    (sym (b .before .before .find-object .ensures) ∙ b .enum-told2 .given .1)
+
+cast-index : tie.Need-cast-index
+cast-index c = search needs
 
 add-index : tie.Need-add-index
-add-index c = let i = inside (c .before .before .before .before) in omega arith
-
-add-index-2 : tie.Need-add-index-2
-add-index-2 c = let i = inside (c .before .before .before .before) in omega arith
+add-index c = search needs
 
 slice-write-heap : tie.Need-slice-write-heap
-slice-write-heap c = let i = inside (c .before .before .before .before) in omega arith
+slice-write-heap c = let i = inside (c .before .before .before) in omega (arith, c .before .if1 .taken)
 
 same-length-3 : tie.Need-same-length-3
 same-length-3 c = search needs
@@ -94,15 +96,9 @@ same-length-3 c = search needs
 returns-3 : tie.Need-returns-3
 unfolding verdict-values
 returns-3 c =
-    let b = c .before .before .before .before in
-    let t = b .before .before .before .before in
-    let k = t .before .before in
-    let a = k .before .before .before .args in
-    let m = b .block .given .0 .0 in
-    writes unit (a .heap .now) (a .accounts) (a .handle) m
-    (lend-accepted unit (a .heap .now) (a .accounts) (a .handle) (k .check .result) (k .check .ensures) (t .enum-told .given .1) m (found b))
-    (lend-object unit (a .heap .now) (a .accounts) (a .handle) (k .check .result) (k .check .ensures) (t .enum-told .given .1) m (found b))
-    (inside b) (a .at) (a .byte) (c .before .if1 .taken)
+    let b = c .before .before .before in
+    let a = b .before .before .before .before .before .before .before .before .before .args in
+    writes unit (a .heap .now) (a .accounts) (a .handle) (accepts b) (a .at) (a .byte) (c .before .if1 .taken)
 
 same-length-4 : tie.Need-same-length-4
 same-length-4 c = search needs
@@ -110,15 +106,9 @@ same-length-4 c = search needs
 returns-4 : tie.Need-returns-4
 unfolding verdict-values
 returns-4 c =
-    let b = c .before .before .before in
-    let t = b .before .before .before .before in
-    let k = t .before .before in
-    let a = k .before .before .before .args in
-    let m = b .block .given .0 .0 in
-    passes unit (a .heap .now) (a .accounts) (a .handle) m
-    (lend-accepted unit (a .heap .now) (a .accounts) (a .handle) (k .check .result) (k .check .ensures) (t .enum-told .given .1) m (found b))
-    (lend-object unit (a .heap .now) (a .accounts) (a .handle) (k .check .result) (k .check .ensures) (t .enum-told .given .1) m (found b))
-    (inside b) (a .at) (a .byte) (c .if1 .left)
+    let b = c .before .before in
+    let a = b .before .before .before .before .before .before .before .before .before .args in
+    passes unit (a .heap .now) (a .accounts) (a .handle) (accepts b) (a .at) (a .byte) (c .if1 .left)
 
 pub write-object-spec : {M : Type 1} → statement M
 write-object-spec =
@@ -130,13 +120,12 @@ write-object-spec =
     returns
     enum-told
     find-object-requires
-    enum-known-block
     enum-told-2
+    enum-told-3
     same-length-2
     returns-2
-    sub-if1
+    cast-index
     add-index
-    add-index-2
     slice-write-heap
     same-length-3
     returns-3

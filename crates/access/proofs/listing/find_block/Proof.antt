@@ -10,9 +10,9 @@ use lib.ListN.{length}
 use Rattle.layout.specs.Blocks.{start-at}
 use Rattle.layout.specs.declared.Start.the-variants.{Block as Starts}
 use Rattle.layout.proofs.Starts.{Found, start-found}
-use Rattle.finder.specs.Walk.{headed, stands-at}
+use Rattle.finder.specs.Walk.{headed}
 use Rattle.finder.proofs.Walk.{met-nothing, met-block, Searching, search-start, search-ended, search-found, search-passed}
-use Rattle.access.specs.Listing.{answered, find-block}
+use Rattle.access.specs.Listing.{answered, stands-at, find-block}
 use Rattle.access.proofs.listing.find_block.Statement.{statement}
 use Rattle.access.proofs.listing.find_block.Tie as tie
 

@@ -1,7 +1,5 @@
--- `access::object_range` meets its contract: check and lookup decide in the order of lend's lines, and the block that was found has the object behind
--- its header, up to its end. The block lies in the heap, so the sums fit.
+-- `access::object_range` meets its contract: check and lookup decide in the order of lend's lines, and the handle's range is given.
 -- Assumes nothing.
-use native.Mathlib.Omega.{arith}
 use mathlib.Core.Path.{sym, _∙_}
 use mathlib.Core.List.{[], _∷_}
 use borrow.Author.Needs.{needs}
@@ -12,7 +10,7 @@ use Rattle.model.specs.Refusals.{line-5, lend-lines}
 use Rattle.model.specs.Calls.{lend}
 use Rattle.model.specs.declared.Refusal.the-variants.{NoSuchObject}
 use Rattle.access.proofs.Lines.{check-refuses, refused-is}
-use Rattle.access.proofs.Lookups.{located, lend-missing, lend-is}
+use Rattle.access.proofs.Lookups.{lend-missing, lend-is}
 use Rattle.access.proofs.query.object_range.Statement.{statement}
 use Rattle.access.proofs.query.object_range.Tie as tie
 
@@ -37,11 +35,11 @@ enum-told c = search needs
 find-object-requires : tie.Need-find-object-requires
 find-object-requires c κs = search needs
 
-enum-known-block : tie.Need-enum-known-block
-enum-known-block c = search needs
-
 enum-told-2 : tie.Need-enum-told-2
 enum-told-2 c = search needs
+
+enum-told-3 : tie.Need-enum-told-3
+enum-told-3 c = search needs
 
 returns-2 : tie.Need-returns-2
 unfolding lend range-values
@@ -50,34 +48,27 @@ returns-2 c =
     let a = e .before .before .before .before .args in
     let k = e .before .before .check in
     refused-is _ (a .heap .now) (a .accounts) _ NoSuchObject
-    (lend-missing unit (a .heap .now) (a .accounts) (k .result) (k .ensures) (e .enum-told .given .1) (a .handle) (sym (c .before .before .find-object .ensures) ∙ c .enum-told2 .given .1))
+    (lend-missing unit (a .heap .now) (a .accounts) (k .result) (k .ensures) (e .enum-told .given .1) (a .handle)
+    (sym (c .before .before .find-object .ensures) ∙ c .enum-told3 .given .1))
 
-add-t9 : tie.Need-add-t9
-add-t9 c =
-    let b = c .before .before in
-    let e = b .before .before .before in
-    let a = e .before .before .before .before .args in
-    let k = e .before .before .check in
-    let l = located unit (a .heap .now) (a .accounts) (k .result) (k .ensures) (e .enum-told .given .1) (a .handle) (b .block .given .0 .0) (sym (b .before .before .find-object .ensures) ∙ b .block .given .1) in
-    record { fits = omega (arith, l .header, l .end) }
+cast-start : tie.Need-cast-start
+cast-start c = search needs
+
+cast-t9 : tie.Need-cast-t9
+cast-t9 c = search needs
 
 add-t10 : tie.Need-add-t10
-add-t10 c =
-    let b = c .before .before .before in
-    let e = b .before .before .before in
-    let a = e .before .before .before .before .args in
-    let k = e .before .before .check in
-    let l = located unit (a .heap .now) (a .accounts) (k .result) (k .ensures) (e .enum-told .given .1) (a .handle) (b .block .given .0 .0) (sym (b .before .before .find-object .ensures) ∙ b .block .given .1) in
-    record { fits = omega (arith, l .header, l .end) }
+add-t10 c = search needs
 
 returns-3 : tie.Need-returns-3
 unfolding range-values
 returns-3 c =
-    let b = c .before .before .before in
+    let b = c .before .before in
     let e = b .before .before .before in
     let a = e .before .before .before .before .args in
     let k = e .before .before .check in
-    lend-is unit (a .heap .now) (a .accounts) (k .result) (k .ensures) (e .enum-told .given .1) (a .handle) (b .block .given .0 .0) (sym (b .before .before .find-object .ensures) ∙ b .block .given .1)
+    lend-is unit (a .heap .now) (a .accounts) (k .result) (k .ensures) (e .enum-told .given .1) (a .handle) (b .enum-told2 .given .0 .0)
+    (sym (b .before .before .find-object .ensures) ∙ b .enum-told2 .given .1)
 
 pub object-range-spec : {M : Type 1} → statement M
 object-range-spec =
@@ -88,9 +79,10 @@ object-range-spec =
     returns
     enum-told
     find-object-requires
-    enum-known-block
     enum-told-2
+    enum-told-3
     returns-2
-    add-t9
+    cast-start
+    cast-t9
     add-t10
     returns-3)

@@ -19,7 +19,8 @@ use Rattle.accounts.specs.Accounts.{find-hold}
 use Rattle.accounts.specs.declared.Place.the-variants.{At}
 use Rattle.finder.specs.declared.Met.{Met}
 use Rattle.finder.specs.declared.Lookup.the-variants.{Found}
-use Rattle.finder.specs.Walk.{object-met, find-object}
+use Rattle.finder.specs.Walk.{object-met, find-object, find-whole}
+use Rattle.finder.proofs.Reached.{whole-found}
 use Rattle.writer.specs.Freeing.{Inside}
 use Rattle.invariant.proofs.Recorded.{Limits}
 use Rattle.calls.proofs.Typed.{grants-narrow}
@@ -43,8 +44,8 @@ limits c =
     let quotas = c .good .1 .0 .1 .1 .0 in
     record { quotas = simp length-map at (quotas .1 .0 .1); narrow = grants-narrow (c .args .accounts .quotas) (quotas .0) (quotas .1 .1); serial = c .good .1 .0 .1 .1 .1 .0 .1 }
 
-find-object-requires : tie.Need-find-object-requires
-find-object-requires c κs = search needs
+find-whole-requires : tie.Need-find-whole-requires
+find-whole-requires c κs = search needs
 
 enum-known-old : tie.Need-enum-known-old
 enum-known-old c = search needs
@@ -64,11 +65,11 @@ returns c =
     let e = f .before .before .before in
     let a = e .args in
     refuses unit (a .heap .now) (a .accounts) (a .quota) (a .handle) (a .length) (c .refused .result) NoSuchObject (c .refused .ensures)
-    (by-object unit (a .heap .now) (a .accounts) (a .quota) (a .handle) (a .length) (e .pre) (sym (f .find-object .ensures) ∙ c .before .enum-told .given .1))
+    (by-object unit (a .heap .now) (a .accounts) (a .quota) (a .handle) (a .length) (e .pre) (sym (f .find-whole .ensures) ∙ c .before .enum-told .given .1))
 
 -- the block that the lookup found
-block-is : (b : tie.After-old) → let a = b .before .before .before .before .before .args in find-object (a .handle) (a .heap .now) ≡ Found (b .old .given .0 .0)
-block-is b = sym (b .before .before .find-object .ensures) ∙ b .old .given .1
+block-is : (b : tie.After-old) → let a = b .before .before .before .before .before .args in find-whole (a .handle) (a .heap .now) ≡ Found (b .old .given .0 .0)
+block-is b = sym (b .before .before .find-whole .ensures) ∙ b .old .given .1
 
 cast-find-hold : tie.Need-cast-find-hold
 cast-find-hold c = search needs
@@ -106,6 +107,13 @@ named c =
     let a = e .args in
     block-named unit (a .heap .now) (a .accounts) (a .quota) (a .handle) (a .length) (e .pre) (b .old .given .0 .0) (block-is b)
 
+is-whole : (c : tie.After-place) → let b = c .before .before .before .before in let a = b .before .before .before .before .before .args in
+    a .handle ≡ object-met (b .old .given .0 .0)
+is-whole c =
+    let b = c .before .before .before .before in
+    let a = b .before .before .before .before .before .args in
+    whole-found (a .handle) (a .heap .now) (b .old .given .0 .0) (block-is b) .1
+
 held : (c : tie.After-place) → let b = c .before .before .before .before in let a = b .before .before .before .before .before .args in
     has-record (a .accounts .holds) (a .quota) (b .old .given .0 .0 .serial) ≡ true
 held c =
@@ -124,7 +132,12 @@ lies c =
     let e = k .before in
     let a = e .args in
     holding-inside unit (a .heap .now) (a .accounts) (octets k) (a .quota) (b .old .given .0 .0) (c .place .given .0 .0)
-    (record { checked = e .pre .checked; handle = a .handle; named = block-is b; place = sym (p .find-hold .ensures) ∙ c .place .given .1 })
+    (record {
+      checked = e .pre .checked;
+      handle = a .handle;
+      named = whole-found (a .handle) (a .heap .now) (b .old .given .0 .0) (block-is b) .0;
+      place = sym (p .find-hold .ensures) ∙ c .place .given .1;
+    })
 
 grant-requires : tie.Need-grant-requires
 grant-requires c κs = search needs
@@ -145,7 +158,7 @@ returns-3 c =
     let b = t .before .before .before .before in
     let e = b .before .before .before .before .before in
     let a = e .args in
-    refused-too unit unit-is (a .heap .now) (a .accounts) (a .quota) (a .handle) (a .length) (e .pre) (object-met (b .old .given .0 .0)) (named t) (held t) (g .grant .last .0) (g .grant .result)
+    refused-too unit unit-is (a .heap .now) (a .accounts) (a .quota) (a .handle) (a .length) (e .pre) (object-met (b .old .given .0 .0)) (is-whole t) (named t) (held t) (g .grant .last .0) (g .grant .result)
     (c .enum-told3 .given .0 .0) (c .enum-told3 .given .1) (g .grant .ensures)
 
 cast-shorter : tie.Need-cast-shorter
@@ -196,7 +209,7 @@ ready m =
     let k = b .before .before .before .before in
     let e = k .before in
     let a = e .args in
-    copied-checked unit unit-is (a .heap .now) (a .accounts) (a .quota) (a .handle) (a .length) (e .pre) (object-met (b .old .given .0 .0)) (named t) (held t) (octets k) (limits e) (g .grant .last .0) (g .grant .result)
+    copied-checked unit unit-is (a .heap .now) (a .accounts) (a .quota) (a .handle) (a .length) (e .pre) (object-met (b .old .given .0 .0)) (is-whole t) (named t) (held t) (octets k) (limits e) (g .grant .last .0) (g .grant .result)
     (g .grant .ensures) (w .answer .given .0 .0) (w .answer .given .1) (m .copy-part .last .0) (copied m)
 
 -- the old block is found where it stood, and the quota's record too
@@ -212,7 +225,7 @@ again n =
     let e = k .before in
     let a = e .args in
     found-again unit (m .copy-part .last .0) (g .grant .result .accounts) (a .quota) (ready m) (a .handle) (b .old .given .0 .0) (lies t .header)
-    (copied-named unit unit-is (a .heap .now) (a .accounts) (a .quota) (a .handle) (a .length) (e .pre) (object-met (b .old .given .0 .0)) (named t) (held t) (octets k) (limits e) (g .grant .last .0) (g .grant .result)
+    (copied-named unit unit-is (a .heap .now) (a .accounts) (a .quota) (a .handle) (a .length) (e .pre) (object-met (b .old .given .0 .0)) (is-whole t) (named t) (held t) (octets k) (limits e) (g .grant .last .0) (g .grant .result)
     (g .grant .ensures) (w .answer .given .0 .0) (w .answer .given .1) (m .copy-part .last .0) (copied m))
     ∙ ap Found (sym (n .current .ensures))
 
@@ -229,7 +242,7 @@ placed n =
     let e = k .before in
     let a = e .args in
     ap (λ (x : Met). find-hold (x .serial) (a .quota) (g .grant .result .accounts)) (n .current .ensures)
-    ∙ copied-place unit unit-is (a .heap .now) (a .accounts) (a .quota) (a .handle) (a .length) (e .pre) (object-met (b .old .given .0 .0)) (named t) (held t) (octets k) (limits e) (g .grant .last .0) (g .grant .result)
+    ∙ copied-place unit unit-is (a .heap .now) (a .accounts) (a .quota) (a .handle) (a .length) (e .pre) (object-met (b .old .given .0 .0)) (is-whole t) (named t) (held t) (octets k) (limits e) (g .grant .last .0) (g .grant .result)
     (g .grant .ensures) (w .answer .given .0 .0) (w .answer .given .1) (m .copy-part .last .0) (copied m)
     (t .place .given .0 .0) (sym (t .before .before .find-hold .ensures) ∙ t .place .given .1)
 
@@ -272,7 +285,7 @@ returns-4 c =
     let s = u .drop-claim .last .0 in
     ap (handle-outcome s) (c .with-accounts .ensures)
     ∙ ap (λ (x : HandleAnswer). outcome s (u .drop-claim .result .accounts) (handle-values x)) (w .answer .given .1)
-    ∙ given-too unit unit-is (a .heap .now) (a .accounts) (a .quota) (a .handle) (a .length) (e .pre) (object-met (b .old .given .0 .0)) (named t) (held t) (octets k) (limits e) (g .grant .last .0) (g .grant .result)
+    ∙ given-too unit unit-is (a .heap .now) (a .accounts) (a .quota) (a .handle) (a .length) (e .pre) (object-met (b .old .given .0 .0)) (is-whole t) (named t) (held t) (octets k) (limits e) (g .grant .last .0) (g .grant .result)
     (g .grant .ensures) (w .answer .given .0 .0) (w .answer .given .1) (m .copy-part .last .0) (copied m) (u .drop-claim .last .0) (u .drop-claim .result)
     (u .drop-claim .ensures
     ∙ dropped unit (m .copy-part .last .0) (g .grant .result .accounts) (a .quota) (a .handle) (ready m) (n .current .result) (again n) (t .place .given .0 .0) (placed n))
@@ -281,7 +294,7 @@ pub exchange-spec : {M : Type 1} → statement M
 exchange-spec =
     tie.close
     (tie.spec
-    find-object-requires
+    find-whole-requires
     enum-known-old
     enum-told
     refused-requires
