@@ -10,9 +10,9 @@ use Rattle.replay_model.specs.Replay.{replay}
 use Rattle.replay_model.proofs.Computing.{computing}
 
 -- so many grants of zero, as an opening's line has them
-pub zeros : ℕ → List ℕ
-zeros zero = []
-zeros (suc n) = text " 0" ++ zeros n
+pub grants-of-zero : ℕ → List ℕ
+grants-of-zero zero = []
+grants-of-zero (suc n) = text " 0" ++ grants-of-zero n
 
 -- an input and what it prints; an input may have so many grants of zero between two texts
 pub data Row : Type 0 where
@@ -22,7 +22,7 @@ pub data Row : Type 0 where
 infix 5 _prints_ _and_zeros_prints_
 pub got : Row → List ℕ
 got (s prints t) = replay (text s)
-got (s and n zeros u prints t) = replay (text s ++ (zeros n ++ text u))
+got (s and n zeros u prints t) = replay (text s ++ (grants-of-zero n ++ text u))
 
 pub wanted : Row → List ℕ
 wanted (s prints t) = text t
@@ -79,20 +79,20 @@ rows =
     ∷ []
 
 pub rows-run : map got rows ≡ map wanted rows
-unfolding computing zeros got wanted rows
+unfolding computing grants-of-zero got wanted rows
 rows-run = refl
 
 -- an input of 65,536 bytes is read, and a longer one is not, whatever its first line is
 pub filled : String → ℕ → List ℕ
 filled s n =
-    let line = text s ++ (zeros 32 ++ text "\n") in
+    let line = text s ++ (grants-of-zero 32 ++ text "\n") in
     line ++ replicate (n - length line) 10
 
 pub long-rows : (replay (filled "open 56" 65536) ≡ text "no 1\n")
     × (replay (filled "open 64" 65536) ≡ text "ok\nbad\n")
     × (replay (filled "open 56" 65537) ≡ text "bad\n")
     × (replay (filled "open 64" 65537) ≡ text "bad\n")
-unfolding computing zeros filled
+unfolding computing grants-of-zero filled
 long-rows = (refl, refl, refl, refl)
 
 -- numbers as they are written

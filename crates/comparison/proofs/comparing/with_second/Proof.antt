@@ -15,7 +15,7 @@ enum-known-shape c = search needs
 
 returns : tie.Need-returns
 returns c =
-    let s = c .before .before in
+    let s = c .before .before .before in
     let p = s .before .before in
     let start = p .before .before .before in
     let a = start .args in
@@ -24,7 +24,7 @@ returns c =
 
 returns-2 : tie.Need-returns-2
 returns-2 c =
-    let s = c .before .before .before in
+    let s = c .before .before .before .before in
     let p = s .before .before in
     let start = p .before .before .before in
     let a = start .args in
@@ -40,7 +40,7 @@ enum-known-shape-2 c = search needs
 
 returns-3 : tie.Need-returns-3
 returns-3 c =
-    let s = c .before .before .before .before in
+    let s = c .before .before .before .before .before in
     let p = s .before .before in
     let start = p .before .before .before in
     let a = start .args in
