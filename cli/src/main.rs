@@ -1,4 +1,4 @@
-//! The command `lokhazim`: replays scripts and works on images. Every rule is in the proved library;
+//! The command `lokhazim`: replays scripts, works on images and reads audit reports. Every rule is in the proved library;
 //! this program reads files, calls it and prints.
 //!
 //! Exit status: 0 where all went well, 1 where the library refuses, 2 for wrong words or a file that
@@ -12,8 +12,10 @@ compile_error!("liblokhazim_replay.a is missing: run 'make cli' in the repositor
 mod failure;
 mod files;
 mod image;
+mod json;
 #[allow(unsafe_code)]
 mod proved;
+mod report;
 mod script;
 
 use std::env;
@@ -41,6 +43,9 @@ lokhazim: a heap that parts of a firmware share, by its proved library
                                       nothing does, 1 where something does, 2 where one is refused
     lokhazim image move up IN OUT     write an image of form 1 in form 2; 'move down' writes form 2 in
                                       form 1, where that can carry it
+    lokhazim report import FILE       print the grants in an audit report, to stand behind 'open H': FILE
+                                      has a line for each quota, or is the linker's JSON
+    lokhazim report export G..        print grants as a report of 32 lines; missing ones are 0
     lokhazim help | version
 
 A script begins with 'open H' and {QUOTAS} grants, then has a call to a line: alloc q n, array q n s,
@@ -79,6 +84,8 @@ fn run(words: &[&str]) -> Result<(), Failure> {
         ["image", "compare", first, second] => image::compare(first, second),
         ["image", "move", "up", image, out] => image::move_to(Form::Second, image, out),
         ["image", "move", "down", image, out] => image::move_to(Form::First, image, out),
+        ["report", "import", file] => report::import(file),
+        ["report", "export", grants @ ..] if !grants.is_empty() => report::export(grants),
         ["help" | "--help" | "-h"] => files::print(help().as_bytes()),
         ["version" | "--version"] => {
             files::print(concat!("lokhazim ", env!("CARGO_PKG_VERSION"), "\n").as_bytes())

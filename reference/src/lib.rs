@@ -23,6 +23,7 @@ mod permissions;
 mod queries;
 mod refusal;
 mod replay;
+mod report;
 mod rounding;
 mod sound;
 
@@ -39,5 +40,6 @@ pub use permissions::clear_permissions;
 pub use queries::{block_at, lend, lend_mut, remaining, Walker};
 pub use refusal::Refusal;
 pub use replay::{replay, MAX_INPUT};
+pub use report::{export_grants, import_grants, ReportRefusal, REPORT_BYTES};
 pub use rounding::{round_request, unit_of, Rounded, MAX_REQUEST};
 pub use sound::{check, MAX_HEAP, MIN_HEAP};

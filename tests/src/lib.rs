@@ -34,6 +34,7 @@ pub mod malformed;
 pub mod moves;
 pub mod narrowing;
 pub mod programs;
+pub mod reports;
 pub mod rounds;
 pub mod script;
 pub mod seed;

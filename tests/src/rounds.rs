@@ -9,6 +9,7 @@ use crate::histories::{self, Beginning};
 use crate::image_cases;
 use crate::moves;
 use crate::programs::{Feed, Programs};
+use crate::reports::{self, Reports};
 use crate::seed::Seed;
 use crate::tally::Tally;
 use crate::themes::Theme;
@@ -73,4 +74,9 @@ pub fn images(pair: &mut Pair, seed: u64, n: u64) -> Result<(), Failure> {
         comparisons::pairs(pair, seed, 4 * n + turn)?;
     }
     Ok(())
+}
+
+/// Compares audit reports for the n-th case of a seed: some dozens.
+pub fn reports(reports: &mut Reports, seed: u64, n: u64) -> Result<(), Failure> {
+    (20 * n..20 * (n + 1)).try_for_each(|n| reports::random(reports, seed, n))
 }

@@ -196,6 +196,26 @@ pub struct NextReply {
     pub at: usize,
 }
 
+/// The reply of importing a report.
+#[repr(C)]
+pub struct ImportReply {
+    /// The grants, all zero where the text is refused.
+    pub grants: Grants,
+    /// The refusal's number.
+    pub refusal: u32,
+    /// The number of the first bad line, from 1; 0 where there is none.
+    pub line: u32,
+}
+
+/// The reply of exporting a report.
+#[repr(C)]
+pub struct ExportReply {
+    /// The refusal's number.
+    pub refusal: u32,
+    /// The length of what was written.
+    pub length: usize,
+}
+
 /// Holds a struct to its size and to the offset of each field, when the crate is compiled.
 macro_rules! lies {
     ($type:ty, $size:literal: $($field:ident at $offset:literal),+) => {
@@ -222,3 +242,5 @@ lies!(RestoreReply, 4488: accounts at 0, refusal at 4484);
 lies!(ExamineReply, 16: refusal at 0, form at 4, heap_length at 8);
 lies!(CompareReply, 32: refusal at 0, which at 4, kind at 8, place at 16, length at 24);
 lies!(NextReply, 40: kind at 0, place at 8, length at 16, part at 24, at at 32);
+lies!(ImportReply, 136: grants at 0, refusal at 128, line at 132);
+lies!(ExportReply, 16: refusal at 0, length at 8);

@@ -54,7 +54,7 @@
 
 #[cfg(all(library_missing, not(clippy), not(doc)))]
 compile_error!(concat!(
-    "a library of lokhazim (liblokhazim.a, liblokhazim_image.a, liblokhazim_compare.a) is missing in ",
+    "a library of lokhazim (liblokhazim.a, liblokhazim_image.a, liblokhazim_compare.a, liblokhazim_report.a) is missing in ",
     env!("LOKHAZIM_LOOKED"),
     ": run 'make lib' in the repository, or name its folder in LOKHAZIM_LIB_DIR, then build again"
 ));
@@ -71,6 +71,7 @@ mod queries;
 #[allow(unsafe_code)]
 mod raw;
 mod refusal;
+mod report;
 
 pub use blocks::{Block, Blocks};
 pub use comparison::{compare_images, CompareRefusal, Difference, Differences, Which};
@@ -83,6 +84,9 @@ pub use layout::{Accounts, Handle, Hold, Quota, HOLDS, QUOTAS};
 pub use moves::{move_image_down, move_image_up};
 pub use permissions::Permissions;
 pub use refusal::Refusal;
+pub use report::{
+    export_grants, import_grants, ImportRefusal, ReportRefusal, REPORT_LENGTH, REPORT_LINE,
+};
 
 /// The length of the shortest heap; a heap's length is a multiple of 8.
 pub const HEAP_MIN: usize = 64;

@@ -6,8 +6,8 @@
 //! a slice is. The memory of a `&[u8]` is not written.
 
 use crate::layout::{
-    Accounts, Amount, AmountReply, BlockReply, CompareReply, ExamineReply, Grants, Handle,
-    HandleReply, ImageReply, NextReply, OpenReply, RangeReply, RestoreReply,
+    Accounts, Amount, AmountReply, BlockReply, CompareReply, ExamineReply, ExportReply, Grants,
+    Handle, HandleReply, ImageReply, ImportReply, NextReply, OpenReply, RangeReply, RestoreReply,
 };
 
 extern "C" {
@@ -142,6 +142,8 @@ extern "C" {
         heap: *mut u8,
         length: usize,
     ) -> RestoreReply;
+    fn lokhazim_report_import(text: *const u8, length: usize) -> ImportReply;
+    fn lokhazim_report_export(text: *mut u8, length: usize, grants: Grants) -> ExportReply;
 }
 
 /// Makes a safe function of one of the library's: the slice becomes its pointer and its length,
@@ -235,6 +237,16 @@ pub fn image_read(image: &[u8], heap: &mut [u8]) -> RestoreReply {
     let (at, length) = (image.as_ptr(), image.len());
     // SAFETY: pointers and lengths are those of two slices that are borrowed for the call.
     unsafe { lokhazim_image_read(at, length, heap.as_mut_ptr(), heap.len()) }
+}
+
+pub fn report_import(text: &[u8]) -> ImportReply {
+    // SAFETY: pointer and length are those of a slice that is borrowed for the call.
+    unsafe { lokhazim_report_import(text.as_ptr(), text.len()) }
+}
+
+pub fn report_export(text: &mut [u8], grants: Grants) -> ExportReply {
+    // SAFETY: pointer and length are those of a slice that is borrowed for the call.
+    unsafe { lokhazim_report_export(text.as_mut_ptr(), text.len(), grants) }
 }
 
 #[cfg(test)]

@@ -12,8 +12,9 @@ use std::mem::MaybeUninit;
 use std::slice;
 
 use layout::{
-    Accounts, Amount, AmountReply, BlockReply, CompareReply, ExamineReply, Grants, Handle,
-    HandleReply, Hold, ImageReply, NextReply, OpenReply, Quota, RangeReply, RestoreReply,
+    Accounts, Amount, AmountReply, BlockReply, CompareReply, ExamineReply, ExportReply, Grants,
+    Handle, HandleReply, Hold, ImageReply, ImportReply, NextReply, OpenReply, Quota, RangeReply,
+    RestoreReply,
 };
 use support::{compile, run};
 
@@ -189,6 +190,21 @@ impl Fields for NextReply {
     }
 }
 
+impl Fields for ImportReply {
+    fn visit(&mut self, visitor: &mut Visitor) {
+        self.grants.visit(visitor);
+        visitor.visit32(&mut self.refusal);
+        visitor.visit32(&mut self.line);
+    }
+}
+
+impl Fields for ExportReply {
+    fn visit(&mut self, visitor: &mut Visitor) {
+        visitor.visit32(&mut self.refusal);
+        visitor.visit_size(&mut self.length);
+    }
+}
+
 /// Takes the bytes of a struct from the front, visits its fields where they lie, and puts the bytes
 /// behind what is there.
 fn exchange<T: Fields>(visitor: &mut Visitor, bytes: &mut Vec<u8>) {
@@ -222,6 +238,8 @@ fn exchange_all(visitor: &mut Visitor, bytes: &mut Vec<u8>) {
     exchange::<ExamineReply>(visitor, bytes);
     exchange::<CompareReply>(visitor, bytes);
     exchange::<NextReply>(visitor, bytes);
+    exchange::<ImportReply>(visitor, bytes);
+    exchange::<ExportReply>(visitor, bytes);
 }
 
 /// The bytes of all structs as Rust sets them, and the number that each field got.

@@ -18,5 +18,6 @@ mod random_lists;
 mod refusals;
 mod replay;
 mod replay_lists;
+mod report;
 mod run_m;
 mod state;

@@ -13,6 +13,7 @@ use lokhazim_tests::case::read_case;
 use lokhazim_tests::compare::Failure;
 use lokhazim_tests::histories;
 use lokhazim_tests::programs::{Feed, Programs};
+use lokhazim_tests::reports::Reports;
 use lokhazim_tests::rounds;
 use lokhazim_tests::themes::THEMES;
 use lokhazim_tests::unsound;
@@ -95,6 +96,7 @@ impl Clock {
 fn fuzz(mut clock: Clock, seed: u64) -> Result<(), Failure> {
     let programs = Programs::find()?;
     let mut pair = Pair::new();
+    let mut reports = Reports::new();
     let mut round = 0;
     while clock.goes_on(&pair) {
         for theme in &THEMES {
@@ -107,6 +109,7 @@ fn fuzz(mut clock: Clock, seed: u64) -> Result<(), Failure> {
         for turn in 0..4 {
             rounds::calls(&mut pair, seed, 4 * round + turn)?;
             rounds::images(&mut pair, seed, 4 * round + turn)?;
+            rounds::reports(&mut reports, seed, 4 * round + turn)?;
         }
         round += 1;
     }
@@ -117,10 +120,12 @@ fn fuzz(mut clock: Clock, seed: u64) -> Result<(), Failure> {
 /// Compares calls until the time is over, each heap in an allocation of its own.
 fn sanitize(mut clock: Clock, seed: u64) -> Result<(), Failure> {
     let mut pair = Pair::for_memory_checker();
+    let mut reports = Reports::for_memory_checker();
     let mut round = 0;
     while clock.goes_on(&pair) {
         rounds::calls(&mut pair, seed, round)?;
         rounds::images(&mut pair, seed, round)?;
+        rounds::reports(&mut reports, seed, round)?;
         round += 1;
     }
     println!("No difference. {}", pair.tally);

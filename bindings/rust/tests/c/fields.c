@@ -5,6 +5,7 @@
  *     fields print    reads such structs from standard input and prints each field's number
  */
 #include "lokhazim_image.h"
+#include "lokhazim_report.h"
 
 #include <inttypes.h>
 #include <stdio.h>
@@ -169,6 +170,19 @@ static void visit_next_reply(struct lokhazim_next_reply *it)
     visit_size(&it->at);
 }
 
+static void visit_import_reply(struct lokhazim_import_reply *it)
+{
+    visit_grants(&it->grants);
+    visit32(&it->refusal);
+    visit32(&it->line);
+}
+
+static void visit_export_reply(struct lokhazim_export_reply *it)
+{
+    visit32(&it->refusal);
+    visit_size(&it->length);
+}
+
 /* Stops where fewer bytes could be read or written than a struct has. */
 static void need(size_t done)
 {
@@ -211,5 +225,7 @@ int main(int count, char **words)
     EXCHANGE(examine_reply);
     EXCHANGE(compare_reply);
     EXCHANGE(next_reply);
+    EXCHANGE(import_reply);
+    EXCHANGE(export_reply);
     return EXIT_SUCCESS;
 }

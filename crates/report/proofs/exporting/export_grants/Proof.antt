@@ -1,0 +1,29 @@
+-- Without room nothing is written (`export-room`), else all lines are (`export-put`).
+-- Assumes nothing.
+use native.Mathlib.Omega.{arith}
+use Rattle.report.proofs.Exports.{export-room, export-put}
+use borrow.Author.Needs.{needs}
+use Rattle.report.proofs.exporting.export_grants.Statement.{statement}
+use Rattle.report.proofs.exporting.export_grants.Tie as tie
+
+returns : tie.Need-returns
+returns c =
+    let a = c .before .before .args in
+    export-room (a .text .now) (a .grants) (omega arith)
+
+put-lines-requires : tie.Need-put-lines-requires
+put-lines-requires c κs = search needs
+
+same-length : tie.Need-same-length
+same-length c = search needs
+
+returns-2 : tie.Need-returns-2
+returns-2 c =
+    let p = c .before .before in
+    let e = p .before .before in
+    let s = e .before .before in
+    let a = s .args in
+    export-put (a .text .now) (a .grants) (omega arith) (s .good .1 .0 .1 .0 .1) (p .put-lines .last .0) (p .put-lines .ensures)
+
+pub export-grants-spec : {M : Type 1} → statement M
+export-grants-spec = tie.close (tie.spec returns put-lines-requires same-length returns-2)

@@ -1,0 +1,113 @@
+-- The invariant: the first `i` lines are read (`Importing`). A turn reads one more (`import-more`), or ends at a bad line (`import-bad`) or at one too
+-- many (`import-over`). The measure is how many quotas have no line yet.
+-- Assumes nothing.
+use native.Mathlib.Omega.{arith}
+use mathlib.Core.Path.{sym, _∙_}
+use Prim.Native.Nat.{_-_, _≤_}
+use Rattle.accounts.specs.Accounts.{QUOTAS}
+use Rattle.report.proofs.Imports.{Importing, import-start, import-more, import-bad, import-over, import-end}
+use borrow.Author.Needs.{needs}
+use Rattle.report.proofs.importing.import_grants.Statement.{statement}
+use Rattle.report.proofs.importing.import_grants.Tie as tie
+
+abbrev Inv-loop : tie.InvT-loop
+Inv-loop text grants₀ i₀ grants i = (i ≤ QUOTAS) × Importing text grants i
+
+abbrev μ-loop : tie.MeasureT-loop
+μ-loop text grants₀ i₀ grants i = QUOTAS - i
+
+loop-holds : tie.Need-loop-holds Inv-loop μ-loop
+loop-holds c = (omega arith, import-start (c .before .args .text .now))
+
+mul-loop : tie.Need-mul-loop Inv-loop μ-loop
+mul-loop c = search needs
+
+cast-number : tie.Need-cast-number Inv-loop μ-loop
+cast-number c = search needs
+
+add-number : tie.Need-add-number Inv-loop μ-loop
+add-number c = search needs
+
+refused-requires : tie.Need-refused-requires Inv-loop μ-loop
+refused-requires c κs = search needs
+
+returns : tie.Need-returns Inv-loop μ-loop
+returns c =
+    let l = c .before .before .before in
+    c .refused .ensures ∙ import-over (l .before .before .args .text .now) (l .loop .grants) (l .loop .i) (l .loop .inv .1)
+    (c .before .before .loop-test .taken) (omega arith)
+
+mul-read-line : tie.Need-mul-read-line Inv-loop μ-loop
+mul-read-line c = search needs
+
+read-line-requires : tie.Need-read-line-requires Inv-loop μ-loop
+read-line-requires c κs = search needs
+
+enum-known-line : tie.Need-enum-known-line Inv-loop μ-loop
+enum-known-line c = search needs
+
+mul-grants : tie.Need-mul-grants Inv-loop μ-loop
+mul-grants c = search needs
+
+array-write-grants : tie.Need-array-write-grants Inv-loop μ-loop
+array-write-grants c = search needs
+
+enum-known-line-2 : tie.Need-enum-known-line-2 Inv-loop μ-loop
+enum-known-line-2 c = search needs
+
+refused-requires-2 : tie.Need-refused-requires-2 Inv-loop μ-loop
+refused-requires-2 c κs = search needs
+
+returns-2 : tie.Need-returns-2 Inv-loop μ-loop
+returns-2 c =
+    let m = c .before .before in
+    let r = m .before .before in
+    let l = r .before .before .before in
+    c .refused2 .ensures ∙ import-bad (l .before .before .args .text .now) (l .loop .grants) (l .loop .i) (l .loop .inv .1)
+    (r .before .before .loop-test .taken) (m .line2 .given .0 .0) (r .before .if1 .left) (sym (m .line2 .given .1) ∙ r .read-line .ensures)
+
+add-i : tie.Need-add-i Inv-loop μ-loop
+add-i c = search needs
+
+loop-less : tie.Need-loop-less Inv-loop μ-loop
+loop-less c = search needs
+
+loop-again : tie.Need-loop-again Inv-loop μ-loop
+loop-again c =
+    let m = c .before in
+    let r = m .before .before in
+    let l = r .before .before .before in (
+      omega arith,
+      import-more (l .before .before .args .text .now) (l .loop .grants) (l .loop .i) (l .loop .inv .1) (m .line .given .0 .0)
+          (r .before .if1 .left) (r .before .before .loop-test .taken) (sym (m .line .given .1) ∙ r .read-line .ensures),
+    )
+
+returns-3 : tie.Need-returns-3 Inv-loop μ-loop
+returns-3 c =
+    let l = c .before in
+    import-end (l .before .before .args .text .now) (l .loop .grants) (l .loop .i) (l .loop .inv .1) (c .loop-test .left)
+
+pub import-grants-spec : {M : Type 1} → statement M
+import-grants-spec =
+    tie.close
+    (tie.spec
+    Inv-loop
+    μ-loop
+    loop-holds
+    mul-loop
+    cast-number
+    add-number
+    refused-requires
+    returns
+    mul-read-line
+    read-line-requires
+    enum-known-line
+    mul-grants
+    array-write-grants
+    enum-known-line-2
+    refused-requires-2
+    returns-2
+    add-i
+    loop-less
+    loop-again
+    returns-3)

@@ -1,0 +1,5 @@
+-- The crate's definitions.
+pub mod Words
+pub mod Import
+pub mod Export
+pub mod Exact

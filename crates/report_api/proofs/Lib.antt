@@ -1,0 +1,3 @@
+-- Computed rows, and laws of replies.
+pub mod Rows
+pub mod Told

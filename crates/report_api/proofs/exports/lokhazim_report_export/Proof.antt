@@ -1,0 +1,25 @@
+-- The reply, with the text at exit, is that of what export leaves and answers.
+-- Assumes nothing.
+use mathlib.Core.Path.{ap, _∙_}
+use Rattle.report_api.specs.Replies.{export-told}
+use borrow.Author.Needs.{needs}
+use Rattle.report_api.proofs.exports.lokhazim_report_export.Statement.{statement}
+use Rattle.report_api.proofs.exports.lokhazim_report_export.Tie as tie
+
+export-grants-requires : tie.Need-export-grants-requires
+export-grants-requires c κs = search needs
+
+reply-of-export-requires : tie.Need-reply-of-export-requires
+reply-of-export-requires c κs = search needs
+
+same-length : tie.Need-same-length
+same-length c = search needs
+
+returns : tie.Need-returns
+returns c =
+    let w = c .before .before .before in
+    (λ i. record { text = w .export-grants .last .0; reply = c .reply-of-export .ensures i }) ∙ ap export-told (w .export-grants .ensures)
+
+pub lokhazim-report-export-spec : {M : Type 1} → statement M
+lokhazim-report-export-spec =
+    tie.close (tie.spec export-grants-requires reply-of-export-requires same-length returns)

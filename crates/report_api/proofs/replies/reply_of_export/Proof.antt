@@ -1,0 +1,26 @@
+-- The numbers of the answer's case.
+-- Assumes nothing.
+use mathlib.Core.Path.{ap, sym, _∙_}
+use Rattle.report_api.specs.Replies.{export-reply}
+use borrow.Author.Needs.{needs}
+use Rattle.report_api.proofs.replies.reply_of_export.Statement.{statement}
+use Rattle.report_api.proofs.replies.reply_of_export.Tie as tie
+
+enum-known-answer : tie.Need-enum-known-answer
+enum-known-answer c = search needs
+
+enum-known-answer-2 : tie.Need-enum-known-answer-2
+enum-known-answer-2 c = search needs
+
+number-requires : tie.Need-number-requires
+number-requires c κs = search needs
+
+returns : tie.Need-returns
+returns c = ap export-reply (sym (c .before .answer .given .1))
+
+returns-2 : tie.Need-returns-2
+returns-2 c = (λ i. record { refusal = c .number .ensures i; length = 0 }) ∙ ap export-reply (sym (c .before .before .answer2 .given .1))
+
+pub reply-of-export-spec : {M : Type 1} → statement M
+reply-of-export-spec =
+    tie.close (tie.spec enum-known-answer enum-known-answer-2 number-requires returns returns-2)

@@ -1,0 +1,34 @@
+-- The numbers of the answer's case, with the grants as they are.
+-- Assumes nothing.
+use mathlib.Core.Path.{ap, sym, _∙_}
+use Rattle.report.specs.declared.ImportAnswer.{ImportAnswer}
+use Rattle.report_api.specs.Replies.{import-reply}
+use borrow.Author.Needs.{needs}
+use Rattle.report_api.proofs.replies.reply_of_import.Statement.{statement}
+use Rattle.report_api.proofs.replies.reply_of_import.Tie as tie
+
+enum-told : tie.Need-enum-told
+enum-told c = search needs
+
+enum-known-answer : tie.Need-enum-known-answer
+enum-known-answer c = search needs
+
+number-requires : tie.Need-number-requires
+number-requires c κs = search needs
+
+returns : tie.Need-returns
+returns c =
+    let a = c .before .before .before .args in
+    ap (λ (x : ImportAnswer). import-reply (record { grants = a .imported .grants; answer = x })) (sym (c .enum-told .given .1))
+
+returns-2 : tie.Need-returns-2
+returns-2 c =
+    let k = c .before .before in
+    let a = k .before .before .before .args in
+    let gs = a .imported .grants in
+    (λ i. record { grants = record { values = gs }; refusal = c .number .ensures i; line = k .answer .given .0 .1 .0 })
+    ∙ ap (λ (x : ImportAnswer). import-reply (record { grants = gs; answer = x })) (sym (k .answer .given .1))
+
+pub reply-of-import-spec : {M : Type 1} → statement M
+reply-of-import-spec =
+    tie.close (tie.spec enum-told enum-known-answer number-requires returns returns-2)

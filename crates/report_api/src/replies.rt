@@ -1,0 +1,42 @@
+// Answers as numbers.
+use crate::ExportReply;
+use crate::Grants;
+use crate::ImportReply;
+use report::ExportAnswer;
+use report::ImportAnswer;
+use report::Imported;
+ghost use mathlib.Core.Path.{_≡_};
+ghost use Rattle.report_api.specs.Replies.{import-reply, export-reply};
+
+// The reply of import.
+pub(crate) fn reply_of_import(imported: Imported) -> ImportReply
+    ensures { λ r. ⌜ r ≡ import-reply imported ⌝ }
+{
+    let values = imported.grants;
+    let answer = imported.answer;
+    match answer {
+        ImportAnswer::Accepted => ImportReply {
+            grants: Grants { values },
+            refusal: 0,
+            line: 0,
+        },
+        ImportAnswer::Refused(refusal, line) => ImportReply {
+            grants: Grants { values },
+            refusal: refusal.number(),
+            line,
+        },
+    }
+}
+
+// The reply of export.
+pub(crate) fn reply_of_export(answer: ExportAnswer) -> ExportReply
+    ensures { λ r. ⌜ r ≡ export-reply answer ⌝ }
+{
+    match answer {
+        ExportAnswer::Exported(length) => ExportReply { refusal: 0, length },
+        ExportAnswer::Refused(refusal) => ExportReply {
+            refusal: refusal.number(),
+            length: 0,
+        },
+    }
+}
