@@ -4,8 +4,9 @@
  * The logger has nearly spent its quota and asks for more than is left. Once, in
  * such a controller, the charge was subtracted first and looked at afterwards:
  * what was left wrapped to billions, the logger took the whole heap, and the
- * valve could not close. Here the request is refused and the valve closes. And the
- * radio lends its quota to a helper, which can't drop what the radio holds.
+ * valve could not close. Here the request is refused and the valve closes. The
+ * radio is handed the reading and not the rest of the logger's buffer, and lends its
+ * quota to a helper, which can't drop what the radio holds.
  *
  * After 'make lib':
  *     cc -std=c11 -Iinclude examples/valve.c build/lib/liblokhazim.a -o build/valve && build/valve
@@ -52,7 +53,7 @@ static struct lokhazim_handle make(enum part part, uint32_t bytes)
     return handle;
 }
 
-/* The bytes of an object. */
+/* The bytes of a handle. */
 static uint8_t *bytes_of(struct lokhazim_handle handle)
 {
     uint8_t *object;
@@ -99,15 +100,18 @@ static void ask_for_too_much(void)
     printf("  Subtracted unseen, %" PRIu32 " would be left; %" PRIu32 " are.\n", before - charge, remaining(LOGGER));
 }
 
-/* The radio claims the logger's buffer, which therefore stays when the logger releases it. */
-static void hand_over(struct lokhazim_handle buffer)
+/* The radio claims the logger's buffer by a handle of the reading alone. So the buffer stays when the logger releases it. */
+static struct lokhazim_handle hand_over(struct lokhazim_handle buffer)
 {
+    const struct lokhazim_handle part = lokhazim_handle_narrowed(buffer, 0, sizeof reading);
     uint32_t bytes;
-    expect(lokhazim_heap_claim(heap, sizeof heap, &accounts, RADIO, buffer, &bytes), LOKHAZIM_ACCEPTED);
-    printf("The radio claims the logger's %" PRIu32 " bytes; %" PRIu32 " of its quota remain.\n",
+    printf("The radio gets a handle of %" PRIu32 " bytes of the first buffer.\n", part.length);
+    expect(lokhazim_heap_claim(heap, sizeof heap, &accounts, RADIO, part, &bytes), LOKHAZIM_ACCEPTED);
+    printf("  It claims by that the whole buffer, %" PRIu32 " bytes; %" PRIu32 " of its quota remain.\n",
            bytes, remaining(RADIO));
-    printf("The logger releases them and gets %" PRIu32 " back.\n", release(LOGGER, buffer));
-    printf("  The radio still reads \"%s\".\n", (const char *)bytes_of(buffer));
+    printf("The logger releases the buffer and gets %" PRIu32 " back.\n", release(LOGGER, buffer));
+    printf("  The radio still reads \"%s\".\n", (const char *)bytes_of(part));
+    return part;
 }
 
 /* The valve's close command finds room, whatever the others do. */
@@ -129,11 +133,11 @@ static void lend_quota(void)
 }
 
 /* The last hold is dropped: the bytes are cleared, and the handle names nothing any more. */
-static void drop_last_hold(struct lokhazim_handle buffer)
+static void drop_last_hold(struct lokhazim_handle part)
 {
     uint8_t *object;
-    printf("The radio releases its claim and gets %" PRIu32 " back.\n", release(RADIO, buffer));
-    expect(lokhazim_heap_lend(heap, sizeof heap, &accounts, buffer, &object), LOKHAZIM_NO_SUCH_OBJECT);
+    printf("The radio releases its claim and gets %" PRIu32 " back.\n", release(RADIO, part));
+    expect(lokhazim_heap_lend(heap, sizeof heap, &accounts, part, &object), LOKHAZIM_NO_SUCH_OBJECT);
     printf("  The handle is of no use now: refusal %d.\n", (int)LOKHAZIM_NO_SUCH_OBJECT);
 }
 
@@ -142,10 +146,10 @@ int main(void)
     open_heap();
     const struct lokhazim_handle buffer = log_readings();
     ask_for_too_much();
-    hand_over(buffer);
+    const struct lokhazim_handle part = hand_over(buffer);
     close_valve();
     lend_quota();
-    drop_last_hold(buffer);
+    drop_last_hold(part);
     expect(lokhazim_heap_check(heap, sizeof heap, &accounts), LOKHAZIM_ACCEPTED);
     return EXIT_SUCCESS;
 }

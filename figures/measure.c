@@ -70,6 +70,23 @@ __attribute__((noinline)) void call_restore(void)
     refusal = (enum lokhazim_refusal)lokhazim_heap_restore(heap, sizeof heap, &accounts, image, image_length);
 }
 
+static uint8_t first_form[LOKHAZIM_IMAGE_MAX_FORM_1];
+static size_t first_length;
+
+void call_move_down(void);
+__attribute__((noinline)) void call_move_down(void)
+{
+    const struct lokhazim_image_reply reply = lokhazim_image_move_down(image, image_length, first_form, sizeof first_form);
+    refusal = (enum lokhazim_refusal)reply.refusal;
+    first_length = reply.length;
+}
+
+void call_move_up(void);
+__attribute__((noinline)) void call_move_up(void)
+{
+    refusal = (enum lokhazim_refusal)lokhazim_image_move_up(first_form, first_length, image, sizeof image).refusal;
+}
+
 static void expect_accepted(const char *name)
 {
     if (refusal != LOKHAZIM_ACCEPTED) {
@@ -95,6 +112,8 @@ static void prepare(void)
     middle = objects[OBJECTS / 2];
     call_save();
     expect_accepted("save");
+    call_move_down();
+    expect_accepted("move down");
 }
 
 static _Alignas(64) unsigned char stack[131072];
@@ -156,5 +175,7 @@ int main(void)
     MEASURE(check);
     MEASURE(save);
     MEASURE(restore);
+    MEASURE(move_down);
+    MEASURE(move_up);
     return EXIT_SUCCESS;
 }

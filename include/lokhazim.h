@@ -101,7 +101,7 @@ enum lokhazim_refusal {
     LOKHAZIM_QUOTA_NUMBER = 3,
     /* The length, or count times size, is 0 or above LOKHAZIM_REQUEST_MAX. */
     LOKHAZIM_OBJECT_LENGTH = 4,
-    /* The handle names no live object. */
+    /* The handle names no live object; or, given to reallocate, names one and not the whole of it. */
     LOKHAZIM_NO_SUCH_OBJECT = 5,
     /* This quota doesn't hold the object. */
     LOKHAZIM_NOT_HELD = 6,
@@ -147,9 +147,16 @@ struct lokhazim_accounts {
 };
 
 /*
- * An object: the offset of its first byte in the heap, its length and serial.
- * It can be copied and handed on freely; it names the object as long as any
- * quota holds it, and afterwards nothing.
+ * An object or a part of one: the offset of the first byte in the heap, the number
+ * of bytes, and the object's serial. Every handle that a call answers is that of a
+ * whole object. It can be copied and handed on freely, and made narrower with
+ * lokhazim_handle_narrowed: with its serial, any range of at least one byte inside
+ * the object names it, as long as any quota holds it, and afterwards nothing.
+ *
+ * A hold is always on the whole object, by whatever part of it a quota claims or
+ * releases. Lend and write keep to the part. Reallocate takes the whole handle alone.
+ * The library doesn't know which handles were handed out: whoever may fill in the
+ * three numbers can widen a handle again, so let the trusted place keep them.
  */
 struct lokhazim_handle {
     uint32_t base;
@@ -190,7 +197,7 @@ struct lokhazim_amount {
     uint32_t amount;
 };
 
-/* The reply of lend: the object's bytes are those from start up to end. */
+/* The reply of lend: the handle's bytes are those from start up to end. */
 struct lokhazim_range_reply {
     uint32_t refusal;
     size_t start;
@@ -286,7 +293,7 @@ struct lokhazim_handle_reply lokhazim_allocate_array(
     uint8_t *heap, size_t length, struct lokhazim_accounts accounts, uint32_t quota,
     uint32_t count, uint32_t size);
 
-/* Lets the quota hold the object, or hold it once more; the amount is the object's length. */
+/* Lets the quota hold the object, or hold it once more; the amount is the length of the whole object. */
 struct lokhazim_amount_reply lokhazim_claim(
     const uint8_t *heap, size_t length, struct lokhazim_accounts accounts, uint32_t quota,
     struct lokhazim_handle handle);
@@ -304,16 +311,16 @@ struct lokhazim_amount_reply lokhazim_free_all(
 struct lokhazim_amount_reply lokhazim_clear_permissions(
     const uint8_t *heap, size_t length, struct lokhazim_accounts accounts, uint32_t quota, uint32_t bits);
 
-/* Makes an object of another length with the old one's bytes, then drops one hold on the old one. */
+/* Makes an object of another length with the old one's bytes, then drops one hold on the old one, whose whole handle it takes. */
 struct lokhazim_handle_reply lokhazim_reallocate(
     uint8_t *heap, size_t length, struct lokhazim_accounts accounts, uint32_t quota,
     struct lokhazim_handle handle, uint32_t bytes);
 
-/* Tells where in the heap the object's bytes lie. */
+/* Tells where in the heap the handle's bytes lie. */
 struct lokhazim_range_reply lokhazim_lend(
     const uint8_t *heap, size_t length, struct lokhazim_accounts accounts, struct lokhazim_handle handle);
 
-/* Writes one byte of the object, `at` bytes behind its base; writes nothing at its end or behind. Gives the refusal. */
+/* Writes one byte of the handle's range, `at` bytes behind its base; writes nothing at its end or behind. Gives the refusal. */
 uint32_t lokhazim_write(
     uint8_t *heap, size_t length, struct lokhazim_accounts accounts, struct lokhazim_handle handle,
     uint32_t at, uint8_t byte);
@@ -334,6 +341,22 @@ struct lokhazim_block_reply lokhazim_list_block(
 /* Checks heap and accounts as every call but open does first, and gives refusal 1 or 2 or none. */
 uint32_t lokhazim_check(
     const uint8_t *heap, size_t length, struct lokhazim_accounts accounts);
+
+/* ---- A narrower handle ---- */
+
+/*
+ * Makes a handle of `bytes` bytes of the handle's range, from `at` bytes behind its base on. It names what the wider
+ * handle names. Where that is no byte, or not inside the range, the handle is all zero and names nothing. Only the
+ * numbers are looked at, not the heap.
+ */
+static inline struct lokhazim_handle lokhazim_handle_narrowed(
+    struct lokhazim_handle handle, uint32_t at, uint32_t bytes)
+{
+    const struct lokhazim_handle none = { 0, 0, 0 };
+    const struct lokhazim_handle part = { handle.base + at, bytes, handle.serial };
+    const int inside = at <= handle.length && bytes <= handle.length - at;
+    return bytes != 0 && inside && at <= UINT32_MAX - handle.base ? part : none;
+}
 
 /* ---- The same calls with the accounts by pointer ----
  *
@@ -377,8 +400,8 @@ static inline enum lokhazim_refusal lokhazim_heap_allocate_array(
 }
 
 /*
- * Lets the quota hold the object, or hold it once more; *bytes becomes the object's length.
- * The first hold costs that plus LOKHAZIM_HEADER, further ones nothing. Refusals 3, 12, 5, 7 to 9.
+ * Lets the quota hold the object, or hold it once more; *bytes becomes the length of the whole object, also where the
+ * handle has a part of it. The first hold costs that plus LOKHAZIM_HEADER, further ones nothing. Refusals 3, 12, 5, 7 to 9.
  */
 static inline enum lokhazim_refusal lokhazim_heap_claim(
     const uint8_t *heap, size_t length, struct lokhazim_accounts *accounts, uint32_t quota,
@@ -394,7 +417,7 @@ static inline enum lokhazim_refusal lokhazim_heap_claim(
 
 /*
  * Drops one hold of the quota; *refund becomes what the quota gets back, 0 while it still holds the object.
- * Refusals 3, 5, 6.
+ * A handle of a part drops the hold on the whole object. Refusals 3, 5, 6.
  */
 static inline enum lokhazim_refusal lokhazim_heap_release(
     uint8_t *heap, size_t length, struct lokhazim_accounts *accounts, uint32_t quota,
@@ -441,7 +464,8 @@ static inline enum lokhazim_refusal lokhazim_heap_clear_permissions(
  * Makes *moved with the old object's bytes, as far as both lengths go, then drops one hold on the old object.
  * Quota, records and heap need room for both. Where it is refused, *moved becomes zero and the old object stays
  * as it was: with `&handle` for `moved` the only copy of its handle would be lost, so take the answer in another
- * handle and copy that once the call is accepted. Refusals 3, 12, 4 to 6, 8 to 11.
+ * handle and copy that once the call is accepted. A handle that was made narrower gives refusal 5.
+ * Refusals 3, 12, 4 to 6, 8 to 11.
  */
 static inline enum lokhazim_refusal lokhazim_heap_reallocate(
     uint8_t *heap, size_t length, struct lokhazim_accounts *accounts, uint32_t quota,
@@ -455,8 +479,8 @@ static inline enum lokhazim_refusal lokhazim_heap_reallocate(
 }
 
 /*
- * Lends the object's bytes: handle.length bytes at *object, until the object is freed; a null pointer where refused.
- * No hold is needed. Refusal 5.
+ * Lends the handle's bytes: handle.length bytes at *object, until the object is freed; a null pointer where refused.
+ * No other byte of the object is lent. No hold is needed. Refusal 5.
  */
 static inline enum lokhazim_refusal lokhazim_heap_lend(
     uint8_t *heap, size_t length, const struct lokhazim_accounts *accounts,
@@ -467,7 +491,7 @@ static inline enum lokhazim_refusal lokhazim_heap_lend(
     return (enum lokhazim_refusal)reply.refusal;
 }
 
-/* Writes one byte of the object, `at` bytes behind its base; writes nothing at its end or behind. Refusal 5. */
+/* Writes one byte of the handle's range, `at` bytes behind its base; writes nothing at its end or behind. Refusal 5. */
 static inline enum lokhazim_refusal lokhazim_heap_write(
     uint8_t *heap, size_t length, const struct lokhazim_accounts *accounts,
     struct lokhazim_handle handle, uint32_t at, uint8_t byte)

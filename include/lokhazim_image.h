@@ -9,9 +9,9 @@
  * LOKHAZIM_FORM_1_HOLDS hold records and no permissions; it is written for boards
  * that read nothing else. Both are read, by the number that they begin with.
  *
- * The functions keep no pointer and take any bytes. Reading needs room for a
- * whole heap on the stack (see README), because a refused image must not have
- * touched the heap it was to be read into.
+ * The functions keep no pointer and take any bytes. Reading and moving need room
+ * for a whole heap on the stack (see README): a refused image must not have
+ * touched the heap it was to be read into, and a move has no heap lent.
  *
  * Neither pointer is null, and image, heap and accounts don't overlap.
  */
@@ -41,8 +41,8 @@ static_assert(LOKHAZIM_IMAGE_HEAD_FORM_1 == 12 + 8 * LOKHAZIM_FORM_1_QUOTAS + 8 
               "the head of form 1 has its quotas and records");
 
 /*
- * Why an image is not written, not read or not compared. The numbers are also the order of checking, but a writer checks 28
- * and then 25 last, and comparing 29 before 27.
+ * Why an image is not written, not read, not compared or not moved. The numbers are also the order of checking, but a writer
+ * and a move check 28 and then 25 last, and comparing 29 before 27.
  */
 enum lokhazim_image_refusal {
     /* Not refused. */
@@ -55,18 +55,18 @@ enum lokhazim_image_refusal {
     LOKHAZIM_IMAGE_LENGTH = 21,
     /* A frame's check, number or count is wrong: damaged, cut short, or longer than it was written. */
     LOKHAZIM_IMAGE_FRAME = 22,
-    /* Another form of image than this library reads. */
+    /* Another form of image than this library reads, or than is moved this way. */
     LOKHAZIM_IMAGE_FORM = 23,
     /* A heap length that is not allowed or needs another number of frames, a spare byte that is not zero, or permissions
      * above LOKHAZIM_MAY_ALL. */
     LOKHAZIM_IMAGE_CONTENTS = 24,
-    /* Writing: the lent image is too short. Reading: the lent heap hasn't the length of the image's heap. */
+    /* Writing and moving: the lent image is too short. Reading: the lent heap hasn't the length of the image's heap. */
     LOKHAZIM_IMAGE_ROOM = 25,
     /* The heap and the accounts in the image don't agree. */
     LOKHAZIM_IMAGE_INCONSISTENT = 26,
     /* Comparing: the heaps of the two images have different lengths. */
     LOKHAZIM_IMAGE_HEAP_LENGTHS = 27,
-    /* Writing form 1, which can't carry the accounts: a grant of a quota that it doesn't have, a used record at a place that
+    /* Writing form 1 or moving to it, which can't carry the accounts: a grant of a quota that it doesn't have, a used record at a place that
      * it doesn't have, or a quota without all permissions. */
     LOKHAZIM_IMAGE_NOT_CARRIED = 28,
     /* Comparing: the two images are of different forms. */
@@ -87,7 +87,7 @@ enum lokhazim_difference {
     LOKHAZIM_BYTES_DIFFER = 4
 };
 
-/* The reply of writing an image; length is 0 where it is refused. */
+/* The reply of writing or moving an image; length is 0 where it is refused. */
 struct lokhazim_image_reply {
     uint32_t refusal;
     size_t length;
@@ -169,6 +169,21 @@ struct lokhazim_restore_reply lokhazim_image_read(
 
 /* Tells the image's form and the length of the heap in it, by refusals 21 to 24; whether heap and accounts agree is told by reading. */
 struct lokhazim_examine_reply lokhazim_image_examine(const uint8_t *image, size_t image_length);
+
+/*
+ * Writes the image in form 2 of the state in an image of form 1 to the front of `out`; bytes behind it stay, and all of them
+ * where it is refused. image and out don't overlap. Refusals 21 to 24 (23 also for form 2), 26, 25. An image that can be read
+ * is always moved if `out` has lokhazim_image_length of its heap's length.
+ */
+struct lokhazim_image_reply lokhazim_image_move_up(
+    const uint8_t *image, size_t image_length, uint8_t *out, size_t out_length);
+
+/*
+ * Writes the image in form 1 of the state in an image of form 2, as above. Refusals 21 to 24 (23 also for form 1), 26, 28, 25.
+ * Up and then down gives the same bytes, and so does down and then up.
+ */
+struct lokhazim_image_reply lokhazim_image_move_down(
+    const uint8_t *image, size_t image_length, uint8_t *out, size_t out_length);
 
 /*
  * Tells the n-th difference of two images, from 0, in this order: last serial, quotas, records, runs of heap bytes. Link

@@ -1,10 +1,10 @@
-//! Images: saved from a script, and shown.
+//! Images: saved from a script, shown, compared and moved to the other form.
 
 use std::fmt::Write;
 
 use lokhazim::{
-    compare_images, examine_image, image_length, image_length_form_1, Difference, Heap, Hold,
-    ImageRefusal, Permissions, Quota, Which,
+    compare_images, examine_image, image_length, image_length_form_1, move_image_down,
+    move_image_up, Difference, Heap, Hold, ImageRefusal, Permissions, Quota, Which, IMAGE_MAX,
 };
 
 use crate::failure::Failure;
@@ -124,4 +124,17 @@ pub fn compare(first: &str, second: &str) -> Result<(), Failure> {
         true => Ok(()),
         false => Err(Failure::Differ),
     }
+}
+
+/// Writes the image in a form of the state in an image of the other.
+pub fn move_to(form: Form, name: &str, out: &str) -> Result<(), Failure> {
+    let image = files::read(name)?;
+    let mut moved = vec![0; IMAGE_MAX];
+    let length = match form {
+        Form::First => move_image_down(&image, &mut moved),
+        Form::Second => move_image_up(&image, &mut moved),
+    };
+    moved.truncate(length.map_err(refused(name))?);
+    files::write(out, &moved)?;
+    files::print(format!("ok {}\n", moved.len()).as_bytes())
 }

@@ -41,13 +41,15 @@ lokhazim: a heap that parts of a firmware share, by its proved library
     lokhazim image compare A B        print what differs between two images, a line each: serial,
                                       quota NUMBER, record PLACE, bytes OFFSET LENGTH; status 0 where
                                       nothing does, 1 where something does, 2 where one is refused
+    lokhazim image move up IN OUT     write an image of form 1 in form 2; 'move down' writes form 2 in
+                                      form 1, where that can carry it
     lokhazim report import FILE       print the grants in an audit report, to stand behind 'open H': FILE
                                       has a line for each quota, or is the linker's JSON
     lokhazim report export G..        print grants as a report of 32 lines; missing ones are 0
     lokhazim help | version
 
 A script begins with 'open H' and {QUOTAS} grants, then has a call to a line: alloc q n, array q n s,
-claim q b l s, free q b l s, all q, realloc q b l s n. SCRIPT and FILE can be - for standard input.
+claim q b l s, free q b l s, all q, realloc q b l s n. SCRIPT, FILE and IN can be - for standard input.
 Status 0: done. 1: refused, with the number and the reason. 2: wrong words, or a file that can't be
 read or written. docs/RULES.md has every rule.
 "
@@ -80,6 +82,8 @@ fn run(words: &[&str]) -> Result<(), Failure> {
         ["image", "save", "--form", "2", script, out] => image::save(Form::Second, script, out),
         ["image", "show", file] => image::show(file),
         ["image", "compare", first, second] => image::compare(first, second),
+        ["image", "move", "up", image, out] => image::move_to(Form::Second, image, out),
+        ["image", "move", "down", image, out] => image::move_to(Form::First, image, out),
         ["report", "import", file] => report::import(file),
         ["report", "export", grants @ ..] if !grants.is_empty() => report::export(grants),
         ["help" | "--help" | "-h"] => files::print(help().as_bytes()),

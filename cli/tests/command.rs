@@ -83,6 +83,53 @@ fn what_form_1_can_not_carry_is_not_written() {
     assert_eq!(names(&folder), ["a"]);
 }
 
+#[test]
+fn an_image_is_moved_up_and_down_again() {
+    let folder = folder("move");
+    fs::write(folder.join("a"), script()).unwrap();
+    for (form, name) in [("1", "first"), ("2", "second")] {
+        lokhazim(&folder, &["image", "save", "--form", form, "a", name]);
+    }
+    let run = lokhazim(&folder, &["image", "move", "up", "first", "up"]);
+    expect(&run, 0, "ok 5120\n", "");
+    let run = lokhazim(&folder, &["image", "move", "down", "up", "down"]);
+    expect(&run, 0, "ok 1536\n", "");
+    assert_eq!(names(&folder), ["a", "down", "first", "second", "up"]);
+    for (made, wanted) in [("up", "second"), ("down", "first")] {
+        let [made, wanted] = [made, wanted].map(|name| fs::read(folder.join(name)).unwrap());
+        assert_eq!(made, wanted);
+    }
+}
+
+#[test]
+fn what_is_not_moved_leaves_the_file() {
+    let folder = folder("unmoved");
+    let save = |form: &str, grants: &[u32], name: &str| {
+        fs::write(folder.join("a"), open(128, grants)).unwrap();
+        lokhazim(&folder, &["image", "save", "--form", form, "a", name]);
+    };
+    save("1", &[5], "first");
+    save("2", &[5], "second");
+    save("2", &[5; FORM_1_QUOTAS + 1], "wide");
+    fs::write(folder.join("out"), b"what was there").unwrap();
+    for (way, name, status, said) in [
+        ("up", "second", 1, "second: refusal 23:"),
+        ("down", "first", 1, "first: refusal 23:"),
+        ("down", "wide", 1, "wide: refusal 28:"),
+        ("up", "a", 1, "a: refusal 21:"),
+        ("up", "nothere", 2, "nothere can't be read: "),
+    ] {
+        let run = lokhazim(&folder, &["image", "move", way, name, "out"]);
+        expect(&run, status, "", said);
+        assert_eq!(fs::read(folder.join("out")).unwrap(), b"what was there");
+    }
+    let nowhere = ["image", "move", "up", "first", "nowhere/out"];
+    let run = lokhazim(&folder, &nowhere);
+    expect(&run, 2, "", "nowhere/out can't be written: ");
+    let there = ["a", "first", "out", "second", "wide"];
+    assert_eq!(names(&folder), there);
+}
+
 /// Permissions that were cleared in a heap of the library come back from its image, and are shown
 /// also for a quota without a grant.
 #[test]
@@ -232,6 +279,8 @@ fn wrong_words_get_help() {
         &["image"],
         &["image", "save", "a"],
         &["image", "save", "--form", "3", "a", "b"],
+        &["image", "move", "up", "a"],
+        &["image", "move", "over", "a", "b"],
     ] {
         expect(&lokhazim(&folder, words), 2, "", "'lokhazim help' lists");
     }

@@ -1,5 +1,6 @@
 //! What differs between two images, as a list that is made all at once.
 
+use crate::forms::{FORM_1, FORM_2};
 use crate::image::{decode_sound, ImageRefusal};
 
 /// One difference, named without its values.
@@ -28,8 +29,12 @@ pub enum Which {
 
 /// Lists all that differs in the states of two images, in the order of the rules.
 pub fn differences(first: &[u8], second: &[u8]) -> Result<Vec<Difference>, (ImageRefusal, Which)> {
-    let first = decode_sound(first).map_err(|refusal| (refusal, Which::First))?;
-    let second = decode_sound(second).map_err(|refusal| (refusal, Which::Second))?;
+    let read = |image, which| {
+        let stored = decode_sound(image, &[FORM_1, FORM_2]);
+        stored.map_err(|refusal| (refusal, which))
+    };
+    let first = read(first, Which::First)?;
+    let second = read(second, Which::Second)?;
     if first.form != second.form {
         return Err((ImageRefusal::TwoForms, Which::Neither));
     }

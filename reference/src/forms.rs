@@ -34,10 +34,9 @@ pub(crate) const FORM_2: Form = Form {
 };
 
 impl Form {
-    /// Gives the form that a stream's first bytes name, if they name one.
-    pub(crate) fn named_by(front: &[u8]) -> Option<Form> {
-        let mut forms = [FORM_1, FORM_2].into_iter();
-        forms.find(|form| form.front() == front)
+    /// Gives the one of these forms that a stream's first bytes name, if they name one.
+    pub(crate) fn named_by(front: &[u8], forms: &[Form]) -> Option<Form> {
+        forms.iter().copied().find(|form| form.front() == front)
     }
 
     /// Gives the bytes with which a stream of the form starts.

@@ -108,7 +108,7 @@ fn write_in(
 /// Reads an image of either form into the lent heap and gives its accounts; a refusal leaves
 /// the heap alone.
 pub fn read_image(image: &[u8], heap: &mut [u8]) -> Result<Accounts, ImageRefusal> {
-    let stored = decode(image)?;
+    let stored = decode(image, &[FORM_1, FORM_2])?;
     if heap.len() != stored.heap.len() {
         return Err(ImageRefusal::Room);
     }
@@ -132,19 +132,20 @@ impl Stored {
     }
 }
 
-/// Gives what is in an image that a reader accepts into a heap of its length.
-pub(crate) fn decode_sound(image: &[u8]) -> Result<Stored, ImageRefusal> {
-    decode(image)?.sound()
+/// Gives what is in an image of one of these forms that a reader accepts into a heap of its
+/// length.
+pub(crate) fn decode_sound(image: &[u8], forms: &[Form]) -> Result<Stored, ImageRefusal> {
+    decode(image, forms)?.sound()
 }
 
-/// Gives what is in an image whose shape is right, by refusals 21 to 24.
-fn decode(image: &[u8]) -> Result<Stored, ImageRefusal> {
+/// Gives what is in an image of one of these forms whose shape is right, by refusals 21 to 24.
+fn decode(image: &[u8], forms: &[Form]) -> Result<Stored, ImageRefusal> {
     if image.is_empty() || !image.len().is_multiple_of(BLOCK_BYTES) {
         return Err(ImageRefusal::ImageLength);
     }
     let stream = join(image).ok_or(ImageRefusal::BlockWrong)?;
     let (front, behind) = stream.split_at(FORM_BYTES);
-    let form = Form::named_by(front).ok_or(ImageRefusal::Form)?;
+    let form = Form::named_by(front, forms).ok_or(ImageRefusal::Form)?;
     decode_contents(form, behind, image.len()).ok_or(ImageRefusal::Contents)
 }
 

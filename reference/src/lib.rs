@@ -18,6 +18,7 @@ mod forms;
 mod frames;
 mod image;
 mod layout;
+mod moves;
 mod permissions;
 mod queries;
 mod refusal;
@@ -34,6 +35,7 @@ pub use image::{
     image_length, image_length_form_1, read_image, write_form_1, write_image, ImageRefusal,
 };
 pub use layout::{Block, Handle, HEADER_BYTES, SIZE_UNIT};
+pub use moves::{move_down, move_up};
 pub use permissions::clear_permissions;
 pub use queries::{block_at, lend, lend_mut, remaining, Walker};
 pub use refusal::Refusal;

@@ -4,6 +4,7 @@ use lokhazim_reference::{Accounts, Handle, QUOTAS};
 
 use crate::forged::{forged_handle, live_handle, View};
 use crate::forms::FORM_1;
+use crate::narrowing::sometimes_narrowed;
 use crate::seed::Seed;
 use crate::state::Call;
 
@@ -40,6 +41,8 @@ pub struct Habits {
     pub quotas: u32,
     /// In how many of a hundred cases an argument is any number or a handle is forged.
     pub wild: u32,
+    /// In how many of a hundred cases the handle of a live object is made narrower.
+    pub narrow: u32,
     /// The longest length that is asked for as a matter of course.
     pub longest: u32,
 }
@@ -56,9 +59,15 @@ pub fn choose(seed: &mut Seed, habits: &Habits, view: &View, accounts: &Accounts
         5 => Call::FreeAll(quota),
         6 => {
             let n = length(seed, habits, view);
-            held(seed, habits, view, accounts, |q, h| {
-                Call::Reallocate(q, h, n)
-            })
+            // A narrowed handle is always refused here.
+            let narrow = habits.narrow / 4;
+            held(
+                seed,
+                &Habits { narrow, ..*habits },
+                view,
+                accounts,
+                |q, h| Call::Reallocate(q, h, n),
+            )
         }
         7 => Call::Lend(handle(seed, habits, view)),
         8 => write(seed, habits, view),
@@ -98,12 +107,13 @@ fn quota(seed: &mut Seed, habits: &Habits) -> u32 {
     seed.below(habits.quotas)
 }
 
-/// Gives a handle, most often of a live object.
+/// Gives a handle, most often of a live object or a part of one.
 fn handle(seed: &mut Seed, habits: &Habits, view: &View) -> Handle {
     if seed.percent(habits.wild) {
         return forged_handle(seed, view);
     }
-    live_handle(seed, view)
+    let whole = live_handle(seed, view);
+    sometimes_narrowed(seed, habits.narrow, whole)
 }
 
 /// Makes a call of a quota on an object that it most often has a record for.
@@ -120,7 +130,8 @@ fn held(
     let object = record.and_then(|hold| view.live.iter().find(|h| h.serial == hold.serial));
     match (record, object) {
         (Some(hold), Some(object)) if !seed.percent(habits.wild) => {
-            call(u32::from(hold.quota), *object)
+            let handle = sometimes_narrowed(seed, habits.narrow, *object);
+            call(u32::from(hold.quota), handle)
         }
         _ => call(quota(seed, habits), handle(seed, habits, view)),
     }
@@ -197,7 +208,7 @@ fn permission_bits(seed: &mut Seed) -> u32 {
     }
 }
 
-/// Chooses a write, most often inside the object.
+/// Chooses a write, most often inside the handle's range.
 fn write(seed: &mut Seed, habits: &Habits, view: &View) -> Call {
     let handle = handle(seed, habits, view);
     let at = match seed.percent(habits.wild) {

@@ -84,6 +84,14 @@ pub fn put(heap: &mut [u8], offset: u32, bytes: [u8; 8]) {
     heap[start..start + 8].copy_from_slice(&bytes);
 }
 
+/// Tells whether a handle has the serial of a whole one and at least one byte, and all its bytes
+/// are the whole one's (rule 4.3).
+pub fn is_part(handle: Handle, whole: Handle) -> bool {
+    let range = |h: Handle| (u64::from(h.base), u64::from(h.base) + u64::from(h.length));
+    let ((start, end), (first, behind)) = (range(handle), range(whole));
+    handle.serial == whole.serial && start < end && first <= start && end <= behind
+}
+
 /// Tells whether a handle names no live object although the eight bytes before its base look like
 /// the header of one.
 pub fn looks_alive(heap: &[u8], handle: Handle) -> bool {
@@ -93,7 +101,13 @@ pub fn looks_alive(heap: &[u8], handle: Handle) -> bool {
     };
     let (size, serial) = (number(bytes, 0, 2) * 8, number(bytes, 4, 4));
     let alike = serial != 0 && serial == handle.serial && size == handle.length.wrapping_add(8);
-    alike && !live_handles(heap).contains(&handle)
+    alike && !live_handles(heap).iter().any(|h| is_part(handle, *h))
+}
+
+/// Tells whether a handle names a live object and is not the whole one's.
+pub fn is_narrowed(heap: &[u8], handle: Handle) -> bool {
+    let mut live = live_handles(heap).into_iter();
+    live.any(|whole| handle != whole && is_part(handle, whole))
 }
 
 /// On which sides blocks that became free were joined, over one call.

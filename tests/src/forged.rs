@@ -3,6 +3,7 @@
 use lokhazim_reference::{Block, Handle};
 
 use crate::cut::{blocks, handle_of};
+use crate::narrowing::beside_handle;
 use crate::seed::Seed;
 
 /// What the choice of arguments knows of a heap.
@@ -48,15 +49,19 @@ pub fn live_handle(seed: &mut Seed, view: &View) -> Handle {
 
 /// Gives a handle that most likely names no live object.
 pub fn forged_handle(seed: &mut Seed, view: &View) -> Handle {
-    match seed.below(8) {
+    match seed.below(12) {
         0 => seed.any_of(view.old).unwrap_or_default(),
         1 => handle_of_free_block(seed, view),
-        2..=4 => handle_to_look_alike(seed, view),
-        5 => Handle {
+        2..=6 => handle_to_look_alike(seed, view),
+        7 => Handle {
             base: seed.odd_word(),
             length: seed.odd_word(),
             serial: seed.odd_word(),
         },
+        8 | 9 => {
+            let whole = seed.any_of(&view.live).unwrap_or_default();
+            beside_handle(seed, whole)
+        }
         _ => changed_handle(seed, view),
     }
 }
@@ -106,7 +111,7 @@ fn changed_handle(seed: &mut Seed, view: &View) -> Handle {
         None => seed.any_of(view.old).unwrap_or_default(),
     };
     let by = seed.pick(&[1, 8, 16, 256, 65_536, 1 << 31]);
-    match seed.below(8) {
+    match seed.below(7) {
         0 => handle.base = handle.base.wrapping_add(by),
         1 => handle.base = handle.base.wrapping_sub(by),
         2 => handle.length = handle.length.wrapping_add(by),
@@ -117,11 +122,6 @@ fn changed_handle(seed: &mut Seed, view: &View) -> Handle {
                 .wrapping_add(seed.pick(&[1, 128, 256, 512, 2_048, 65_536]))
         }
         5 => handle.serial = seed.pick(&[0, u32::MAX, handle.serial.wrapping_sub(1)]),
-        6 => {
-            // A narrowed range inside the object.
-            handle.base = handle.base.wrapping_add(8);
-            handle.length = handle.length.saturating_sub(16);
-        }
         _ => {
             let other = seed.any_of(&view.live).unwrap_or_default();
             handle.serial = other.serial;

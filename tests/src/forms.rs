@@ -1,4 +1,4 @@
-//! The forms of an image, by the harness's own reading of rule 13.2.
+//! The forms of an image, by the harness's own reading of rules 13.2 to 13.4 and 16.3.
 
 use lokhazim_reference::{ALL_PERMISSIONS, HOLDS, QUOTAS};
 
@@ -32,6 +32,8 @@ pub struct Form {
     pub entry: usize,
     /// The name under which written images are counted.
     pub written: &'static str,
+    /// The name under which images moved from this form are counted.
+    pub moved: &'static str,
 }
 
 /// The form of earlier versions.
@@ -41,6 +43,7 @@ pub const FORM_1: Form = Form {
     records: 128,
     entry: 8,
     written: "written in form 1",
+    moved: "moved up",
 };
 
 /// The form that carries every state.
@@ -50,6 +53,7 @@ pub const FORM_2: Form = Form {
     records: HOLDS,
     entry: 12,
     written: "written in form 2",
+    moved: "moved down",
 };
 
 /// Both forms.
@@ -84,8 +88,8 @@ impl Form {
         FRAME * (self.head() + heap_length).div_ceil(PIECE)
     }
 
-    /// Tells whether the form can carry a state: a form without permissions those alone in which all
-    /// are set, and no form a grant or a used record behind its own.
+    /// Tells whether the form can carry a state (rule 16.6): a form without permissions those alone in
+    /// which all are set, and no form a grant or a used record behind its own.
     pub fn carries(self, state: &State) -> bool {
         let accounts = &state.accounts;
         let permissions = self.entry == 12 || !lacks_permission(state);

@@ -11,6 +11,8 @@ use crate::forged::View;
 use crate::forms::FORMS;
 use crate::judge::broken;
 use crate::ledger::Ledger;
+use crate::moves::there_and_back;
+use crate::narrowing::sometimes_narrowed;
 use crate::seed::Seed;
 use crate::sentences::{wrong, Step};
 use crate::state::{Answer, Call, State};
@@ -130,6 +132,7 @@ fn habits(seed: &mut Seed, heap_length: u32) -> Habits {
         weights: GROWING,
         quotas: seed.pick(&[1, 2, 8, QUOTAS as u32]),
         wild: seed.pick(&[3, 10, 25]),
+        narrow: seed.pick(&[0, 20, 60]),
         longest: seed.pick(&[8, 24, 64, heap_length / 16, heap_length / 5]),
     }
 }
@@ -188,6 +191,7 @@ impl History<'_> {
             return Err(self.wrong_image("is not written as the rules say"));
         }
         if refusal == 0 {
+            there_and_back(self.pair, form, &self.state, &image, &mut seed.clone())?;
             let (ledger, state) = (self.ledger.clone(), self.state.clone());
             let saved = Saved {
                 image,
@@ -290,13 +294,15 @@ impl History<'_> {
         let mut objects = self.ledger.objects.iter().map(|o| o.handle);
         let object = objects.find(|handle| handle.serial == serial);
         let claims = seed.pick(&[20, 256]);
-        for handle in object.into_iter().cycle().take(claims) {
+        for whole in object.into_iter().cycle().take(claims) {
+            let handle = sometimes_narrowed(seed, 50, whole);
             if !self.call(Call::Claim(quota as u32, handle))?.is_accepted() {
                 break;
             }
         }
         Ok(())
     }
+
     /// Makes many small objects and uses up the records.
     fn crowd(&mut self, seed: &mut Seed) -> Result<(), Failure> {
         for _ in 0..seed.pick(&[17, 20, 60, 120]) {

@@ -12,8 +12,8 @@ use crate::seed::Seed;
 use crate::state::State;
 use crate::states::{heap_length, sound, sound_in};
 
-/// Gives the refusal of writing an image into so many lent bytes (rule 13.5), by the harness's own
-/// reading, or 0.
+/// Gives the refusal of writing an image into so many lent bytes (rules 13.5 and 16.6), by the
+/// harness's own reading, or 0.
 fn writers_refusal(form: Form, state: &State, lent: usize) -> u32 {
     match check_refusal(state) {
         0 if !form.carries(state) => 28,
@@ -79,7 +79,7 @@ pub fn states(pair: &mut Pair, seed: u64, n: u64) -> Result<(), Failure> {
 /// A change of a state, by its name.
 type Change = (&'static str, fn(&mut Seed, &mut State));
 
-/// Why form 1 can't carry a state, one reason at a time.
+/// Why form 1 can't carry a state (rule 16.6), one reason at a time.
 pub const OVERFULL: [Change; 3] = [
     ("a grant behind the form's quotas", |seed, state| {
         let number = seed.between(FORM_1.quotas as u32, QUOTAS as u32 - 1);
@@ -151,13 +151,19 @@ pub fn every_byte(
     Ok(())
 }
 
-/// Reads the n-th harmed image of a seed, with one kind of harm or two.
-pub fn harmed(pair: &mut Pair, seed: u64, n: u64) -> Result<(), Failure> {
+/// Gives the n-th harmed image of a seed, with one kind of harm or two, and the heap that is lent for
+/// it; where asked for, of a state that form 1 carries, whatever the image's form.
+pub fn harmed_image(
+    pair: &mut Pair,
+    narrow: bool,
+    seed: u64,
+    n: u64,
+) -> Result<(Vec<u8>, Vec<u8>), Failure> {
     let Harm { name, forms, way } = HARMS[(n % HARMS.len() as u64) as usize];
     pair.begin(&format!("image with {name}"), seed, n);
     let mut numbers = Seed::of_case(seed, n);
     let form = numbers.pick(forms);
-    let state = sound_in(form, &mut numbers);
+    let state = sound_in(if narrow { FORM_1 } else { form }, &mut numbers);
     let mut image = image_of(pair, form, &state)?;
     let mut heap = state.heap;
     way(&mut numbers, form, &mut image, &mut heap);
@@ -168,26 +174,37 @@ pub fn harmed(pair: &mut Pair, seed: u64, n: u64) -> Result<(), Failure> {
         }
     }
     pair.tally.count_case(name);
+    Ok((image, heap))
+}
+
+/// Reads the n-th harmed image of a seed.
+pub fn harmed(pair: &mut Pair, seed: u64, n: u64) -> Result<(), Failure> {
+    let (image, heap) = harmed_image(pair, false, seed, n)?;
     pair.read_image(&image, &heap)?;
     Ok(())
 }
 
-/// Reads an image whose frames carry a state that is not sound, or bytes of any kind.
-pub fn forged(pair: &mut Pair, seed: u64, n: u64) -> Result<(), Failure> {
+/// Gives the n-th image of a seed whose frames carry a state that is not sound, or bytes of any kind,
+/// and a heap to lend for it; none where no such state was made.
+pub fn forged_image(pair: &mut Pair, seed: u64, n: u64) -> Option<(Vec<u8>, Vec<u8>)> {
     pair.begin("forged-image", seed, n);
     let mut numbers = Seed::of_case(seed, n);
     let form = numbers.pick(&FORMS);
     let damage = &DAMAGES[(n % DAMAGES.len() as u64) as usize];
-    let Some(state) = damaged_alone(&mut numbers, damage) else {
-        return Ok(());
-    };
+    let state = damaged_alone(&mut numbers, damage)?;
     if numbers.percent(15) {
         let mut image = vec![0; FRAME * numbers.between(1, 12) as usize];
         image.fill_with(|| numbers.byte());
         renumber(&mut image);
-        pair.read_image(&image, &vec![0; heap_length(&mut numbers) as usize])?;
-        return Ok(());
+        return Some((image, vec![0; heap_length(&mut numbers) as usize]));
     }
-    pair.read_image(&carry(form, &state), &state.heap)?;
+    Some((carry(form, &state), state.heap))
+}
+
+/// Reads the n-th forged image of a seed.
+pub fn forged(pair: &mut Pair, seed: u64, n: u64) -> Result<(), Failure> {
+    if let Some((image, heap)) = forged_image(pair, seed, n) {
+        pair.read_image(&image, &heap)?;
+    }
     Ok(())
 }

@@ -88,7 +88,7 @@ impl Pair {
     }
 
     /// Lends a copy of bytes to the proved code.
-    fn lend(&self, bytes: &[u8]) -> Lent {
+    pub fn lend(&self, bytes: &[u8]) -> Lent {
         match self.guarded {
             true => Lent::guarded(bytes),
             false => Lent::exact(bytes),

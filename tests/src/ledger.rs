@@ -167,8 +167,23 @@ impl Ledger {
         records
     }
 
-    /// Finds the object that has all three numbers of the handle.
+    /// Finds the object that the handle names (rule 4.3): it has the handle's serial, and among its
+    /// bytes are the first and the last of the handle's, of which there is at least one.
     pub fn named(&self, handle: Handle) -> Option<&Object> {
+        let first = i64::from(handle.base);
+        let last = first + i64::from(handle.length) - 1;
+        self.objects.iter().find(|object| {
+            let start = i64::from(object.handle.base);
+            let bytes = start..start + i64::from(object.handle.length);
+            object.handle.serial == handle.serial
+                && first <= last
+                && bytes.contains(&first)
+                && bytes.contains(&last)
+        })
+    }
+
+    /// Finds the object whose whole handle this is (rule 4.6).
+    pub fn whole(&self, handle: Handle) -> Option<&Object> {
         self.objects.iter().find(|object| object.handle == handle)
     }
 
@@ -213,7 +228,7 @@ impl Ledger {
             Call::Array(q, n, s) => self.request_refusal(q, u64::from(n) * u64::from(s), None),
             Call::Reallocate(q, h, n) => self.request_refusal(q, u64::from(n), Some(h)),
             Call::Claim(q, h) => self.claim_refusal(q, h),
-            Call::Release(q, h) | Call::CanRelease(q, h) => self.release_refusal(q, h),
+            Call::Release(q, h) | Call::CanRelease(q, h) => Ledger::held(q, self.named(h)),
             Call::Lend(h) | Call::Write(h, ..) if self.named(h).is_none() => 5,
             _ => 0,
         }
@@ -224,7 +239,7 @@ impl Ledger {
         let Some(request) = request(bytes) else {
             return 4;
         };
-        let old_refusal = old.map_or(0, |old| self.release_refusal(quota, old));
+        let old_refusal = old.map_or(0, |old| Ledger::held(quota, self.whole(old)));
         if old_refusal != 0 {
             return old_refusal;
         }
@@ -234,9 +249,9 @@ impl Ledger {
         }
     }
 
-    /// Lines 5 and 6.
-    fn release_refusal(&self, quota: u32, handle: Handle) -> u32 {
-        match self.named(handle) {
+    /// Lines 5 and 6 for an object that was looked for.
+    fn held(quota: u32, object: Option<&Object>) -> u32 {
+        match object {
             None => 5,
             Some(object) if object.holds[quota as usize] == 0 => 6,
             Some(_) => 0,

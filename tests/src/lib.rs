@@ -32,6 +32,8 @@ pub mod judge;
 pub mod ledger;
 pub mod lent;
 pub mod malformed;
+pub mod moves;
+pub mod narrowing;
 pub mod programs;
 pub mod reports;
 pub mod rounds;

@@ -197,6 +197,7 @@ pub fn make(seed: &mut Seed, kind: usize) -> Malformed {
         weights: REPLAYED,
         quotas: 3,
         wild: 5,
+        narrow: 0,
         longest: 30,
     };
     for _ in 0..seed.below(8) {

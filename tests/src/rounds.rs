@@ -8,6 +8,7 @@ use crate::damage::DAMAGES;
 use crate::harms::HARMS;
 use crate::histories::{self, Beginning};
 use crate::image_cases;
+use crate::moves;
 use crate::programs::{Feed, Programs};
 use crate::reports::{self, Reports};
 use crate::seed::Seed;
@@ -63,12 +64,15 @@ pub fn calls(pair: &mut Pair, seed: u64, n: u64) -> Result<(), Failure> {
 pub fn images(pair: &mut Pair, seed: u64, n: u64) -> Result<(), Failure> {
     image_cases::states(pair, seed, n)?;
     image_cases::narrow(pair, seed, n)?;
+    moves::states(pair, seed, n)?;
     let harms = HARMS.len() as u64;
     for turn in 0..harms {
         image_cases::harmed(pair, seed, harms * n + turn)?;
+        moves::harmed(pair, seed, harms * n + turn)?;
     }
     for turn in 0..4 {
         image_cases::forged(pair, seed, 4 * n + turn)?;
+        moves::forged(pair, seed, 4 * n + turn)?;
         comparisons::pairs(pair, seed, 4 * n + turn)?;
     }
     Ok(())

@@ -195,7 +195,10 @@ fn answer_holds(step: &Step) -> bool {
     };
     let first = step.answer.numbers[0] as i64;
     match step.call {
-        Call::Claim(_, h) => first == i64::from(h.length),
+        Call::Claim(_, h) => {
+            let object = step.ledger_before.named(h);
+            object.is_some_and(|object| first == i64::from(object.handle.length))
+        }
         Call::Release(q, _) | Call::FreeAll(q) => first == given_back(q),
         Call::Remaining(q) => first == step.ledger.remainder(q as usize),
         Call::ClearPermissions(q, _) => first == i64::from(step.ledger.permissions[q as usize]),
@@ -214,10 +217,17 @@ fn bytes_of(heap: &[u8], handle: Handle) -> &[u8] {
         .unwrap_or_default()
 }
 
-/// Gives the bytes that an object has to have after the call.
+/// Tells whether a handle named the object with this whole handle before the call.
+fn names(step: &Step, handle: Handle, whole: Handle) -> bool {
+    let named = step.ledger_before.named(handle);
+    named.is_some_and(|object| object.handle == whole)
+}
+
+/// Gives the bytes that an object has to have after the call. A write is at a place of the handle's
+/// range (rules 4.9 and 8.36).
 fn wanted_bytes(step: &Step, object: &Object) -> Vec<u8> {
     let handle = object.handle;
-    let stayed = step.ledger_before.named(handle).is_some();
+    let stayed = step.ledger_before.whole(handle).is_some();
     let mut bytes = match stayed {
         true => bytes_of(&step.before.heap, handle).to_vec(),
         false => vec![0; handle.length as usize],
@@ -228,8 +238,8 @@ fn wanted_bytes(step: &Step, object: &Object) -> Vec<u8> {
             let shorter = old.len().min(bytes.len());
             bytes[..shorter].copy_from_slice(&old[..shorter]);
         }
-        Call::Write(h, at, byte) if h == handle && at < handle.length => {
-            bytes[at as usize] = byte;
+        Call::Write(h, at, byte) if at < h.length && names(step, h, handle) => {
+            bytes[(h.base - handle.base + at) as usize] = byte;
         }
         _ => {}
     }

@@ -3,7 +3,7 @@
 use std::collections::BTreeMap;
 use std::fmt;
 
-use crate::cut::{joins, looks_alive};
+use crate::cut::{is_narrowed, joins, looks_alive};
 use crate::forms::FORM_1;
 use crate::state::{Answer, Call, State};
 
@@ -34,6 +34,8 @@ pub struct Tally {
     pub high_quotas: u64,
     /// Calls whose handle names no object although the bytes before its base look like its header.
     pub look_alikes: u64,
+    /// Calls whose handle names an object and has a part of it, by kind and by refusal.
+    pub narrowed: [[u64; 13]; Call::NAMES.len()],
     /// Cases by a name of their own: the kinds of damage, and the lists of releases.
     pub cases: BTreeMap<&'static str, u64>,
     /// Images written and read, by refusal, 0 where accepted.
@@ -54,6 +56,8 @@ impl Tally {
         self.high_quotas += u64::from(high && answer.is_accepted());
         let forged = call.handle().is_some_and(|h| looks_alive(&before.heap, h));
         self.look_alikes += u64::from(forged);
+        let narrowed = call.handle().is_some_and(|h| is_narrowed(&before.heap, h));
+        self.narrowed[call.kind()][refusal] += u64::from(narrowed);
         let frees = matches!(
             call,
             Call::Release(..) | Call::FreeAll(_) | Call::Reallocate(..)
@@ -111,7 +115,18 @@ impl Tally {
 
     /// Gives the number of calls of a kind with this refusal, 0 for accepted ones.
     pub fn refused_of(&self, name: &str, number: usize) -> u64 {
-        let rows = Call::NAMES.iter().zip(&self.calls);
+        Tally::count_of(&self.calls, name, number)
+    }
+
+    /// Gives the number of calls of a kind with a narrowed handle and this refusal, 0 for accepted
+    /// ones.
+    pub fn narrowed_of(&self, name: &str, number: usize) -> u64 {
+        Tally::count_of(&self.narrowed, name, number)
+    }
+
+    /// Gives what is counted of a kind of call and a refusal.
+    fn count_of(counts: &[[u64; 13]; Call::NAMES.len()], name: &str, number: usize) -> u64 {
+        let rows = Call::NAMES.iter().zip(counts);
         let its = rows.filter(|(kind, _)| **kind == name);
         its.map(|(_, row)| row[number]).sum()
     }
@@ -159,12 +174,14 @@ impl fmt::Display for Tally {
                 share(self.refused(number), calls)
             )?;
         }
-        for (name, row) in Call::NAMES.iter().zip(&self.calls) {
+        let rows = self.calls.iter().zip(&self.narrowed);
+        for (name, (row, narrowed)) in Call::NAMES.iter().zip(rows) {
             let all: u64 = row.iter().sum();
             let (accepted, barred) = (share(row[0], all), row[12]);
+            let (parts, of_them): (u64, u64) = (narrowed.iter().sum(), narrowed[0]);
             writeln!(
                 f,
-                "  {name}: {all}, accepted {accepted}, not permitted {barred}"
+                "  {name}: {all}, accepted {accepted}, not permitted {barred}, with a narrowed handle {parts}, of them accepted {of_them}"
             )?;
         }
         writeln!(

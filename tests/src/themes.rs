@@ -5,6 +5,7 @@ use lokhazim_reference::{Handle, HOLDS, MAX_INPUT, QUOTAS};
 use crate::choice::{grants, odd_product, Habits, EDGES, GROWING, REPLAYED, SHARING};
 use crate::forged::{forged_handle, View};
 use crate::malformed;
+use crate::narrowing;
 use crate::script::{open_line, Script};
 use crate::seed::Seed;
 use crate::state::Call;
@@ -24,13 +25,14 @@ const fn theme(name: &'static str, make: fn(&mut Seed) -> Vec<u8>) -> Theme {
 }
 
 /// Every theme.
-pub const THEMES: [Theme; 14] = [
+pub const THEMES: [Theme; 15] = [
     theme("near-full", near_full),
     theme("fragmented", fragmented),
     theme("spent-quotas", spent_quotas),
     theme("full-counts", full_counts),
     theme("full-records", full_records),
     theme("forged-handles", forged_handles),
+    theme("narrowed-handles", narrowing::script),
     theme("rounding-edges", rounding_edges),
     theme("array-products", array_products),
     theme("longest-input", longest_input),
@@ -50,6 +52,7 @@ fn habits(seed: &mut Seed, length: u32) -> Habits {
         weights: REPLAYED,
         quotas: seed.pick(&[1, 2, 8, QUOTAS as u32]),
         wild: seed.pick(&[2, 8, 20]),
+        narrow: seed.pick(&[0, 20]),
         longest: seed.pick(&[16, 40, length / 8, length / 4]),
     }
 }
@@ -182,6 +185,7 @@ fn full_records(seed: &mut Seed) -> Vec<u8> {
         weights: SHARING,
         quotas,
         wild: 1,
+        narrow: 20,
         longest: 8,
     };
     let live = script.live();

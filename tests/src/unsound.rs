@@ -21,6 +21,7 @@ const HABITS: Habits = Habits {
     weights: MIXED,
     quotas: QUOTAS as u32,
     wild: 8,
+    narrow: 20,
     longest: 40,
 };
 

@@ -132,9 +132,30 @@ fn all_barred(tally: &Tally, least: u64) {
     }
 }
 
+/// The calls that take a handle of a part as well as the whole one.
+const BY_PARTS: [&str; 5] = ["claim", "release", "lend", "write", "can-release"];
+
+/// Checks that each of these calls was accepted with a narrowed handle at least so often, and that
+/// reallocate was refused by 5 half as often and never came to a later line.
+fn all_narrowed(tally: &Tally, least: u64) {
+    for name in BY_PARTS {
+        let accepted = tally.narrowed_of(name, 0);
+        assert!(accepted >= least, "too few parts in {name}: {accepted}");
+    }
+    let refused = tally.narrowed_of("reallocate", 5);
+    assert!(
+        2 * refused >= least,
+        "too few parts in reallocate: {refused}"
+    );
+    for later in [0, 6, 7, 8, 9, 10, 11] {
+        assert_eq!(tally.narrowed_of("reallocate", later), 0, "{later}");
+    }
+}
+
 /// Checks what undamaged histories from an opening reach.
 fn histories_reach(tally: &Tally) {
     all_barred(tally, 50);
+    all_narrowed(tally, 150);
     assert!(tally.wide_tables >= 2_000 && tally.high_quotas >= 2_000);
     reached(tally, &[3, 4, 6, 7, 9], 20);
     reached(tally, &[5, 8, 11], 500);
@@ -167,6 +188,7 @@ fn more_undamaged_histories_and_the_ledger() {
 fn sound_states_that_no_replay_reaches_and_the_ledger() {
     let tally = SOUND_STATES.tally();
     all_barred(tally, 50);
+    all_narrowed(tally, 300);
     assert!(tally.wide_tables >= 5_000 && tally.high_quotas >= 5_000);
     reached(tally, &[3, 4, 6, 7, 9], 100);
     reached(tally, &[5, 8, 10, 11], 500);

@@ -135,6 +135,18 @@ fn thousands_of_runs_in_the_longest_heap() {
         .unwrap_or_else(|failure| panic!("{failure}"));
 }
 
+/// Images of one state in two forms are not compared (rule 16.9).
+#[test]
+fn one_state_in_two_forms_is_not_compared() {
+    let mut pair = Pair::new();
+    let mut seed = Seed::new(SEED);
+    let state = Plan::in_form(FORM_1, &mut seed, 128).render(&mut seed);
+    let images = FORMS.map(|form| image_of(&mut pair, form, &state).expect("no difference"));
+    assert_eq!(compare(&images[0], &images[1], 0), Err((29, 0)));
+    assert_eq!(compare(&images[0], &images[0], 0), Ok(None));
+    assert_eq!(compare(&images[1], &images[1], 0), Ok(None));
+}
+
 /// Two forms are refused by 29 behind every refusal of one image, and before unequal lengths.
 #[test]
 fn two_forms_come_behind_a_bad_image_and_before_two_lengths() {

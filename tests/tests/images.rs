@@ -1,16 +1,16 @@
 //! Images through the exported boundary and the reference, from fixed seeds.
 
-use lokhazim_reference::{HOLDS, MAX_HEAP, MIN_HEAP, QUOTAS};
+use lokhazim_reference::{Accounts, HOLDS, MAX_HEAP, MIN_HEAP, QUOTAS};
 use lokhazim_tests::calls::Pair;
 use lokhazim_tests::compare::Failure;
-use lokhazim_tests::forms::{put_byte, Form, FORMS, FORM_1, FORM_2};
+use lokhazim_tests::forms::{place_of, put_byte, Form, FORMS, FORM_1, FORM_2};
 use lokhazim_tests::harms::HARMS;
 use lokhazim_tests::image_cases::{
     every_byte, forged, harmed, image_of, narrow, round_trip, states, OVERFULL,
 };
 use lokhazim_tests::images::lengths_agree;
 use lokhazim_tests::seed::Seed;
-use lokhazim_tests::state::State;
+use lokhazim_tests::state::{Call, State};
 use lokhazim_tests::states::{sound_in, Plan};
 use lokhazim_tests::tally::Tally;
 
@@ -102,7 +102,7 @@ fn images_of_states_that_are_not_sound_give_26() {
     assert!(tally.images("read", 26) >= 1_500 && tally.images("read", 24) >= 20);
 }
 
-/// Every entry of form 2: each number for its permissions, and each spare byte.
+/// Every entry of form 2 (rule 16.5): each number for its permissions, and each spare byte.
 #[test]
 fn permission_bytes_and_spare_bytes_of_every_quota() {
     let mut pair = Pair::new();
@@ -166,6 +166,7 @@ fn the_form_decides_how_the_rest_is_read() {
     }
 }
 
+/// Rule 16.7.
 #[test]
 fn what_form_1_lacks_is_zero_and_permitted() {
     let mut pair = Pair::new();
@@ -183,6 +184,63 @@ fn what_form_1_lacks_is_zero_and_permitted() {
             .iter()
             .all(|hold| !hold.is_used()));
     }
+}
+
+/// The heap of the examples 13.20 and 16.8.
+fn example(pair: &mut Pair) -> State {
+    let mut state = State {
+        heap: vec![9; 64],
+        accounts: Accounts::default(),
+    };
+    let mut grants = [0; QUOTAS];
+    grants[..2].copy_from_slice(&[100, 1_000]);
+    let opened = pair.call(&mut state, Call::Open(grants));
+    assert!(opened.is_ok_and(|answer| answer.is_accepted()));
+    state
+}
+
+#[test]
+fn the_example_in_form_1() {
+    let mut pair = Pair::new();
+    let state = example(&mut pair);
+    let mut bytes = vec![0; 3 * 512];
+    for (place, byte) in [
+        (2, 0x03),
+        (4, 0x01),
+        (8, 0x40),
+        (16, 0x64),
+        (20, 0x64),
+        (24, 0xE8),
+        (25, 0x03),
+        (28, 0xE8),
+        (29, 0x03),
+        (512, 0x01),
+        (512 + 2, 0x03),
+        (1_024, 0x02),
+        (1_024 + 2, 0x03),
+        (1_024 + 96, 0x08),
+    ] {
+        bytes[place] = byte;
+    }
+    bytes[508..512].copy_from_slice(&[0xD9, 0x08, 0x03, 0x00]);
+    bytes[1_020..1_024].copy_from_slice(&[0x01, 0x00, 0x03, 0x00]);
+    bytes[1_532..].copy_from_slice(&[0x0A, 0x00, 0x03, 0x00]);
+    assert_eq!(
+        image_of(&mut pair, FORM_1, &state).expect("no difference"),
+        bytes
+    );
+}
+
+#[test]
+fn the_example_in_form_2() {
+    let mut pair = Pair::new();
+    let state = example(&mut pair);
+    let mut image = image_of(&mut pair, FORM_2, &state).expect("no difference");
+    let entry: Vec<u8> = (12..24).map(|at| image[place_of(at)]).collect();
+    assert_eq!(entry, [0x64, 0, 0, 0, 0x64, 0, 0, 0, 7, 0, 0, 0]);
+    assert_eq!(image[place_of(392)], 7);
+    put_byte(&mut image, 392, 8);
+    assert_eq!(read(&mut pair, &image, &state.heap).0, 24);
 }
 
 #[test]

@@ -210,6 +210,62 @@ fn requests_whose_length_is_in_the_next_row_get_its_unit() {
     }
 }
 
+/// Rule 12.10: handles that were narrowed, and ranges that name nothing.
+#[test]
+fn narrowed_handles_as_calls() {
+    let (mut run, _) = Run::open(64, &[100, 100]);
+    run.gives("the first", Call::Allocate(0, 16), &[8, 16, 1]);
+    run.gives("the second", Call::Allocate(0, 8), &[32, 8, 2]);
+    for (base, length) in [(9, 1), (8, 1), (9, 15)] {
+        let lend = Call::Lend(handle(base, length, 1));
+        run.gives("lend", lend, &[base.into(), (base + length).into()]);
+    }
+    for (base, length, serial) in [
+        (8, 0, 1),
+        (8, 17, 1),
+        (7, 2, 1),
+        (24, 1, 1),
+        (9, 1, 2),
+        (33, 1, 1),
+        (49, 1, 0),
+        (u32::MAX, 1, 1),
+        (8, u32::MAX, 1),
+    ] {
+        run.refuses("lend", Call::Lend(handle(base, length, serial)), 5);
+    }
+    let (part, front) = (handle(9, 15, 1), handle(8, 15, 1));
+    run.refuses("realloc", Call::Reallocate(0, part, 8), 5);
+    run.refuses("realloc", Call::Reallocate(0, front, 8), 5);
+    run.refuses("realloc", Call::Reallocate(0, part, 0), 4);
+    run.refuses("realloc", Call::Reallocate(0, front, 0), 4);
+    run.refuses("realloc", Call::Reallocate(1, handle(9, 1, 1), 8), 5);
+    run.refuses("realloc", Call::Reallocate(1, handle(8, 16, 1), 8), 6);
+    let before = run.state.clone();
+    let whole = Call::Reallocate(0, handle(8, 16, 1), 8);
+    run.gives("realloc", whole, &[48, 8, 3]);
+    run.state = before;
+    run.gives("claim", Call::Claim(1, handle(9, 1, 1)), &[16]);
+    run.gives("release", Call::Release(0, handle(23, 1, 1)), &[24]);
+    run.gives("it lives on", Call::Lend(handle(23, 1, 1)), &[23, 24]);
+    run.gives("release", Call::Release(1, handle(8, 1, 1)), &[24]);
+    run.refuses("it is freed", Call::Lend(handle(23, 1, 1)), 5);
+}
+
+/// Rule 12.10 in lines: `claim` and `free` take any part, `realloc` the whole handle.
+#[test]
+fn narrowed_handles_as_a_script() {
+    prints(
+        "papers-narrowed",
+        &(open(64, &[100, 100])
+            + "alloc 0 16\nalloc 0 8\nrealloc 0 9 15 1 8\nrealloc 0 8 15 1 0\nrealloc 1 9 1 1 8\n\
+               realloc 1 8 16 1 8\nclaim 1 8 0 1\nclaim 1 8 17 1\nclaim 1 9 1 2\nclaim 1 9 1 1\n\
+               free 0 7 2 1\nfree 0 23 1 1\nfree 1 8 4294967295 1\nfree 1 8 1 1\nfree 1 8 1 1\n\
+               realloc 0 32 8 2 8\n"),
+        "ok\nok 8 16 1\nok 32 8 2\nno 5\nno 4\nno 5\nno 6\nno 5\nno 5\nno 5\nok 16\nno 5\nok 24\n\
+         no 5\nok 24\nno 5\nok 8 8 3\n0 16 3\n16 48 0\n",
+    );
+}
+
 /// The last quota, and the number behind it, in a script and in calls.
 #[test]
 fn quotas_up_to_the_last() {

@@ -57,6 +57,7 @@ fn a_saved_call_is_read_as_it_was() {
         weights: MIXED,
         quotas: QUOTAS as u32,
         wild: 50,
+        narrow: 20,
         longest: 100,
     };
     for n in 0..100 {

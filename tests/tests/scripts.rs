@@ -21,7 +21,7 @@ const MALFORMED: u64 = 12;
 type Part = (&'static str, u64, &'static [(&'static str, u64)]);
 
 /// The themes of the gate. The malformed inputs have a test of their own.
-const PARTS: [Part; 13] = [
+const PARTS: [Part; 14] = [
     ("near-full", 180, &[("ok", 5_000), ("no 11", 2_000)]),
     ("fragmented", 180, &[("ok", 10_000), ("no 11", 1_000)]),
     ("spent-quotas", 180, &[("ok", 1_000), ("no 8", 1_000)]),
@@ -29,6 +29,11 @@ const PARTS: [Part; 13] = [
     ("full-records", 60, &[("ok", 5_000), ("no 9", 500)]),
     (
         "forged-handles",
+        180,
+        &[("ok", 1_000), ("no 5", 1_000), ("no 6", 100)],
+    ),
+    (
+        "narrowed-handles",
         180,
         &[("ok", 1_000), ("no 5", 1_000), ("no 6", 100)],
     ),
@@ -122,6 +127,7 @@ themes! {
     counts_up_to_255 "full-counts"
     full_hold_tables "full-records"
     stale_and_forged_handles "forged-handles"
+    parts_of_objects "narrowed-handles"
     array_overflow "array-products"
     the_longest_input "longest-input"
     heap_lengths_and_grants "openings"

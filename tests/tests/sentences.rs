@@ -86,6 +86,15 @@ fn first() -> Handle {
     }
 }
 
+/// Five bytes of the first object, from its third on.
+fn part() -> Handle {
+    Handle {
+        base: 10,
+        length: 5,
+        serial: 1,
+    }
+}
+
 #[test]
 fn right_steps_break_nothing() {
     let calls = [
@@ -105,6 +114,13 @@ fn right_steps_break_nothing() {
         Call::Check,
         Call::ClearPermissions(0, 3),
         Call::ClearPermissions(QUOTAS as u32, 0),
+        Call::Claim(4, part()),
+        Call::Release(0, part()),
+        Call::CanRelease(0, part()),
+        Call::Reallocate(0, part(), 48),
+        Call::Lend(part()),
+        Call::Write(part(), 4, 9),
+        Call::Write(part(), 5, 9),
     ];
     for call in calls {
         assert_eq!(Recorded::new(&begin(), call).wrong(), [""; 0], "{call}");
@@ -173,6 +189,39 @@ fn a_wrong_answer_is_noticed() {
     refused.breaks("answers follow", |s| s.answer.numbers[0] = 24);
     let release = Recorded::new(&begin(), Call::Release(0, first()));
     release.breaks("answers follow", |s| s.answer.numbers[0] = 0);
+}
+
+#[test]
+fn a_wrong_answer_by_a_narrowed_handle_is_noticed() {
+    let claim = Recorded::new(&begin(), Call::Claim(4, part()));
+    assert_eq!(claim.answer, Answer::accepted(&[16]));
+    claim.breaks("answers follow", |s| s.answer.numbers[0] = 5);
+    claim.breaks("as the table says", |s| s.answer = Answer::refused(5));
+    let release = Recorded::new(&begin(), Call::Release(0, part()));
+    assert_eq!(release.answer, Answer::accepted(&[24]));
+    release.breaks("answers follow", |s| s.answer.numbers[0] = 13);
+    let lend = Recorded::new(&begin(), Call::Lend(part()));
+    lend.breaks("answers follow", |s| s.answer = Answer::accepted(&[8, 24]));
+    let write = Recorded::new(&begin(), Call::Write(part(), 4, 9));
+    write.breaks("keep their bytes", |s| s.after.heap[14] = 0);
+    write.breaks("keep their bytes", |s| s.after.heap[12] = 9);
+    let behind = Recorded::new(&begin(), Call::Write(part(), 5, 9));
+    behind.breaks("keep their bytes", |s| s.after.heap[15] = 9);
+    let reallocate = Recorded::new(&begin(), Call::Reallocate(0, part(), 48));
+    assert_eq!(reallocate.answer, Answer::refused(5));
+    reallocate.breaks("as the table says", |s| s.answer = Answer::refused(8));
+    reallocate.breaks("as the table says", |s| {
+        s.answer = Answer::accepted(&[112, 48, 4])
+    });
+    let none = Handle {
+        length: 0,
+        ..part()
+    };
+    for outside in [none, Handle { base: 20, ..part() }] {
+        let lend = Recorded::new(&begin(), Call::Lend(outside));
+        assert_eq!((lend.answer, lend.wrong()), (Answer::refused(5), vec![]));
+        lend.breaks("as the table says", |s| s.answer = Answer::accepted(&[]));
+    }
 }
 
 #[test]

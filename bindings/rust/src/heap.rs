@@ -159,7 +159,8 @@ impl<'a> Heap<'a> {
     /// Lets the quota hold the object, or hold it once more; gives the object's length.
     ///
     /// The first hold costs the quota the object's length plus 8, a further one nothing. The object
-    /// stays until every quota has dropped every hold on it.
+    /// stays until every quota has dropped every hold on it. A handle of a part holds the whole
+    /// object, and costs as much.
     ///
     /// # Errors
     ///
@@ -182,7 +183,8 @@ impl<'a> Heap<'a> {
     /// Drops one hold of the quota; gives what the quota gets back, 0 while it still holds the
     /// object.
     ///
-    /// An object that nobody holds any more is cleared and its bytes are free.
+    /// An object that nobody holds any more is cleared and its bytes are free. A handle of a part
+    /// drops the hold on the whole object.
     ///
     /// # Errors
     ///
@@ -261,7 +263,8 @@ impl<'a> Heap<'a> {
     /// one hold on the old one.
     ///
     /// Both objects count at once, so quota and heap need room for both. The old object stays if
-    /// anything else still holds it.
+    /// anything else still holds it. The handle is the whole object's; one that was made narrower
+    /// gives refusal 5.
     ///
     /// # Errors
     ///

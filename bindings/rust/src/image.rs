@@ -89,7 +89,7 @@ pub fn examine_image(image: &[u8]) -> Result<ImageFacts, ImageRefusal> {
     })
 }
 
-/// Why an image is not written or not read; then nothing is changed.
+/// Why an image is not written, not read or not moved; then nothing is changed.
 ///
 /// ```
 /// use lokhazim::ImageRefusal;
@@ -107,7 +107,8 @@ pub enum ImageRefusal {
     ImageLength,
     /// 22: a frame's check, number or count is wrong.
     FrameWrong,
-    /// 23: another form of image, or a mark that this form doesn't have.
+    /// 23: another form of image, one that is not moved this way, or a mark that this form doesn't
+    /// have.
     FormNumber,
     /// 24: a heap length that is not allowed or needs another number of frames, a spare byte that is
     /// not zero, or permissions that don't exist.
@@ -181,7 +182,7 @@ impl ImageRefusal {
             ImageRefusal::Call(_) => "",
             ImageRefusal::ImageLength => "the image's length is 0 or no multiple of 512; hand over the whole image and nothing else",
             ImageRefusal::FrameWrong => "a frame's check, number or count is wrong; the image is damaged, cut short or longer than it was written",
-            ImageRefusal::FormNumber => "this is no image of a form that this version reads",
+            ImageRefusal::FormNumber => "this is no image of a form that this version reads, or not of the form that is moved this way",
             ImageRefusal::Contents => "the image states a heap length that it can't have, or has bytes where zeros belong; it was not written by this library",
             ImageRefusal::Room => "the lent image is too short, or the lent heap has not the length of the image's; see image_length",
             ImageRefusal::HeapLengths => "the heaps of the two images have different lengths; only images of one length are compared",

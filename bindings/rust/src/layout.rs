@@ -46,16 +46,18 @@ pub struct Accounts {
     pub holds: [Hold; HOLDS],
 }
 
-/// Names an object by its place in the heap, its length and its serial.
+/// Names an object by its serial and by the range of bytes that the handle has of it.
 ///
-/// A handle can be copied and handed on freely. It names the object as long as any quota holds
-/// it; afterwards, or if a number in it is changed, it names nothing, and calls refuse it.
+/// Every handle that a call gives is that of a whole object. A handle can be copied and handed on
+/// freely, and made narrower by [`narrowed`](Handle::narrowed): with the object's serial, any range
+/// of at least one byte inside the object names it as long as any quota holds it. Any other handle
+/// names nothing, and calls refuse it.
 #[derive(Clone, Copy, Debug, PartialEq, Eq, Hash)]
 #[repr(C)]
 pub struct Handle {
-    /// The offset of the object's first byte in the heap.
+    /// The offset of the first byte in the heap.
     pub base: u32,
-    /// The object's length in bytes.
+    /// The number of bytes.
     pub length: u32,
     /// The object's serial.
     pub serial: u32,
@@ -114,7 +116,7 @@ pub struct Amount {
 pub struct RangeReply {
     /// The refusal's number.
     pub refusal: u32,
-    /// The offset of the object's first byte.
+    /// The offset of the handle's first byte.
     pub start: usize,
     /// The offset behind its last byte.
     pub end: usize,

@@ -30,14 +30,16 @@
 //! assert_eq!(heap.allocate(LOGGER, 32), Err(Refusal::QuotaExceeded));
 //! assert_eq!(heap.remaining(LOGGER)?, 24);
 //!
-//! heap.claim(RADIO, buffer)?;
+//! // The radio gets a handle of the reading alone, and holds the whole buffer by it.
+//! let reading = buffer.narrowed(..8).unwrap();
+//! assert_eq!(heap.claim(RADIO, reading)?, 40);
 //! heap.release(LOGGER, buffer)?;
-//! assert_eq!(&heap.lend(buffer)?[..8], b"pressure");
+//! assert_eq!(heap.lend(reading)?, b"pressure");
 //!
 //! let close = heap.allocate(VALVE, 32)?;
 //! assert_eq!(close.base, 104);
 //!
-//! heap.release(RADIO, buffer)?;
+//! heap.release(RADIO, reading)?;
 //! assert_eq!(heap.lend(buffer), Err(Refusal::NoSuchObject));
 //! # Ok::<(), Refusal>(())
 //! ```
@@ -59,9 +61,11 @@ compile_error!(concat!(
 
 mod blocks;
 mod comparison;
+mod handle;
 mod heap;
 mod image;
 mod layout;
+mod moves;
 mod permissions;
 mod queries;
 #[allow(unsafe_code)]
@@ -77,6 +81,7 @@ pub use image::{
     FORM_1_QUOTAS, IMAGE_MAX, IMAGE_MAX_FORM_1,
 };
 pub use layout::{Accounts, Handle, Hold, Quota, HOLDS, QUOTAS};
+pub use moves::{move_image_down, move_image_up};
 pub use permissions::Permissions;
 pub use refusal::Refusal;
 pub use report::{

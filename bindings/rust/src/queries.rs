@@ -8,7 +8,8 @@ use crate::raw;
 use crate::refusal::{verdict, Refusal};
 
 impl Heap<'_> {
-    /// Lends the object's bytes to be read.
+    /// Lends the handle's bytes to be read: the object's, or those of the part that a
+    /// [narrowed](Handle::narrowed) handle has.
     ///
     /// # Errors
     ///
@@ -27,7 +28,7 @@ impl Heap<'_> {
         Ok(&self.bytes[range.start..range.end])
     }
 
-    /// Lends the object's bytes to be read and written. No other call is possible meanwhile:
+    /// Lends the handle's bytes to be read and written. No other call is possible meanwhile:
     ///
     /// ```compile_fail,E0499
     /// # let mut memory = [0; 128];
@@ -57,7 +58,7 @@ impl Heap<'_> {
         Ok(&mut self.bytes[range.start..range.end])
     }
 
-    /// Writes one byte of the object, `at` bytes behind its base; writes nothing at its end or
+    /// Writes one of the handle's bytes, `at` bytes behind its base; writes nothing at their end or
     /// behind it.
     ///
     /// # Errors

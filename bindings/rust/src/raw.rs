@@ -108,6 +108,18 @@ extern "C" {
         length: usize,
         accounts: Accounts,
     ) -> ImageReply;
+    fn lokhazim_image_move_up(
+        image: *const u8,
+        image_length: usize,
+        out: *mut u8,
+        out_length: usize,
+    ) -> ImageReply;
+    fn lokhazim_image_move_down(
+        image: *const u8,
+        image_length: usize,
+        out: *mut u8,
+        out_length: usize,
+    ) -> ImageReply;
     fn lokhazim_image_compare(
         first: *const u8,
         first_length: usize,
@@ -190,6 +202,18 @@ pub fn image_write_form_1(image: &mut [u8], heap: &[u8], accounts: &Accounts) ->
     let (at, room) = (image.as_mut_ptr(), image.len());
     // SAFETY: pointers and lengths are those of two slices that are borrowed for the call.
     unsafe { lokhazim_image_write_form_1(at, room, heap.as_ptr(), heap.len(), accounts.clone()) }
+}
+
+pub fn image_move_up(image: &[u8], out: &mut [u8]) -> ImageReply {
+    let (at, room) = (out.as_mut_ptr(), out.len());
+    // SAFETY: pointers and lengths are those of two slices that are borrowed for the call.
+    unsafe { lokhazim_image_move_up(image.as_ptr(), image.len(), at, room) }
+}
+
+pub fn image_move_down(image: &[u8], out: &mut [u8]) -> ImageReply {
+    let (at, room) = (out.as_mut_ptr(), out.len());
+    // SAFETY: pointers and lengths are those of two slices that are borrowed for the call.
+    unsafe { lokhazim_image_move_down(image.as_ptr(), image.len(), at, room) }
 }
 
 pub fn image_examine(image: &[u8]) -> ExamineReply {

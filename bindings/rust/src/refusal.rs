@@ -30,7 +30,8 @@ pub enum Refusal {
     QuotaNumber = 3,
     /// 4: the length, or count times size, is 0 or above [`REQUEST_MAX`](crate::REQUEST_MAX).
     ObjectLength = 4,
-    /// 5: the handle names no live object.
+    /// 5: the handle names no live object; or, given to reallocate, names one and not the whole of
+    /// it.
     NoSuchObject = 5,
     /// 6: this quota doesn't hold the object.
     NotHeld = 6,
@@ -102,7 +103,7 @@ impl Refusal {
                 "no object can have this length; ask for 1 to 32,760 bytes in all"
             }
             Refusal::NoSuchObject => {
-                "the handle names no live object; use it only while a quota holds the object"
+                "the handle names no live object; use it only while a quota holds the object, and reallocate with the whole object's handle"
             }
             Refusal::NotHeld => {
                 "this quota doesn't hold the object; claim it, or name the quota that does"

@@ -3,8 +3,9 @@
 use std::error::Error;
 
 use lokhazim::{
-    compare_images, examine_image, grants, image_length, image_length_form_1, Accounts, Difference,
-    Heap, Hold, ImageRefusal, Permissions, Which, FORM_1_HOLDS, FORM_1_QUOTAS, HOLDS, QUOTAS,
+    compare_images, examine_image, grants, image_length, image_length_form_1, move_image_down,
+    move_image_up, Accounts, Difference, Heap, Hold, ImageRefusal, Permissions, Which,
+    FORM_1_HOLDS, FORM_1_QUOTAS, HOLDS, QUOTAS,
 };
 
 /// The images of a heap in form 2 and in form 1.
@@ -29,6 +30,31 @@ fn a_state_that_form_1_carries_is_the_same_in_both() -> Result<(), Box<dyn Error
         let again = Heap::restore(&mut elsewhere, &image)?;
         assert_eq!(again.parts(), heap.parts());
     }
+    Ok(())
+}
+
+#[test]
+fn an_image_is_moved_to_the_other_form_and_back() -> Result<(), Box<dyn Error>> {
+    let mut memory = [0; 128];
+    let mut heap = Heap::open(&mut memory, grants([100; FORM_1_QUOTAS]))?;
+    heap.allocate(7, 8)?;
+    let [form_2, form_1] = images(&heap)?;
+    let mut out = [9; 5_200];
+    assert_eq!(move_image_up(&form_1, &mut out)?, form_2.len());
+    assert_eq!(out[..form_2.len()], form_2);
+    assert_eq!(out[form_2.len()..], [9; 80]);
+    let mut back = [9; 1_536];
+    assert_eq!(move_image_down(&form_2, &mut back)?, form_1.len());
+    assert_eq!(back[..], form_1);
+
+    let mut left = [3; 5_200];
+    let short = move_image_up(&form_1, &mut left[..5_119]);
+    assert_eq!(short, Err(ImageRefusal::Room));
+    let other = move_image_up(&form_2, &mut left);
+    assert_eq!(other, Err(ImageRefusal::FormNumber));
+    let other = move_image_down(&form_1, &mut left);
+    assert_eq!(other, Err(ImageRefusal::FormNumber));
+    assert_eq!(left, [3; 5_200]);
     Ok(())
 }
 

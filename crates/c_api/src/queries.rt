@@ -16,7 +16,7 @@ ghost use Rattle.access.specs.Lending.{write-object};
 ghost use Rattle.model.specs.Answers.{refused};
 ghost use Rattle.c_api.specs.Replies.{amount-numbers, range-numbers, block-numbers, Exact};
 
-// Where in the heap the object's bytes lie.
+// Where in the heap the bytes of a handle's range lie.
 #[no_mangle]
 pub extern "C" fn lokhazim_lend(heap: &[u8], accounts: Accounts, handle: Handle) -> RangeReply
     ensures { λ r. ⌜ outcome (now (heap .entry)) accounts (range-numbers r) ≡ lend unit (now (heap .entry)) accounts handle ⌝ }
@@ -24,7 +24,8 @@ pub extern "C" fn lokhazim_lend(heap: &[u8], accounts: Accounts, handle: Handle)
     reply_of_range(heap::object_range(heap, accounts, handle))
 }
 
-// One byte of an object is written, at a place that counts from its base. A place at or beyond its length is accepted, and nothing is written.
+// One byte of a handle's range is written, at a place that counts from the handle's base. A place at or beyond its length is accepted, and nothing is
+// written.
 #[no_mangle]
 pub extern "C" fn lokhazim_write(
     heap: &mut [u8],

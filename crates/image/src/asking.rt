@@ -20,8 +20,8 @@ ghost use Rattle.image_model.specs.Stream.{head-length};
 ghost use Rattle.image_model.specs.Reading.{form-of, size-in, accounts-in};
 ghost use Rattle.image.specs.Parsing.{examined-in, parts-of};
 
-// The form that an image is read as.
-fn form_of(image: &[u8]) -> Form
+// The form that an image is read as, whatever its bytes are.
+pub fn form_of(image: &[u8]) -> Form
     ensures { λ r. ⌜ r ≡ form-of (now (image .entry)) ⌝ }
 {
     let FormAnswer::Known(form) = form_numbered(read_pair(image, 0)) else {

@@ -16,6 +16,7 @@ mod writing;
 
 pub use asking::accounts_in;
 pub use asking::examine;
+pub use asking::form_of;
 pub use asking::heap_place;
 pub use parsing::parse_image;
 pub use reading::read_image;

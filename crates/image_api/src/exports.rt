@@ -1,4 +1,4 @@
-// The exported functions, each the one of `image` and its answer as numbers.
+// The exported functions, each the one of `image` or `conversion` and its answer as numbers.
 use crate::ExamineReply;
 use crate::ImageReply;
 use crate::RestoreReply;
@@ -10,6 +10,7 @@ ghost use mathlib.Core.Path.{_≡_};
 ghost use Rattle.image_model.specs.Stream.{form-1, form-2};
 ghost use Rattle.image_model.specs.Images.{write-image, read-image};
 ghost use Rattle.image.specs.Parsing.{length-for};
+ghost use Rattle.conversion.specs.Moves.{move-up, move-down};
 ghost use Rattle.image_api.specs.Replies.{image-reply, restore-reply, examine};
 
 // The image of a heap and its accounts in form 2, at the front of the lent one; its other bytes stay.
@@ -42,6 +43,22 @@ pub extern "C" fn lokhazim_image_read(image: &[u8], heap: &mut [u8]) -> RestoreR
     ensures { λ r. ⌜ restore-reply (now (heap .exit)) r ≡ read-image (now (image .entry)) (now (heap .entry)) ⌝ }
 {
     reply_of_read(image::read_image(image, heap))
+}
+
+// The image in form 2 of the state that an image of form 1 says, at the front of the lent bytes; the others stay.
+#[no_mangle]
+pub extern "C" fn lokhazim_image_move_up(image: &[u8], out: &mut [u8]) -> ImageReply
+    ensures { λ r. ⌜ image-reply (now (out .exit)) r ≡ move-up (now (image .entry)) (now (out .entry)) ⌝ }
+{
+    reply_of_write(conversion::move_up(image, out))
+}
+
+// The image in form 1 of the state that an image of form 2 says, which not every state fits.
+#[no_mangle]
+pub extern "C" fn lokhazim_image_move_down(image: &[u8], out: &mut [u8]) -> ImageReply
+    ensures { λ r. ⌜ image-reply (now (out .exit)) r ≡ move-down (now (image .entry)) (now (out .entry)) ⌝ }
+{
+    reply_of_write(conversion::move_down(image, out))
 }
 
 // How many bytes an image of a heap of so many has in form 2, 0 where no heap has that length.

@@ -8,11 +8,13 @@ mod replies;
 pub use exports::lokhazim_image_examine;
 pub use exports::lokhazim_image_length;
 pub use exports::lokhazim_image_length_form_1;
+pub use exports::lokhazim_image_move_down;
+pub use exports::lokhazim_image_move_up;
 pub use exports::lokhazim_image_read;
 pub use exports::lokhazim_image_write;
 pub use exports::lokhazim_image_write_form_1;
 
-// What the writer gives: how many bytes it wrote.
+// What the writer and a move give: how many bytes they wrote.
 #[repr(C)]
 pub struct ImageReply {
     pub refusal: u32,

@@ -8,6 +8,7 @@ mod images;
 mod ledger;
 mod ledger_checks;
 mod lines;
+mod moves;
 mod naive;
 mod narrowed;
 mod permissions;

@@ -71,6 +71,18 @@ extern "C" {
         heap_length: usize,
         accounts: CAccounts,
     ) -> ImageReply;
+    fn lokhazim_image_move_up(
+        image: *const u8,
+        image_length: usize,
+        out: *mut u8,
+        out_length: usize,
+    ) -> ImageReply;
+    fn lokhazim_image_move_down(
+        image: *const u8,
+        image_length: usize,
+        out: *mut u8,
+        out_length: usize,
+    ) -> ImageReply;
     fn lokhazim_image_read(
         image: *const u8,
         image_length: usize,
@@ -125,6 +137,18 @@ pub fn read(image: &mut [u8], heap: &mut [u8]) -> (u32, Accounts) {
         )
     };
     (reply.refusal, reply.accounts.into())
+}
+
+/// Moves an image that is to be of a form to the other one by the proved code, and gives the refusal
+/// and the length.
+pub fn move_from(form: Form, image: &mut [u8], out: &mut [u8]) -> (u32, usize) {
+    let move_image = match form.number {
+        1 => lokhazim_image_move_up,
+        _ => lokhazim_image_move_down,
+    };
+    // Safety: as above.
+    let reply = unsafe { move_image(image.as_mut_ptr(), image.len(), out.as_mut_ptr(), out.len()) };
+    (reply.refusal, reply.length)
 }
 
 /// A difference by its kind's number; none for 0.

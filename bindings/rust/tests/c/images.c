@@ -1,7 +1,7 @@
 /*
  * Images from C: a heap with every record used is written and read back, a refused image leaves heap
- * and accounts alone, the caller's null pointer for the length is taken, two images are compared, and
- * form 1 is written of what it can carry and of nothing else.
+ * and accounts alone, the caller's null pointer for the length is taken, two images are compared, form 1
+ * is written of what it can carry and of nothing else, and an image is moved up and down again.
  */
 #include "lokhazim_image.h"
 
@@ -148,6 +148,30 @@ static void form_1(void)
     CHECK(reply.refusal == LOKHAZIM_IMAGE_FORMS_DIFFER && reply.which == 0);
 }
 
+/* An image of form 1 goes up and comes back down as it was; what is refused writes nothing. */
+static void moves(void)
+{
+    static uint8_t back[LOKHAZIM_IMAGE_MAX_FORM_1];
+    struct lokhazim_image_reply reply;
+    fill_form_1();
+    CHECK(lokhazim_heap_save_form_1(heap, sizeof heap, &accounts, image, sizeof image, NULL) == LOKHAZIM_IMAGE_ACCEPTED);
+    memset(changed, 7, sizeof changed);
+    reply = lokhazim_image_move_up(image, LOKHAZIM_IMAGE_MAX_FORM_1, changed, sizeof changed - 1);
+    CHECK(reply.refusal == LOKHAZIM_IMAGE_ROOM && reply.length == 0 && changed[0] == 7);
+    reply = lokhazim_image_move_down(image, LOKHAZIM_IMAGE_MAX_FORM_1, changed, sizeof changed);
+    CHECK(reply.refusal == LOKHAZIM_IMAGE_FORM && reply.length == 0 && changed[0] == 7);
+    reply = lokhazim_image_move_up(image, LOKHAZIM_IMAGE_MAX_FORM_1, changed, sizeof changed);
+    CHECK(reply.refusal == LOKHAZIM_IMAGE_ACCEPTED && reply.length == sizeof changed);
+    CHECK(lokhazim_image_examine(changed, sizeof changed).form == 2);
+    reply = lokhazim_image_move_down(changed, sizeof changed, back, sizeof back);
+    CHECK(reply.refusal == LOKHAZIM_IMAGE_ACCEPTED && reply.length == sizeof back && memcmp(image, back, sizeof back) == 0);
+
+    accounts.quotas[0].permissions = LOKHAZIM_MAY_CLAIM;
+    CHECK(lokhazim_heap_save(heap, sizeof heap, &accounts, changed, sizeof changed, NULL) == LOKHAZIM_IMAGE_ACCEPTED);
+    reply = lokhazim_image_move_down(changed, sizeof changed, back, 0);
+    CHECK(reply.refusal == LOKHAZIM_IMAGE_NOT_CARRIED && memcmp(image, back, sizeof back) == 0);
+}
+
 int main(void)
 {
     size_t length = 1;
@@ -176,5 +200,6 @@ int main(void)
     CHECK(other[0] == 9 && other[sizeof other - 1] == 9 && same(&accounts, &back));
     compare();
     form_1();
+    moves();
     return EXIT_SUCCESS;
 }

@@ -243,6 +243,67 @@ static void numbers_in_order(void)
     CHECK(refund == 16 && accounts.quotas[3].remainder == 500);
 }
 
+/* A narrower handle is the numbers of its range, or all zero. */
+static void is_narrowed(struct lokhazim_handle handle, uint32_t at, uint32_t bytes, struct lokhazim_handle expected)
+{
+    const struct lokhazim_handle part = lokhazim_handle_narrowed(handle, at, bytes);
+    CHECK(part.base == expected.base && part.length == expected.length && part.serial == expected.serial);
+}
+
+static void narrower_handles_are_made(void)
+{
+    const struct lokhazim_handle whole = { 8, 16, 5 };
+    const struct lokhazim_handle last = { UINT32_MAX - 1, 9, 5 };
+    const struct lokhazim_handle none = { 0, 0, 0 };
+    for (uint32_t at = 0; at < 20; at++) {
+        for (uint32_t bytes = 0; bytes < 20; bytes++) {
+            const struct lokhazim_handle part = { 8 + at, bytes, 5 };
+            is_narrowed(whole, at, bytes, bytes > 0 && at + bytes <= 16 ? part : none);
+        }
+    }
+    is_narrowed(whole, 1, UINT32_MAX, none);
+    is_narrowed(whole, UINT32_MAX, 1, none);
+    is_narrowed(whole, UINT32_MAX, 2, none);
+    is_narrowed(whole, UINT32_MAX, UINT32_MAX, none);
+    is_narrowed(last, 1, 8, (struct lokhazim_handle){ UINT32_MAX, 8, 5 });
+    is_narrowed(last, 2, 7, none);
+    is_narrowed(none, 0, 0, none);
+    is_narrowed(none, 0, 1, none);
+}
+
+/* Rules 4.8 to 4.10 by every part of an object. */
+static void parts_of_an_object(void)
+{
+    struct lokhazim_handle whole;
+    struct lokhazim_handle moved;
+    uint8_t *object = NULL;
+    uint32_t amount = 0;
+    ACCEPTED(lokhazim_heap_open(HEAP, &accounts, (struct lokhazim_grants){ { 500, 500 } }));
+    ACCEPTED(lokhazim_heap_allocate(HEAP, &accounts, 0, 16, &whole));
+    for (uint32_t at = 0; at < 16; at++) {
+        for (uint32_t bytes = 1; at + bytes <= 16; bytes++) {
+            const struct lokhazim_handle part = lokhazim_handle_narrowed(whole, at, bytes);
+            ACCEPTED(lokhazim_heap_lend(HEAP, &accounts, part, &object));
+            CHECK(object == heap + whole.base + at && lokhazim_lend(HEAP, accounts, part).end == whole.base + at + bytes);
+            ACCEPTED(lokhazim_heap_write(HEAP, &accounts, part, bytes - 1, (uint8_t)(at + 1)));
+            CHECK(object[bytes - 1] == at + 1);
+            ACCEPTED(lokhazim_heap_write(HEAP, &accounts, part, bytes, 99));
+            CHECK(object[bytes] != 99);
+            ACCEPTED(lokhazim_heap_claim(HEAP, &accounts, 1, part, &amount));
+            CHECK(amount == 16 && accounts.quotas[1].remainder == 500 - 24);
+            ACCEPTED(lokhazim_heap_can_release(HEAP, &accounts, 1, part));
+            ACCEPTED(lokhazim_heap_release(HEAP, &accounts, 1, part, &amount));
+            CHECK(amount == 24 && accounts.quotas[1].remainder == 500);
+            REFUSED(NOT_HELD, lokhazim_heap_release(HEAP, &accounts, 1, part, &amount));
+            if (bytes < 16) {
+                REFUSED(NO_SUCH_OBJECT, lokhazim_heap_reallocate(HEAP, &accounts, 0, part, 8, &moved));
+            }
+        }
+    }
+    ACCEPTED(lokhazim_heap_reallocate(HEAP, &accounts, 0, lokhazim_handle_narrowed(whole, 0, 16), 8, &moved));
+    REFUSED(NO_SUCH_OBJECT, lokhazim_heap_lend(HEAP, &accounts, lokhazim_handle_narrowed(moved, 0, 9), &object));
+}
+
 /* Quota q loses the permissions with the bits of q. Then each call goes by its own bit of its own quota. */
 static void permissions_are_read(void)
 {
@@ -288,6 +349,8 @@ int main(void)
     fields_are_noticed();
     handles_and_replies();
     numbers_in_order();
+    narrower_handles_are_made();
+    parts_of_an_object();
     permissions_are_read();
     return EXIT_SUCCESS;
 }

@@ -1,0 +1,3 @@
+-- The crate's definitions.
+pub mod Moves
+pub mod Steps
