@@ -21,6 +21,7 @@ mod queries;
 mod refusal;
 mod replay;
 mod rounding;
+mod settings;
 mod sound;
 
 pub use accounts::{Accounts, Hold, Quota, HOLDS, QUOTAS};
@@ -33,4 +34,5 @@ pub use queries::{block_at, lend, lend_mut, remaining, Walker};
 pub use refusal::Refusal;
 pub use replay::{replay, MAX_INPUT};
 pub use rounding::{round_request, unit_of, Rounded, MAX_REQUEST};
+pub use settings::{add_setting, find_setting, setting, SettingRefusal, Source, Store};
 pub use sound::{check, MAX_HEAP, MIN_HEAP};

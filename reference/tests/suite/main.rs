@@ -15,4 +15,5 @@ mod refusals;
 mod replay;
 mod replay_lists;
 mod run_m;
+mod settings;
 mod state;
