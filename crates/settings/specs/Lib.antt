@@ -1,0 +1,4 @@
+-- The crate's definitions.
+pub mod Entries
+pub mod Find
+pub mod Add
