@@ -6,3 +6,4 @@ pub mod Walks
 pub mod Values
 pub mod Stores
 pub mod Puts
+pub mod Added

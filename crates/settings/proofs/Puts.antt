@@ -7,12 +7,12 @@ use mathlib.Core.Option.{Option, none, some}
 use Prim.Native.Nat.{ℕ, _+_, _-_, _≤_, _<_}
 use native.Mathlib.Omega.{arith}
 use native.Mathlib.Numerals.{add-one}
-use lib.ListN.{length, take, getD, set}
+use lib.ListN.{length, take, getD, set, length-set}
 use lib.Seq.{take-suc, length-take-le}
 use lib.Dec.{ltb}
 use borrow.Author.Tests.{lt-ltb, le-ltb}
 use Rattle.layout.specs.Bytes.{bytes, overwrite, write-number}
-use Rattle.layout.proofs.Overwrite.{overwrite-two, overwrite-more}
+use Rattle.layout.proofs.Overwrite.{length-overwrite, overwrite-two, overwrite-more}
 use Rattle.settings.specs.declared.Entry.{Entry}
 use Rattle.settings.specs.declared.Last.{Last}
 use Rattle.settings.specs.declared.Last.the-variants.{Version, Malformed as LastMalformed}
@@ -39,6 +39,11 @@ entry-put at name version v s t w h e f =
     let measured : set (set t (at + 2) name) (at + 3) (length v) ≡ overwrite at (p ++ (name ∷ length v ∷ [])) s =
     ap (λ (x : List ℕ). set x (at + 3) (length v)) named ∙ overwrite-more at (p ++ (name ∷ [])) s 3 (length v) refl (omega arith) in
     f ∙ ap (overwrite (at + 4) v) measured ∙ overwrite-two at (p ++ (name ∷ length v ∷ [])) v s (omega arith)
+
+-- the length stays
+pub put-length : (at version : ℕ) (s t : List ℕ) (name n : ℕ) → t ≡ write-number 2 at version s → length (set (set t (at + 2) name) (at + 3) n) ≡ length s
+unfolding write-number
+put-length at version s t name n e = length-set (set t (at + 2) name) (at + 3) n ∙ length-set t (at + 2) name ∙ ap length e ∙ length-overwrite at (bytes 2 version) s
 
 -- the entries of a store of which the last version is known
 pub last-known : (o : Option (List Entry)) (last : ℕ) → Version last ≡ last-of o → (es : List Entry) × ((o ≡ some es) × (last ≡ newest 0 es))
