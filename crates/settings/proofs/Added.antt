@@ -1,5 +1,4 @@
--- After an accepted add (rule 25.9): the store is well formed, with the new entry last; no answer at a lower version has changed, nor one for another
--- name; at its version and above the new value is found.
+-- The bytes of an entry behind a run of entries: they are read as that entry, and the others as before.
 -- Assumes nothing.
 use mathlib.Core.Path.{_≡_, refl, ap, sym, _∙_}
 use mathlib.Core.List.{List, [], _∷_, _++_, append-assoc}

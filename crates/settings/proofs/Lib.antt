@@ -7,3 +7,4 @@ pub mod Values
 pub mod Stores
 pub mod Puts
 pub mod Added
+pub mod Answers

@@ -84,13 +84,13 @@ wider : (n m : ℕ) (f : Found) → n ≤ m → FoundIn n f → FoundIn m f
 wider n m (At x) h i = let w = i .within in record { ordered = i .ordered; within = omega arith }
 wider n m Nothing h i = tt
 
-scan-inside : (name version : ℕ) (s : List ℕ) (used : ℕ) → ScannedIn (length s) (found-in name version (stored s used))
+scan-inside : (name version : ℕ) (s : List ℕ) (used n : ℕ) → (used ≤ length s → used ≤ n) → ScannedIn n (found-in name version (stored s used))
 unfolding found-in
-scan-inside name version s used = go (stored s used) refl
+scan-inside name version s used n h = go (stored s used) refl
   where
-    go : (o : Option (List Entry)) → stored s used ≡ o → ScannedIn (length s) (found-in name version o)
+    go : (o : Option (List Entry)) → stored s used ≡ o → ScannedIn n (found-in name version o)
     go none e = tt
-    go (some es) e = wider used (length s) (value-in name version es) (stored-is s used es e .0) (value-inside name version s used es e)
+    go (some es) e = wider used n (value-in name version es) (h (stored-is s used es e .0)) (value-inside name version s used es e)
 
 chosen-inside : (n m : ℕ) (x y : Scan) → ScannedIn n x → ScannedIn m y → PlacedIn n m (chosen x y)
 unfolding chosen
@@ -100,13 +100,20 @@ chosen-inside n m (Done (At x)) (Done y) i j = i
 chosen-inside n m (Done Nothing) (Done (At y)) i j = j
 chosen-inside n m (Done Nothing) (Done Nothing) i j = tt
 
--- a place lies in its buffer
+-- a place lies in the used bytes of its store, and so in its buffer
+pub find-used-inside : (name version : ℕ) (b : List ℕ) (bu : ℕ) (d : List ℕ) (du : ℕ) → PlacedIn bu du (find name version b bu d du)
+unfolding find
+find-used-inside name version b bu d du =
+    chosen-inside bu du (found-in name version (stored b bu)) (found-in name version (stored d du))
+    (scan-inside name version b bu bu (λ h. omega arith))
+    (scan-inside name version d du du (λ h. omega arith))
+
 pub find-inside : (name version : ℕ) (b : List ℕ) (bu : ℕ) (d : List ℕ) (du : ℕ) → PlacedIn (length b) (length d) (find name version b bu d du)
 unfolding find
 find-inside name version b bu d du =
     chosen-inside (length b) (length d) (found-in name version (stored b bu)) (found-in name version (stored d du))
-    (scan-inside name version b bu)
-    (scan-inside name version d du)
+    (scan-inside name version b bu (length b) (λ h. h))
+    (scan-inside name version d du (length d) (λ h. h))
 
 -- each case of what was found in the two stores
 module _ (b d : Scan) where
