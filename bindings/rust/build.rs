@@ -5,7 +5,12 @@ use std::env;
 use std::path::{Path, PathBuf};
 
 /// The libraries, as the linker names them.
-const LIBRARIES: [&str; 3] = ["lokhazim", "lokhazim_image", "lokhazim_compare"];
+const LIBRARIES: [&str; 4] = [
+    "lokhazim",
+    "lokhazim_image",
+    "lokhazim_compare",
+    "lokhazim_settings",
+];
 
 /// Tells cargo where the libraries are. Where one is missing, the crate says so itself when it is
 /// built, and where it was looked for; lints and documentation need no library.

@@ -1,4 +1,4 @@
-//! The command `lokhazim`: replays scripts and works on images. Every rule is in the proved library;
+//! The command `lokhazim`: replays scripts and works on images and settings. Every rule is in the proved library;
 //! this program reads files, calls it and prints.
 //!
 //! Exit status: 0 where all went well, 1 where the library refuses, 2 for wrong words or a file that
@@ -15,11 +15,13 @@ mod image;
 #[allow(unsafe_code)]
 mod proved;
 mod script;
+mod settings;
 
 use std::env;
 use std::process::ExitCode;
 
 use failure::Failure;
+use settings::Form;
 
 /// What the command can do.
 const HELP: &str = "\
@@ -33,10 +35,18 @@ lokhazim: a heap that parts of a firmware share, by its proved library
     lokhazim image compare A B        print what differs between two images, a line each: serial,
                                       quota NUMBER, record PLACE, bytes OFFSET LENGTH; status 0 where
                                       nothing does, 1 where something does, 2 where one is refused
+    lokhazim settings get BOARD DEFAULTS NAME VERSION [--hex]
+                                      print the value of a name at a version, from the first file,
+                                      else from the second: its bytes, or its digits on a line
+    lokhazim settings add FILE NAME VERSION VALUE [--hex]
+                                      add an entry to a file and print its new length
+    lokhazim settings list FILE       print the entries: entry VERSION NAME LENGTH DIGITS
     lokhazim help | version
 
 A script begins with 'open H' and eight grants, then has a call to a line: alloc q n, array q n s,
 claim q b l s, free q b l s, all q, realloc q b l s n. SCRIPT and FILE can be - for standard input.
+A file of settings holds the used bytes of a store; an empty one is a store without entries. NAME is 0 to
+255, VERSION 0 to 65535; --hex says that VALUE is two hexadecimal digits for each byte.
 Status 0: done. 1: refused, with the number and the reason. 2: wrong words, or a file that can't be
 read or written. docs/RULES.md has every rule.
 ";
@@ -65,6 +75,19 @@ fn run(words: &[&str]) -> Result<(), Failure> {
         ["image", "save", script, out] => image::save(script, out),
         ["image", "show", file] => image::show(file),
         ["image", "compare", first, second] => image::compare(first, second),
+        ["settings", "get", board, defaults, name, version] => {
+            settings::get(board, defaults, name, version, Form::Text)
+        }
+        ["settings", "get", board, defaults, name, version, "--hex"] => {
+            settings::get(board, defaults, name, version, Form::Hex)
+        }
+        ["settings", "add", file, name, version, value] => {
+            settings::add(file, name, version, value, Form::Text)
+        }
+        ["settings", "add", file, name, version, value, "--hex"] => {
+            settings::add(file, name, version, value, Form::Hex)
+        }
+        ["settings", "list", file] => settings::list(file),
         ["help" | "--help" | "-h"] => files::print(HELP.as_bytes()),
         ["version" | "--version"] => {
             files::print(concat!("lokhazim ", env!("CARGO_PKG_VERSION"), "\n").as_bytes())

@@ -1,50 +1,13 @@
 //! The command as its users meet it: what it prints, its exit status, and what it leaves alone.
 
+mod support;
+
 use std::fs;
-use std::path::{Path, PathBuf};
-use std::process::{Command, Output, Stdio};
+
+use support::{expect, folder, lokhazim, names};
 
 /// The example of the rule book's replay section.
 const SCRIPT: &str = "open 128 100 1000 0 0 0 0 0 0\nalloc 0 10\nalloc 0 68\nfree 1 8 16 1\n";
-
-/// A folder of a test's own, empty at first.
-fn folder(name: &str) -> PathBuf {
-    let folder = Path::new(env!("CARGO_TARGET_TMPDIR")).join(name);
-    let _ = fs::remove_dir_all(&folder);
-    fs::create_dir_all(&folder).expect("the folder can be made");
-    folder
-}
-
-/// Runs the command in a folder.
-fn lokhazim(folder: &Path, words: &[&str]) -> Output {
-    let mut command = Command::new(env!("CARGO_BIN_EXE_lokhazim"));
-    let command = command.current_dir(folder).args(words).stdin(Stdio::null());
-    command.output().expect("the command can be started")
-}
-
-/// Holds a run to its status, its output and a part of what it says of a failure.
-fn expect(run: &Output, status: i32, printed: &str, said: &str) {
-    let errors = String::from_utf8_lossy(&run.stderr);
-    assert_eq!(run.status.code(), Some(status), "{errors}");
-    assert_eq!(String::from_utf8_lossy(&run.stdout), printed);
-    assert!(errors.contains(said), "{errors}");
-    assert_eq!(errors.is_empty(), said.is_empty(), "{errors}");
-}
-
-/// The names of the files in a folder.
-fn names(folder: &Path) -> Vec<String> {
-    let files = fs::read_dir(folder).expect("the folder can be read");
-    let mut names: Vec<String> = files
-        .map(|file| {
-            file.expect("a file")
-                .file_name()
-                .to_string_lossy()
-                .into_owned()
-        })
-        .collect();
-    names.sort();
-    names
-}
 
 #[test]
 fn a_script_is_replayed() {

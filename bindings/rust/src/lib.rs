@@ -52,7 +52,7 @@
 
 #[cfg(all(library_missing, not(clippy), not(doc)))]
 compile_error!(concat!(
-    "a library of lokhazim (liblokhazim.a, liblokhazim_image.a, liblokhazim_compare.a) is missing in ",
+    "a library of lokhazim (liblokhazim.a, liblokhazim_image.a, liblokhazim_compare.a, liblokhazim_settings.a) is missing in ",
     env!("LOKHAZIM_LOOKED"),
     ": run 'make lib' in the repository, or name its folder in LOKHAZIM_LIB_DIR, then build again"
 ));
@@ -66,6 +66,7 @@ mod queries;
 #[allow(unsafe_code)]
 mod raw;
 mod refusal;
+mod settings;
 
 pub use blocks::{Block, Blocks};
 pub use comparison::{compare_images, CompareRefusal, Difference, Differences, Which};
@@ -73,6 +74,9 @@ pub use heap::Heap;
 pub use image::{examine_image, image_length, ImageFacts, ImageRefusal, IMAGE_MAX};
 pub use layout::{Accounts, Handle, Hold, Quota, HOLDS, QUOTAS};
 pub use refusal::Refusal;
+pub use settings::{
+    add_setting, lookup, Entries, Entry, SettingsRefusal, Store, ENTRY_FRONT, VALUE_MAX,
+};
 
 /// The length of the shortest heap; a heap's length is a multiple of 8.
 pub const HEAP_MIN: usize = 64;

@@ -44,6 +44,7 @@ pub fn compile(source: &str, level: &str) -> PathBuf {
                 "liblokhazim.a",
                 "liblokhazim_image.a",
                 "liblokhazim_compare.a",
+                "liblokhazim_settings.a",
             ]
             .map(library),
         )
