@@ -8,6 +8,7 @@ use lokhazim_reference::{Accounts, Handle, Hold, Quota, HOLDS, QUOTAS};
 use crate::state::{Answer, Call};
 
 pub mod images;
+pub mod settings;
 
 /// A quota as it crosses the boundary.
 #[repr(C)]
