@@ -73,7 +73,7 @@ impl SettingsRefusal {
     /// What is wrong, and what to do.
     const fn advice(self) -> &'static str {
         match self {
-            SettingsRefusal::Malformed => "a store is no run of entries: one is cut short, a value is longer than 64, a version falls, or more bytes are used than there are; take it from a copy that is whole",
+            SettingsRefusal::Malformed => "a store is no run of entries: one is cut short, too long or of a falling version; take another copy of it",
             SettingsRefusal::Missing => "neither store has an entry of this name at this version; ask at a higher version, or add one",
             SettingsRefusal::ValueLength => "the value has more than 64 bytes; shorten it, or spread it over several names",
             SettingsRefusal::VersionFalls => "the version is below that of the store's last entry; add it at that version or a higher one",

@@ -87,7 +87,8 @@ module _ (s : List ℕ) (version name : ℕ) (v : List ℕ) (w : version < 65536
   old-grown : (last at : ℕ) (fs : List Entry) → at < length s → Known last at s (entry-at at s)
       → ((m : ℕ) → entry-at at s .end ≤ length s → length grown ≤ entry-at at s .end + m → newest (entry-at at s .version) fs ≤ version
       → entries-from m (entry-at at s .version) (entry-at at s .end) grown ≡ some (fs ++ (new ∷ [])))
-      → (m : ℕ) → length grown ≤ at + m → newest (entry-at at s .version) fs ≤ version → entries-from m last at grown ≡ some (entry-at at s ∷ (fs ++ (new ∷ [])))
+      → (m : ℕ) → length grown ≤ at + m → newest (entry-at at s .version) fs ≤ version
+      → entries-from m last at grown ≡ some (entry-at at s ∷ (fs ++ (new ∷ [])))
   unfolding in-front
   old-grown last at fs h k more zero r b = absurd (omega (arith, length-grown))
   old-grown last at fs h k more (suc m) r b =
@@ -105,7 +106,9 @@ module _ (s : List ℕ) (version name : ℕ) (v : List ℕ) (w : version < 65536
       → (m : ℕ) → at ≤ length s → length grown ≤ at + m → newest last es ≤ version → entries-from m last at grown ≡ some (es ++ (new ∷ []))
   unfolding newest in-front
   all-grown =
-      by-entries s (λ last at es. (m : ℕ) → at ≤ length s → length grown ≤ at + m → newest last es ≤ version → entries-from m last at grown ≡ some (es ++ (new ∷ [])))
+      by-entries s
+      (λ last at es.
+      (m : ℕ) → at ≤ length s → length grown ≤ at + m → newest last es ≤ version → entries-from m last at grown ≡ some (es ++ (new ∷ [])))
       (λ last at h m a r k.
       let e : at ≡ length s = omega arith in
       rw e (last-grown m last (rw e at r) k))

@@ -85,7 +85,10 @@ part-is x s o h =
     let k = x .end - x .start in
     let e : x .end ≡ x .start + k = omega arith in
     let l = length-take-le (x .start) s (omega arith) in
-    sym (ap (λ (n : ℕ). drop (x .start) (take n s)) e ∙ ap (drop (x .start)) (take-add (x .start) k s) ∙ drop-at (take (x .start) s) (take k (drop (x .start) s)) (x .start) l)
+    sym
+    (ap (λ (n : ℕ). drop (x .start) (take n s)) e
+    ∙ ap (drop (x .start)) (take-add (x .start) k s)
+    ∙ drop-at (take (x .start) s) (take k (drop (x .start) s)) (x .start) l)
 
 part-stays : (x : Span) (at : ℕ) (new s : List ℕ) → x .start ≤ x .end → x .end ≤ at → at ≤ length s → part x (overwrite at new s) ≡ part x s
 part-stays x at new s o h l =

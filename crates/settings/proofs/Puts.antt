@@ -43,7 +43,8 @@ entry-put at name version v s t w h e f =
 -- the length stays
 pub put-length : (at version : ℕ) (s t : List ℕ) (name n : ℕ) → t ≡ write-number 2 at version s → length (set (set t (at + 2) name) (at + 3) n) ≡ length s
 unfolding write-number
-put-length at version s t name n e = length-set (set t (at + 2) name) (at + 3) n ∙ length-set t (at + 2) name ∙ ap length e ∙ length-overwrite at (bytes 2 version) s
+put-length at version s t name n e =
+    length-set (set t (at + 2) name) (at + 3) n ∙ length-set t (at + 2) name ∙ ap length e ∙ length-overwrite at (bytes 2 version) s
 
 -- the entries of a store of which the last version is known
 pub last-known : (o : Option (List Entry)) (last : ℕ) → Version last ≡ last-of o → (es : List Entry) × ((o ≡ some es) × (last ≡ newest 0 es))

@@ -53,7 +53,8 @@ inside-later n name version e h l = go (answers name version e)
     go true = record { ordered = h; within = l }
     go false = tt
 
-inside-entries : (name version : ℕ) (s : List ℕ) (fuel last at : ℕ) (es : List Entry) → entries-from fuel last at s ≡ some es → FoundIn (length s) (value-in name version es)
+inside-entries : (name version : ℕ) (s : List ℕ) (fuel last at : ℕ) (es : List Entry)
+    → entries-from fuel last at s ≡ some es → FoundIn (length s) (value-in name version es)
 unfolding value-in
 inside-entries name version s =
     by-entries s (λ last at es. FoundIn (length s) (value-in name version es))

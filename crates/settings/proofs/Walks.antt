@@ -73,7 +73,8 @@ module _ (s : List ℕ) where
   unfolding behind
   walk-bad read last at w h e = w .leads ∙ ap (behind read) (from-bad (w .fuel) last at h e)
 
-  pub walk-more : (read : List Entry) (last at : ℕ) → Walked read last at → at < length s → (e : Entry) → Known last at s e → Walked (read ++ (e ∷ [])) (e .version) (e .end)
+  pub walk-more : (read : List Entry) (last at : ℕ) → Walked read last at → at < length s → (e : Entry) → Known last at s e
+      → Walked (read ++ (e ∷ [])) (e .version) (e .end)
   walk-more read last at w h e k = go (w .fuel) (w .reaches) (w .leads)
     where
       go : (n : ℕ) → length s ≤ at + n → entries s ≡ behind read (entries-from n last at s) → Walked (read ++ (e ∷ [])) (e .version) (e .end)
@@ -91,7 +92,8 @@ module _ (s : List ℕ) where
   -- what holds of no entries at the end, and of an entry with those behind it, holds of all entries that are read
   pub by-entries : (P : ℕ → ℕ → List Entry → Type 0)
       → ((last at : ℕ) → length s ≤ at → P last at [])
-      → ((last at : ℕ) (fs : List Entry) → at < length s → Known last at s (entry-at at s) → P (entry-at at s .version) (entry-at at s .end) fs → P last at (entry-at at s ∷ fs))
+      → ((last at : ℕ) (fs : List Entry) → at < length s → Known last at s (entry-at at s)
+      → P (entry-at at s .version) (entry-at at s .end) fs → P last at (entry-at at s ∷ fs))
       → (fuel last at : ℕ) (es : List Entry) → entries-from fuel last at s ≡ some es → P last at es
   unfolding entries-from in-front
   by-entries P nil cons zero last at es e = stop (leb (length s) at) refl e
@@ -99,10 +101,13 @@ module _ (s : List ℕ) where
       stop : (b : Bool) → leb (length s) at ≡ b → cond b (some []) none ≡ some es → P last at es
       stop true t e = let is : _≡_ {A = List Entry} [] es = cc in rw (sym is) (nil last at (leb-true (length s) at t))
       stop false t e = let z : _≡_ {A = ℕ} 0 1 = cc in absurd (omega arith)
-  by-entries P nil cons (suc n) last at es e = go (leb (length s) at) refl (entry-fits last at s) refl (entries-from n (x .version) (x .end) s) (by-entries P nil cons n (x .version) (x .end)) e
+  by-entries P nil cons (suc n) last at es e =
+      go (leb (length s) at) refl (entry-fits last at s) refl (entries-from n (x .version) (x .end) s)
+      (by-entries P nil cons n (x .version) (x .end)) e
     where
       x : Entry
       x = entry-at at s
+
       go : (b : Bool) → leb (length s) at ≡ b → (f : Bool) → entry-fits last at s ≡ f → (o : Option (List Entry))
           → ((fs : List Entry) → o ≡ some fs → P (entry-at at s .version) (entry-at at s .end) fs)
           → cond b (some []) (cond f (in-front (entry-at at s) o) none) ≡ some es → P last at es

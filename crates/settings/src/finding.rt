@@ -101,8 +101,10 @@ pub fn lookup<'a>(
     version: u16,
     refusal: &mut u32,
 ) -> &'a [u8]
-    ensures holds { λ r. ⌜ now r ≡ bytes-of (find name version (now (board .entry)) «board_used» (now (defaults .entry)) «defaults_used») (now (board .entry)) (now (defaults .entry)) ⌝ }
-    ensures lies { λ r. ⌜ r .ptr ≡ lies-at (find name version (now (board .entry)) «board_used» (now (defaults .entry)) «defaults_used») (board .entry .ptr) (defaults .entry .ptr) ⌝ }
+    ensures holds { λ r. ⌜ now r ≡ bytes-of (find name version (now (board .entry)) «board_used» (now (defaults .entry)) «defaults_used»)
+        (now (board .entry)) (now (defaults .entry)) ⌝ }
+    ensures lies { λ r. ⌜ r .ptr ≡ lies-at (find name version (now (board .entry)) «board_used» (now (defaults .entry)) «defaults_used»)
+        (board .entry .ptr) (defaults .entry .ptr) ⌝ }
     ensures refuses { λ _. ⌜ now (refusal .exit) ≡ refusal-of (find name version (now (board .entry)) «board_used» (now (defaults .entry)) «defaults_used») ⌝ }
 {
     match find(board, board_used, defaults, defaults_used, name, version) {

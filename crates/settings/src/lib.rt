@@ -14,6 +14,7 @@ pub use finding::lookup;
 
 // The greatest length of a value, and how many bytes of an entry stand before it.
 pub const GREATEST_VALUE: usize = 64;
+
 pub const ENTRY_FRONT: usize = 4;
 
 // Where a value lies in its store: from the byte at start to before the one at end.

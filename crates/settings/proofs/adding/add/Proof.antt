@@ -37,7 +37,7 @@ returns c =
 -- the entries of a store whose last version was found
 known : (c : tie.After-last)
     → let a = c .before .before .before .before .before .before .args in
-      (es : List Entry) × ((stored (a .store .now) (a .used) ≡ some es) × (c .last .given .0 .0 ≡ newest 0 es))
+    (es : List Entry) × ((stored (a .store .now) (a .used) ≡ some es) × (c .last .given .0 .0 ≡ newest 0 es))
 known c =
     let l = c .before .before in
     let a = l .before .before .before .before .args in

@@ -45,12 +45,13 @@ put-value-requires c κs =
 -- what is left is the entry, written over
 whole : (c : tie.After-put-value)
     → let a = c .before .before .before .before .before .before .before .before .args in
-      c .put-value .last .0 ≡ overwrite (a .at) (entry-bytes (a .version) (a .name) (a .value .now)) (a .store .now)
+    c .put-value .last .0 ≡ overwrite (a .at) (entry-bytes (a .version) (a .name) (a .value .now)) (a .store .now)
 whole c =
     let w = c .before .before .before .before in
     let s = w .before .before .before .before in
     let a = s .args in
-    entry-put (a .at) (a .name) (a .version) (a .value .now) (a .store .now) (w .write-u16 .last .0) (c .put-value .last .0) (s .pre .0) (w .write-u16 .ensures) (c .put-value .ensures)
+    entry-put (a .at) (a .name) (a .version) (a .value .now) (a .store .now) (w .write-u16 .last .0) (c .put-value .last .0)
+    (s .pre .0) (w .write-u16 .ensures) (c .put-value .ensures)
 
 same-length : tie.Need-same-length
 same-length c =

@@ -22,16 +22,28 @@ add-if2-2 : tie.Need-add-if2-2
 add-if2-2 c = search needs
 
 returns-2 : tie.Need-returns-2
-returns-2 c = let a = c .before .before .before .before .before .args in let e = c .before .before .entry-at in too-long (a .last) (a .at) (a .store .now) (e .result) (e .ensures) (omega arith) (omega arith)
+returns-2 c =
+    let r = c .before .before in
+    let a = r .before .before .before .args in
+    too-long (a .last) (a .at) (a .store .now) (r .entry-at .result) (r .entry-at .ensures) (omega arith) (omega arith)
 
 returns-3 : tie.Need-returns-3
-returns-3 c = let d = c .before .before in let a = d .before .before .before .before .before .args in let e = d .before .before .entry-at in falls (a .last) (a .at) (a .store .now) (e .result) (e .ensures) (omega arith) (omega arith) (c .if3 .taken)
+returns-3 c =
+    let r = c .before .before .before .before in
+    let a = r .before .before .before .args in
+    falls (a .last) (a .at) (a .store .now) (r .entry-at .result) (r .entry-at .ensures) (omega arith) (omega arith) (c .if3 .taken)
 
 returns-4 : tie.Need-returns-4
-returns-4 c = let d = c .before .before .before .before in let a = d .before .before .before .before .before .args in let e = d .before .before .entry-at in beyond (a .last) (a .at) (a .store .now) (e .result) (e .ensures) (omega arith) (omega arith) (omega arith) (omega arith)
+returns-4 c =
+    let r = c .before .before .before .before .before .before in
+    let a = r .before .before .before .args in
+    beyond (a .last) (a .at) (a .store .now) (r .entry-at .result) (r .entry-at .ensures) (omega arith) (omega arith) (omega arith) (omega arith)
 
 returns-5 : tie.Need-returns-5
-returns-5 c = let d = c .before .before .before .before in let a = d .before .before .before .before .before .args in let e = d .before .before .entry-at in whole (a .last) (a .at) (a .store .now) (e .result) (e .ensures) (omega arith) (omega arith) (omega arith) (omega arith)
+returns-5 c =
+    let r = c .before .before .before .before .before .before in
+    let a = r .before .before .before .args in
+    whole (a .last) (a .at) (a .store .now) (r .entry-at .result) (r .entry-at .ensures) (omega arith) (omega arith) (omega arith) (omega arith)
 
 pub read-entry-spec : {M : Type 1} → statement M
 read-entry-spec =

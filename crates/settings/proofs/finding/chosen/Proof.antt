@@ -38,12 +38,14 @@ enum-told-4 c = search needs
 returns-3 : tie.Need-returns-3
 returns-3 c =
     let d = c .before .before .before .before in
-    neither-has _ _ _ (d .before .before .before .before .board .given .1) _ (d .before .default .given .1) (c .before .before .enum-told3 .given .1) (c .enum-told4 .given .1)
+    neither-has _ _ _ (d .before .before .before .before .board .given .1) _ (d .before .default .given .1)
+    (c .before .before .enum-told3 .given .1) (c .enum-told4 .given .1)
 
 returns-4 : tie.Need-returns-4
 returns-4 c =
     let d = c .before .before .before .before .before in
-    default-has _ _ _ (d .before .before .before .before .board .given .1) _ (d .before .default .given .1) _ (c .before .before .before .enum-told3 .given .1) (c .before .other .given .1)
+    default-has _ _ _ (d .before .before .before .before .board .given .1) _ (d .before .default .given .1) _
+    (c .before .before .before .enum-told3 .given .1) (c .before .other .given .1)
 
 returns-5 : tie.Need-returns-5
 returns-5 c =

@@ -41,14 +41,16 @@ returns c =
     let at = c .before .before .before .before in
     let a = at .before .before .args in
     let bad = unread (at .loop .last) (at .loop .at) (a .store .now) (sym (c .enum-told .given .1) ∙ c .before .before .read-entry .ensures) in
-    sym (ap (found-in (a .name) (a .version)) (walk-bad (a .store .now) (at .loop .inv .0) (at .loop .last) (at .loop .at) (at .loop .inv .1 .0) (omega arith) bad))
+    let i = at .loop .inv in
+    sym (ap (found-in (a .name) (a .version)) (walk-bad (a .store .now) (i .0) (at .loop .last) (at .loop .at) (i .1 .0) (omega arith) bad))
 
 later-requires : tie.Need-later-requires Inv-loop μ-loop
 later-requires c κs = search needs
 
 -- the entry that a turn reads
 turn : (c : tie.After-later Inv-loop μ-loop)
-    → let at = c .before .before .before .before .before .before in Known (at .loop .last) (at .loop .at) (at .before .before .args .store .now) (c .before .before .entry .given .0 .0)
+    → let at = c .before .before .before .before .before .before in
+    Known (at .loop .last) (at .loop .at) (at .before .before .args .store .now) (c .before .before .entry .given .0 .0)
 turn c =
     let at = c .before .before .before .before .before .before in
     known (at .loop .last) (at .loop .at) (at .before .before .args .store .now) (c .before .before .entry .given .0 .0)
@@ -64,8 +66,10 @@ loop-again c =
     let e = c .before .before .entry .given .0 .0 in
     let r = at .loop .inv .0 in (
       r ++ (e ∷ []),
-      (walk-more (a .store .now) r (at .loop .last) (at .loop .at) (at .loop .inv .1 .0) (omega arith) e (turn c),
-      c .later .ensures ∙ ap (λ (f : Found). later (a .name) (a .version) f e) (at .loop .inv .1 .1) ∙ sym (value-snoc (a .name) (a .version) r e)),
+      (
+        walk-more (a .store .now) r (at .loop .last) (at .loop .at) (at .loop .inv .1 .0) (omega arith) e (turn c),
+        c .later .ensures ∙ ap (λ (f : Found). later (a .name) (a .version) f e) (at .loop .inv .1 .1) ∙ sym (value-snoc (a .name) (a .version) r e),
+      ),
     )
 
 returns-2 : tie.Need-returns-2 Inv-loop μ-loop

@@ -23,13 +23,15 @@ board-in : (c : tie.After-span) → Inside (length (c .before .before .before .b
 board-in c =
     let f = c .before .before in
     let a = f .before .before .before .args in
-    rw (sym (f .find .ensures) ∙ c .span .given .1) at (find-inside (a .name) (a .version) (a .board .now) (a .board-used) (a .defaults .now) (a .defaults-used))
+    rw (sym (f .find .ensures) ∙ c .span .given .1) at
+    (find-inside (a .name) (a .version) (a .board .now) (a .board-used) (a .defaults .now) (a .defaults-used))
 
 default-in : (c : tie.After-span2) → Inside (length (c .before .before .before .before .before .args .defaults .now)) (c .span2 .given .0 .0)
 default-in c =
     let f = c .before .before in
     let a = f .before .before .before .args in
-    rw (sym (f .find .ensures) ∙ c .span2 .given .1) at (find-inside (a .name) (a .version) (a .board .now) (a .board-used) (a .defaults .now) (a .defaults-used))
+    rw (sym (f .find .ensures) ∙ c .span2 .given .1) at
+    (find-inside (a .name) (a .version) (a .board .now) (a .board-used) (a .defaults .now) (a .defaults-used))
 
 sub-result : tie.Need-sub-result
 sub-result c = board-in (c .before) .ordered
@@ -73,7 +75,11 @@ returns c =
     let a = c .before .before .before .before .before .before .before .args in
     let e = sym (c .before .before .span .given .1) ∙ c .before .before .before .before .find .ensures in (
       ap (λ (p : Place). bytes-of p (a .board .now) (a .defaults .now)) e,
-      ((λ i. (a .board .ptr .0, add-comm (c .before .before .span .given .0 .0 .start) (a .board .ptr .1) i)) ∙ ap (λ (p : Place). lies-at p (a .board .ptr) (a .defaults .ptr)) e, ap refusal-of e),
+      (
+        (λ i. (a .board .ptr .0, add-comm (c .before .before .span .given .0 .0 .start) (a .board .ptr .1) i))
+            ∙ ap (λ (p : Place). lies-at p (a .board .ptr) (a .defaults .ptr)) e,
+        ap refusal-of e,
+      ),
     )
 
 returns-2 : tie.Need-returns-2
@@ -82,7 +88,11 @@ returns-2 c =
     let a = c .before .before .before .before .before .before .before .args in
     let e = sym (c .before .before .span2 .given .1) ∙ c .before .before .before .before .find .ensures in (
       ap (λ (p : Place). bytes-of p (a .board .now) (a .defaults .now)) e,
-      ((λ i. (a .defaults .ptr .0, add-comm (c .before .before .span2 .given .0 .0 .start) (a .defaults .ptr .1) i)) ∙ ap (λ (p : Place). lies-at p (a .board .ptr) (a .defaults .ptr)) e, ap refusal-of e),
+      (
+        (λ i. (a .defaults .ptr .0, add-comm (c .before .before .span2 .given .0 .0 .start) (a .defaults .ptr .1) i))
+            ∙ ap (λ (p : Place). lies-at p (a .board .ptr) (a .defaults .ptr)) e,
+        ap refusal-of e,
+      ),
     )
 
 returns-3 : tie.Need-returns-3
@@ -91,7 +101,11 @@ returns-3 c =
     let a = c .before .before .before .before .before .before .before .before .args in
     let e = sym (c .before .before .before .why .given .1) ∙ c .before .before .before .before .before .find .ensures in (
       ap (λ (p : Place). bytes-of p (a .board .now) (a .defaults .now)) e,
-      ((λ i. (a .board .ptr .0, zero-add (a .board .ptr .1) i)) ∙ ap (λ (p : Place). lies-at p (a .board .ptr) (a .defaults .ptr)) e, c .before .number .ensures ∙ ap refusal-of e),
+      (
+        (λ i. (a .board .ptr .0, zero-add (a .board .ptr .1) i))
+            ∙ ap (λ (p : Place). lies-at p (a .board .ptr) (a .defaults .ptr)) e,
+        c .before .number .ensures ∙ ap refusal-of e,
+      ),
     )
 
 pub lookup-spec : {M : Type 1} → statement M

@@ -17,7 +17,7 @@ same-length : tie.Need-same-length
 same-length c = search needs
 
 returns : tie.Need-returns
-returns c = 
+returns c =
     let e = c .before .before .before .add .ensures in
     (c .reply-of-add .ensures ∙ ap (λ (o : Stored). add-reply (o .answer)) e, ap (λ (o : Stored). o .store) e)
 
