@@ -1,30 +1,19 @@
 -- The bytes of an entry behind a run of entries: they are read as that entry, and the others as before.
 -- Assumes nothing.
-use mathlib.Core.Path.{_≡_, refl, ap, sym, _∙_}
-use mathlib.Core.List.{List, [], _∷_, _++_, append-assoc}
-use mathlib.Core.Bool.{Bool, true, false, cond, _&&_}
-use mathlib.Core.Option.{Option, none, some}
-use Prim.Native.Nat.{ℕ, zero, suc, _+_, _*_, _-_, _/_, _%_, _^_, _≤_, _<_}
+use mathlib.Core.Path.{_≡_, ap, sym, _∙_}
+use mathlib.Core.List.{List, [], _∷_, _++_}
+use mathlib.Core.Option.{some}
+use Prim.Native.Nat.{ℕ, zero, suc, _+_, _*_, _-_, _/_, _%_, _≤_, _<_}
 use native.Mathlib.Omega.{arith}
 use native.Mathlib.Nat.{add-zero}
-use lib.ListN.{length, take, drop, getD, length-append, List·getD-append}
-use lib.Seq.{length-take-le, getD-append-add, take-at, drop-at, take-take}
-use lib.Dec.{leb, eqb}
-use borrow.Author.Tests.{le-leb, lt-leb, eq-eqb, ne-eqb}
-use Rattle.layout.specs.Bytes.{bytes, overwrite}
-use Rattle.layout.proofs.Overwrite.{overwrite-fits, length-overwrite}
-use Rattle.settings.specs.declared.Span.{Span}
+use lib.ListN.{length, getD, length-append, List·getD-append}
+use lib.Seq.{getD-append-add}
+use Rattle.layout.specs.Bytes.{bytes}
 use Rattle.settings.specs.declared.Entry.{Entry}
-use Rattle.settings.specs.declared.Found.{Found}
-use Rattle.settings.specs.declared.Found.the-variants.{At, Nothing}
-use Rattle.settings.specs.declared.Scan.the-variants.{Done}
-use Rattle.settings.specs.Entries.{entry-at, entry-fits, in-front, entries-from, entries, stored, newest}
-use Rattle.settings.specs.Find.{answers, value-of, later, value-in, found-in, chosen, find, part}
+use Rattle.settings.specs.Entries.{entry-at, in-front, entries-from, entries, newest}
 use Rattle.settings.specs.Add.{entry-bytes}
-use Rattle.settings.proofs.Reading.{Known, known-at, fits}
+use Rattle.settings.proofs.Reading.{Known, fits}
 use Rattle.settings.proofs.Walks.{from-end, from-more, by-entries}
-use Rattle.settings.proofs.Values.{value-snoc, stored-is}
-use Rattle.settings.proofs.Stores.{stored-within}
 
 -- the entry that stands at a place with a value of so many bytes
 abbrev pub entry-of : ℕ → ℕ → ℕ → ℕ → Entry

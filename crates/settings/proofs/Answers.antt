@@ -9,14 +9,14 @@ use Prim.Native.Nat.{ℕ, _+_, _-_, _≤_, _<_}
 use native.Mathlib.Omega.{arith}
 use lib.ListN.{length, take, drop, length-append}
 use lib.Seq.{length-take-le, take-at, drop-at, take-add}
-use lib.Dec.{leb, ltb, eqb}
-use borrow.Author.Tests.{le-leb, lt-leb, eq-eqb, ltb-true, ltb-false}
+use lib.Dec.{ltb, eqb}
+use borrow.Author.Tests.{le-leb, lt-leb, eq-eqb, ltb-false}
 use Rattle.layout.specs.Bytes.{bytes, overwrite}
 use Rattle.layout.proofs.Overwrite.{overwrite-fits, length-overwrite, take-overwrite}
 use Rattle.settings.specs.declared.Span.{Span}
 use Rattle.settings.specs.declared.Entry.{Entry}
 use Rattle.settings.specs.declared.Found.{Found}
-use Rattle.settings.specs.declared.Found.the-variants.{At, Nothing}
+use Rattle.settings.specs.declared.Found.the-variants.{At}
 use Rattle.settings.specs.declared.Scan.{Scan}
 use Rattle.settings.specs.declared.Scan.the-variants.{Done}
 use Rattle.settings.specs.declared.Place.{Place}
@@ -24,7 +24,7 @@ use Rattle.settings.specs.declared.Place.the-variants.{Board, Default, R
 use Rattle.settings.specs.declared.AddAnswer.the-variants.{Added}
 use Rattle.settings.specs.Entries.{entries, stored, newest}
 use Rattle.settings.specs.Find.{answers, value-of, later, value-in, found-in, chosen, find, part, bytes-of, PlacedIn}
-use Rattle.settings.specs.declared.SettingsRefusal.the-variants.{Malformed, ValueLength, VersionFalls, Full}
+use Rattle.settings.specs.declared.SettingsRefusal.the-variants.{ValueLength, VersionFalls, Full}
 use Rattle.settings.specs.Add.{Stored, entry-bytes, refused, added, add-behind, add-of}
 use Rattle.settings.proofs.Values.{value-snoc, stored-is, find-used-inside}
 use Rattle.settings.proofs.Stores.{stored-within}

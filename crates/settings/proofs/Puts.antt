@@ -1,24 +1,21 @@
 -- Writing an entry: its parts side by side are its bytes; and each answer of adding.
 -- Assumes nothing.
-use mathlib.Core.Path.{_≡_, refl, ap, sym, _∙_}
+use mathlib.Core.Path.{_≡_, refl, ap, _∙_}
 use mathlib.Core.List.{List, [], _∷_, _++_}
-use mathlib.Core.Bool.{Bool, true, false, cond}
 use mathlib.Core.Option.{Option, none, some}
 use Prim.Native.Nat.{ℕ, _+_, _-_, _≤_, _<_}
 use native.Mathlib.Omega.{arith}
 use native.Mathlib.Numerals.{add-one}
 use lib.ListN.{length, take, getD, set, length-set}
 use lib.Seq.{take-suc, length-take-le}
-use lib.Dec.{ltb}
 use borrow.Author.Tests.{lt-ltb, le-ltb}
 use Rattle.layout.specs.Bytes.{bytes, overwrite, write-number}
 use Rattle.layout.proofs.Overwrite.{length-overwrite, overwrite-two, overwrite-more}
 use Rattle.settings.specs.declared.Entry.{Entry}
-use Rattle.settings.specs.declared.Last.{Last}
 use Rattle.settings.specs.declared.Last.the-variants.{Version, Malformed as LastMalformed}
 use Rattle.settings.specs.declared.SettingsRefusal.the-variants.{Malformed, ValueLength, VersionFalls, Full}
 use Rattle.settings.specs.Entries.{newest, stored, last-of}
-use Rattle.settings.specs.Add.{Stored, entry-bytes, refused, added, add-behind, add-of}
+use Rattle.settings.specs.Add.{entry-bytes, refused, added, add-behind, add-of}
 
 -- one byte more of a value
 pub put-more : (at i b : ℕ) (v s t : List ℕ) → at + length v ≤ length s → i < length v → b ≡ getD v i 0 → t ≡ overwrite at (take i v) s

@@ -1,6 +1,6 @@
 -- What reading an entry tells: each way not to fit, and what is known of one that fits.
 -- Assumes nothing.
-use mathlib.Core.Path.{_≡_, refl, ap, sym, _∙_}
+use mathlib.Core.Path.{_≡_, refl}
 use mathlib.Core.List.{List}
 use mathlib.Core.Bool.{Bool, true, false, cond, _&&_}
 use Prim.Native.Nat.{ℕ, _+_, _≤_, _<_}
@@ -9,7 +9,6 @@ use lib.ListN.{length}
 use lib.Dec.{leb}
 use borrow.Author.Tests.{le-leb, lt-leb, leb-true}
 use Rattle.settings.specs.declared.Entry.{Entry}
-use Rattle.settings.specs.declared.Read.{Read}
 use Rattle.settings.specs.declared.Read.the-variants.{Whole, Bad}
 use Rattle.settings.specs.Entries.{entry-at, entry-fits, read-entry}
 

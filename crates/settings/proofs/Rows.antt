@@ -2,13 +2,12 @@
 -- Assumes nothing.
 use mathlib.Core.Path.{_≡_, refl}
 use mathlib.Core.List.{List, [], _∷_, _++_, map}
-use mathlib.Core.Option.{Option, none, some}
+use mathlib.Core.Option.{none, some}
 use Prim.Native.Nat.{ℕ}
 use lib.ListN.{length, take, replicate}
 use Rattle.settings.specs.declared.Span.{Span}
 use Rattle.settings.specs.declared.Entry.{Entry}
 use Rattle.settings.specs.declared.SettingsRefusal.the-variants.{Malformed, Missing, ValueLength, VersionFalls, Full}
-use Rattle.settings.specs.declared.Place.{Place}
 use Rattle.settings.specs.declared.Place.the-variants.{Board, Default, Refused}
 use Rattle.settings.specs.declared.NextEntry.the-variants.{There, End, Malformed as NoEntry}
 use Rattle.settings.specs.declared.AddAnswer.the-variants.{Added, Refused as NotAdded}

@@ -1,9 +1,9 @@
 -- The used bytes of a store: each case, and that asking for one entry after the other lists them all (rule 25.10).
 -- Assumes nothing.
 use mathlib.Core.Path.{_≡_, refl, ap, sym, _∙_}
-use mathlib.Core.List.{List, [], _∷_}
-use mathlib.Core.Bool.{Bool, true, false, cond}
-use mathlib.Core.Option.{Option, none, some}
+use mathlib.Core.List.{List}
+use mathlib.Core.Bool.{Bool, true, false}
+use mathlib.Core.Option.{none}
 use Prim.Native.Nat.{ℕ, zero, suc, _+_, _≤_, _<_}
 use native.Mathlib.Omega.{arith}
 use lib.ListN.{length, take}
@@ -11,7 +11,6 @@ use lib.Seq.{length-take-le}
 use lib.Dec.{leb}
 use borrow.Author.Tests.{le-leb, lt-leb, leb-true, leb-false}
 use Rattle.settings.specs.declared.Entry.{Entry}
-use Rattle.settings.specs.declared.NextEntry.{NextEntry}
 use Rattle.settings.specs.declared.NextEntry.the-variants.{There, End, Malformed}
 use Rattle.settings.specs.Entries.{entry-at, entry-fits, in-front, entries-from, entries, stored, next-entry, with-next, asked}
 use Rattle.settings.proofs.Reading.{Known, known-at}

@@ -1,6 +1,6 @@
 -- What is found: by one entry more, inside its bytes, and each case of the two stores.
 -- Assumes nothing.
-use mathlib.Core.Path.{_≡_, refl, ap, sym, _∙_}
+use mathlib.Core.Path.{_≡_, refl, ap, _∙_}
 use mathlib.Core.List.{List, [], _∷_, _++_}
 use mathlib.Core.Bool.{Bool, true, false, cond}
 use mathlib.Core.Option.{Option, none, some}
@@ -19,8 +19,7 @@ use Rattle.settings.specs.declared.Scan.the-variants.{Done, Malformed as
 use Rattle.settings.specs.declared.SettingsRefusal.the-variants.{Malformed, Missing}
 use Rattle.settings.specs.declared.Place.the-variants.{Board, Default, Refused}
 use Rattle.settings.specs.Entries.{entry-at, entries-from, entries, stored}
-use Rattle.settings.specs.Find.{answers, value-of, later, or-else, value-in, found-in, chosen, find, Inside, FoundIn, PlacedIn}
-use Rattle.settings.proofs.Reading.{Known}
+use Rattle.settings.specs.Find.{answers, value-of, later, or-else, value-in, found-in, chosen, find, FoundIn, PlacedIn}
 use Rattle.settings.proofs.Walks.{by-entries}
 
 exchange : (name version : ℕ) (f g : Found) (e : Entry) → or-else (later name version f e) g ≡ later name version (or-else f g) e

@@ -1,14 +1,13 @@
 -- What was found lies in its buffer (`find-inside`); each case is the definition's.
 -- Assumes nothing.
-use mathlib.Core.Path.{_≡_, refl, ap, sym, _∙_}
-use Prim.Native.Nat.{ℕ, _+_, _-_}
+use mathlib.Core.Path.{ap, sym, _∙_}
+use Prim.Native.Nat.{_-_}
 use native.Mathlib.Nat.{add-comm, zero-add}
 use borrow.Author.Needs.{needs}
 use lib.ListN.{length}
-use Rattle.settings.specs.Find.{Inside, PlacedIn, refusal-of, part, bytes-of, lies-at}
+use Rattle.settings.specs.Find.{Inside, refusal-of, part, bytes-of, lies-at}
 use Rattle.settings.proofs.Values.{find-inside}
 use Rattle.settings.specs.declared.Place.{Place}
-use Rattle.settings.specs.declared.Place.the-variants.{Board, Default, Refused}
 use Rattle.settings.proofs.finding.lookup.Statement.{statement}
 use Rattle.settings.proofs.finding.lookup.Tie as tie
 
