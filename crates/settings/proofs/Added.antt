@@ -19,7 +19,7 @@ use Rattle.settings.proofs.Walks.{from-end, from-more, by-entries}
 abbrev pub entry-of : ℕ → ℕ → ℕ → ℕ → Entry
 entry-of version name at n = record { version = version; name = name; start = at + 4; end = at + 4 + n }
 
-same-version : (v : ℕ) → v < 65536 → v % 256 + 256 * (v / 256 % 256) ≡ v
+pub same-version : (v : ℕ) → v < 65536 → v % 256 + 256 * (v / 256 % 256) ≡ v
 same-version v h = omega arith
 
 pub length-entry : (version name : ℕ) (v : List ℕ) → length (entry-bytes version name v) ≡ 4 + length v

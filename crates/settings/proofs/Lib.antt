@@ -8,3 +8,4 @@ pub mod Stores
 pub mod Puts
 pub mod Added
 pub mod Answers
+pub mod Exact

@@ -2,3 +2,4 @@
 pub mod Entries
 pub mod Find
 pub mod Add
+pub mod Exact
