@@ -11,6 +11,7 @@ use lib.Seq.{take-suc, length-take-le}
 use borrow.Author.Tests.{lt-ltb, le-ltb}
 use Rattle.layout.specs.Bytes.{bytes, overwrite, write-number}
 use Rattle.layout.proofs.Overwrite.{length-overwrite, overwrite-two, overwrite-more}
+use Rattle.settings.proofs.Rows
 use Rattle.settings.specs.declared.Entry.{Entry}
 use Rattle.settings.specs.declared.Last.the-variants.{Version, Malformed as LastMalformed}
 use Rattle.settings.specs.declared.SettingsRefusal.the-variants.{Malformed, ValueLength, VersionFalls, Full}

@@ -8,6 +8,7 @@ use native.Mathlib.Omega.{arith}
 use lib.ListN.{length}
 use lib.Dec.{leb}
 use borrow.Author.Tests.{le-leb, lt-leb, leb-true}
+use Rattle.settings.proofs.Rows
 use Rattle.settings.specs.declared.Entry.{Entry}
 use Rattle.settings.specs.declared.Read.the-variants.{Whole, Bad}
 use Rattle.settings.specs.Entries.{entry-at, entry-fits, read-entry}
