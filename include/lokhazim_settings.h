@@ -36,7 +36,7 @@ extern "C" {
 enum lokhazim_settings_refusal {
     /* Not refused. */
     LOKHAZIM_SETTINGS_ACCEPTED = 0,
-    /* A store is malformed: an entry cut short, a length over 64, a falling version, or more used bytes than there are. */
+    /* A store is no run of entries: one is cut short, longer than 64 or of a lower version than the one before, or fewer bytes are there than are used. */
     LOKHAZIM_SETTINGS_MALFORMED = 41,
     /* Neither store has an entry of that name at that version or below. */
     LOKHAZIM_SETTINGS_MISSING = 42,

@@ -171,7 +171,7 @@ fn entries_come_one_after_the_other() {
 }
 
 #[test]
-fn an_entry_with_a_higher_version_changes_no_answer_at_lower_ones() {
+fn below_a_new_entry_s_version_every_answer_stays() {
     let mut settings = Settings::default();
     for n in 0..3_000 {
         let mut seed = Seed::of_case(SEED + 2, n);

@@ -204,7 +204,7 @@ module _ (name version : ℕ) (v s : List ℕ) (used to : ℕ) (w : version < 65
   default-bytes (Default x) b n i = stays x (i .ordered) (i .within)
   default-bytes (Refused r) b n i = refl
 
-  -- an entry with a higher version changes no answer at lower ones: the same place and the same bytes, where the store is the board's ..
+  -- below the new entry's version every name keeps its value, by place and by bytes: where the store is the board's ..
   pub board-silent : (n x : ℕ) (d : List ℕ) (du : ℕ) → x < version
       → (find n x after to d du ≡ find n x s used d du) × (bytes-of (find n x after to d du) after d ≡ bytes-of (find n x s used d du) s d)
   unfolding find

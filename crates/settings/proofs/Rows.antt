@@ -51,8 +51,8 @@ run-rows : (stored [] 0 ≡ some [])
 unfolding shown
 run-rows = (refl, refl, refl, refl, refl, refl, refl, refl, refl)
 
--- malformed: cut at every byte, in the buffer and by the used length; a value of 65 and of 255 bytes; a used length beyond the buffer; a falling
--- version in the lower and in the higher byte, behind a good entry; a second entry cut short
+-- malformed: cut at every byte, in the buffer and by the used length; a value of 65 and of 255 bytes; more bytes used than there are; a version that
+-- falls in the lower and in the higher byte, behind a good entry; a second entry cut short
 malformed-rows : (map (λ (n : ℕ). stored (take n small) n) (1 ∷ 2 ∷ 3 ∷ 4 ∷ 5 ∷ []) ≡ replicate 5 none)
     × (map (stored small) (1 ∷ 2 ∷ 3 ∷ 4 ∷ 5 ∷ []) ≡ replicate 5 none)
     × (stored (long 65) 69 ≡ none)
