@@ -45,8 +45,8 @@ lokhazim: a heap that parts of a firmware share, by its proved library
 
 A script begins with 'open H' and eight grants, then has a call to a line: alloc q n, array q n s,
 claim q b l s, free q b l s, all q, realloc q b l s n. SCRIPT and FILE can be - for standard input.
-A file of settings holds the used bytes of a store; an empty one is a store without entries. NAME is 0 to
-255, VERSION 0 to 65535; --hex says that VALUE is two hexadecimal digits for each byte.
+A file of settings holds the used bytes of a store; an empty one is a store without entries. NAME is
+0 to 255, VERSION 0 to 65535; with --hex a value is two hexadecimal digits for each byte.
 Status 0: done. 1: refused, with the number and the reason. 2: wrong words, or a file that can't be
 read or written. docs/RULES.md has every rule.
 ";

@@ -99,6 +99,10 @@ fn is_malformed(bytes: &[u8]) -> bool {
 pub fn add(file: &str, name: &str, version: &str, value: &str, form: Form) -> Result<(), Failure> {
     let (name, version) = name_and_version(name, version)?;
     let value = value_of(value, form)?;
+    if file == "-" {
+        let what = "standard input can't get an entry; name a file";
+        return Err(Failure::Usage(what.to_string()));
+    }
     let mut bytes = files::read(file)?;
     let used = bytes.len();
     bytes.resize(used + ENTRY_FRONT + value.len(), 0);

@@ -113,6 +113,7 @@ fn wrong_words_and_files_change_nothing() {
         (["get", "b", "b", "1", "v2"], "'v2' is no version"),
         (["get", "b", "none", "1", "2"], "none can't be read"),
         (["add", "none", "1", "2", "x"], "none can't be read"),
+        (["add", "-", "1", "2", "x"], "name a file"),
     ];
     for (words, said) in wrong {
         expect(&run(&words), 2, "", said);
