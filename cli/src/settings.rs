@@ -119,14 +119,10 @@ pub fn list(file: &str) -> Result<(), Failure> {
     for entry in Store::whole(&bytes).entries() {
         match entry {
             Ok(entry) => {
-                let _ = writeln!(
-                    text,
-                    "entry {} {} {} {}",
-                    entry.version,
-                    entry.name,
-                    entry.value.len(),
-                    hex(entry.value)
-                );
+                let (length, digits) = (entry.value.len(), hex(entry.value));
+                let line = format!("entry {} {} {length} {digits}", entry.version, entry.name);
+                text.push_str(line.trim_end());
+                text.push('\n');
             }
             Err(refusal) => end = Err(refused(file)(refusal)),
         }

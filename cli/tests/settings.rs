@@ -36,7 +36,7 @@ fn values_are_added_asked_for_and_listed() {
     expect(
         &run(&["list", "b"]),
         0,
-        "entry 513 7 2 6f6e\nentry 513 7 2 0aff\nentry 65535 255 0 \n",
+        "entry 513 7 2 6f6e\nentry 513 7 2 0aff\nentry 65535 255 0\n",
         "",
     );
     assert_eq!(names(&folder), ["b", "d"]);
