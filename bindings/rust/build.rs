@@ -10,6 +10,7 @@ const LIBRARIES: [&str; 4] = [
     "lokhazim_image",
     "lokhazim_compare",
     "lokhazim_report",
+    "lokhazim_settings",
 ];
 
 /// Tells cargo where the libraries are. Where one is missing, the crate says so itself when it is
