@@ -17,6 +17,7 @@ pub mod boundary;
 pub mod calls;
 pub mod case;
 pub mod choice;
+pub mod cleanup;
 pub mod compare;
 pub mod comparisons;
 pub mod cut;

@@ -1,6 +1,7 @@
 //! Rounds of comparisons that the gate's tests and the fuzz program share.
 
 use crate::calls::Pair;
+use crate::cleanup;
 use crate::compare::Failure;
 use crate::comparisons;
 use crate::damage::DAMAGES;
@@ -50,6 +51,7 @@ pub fn calls(pair: &mut Pair, seed: u64, n: u64) -> Result<(), Failure> {
         unsound::noise(pair, seed, 4 * n + turn)?;
         unsound::together(pair, seed, 4 * n + turn)?;
     }
+    cleanup::lists(pair, seed, n)?;
     unsound::lengths(pair, seed, n)?;
     for turn in 0..8 {
         let place = (8 * n + turn) as usize % DAMAGES.len();

@@ -36,7 +36,7 @@ pub struct Tally {
     pub look_alikes: u64,
     /// Calls whose handle names an object and has a part of it, by kind and by refusal.
     pub narrowed: [[u64; 13]; Call::NAMES.len()],
-    /// Cases by a name of their own: the kinds of damage.
+    /// Cases by a name of their own: the kinds of damage, and the lists of releases.
     pub cases: BTreeMap<&'static str, u64>,
     /// Images written and read, by refusal, 0 where accepted.
     pub images: BTreeMap<(&'static str, u32), u64>,

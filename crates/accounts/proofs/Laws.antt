@@ -291,3 +291,19 @@ module _ (i : ℕ) (h : Hold) (serial : ℕ) (q : ℕ) (k : Accounts) where
 pub hold-at-out : (i : ℕ) (k : Accounts) → length (k .holds) ≤ i → hold-at i k ≡ zero-hold
 unfolding hold-at
 hold-at-out i k l = List·getD-eq-default (k .holds) zero-hold l
+
+-- quotas that differ in nothing but what remains of them, and of which the same remains, are the same
+pub same-quota : (x y : Quota) → with-remainder 0 x ≡ with-remainder 0 y → x .remainder ≡ y .remainder → x ≡ y
+same-quota x y e r = λ i. with-remainder (r i) (e i)
+
+-- accounts with equal fields are equal
+pub same-accounts : (k l : Accounts) → k .quotas ≡ l .quotas → k .«last_serial» ≡ l .«last_serial» → k .holds ≡ l .holds → k ≡ l
+same-accounts k l q s h = λ i. record { quotas = q i; «last_serial» = s i; holds = h i }
+
+-- a refund changes nothing of any quota but what remains
+pub refund-but : (q n : ℕ) (k : Accounts) → map (with-remainder 0) (refund q n k .quotas) ≡ map (with-remainder 0) (k .quotas)
+unfolding refund set-remaining
+refund-but q n k =
+    either (λ (r : Accounts). map (with-remainder 0) (r .quotas) ≡ map (with-remainder 0) (k .quotas)) (ltb q QUOTAS)
+    (set-remaining q (paid-back n (remaining q k)) k) k
+    (map-set-same (with-remainder 0) (k .quotas) q (with-remainder (paid-back n (remaining q k)) (quota-at q k)) zero-quota refl) refl

@@ -17,6 +17,7 @@ use borrow.Author.Tests.{eqb-true, eqb-false, eq-eqb}
 use Rattle.accounts.specs.declared.Quota.{Quota}
 use Rattle.accounts.specs.declared.Hold.{Hold}
 use Rattle.accounts.specs.Accounts.{zero-quota, zero-hold}
+use Rattle.accounts.proofs.Laws.{same-accounts}
 use Rattle.image_model.proofs.Items.{All, all-both}
 use Rattle.model.proofs.Bools.{and-left, and-right, and-both}
 use Rattle.comparison.specs.Differences.{State, Run, same-quota, same-record, serial-part, quota-part, record-part, runs, bytes-of, byte-part}
@@ -271,4 +272,5 @@ differences-empty a b w = (there, λ e. rw e (differences-self b))
         let q = differing-none same-quota QuotaAt same-quota-is 0 (a .accounts .quotas) (b .accounts .quotas) (w .quotas) (y .0) in
         let h = differing-none same-record RecordAt same-record-is 0 (a .accounts .holds) (b .accounts .holds) (w .holds) (z .0) in
         let s = bytes-none (a .heap) (b .heap) (w .heap) (z .1) in
-        λ i. record { heap = s i; accounts = record { quotas = q i; «last_serial» = n i; holds = h i } }
+        let k = same-accounts (a .accounts) (b .accounts) q n h in
+        λ i. record { heap = s i; accounts = k i }

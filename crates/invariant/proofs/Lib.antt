@@ -14,4 +14,5 @@ pub mod Settled
 pub mod Copied
 pub mod Transitions
 pub mod Passed
+pub mod Releasing
 pub mod Requested

@@ -34,6 +34,11 @@ module _ (q n : ℕ) (t : State) (g : Good t) (exists : q < QUOTAS) (hs : List H
   unfolding remaining
   fits = omega (arith, good-recorded t g .balance q exists, good-limits t g .narrow q, rw (eq-eqb q q refl) at (less q))
 
+  -- and is paid in full
+  settled-paid : remaining q (with-holds hs (refund q n (t .accounts))) ≡ remaining q (t .accounts) + n
+  unfolding remaining
+  settled-paid = rw (eq-eqb q q refl) at (refunded q n (t .accounts) (good-limits t g) exists fits q)
+
   -- the objects that are held and the accounts fit together
   settled-recorded : Fewer hs (t .accounts .holds) → Recorded (objects (settle hs (t .blocks))) (with-holds hs (refund q n (t .accounts)))
   settled-recorded fewer =
@@ -86,6 +91,14 @@ module _ (q : ℕ) (o : Handle) (t : State) (g : Good t) (there : List·Memᴰ o
       owed-moved (lower-count (o .serial) q hs) hs q o (objects (t .blocks)) (given-back q o (t .accounts)) (good-laid t g .differ) there (λ u j e. sym (rw e at (counts u j)))
       (rw here (cost-less (count-of (o .serial) q hs) o some)) j
 
+  -- and is paid that
+  pub released-paid : remaining q (released q o t .accounts) ≡ remaining q (t .accounts) + given-back q o (t .accounts)
+  unfolding released
+  released-paid =
+      let hs = t .accounts .holds in
+      let r = good-recorded t g .ordered in
+      settled-paid q (given-back q o (t .accounts)) t g (counted-quota hs r (o .serial) q some) (lower-count (o .serial) q hs) (lower-ordered hs r (o .serial) q held) released-less
+
   -- so the state is good
   pub released-good : Good (released q o t)
   unfolding released
@@ -136,6 +149,13 @@ module _ (q : ℕ) (t : State) (g : Good t) (exists : q < QUOTAS) where
             total-members (due (drop-records q (t .accounts .holds)) j) (due (t .accounts .holds) j) (objects (t .blocks))
                 (λ o m. ap (λ (n : ℕ). cost n o) (rw e at (dropped (o .serial) j))),
           )
+
+  -- and is paid all of it
+  pub freed-paid : remaining q (freed q (charges (t .accounts .holds) q (objects (t .blocks))) t .accounts) ≡ remaining q (t .accounts) + charges (t .accounts .holds) q (objects (t .blocks))
+  unfolding freed
+  freed-paid =
+      let hs = t .accounts .holds in
+      settled-paid q (charges hs q (objects (t .blocks))) t g exists (drop-records q hs) (drop-ordered hs (good-recorded t g .ordered) q) freed-less
 
   -- so the state is good
   pub freed-good : Good (freed q (charges (t .accounts .holds) q (objects (t .blocks))) t)

@@ -60,7 +60,7 @@ pub allocated-permissions : (q : ℕ) (o : Handle) (t : State) → permissions (
 unfolding allocated
 allocated-permissions q o t = charge-permissions q (charge-of (o .length)) (t .accounts)
 
-released-permissions : (q : ℕ) (o : Handle) (t : State) → permissions (released q o t .accounts) ≡ permissions (t .accounts)
+pub released-permissions : (q : ℕ) (o : Handle) (t : State) → permissions (released q o t .accounts) ≡ permissions (t .accounts)
 unfolding released
 released-permissions q o t = refund-permissions q (given-back q o (t .accounts)) (t .accounts)
 

@@ -1,0 +1,12 @@
+pub mod Rows
+pub mod Answers
+pub mod Wrong
+pub mod Lowering
+pub mod Finding
+pub mod Balance
+pub mod Exchange
+pub mod Accepting
+pub mod Theorem
+pub mod Drained
+pub mod Enough
+pub mod AllReleased

@@ -1,0 +1,114 @@
+-- A release is accepted exactly where it is possible, and then leaves what its definition says.
+-- Each of its lines says one thing of the state: the heap's length, soundness, the quota's number, the object that the handle names, its record.
+-- Assumes nothing.
+use mathlib.Core.Path.{_≡_, ap, _∙_}
+use Prim.Native.Nat.{ℕ, _<_, _^_}
+use mathlib.Core.List.{List, List·Memᴰ}
+use mathlib.Core.Bool.{true, false, not, _&&_}
+use mathlib.Core.Option.{some}
+use lib.ListN.{length, getD}
+use borrow.Author.Tests.{not-false, lt-leb}
+use Rattle.accounts.specs.declared.Accounts.{Accounts}
+use Rattle.accounts.specs.Accounts.{QUOTAS, zero-quota, permissible, permissions}
+use Rattle.layout.specs.Bytes.{Octets}
+use Rattle.layout.specs.Blocks.{render}
+use Rattle.model.specs.Lists.{all, any, first, or-else, is-none}
+use Rattle.model.specs.Answers.{amount-of}
+use Rattle.model.specs.Objects.{objects, objects-of, names, lookup, found}
+use Rattle.model.specs.Consistent.{allowed, consistent, sound, has-record, in-units}
+use Rattle.model.specs.Refusals.{line-holds, first-refusal, line-1, line-2, line-3, line-5, line-6, release-lines}
+use Rattle.model.specs.Calls.{State, leaves, unless, state-of, given-back, released, release}
+use Rattle.model.specs.Step.{step}
+use Rattle.model.specs.declared.Handle.{Handle}
+use Rattle.model.specs.declared.Call.the-variants.{Release}
+use Rattle.model.proofs.Bools.{and-left, and-right, and-both, or-neither}
+use Rattle.model.proofs.Lists.{first-some, all-member, member-all}
+use Rattle.model.proofs.Consistent.{sound-consistent}
+use Rattle.model.proofs.Permissions.{released-permissions}
+use Rattle.model.proofs.Refusals.{call-accepted-exactly}
+use Rattle.invariant.proofs.Good.{Good}
+use Rattle.invariant.proofs.Heaps.{good-heap, heap-good}
+use Rattle.invariant.proofs.Members.{keep-exactly}
+use Rattle.invariant.proofs.Settled.{released-good, released-objects}
+use Rattle.invariant.proofs.Passed.{release-passed}
+
+-- a release is possible: its quota exists, its handle names an object, and the quota has a record for that
+pub record Possible (q : ℕ) (h o : Handle) (t : State) : Type 0 where
+  pub exists : q < QUOTAS
+  pub names : first (names h) (objects (t .blocks)) ≡ some o
+  pub recorded : has-record (t .accounts .holds) q (o .serial) ≡ true
+
+-- what `sound` asks for beyond consistency: every object of a state fits its unit, and every quota's permissions are such
+abbrev pub Fitting : (ℕ → ℕ) → State → Type 0
+Fitting unit t = (all (in-units unit) (objects (t .blocks)) && all permissible (permissions (t .accounts))) ≡ true
+
+-- a good state that has this is written as a sound heap
+good-sound : (unit : ℕ → ℕ) (t : State) → Good t → Fitting unit t → sound unit (render (t .blocks)) (t .accounts) ≡ true
+unfolding sound
+good-sound unit t g f = and-both _ _ (good-heap t g .sound) (rw (good-heap t g .objects) f)
+
+-- a release that is possible in a good state
+module _ (q : ℕ) (h o : Handle) (t : State) (g : Good t) (p : Possible q h o t) where
+  -- its object is there
+  pub possible-there : List·Memᴰ o (objects (t .blocks))
+  possible-there = first-some (names h) (objects (t .blocks)) o (p .names) .0
+
+  -- the state stays good
+  pub possible-good : Good (released q o t)
+  possible-good = released-good q o t g possible-there (p .recorded)
+
+  -- its objects were there before
+  possible-kept : (x : Handle) → List·Memᴰ x (objects (released q o t .blocks)) → List·Memᴰ x (objects (t .blocks))
+  possible-kept x m = keep-exactly _ (objects (t .blocks)) x .0 (rw (released-objects q o t g possible-there (p .recorded)) at m) .0
+
+  module _ (unit : ℕ → ℕ) (f : Fitting unit t) where
+    -- so they fit their units, and a release leaves the permissions
+    pub possible-fitting : Fitting unit (released q o t)
+    possible-fitting =
+        and-both _ _
+        (member-all (in-units unit) (objects (released q o t .blocks))
+        (λ x m. all-member (in-units unit) (objects (t .blocks)) (and-left _ _ f) x (possible-kept x m)))
+        (ap (all permissible) (released-permissions q o t) ∙ and-right (all (in-units unit) (objects (t .blocks))) _ f)
+
+    found-here : lookup h (render (t .blocks)) ≡ some o
+    unfolding lookup
+    found-here = rw (good-heap t g .objects) (p .names)
+
+    no-line : first-refusal (release-lines unit (render (t .blocks)) (t .accounts) q h) ≡ 0
+    unfolding release-lines first-refusal line-1 line-2 line-3 line-5 line-6 found or-else is-none
+    no-line = rw (good-heap t g .allowed, good-sound unit t g f, lt-leb _ _ (p .exists), found-here, p .recorded)
+
+    -- it is accepted, and does what its definition says
+    pub does : release unit (render (t .blocks)) (t .accounts) q h ≡ leaves (released q o t) (amount-of (given-back q o (t .accounts)))
+    unfolding release unless found or-else
+    does = rw (no-line, found-here, good-heap t g .blocks)
+
+-- a release that is accepted: its state is sound, and it is possible there
+module _ (unit : ℕ → ℕ) (s : List ℕ) (k : Accounts) (q : ℕ) (h : Handle) (e : release unit s k q h .values .refusal ≡ 0) where
+  none-holds : any line-holds (release-lines unit s k q h) ≡ false
+  unfolding step
+  none-holds = call-accepted-exactly unit (Release q h) s k .0 e
+
+  checked : (allowed (length s) ≡ true) × (sound unit s k ≡ true)
+  unfolding release-lines any line-1 line-2
+  checked =
+      let x = or-neither (not (allowed (length s))) _ none-holds in
+      let y = or-neither (not (sound unit s k)) _ (x .1) in
+      (not-false (allowed (length s)) (x .0), not-false (sound unit s k) (y .0))
+
+  pub did-consistent : consistent s k ≡ true
+  did-consistent = sound-consistent unit s k (checked .1)
+
+  pub did-fitting : Fitting unit (state-of s k)
+  unfolding sound objects-of
+  did-fitting = and-right (consistent s k) _ (checked .1)
+
+  pub did-good : Octets s → length (k .quotas) ≡ QUOTAS → ((j : ℕ) → getD (k .quotas) j zero-quota .grant < 2 ^ 32) → k .«last_serial» < 2 ^ 32
+      → Good (state-of s k)
+  did-good o l n f = heap-good s k (checked .0) o did-consistent l n f
+
+  pub did : (o : Handle) × Possible q h o (state-of s k)
+  unfolding lookup objects-of found or-else
+  did =
+      let r = release-passed unit s k q h none-holds in
+      (r .object, record { exists = r .exists; names = r .names; recorded = rw (r .names) at (r .recorded) })
