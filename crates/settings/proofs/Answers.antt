@@ -1,4 +1,4 @@
--- After an accepted add (rule 25.9): the store is well formed, with the new entry last; no answer at a lower version has changed, nor one for another
+-- After an accepted add (rule 20.9): the store is well formed, with the new entry last; no answer at a lower version has changed, nor one for another
 -- name; at its version and above the new value is found.
 -- Assumes nothing.
 use mathlib.Core.Path.{_≡_, refl, ap, sym, _∙_}

@@ -1,4 +1,4 @@
--- The used bytes of a store: each case, and that asking for one entry after the other lists them all (rule 25.10).
+-- The used bytes of a store: each case, and that asking for one entry after the other lists them all (rule 20.10).
 -- Assumes nothing.
 use mathlib.Core.Path.{_≡_, refl, ap, sym, _∙_}
 use mathlib.Core.List.{List}

@@ -1,4 +1,4 @@
--- A new entry behind the used bytes (rules 25.7 and 25.8).
+-- A new entry behind the used bytes (rules 20.7 and 20.8).
 use Prim.Native.Nat.{ℕ, _+_, _-_}
 use mathlib.Core.List.{List, _∷_, _++_}
 use mathlib.Core.Bool.{cond}
@@ -13,7 +13,7 @@ use Rattle.settings.specs.declared.AddAnswer.{AddAnswer}
 use Rattle.settings.specs.declared.AddAnswer.the-variants.{Added, Refused}
 use Rattle.settings.specs.Entries.{newest, stored}
 
--- the bytes of an entry (rule 25.2)
+-- the bytes of an entry (rule 20.2)
 unfoldable pub entry-bytes : ℕ → ℕ → List ℕ → List ℕ
 entry-bytes version name value = bytes 2 version ++ (name ∷ length value ∷ value)
 
@@ -25,11 +25,11 @@ pub record Stored : Type 0 where
 abbrev pub refused : List ℕ → SettingsRefusal → Stored
 refused s r = record { store = s; answer = Refused r }
 
--- rule 25.8: the entry stands behind the used bytes
+-- rule 20.8: the entry stands behind the used bytes
 abbrev pub added : ℕ → ℕ → List ℕ → List ℕ → ℕ → Stored
 added name version value s used = record { store = overwrite used (entry-bytes version name value) s; answer = Added (used + (4 + length value)) }
 
--- rule 25.7: 41, 43, 44 and 45 in this order
+-- rule 20.7: 41, 43, 44 and 45 in this order
 unfoldable pub add-behind : ℕ → ℕ → List ℕ → List ℕ → ℕ → Option (List Entry) → Stored
 add-behind name version value s used none = refused s Malformed
 add-behind name version value s used (some es) =

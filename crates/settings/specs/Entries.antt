@@ -1,4 +1,4 @@
--- A store as a run of entries (rules 25.1 to 25.3): what stands at a place, and all entries one behind the other.
+-- A store as a run of entries (rules 20.1 to 20.3): what stands at a place, and all entries one behind the other.
 use Prim.Native.Nat.{ℕ, zero, suc, _+_, _*_}
 use mathlib.Core.List.{List, [], _∷_}
 use mathlib.Core.Bool.{Bool, cond, _&&_}
@@ -13,7 +13,7 @@ use Rattle.settings.specs.declared.Last.the-variants.{Version, Malformed
 use Rattle.settings.specs.declared.NextEntry.{NextEntry}
 use Rattle.settings.specs.declared.NextEntry.the-variants.{There, End, Malformed}
 
--- rule 25.2, an entry: its version (2 bytes, the lower first), its name (1), its value's length (1), its value
+-- rule 20.2, an entry: its version (2 bytes, the lower first), its name (1), its value's length (1), its value
 abbrev pub entry-at : ℕ → List ℕ → Entry
 entry-at at s =
     record {
@@ -23,7 +23,7 @@ entry-at at s =
       end = at + 4 + getD s (at + 3) 0;
     }
 
--- rule 25.3, behind an entry of version `last`: it has its four bytes, its value is at most 64 long, its version does not fall, its value ends in s
+-- rule 20.3, behind an entry of version `last`: it has its four bytes, its value is at most 64 long, its version does not fall, its value ends in s
 unfoldable pub entry-fits : ℕ → ℕ → List ℕ → Bool
 entry-fits last at s =
     let e = entry-at at s in
@@ -48,7 +48,7 @@ entries-from (suc fuel) last at s =
 unfoldable pub entries : List ℕ → Option (List Entry)
 entries s = entries-from (length s) 0 0 s
 
--- rule 25.1: the entries of a store are those of its used bytes; none where it is malformed
+-- rule 20.1: the entries of a store are those of its used bytes; none where it is malformed
 unfoldable pub stored : List ℕ → ℕ → Option (List Entry)
 stored s used = cond (leb used (length s)) (entries (take used s)) none
 
@@ -61,7 +61,7 @@ unfoldable pub last-of : Option (List Entry) → Last
 last-of none = LastMalformed
 last-of (some es) = Version (newest 0 es)
 
--- rule 25.10: what stands at a place of a store's used bytes, behind an entry of version `last`
+-- rule 20.10: what stands at a place of a store's used bytes, behind an entry of version `last`
 unfoldable pub next-entry : ℕ → ℕ → List ℕ → ℕ → NextEntry
 next-entry last at s used =
     let u = take used s in

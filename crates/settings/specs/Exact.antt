@@ -29,7 +29,7 @@ unfoldable pub placed : ℕ → List Setting → List Entry
 placed at [] = []
 placed at (w ∷ ws) = entry-of w at ∷ placed (at + 4 + length (w .value)) ws
 
--- rule 25.3, behind a version: versions fit two bytes and don't fall, and values have at most 64 bytes
+-- rule 20.3, behind a version: versions fit two bytes and don't fall, and values have at most 64 bytes
 abbrev pub Rising : ℕ → List Setting → Type 0
 Rising last [] = Unit {0}
 Rising last (w ∷ ws) = (last ≤ w .version) × ((w .version < 65536) × ((length (w .value) ≤ 64) × Rising (w .version) ws))
@@ -40,7 +40,7 @@ pub record IsRun (last : ℕ) (s : List ℕ) : Type 0 where
   pub rising : Rising last settings
   pub is : s ≡ run settings
 
--- rule 25.5: none of these entries answers; the last of them that answers has its value there
+-- rule 20.5: none of these entries answers; the last of them that answers has its value there
 abbrev pub NoneAnswers : ℕ → ℕ → List Entry → Type 0
 NoneAnswers name version [] = Unit {0}
 NoneAnswers name version (e ∷ es) = (answers name version e ≡ false) × NoneAnswers name version es
@@ -54,7 +54,7 @@ pub record LastAnswers (name version : ℕ) (es : List Entry) (x : Span) : Type 
   pub silent : NoneAnswers name version behind
   pub value : x ≡ value-of last
 
--- rule 25.6: both stores are well formed, and no entry of either answers
+-- rule 20.6: both stores are well formed, and no entry of either answers
 pub record Missed (name version : ℕ) (b : List ℕ) (bu : ℕ) (d : List ℕ) (du : ℕ) : Type 0 where
   pub own : List Entry
   pub others : List Entry

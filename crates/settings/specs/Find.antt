@@ -1,4 +1,4 @@
--- The value of a name at a version (rules 25.4 to 25.6): that of the last entry that answers, in the board's store, else in the defaults.
+-- The value of a name at a version (rules 20.4 to 20.6): that of the last entry that answers, in the board's store, else in the defaults.
 use Prim.Native.Nat.{ℕ, _+_, _-_, _≤_}
 use mathlib.Core.List.{List, [], _∷_}
 use mathlib.Core.Bool.{Bool, cond, _&&_}
@@ -24,7 +24,7 @@ settings-refusal-number ValueLength = 43
 settings-refusal-number VersionFalls = 44
 settings-refusal-number Full = 45
 
--- rule 25.4: the entry is of this name and not above this version
+-- rule 20.4: the entry is of this name and not above this version
 unfoldable pub answers : ℕ → ℕ → Entry → Bool
 answers name version e = eqb (e .name) name && leb (e .version) version
 
@@ -48,7 +48,7 @@ unfoldable pub found-in : ℕ → ℕ → Option (List Entry) → Scan
 found-in name version none = NoRun
 found-in name version (some es) = Done (value-in name version es)
 
--- rules 25.5 and 25.6: 41 before all; the board's value, else the default, else 42
+-- rules 20.5 and 20.6: 41 before all; the board's value, else the default, else 42
 unfoldable pub chosen : Scan → Scan → Place
 chosen NoRun d = Refused Malformed
 chosen (Done b) NoRun = Refused Malformed

@@ -1,4 +1,4 @@
-// Settings with versions (rules, section 25): stores of entries, the value of a name at a version as the bytes where they lie, and a new entry behind
+// Settings with versions (rules, section 20): stores of entries, the value of a name at a version as the bytes where they lie, and a new entry behind
 // the others.
 ghost use mathlib.Core.Path.{_≡_};
 ghost use Rattle.settings.specs.Find.{settings-refusal-number};
