@@ -66,6 +66,15 @@ read or written. docs/RULES.md has every rule.
     )
 }
 
+/// The form with a number that is 1 or 2.
+fn form_numbered(number: &str) -> Form {
+    if number == "1" {
+        Form::First
+    } else {
+        Form::Second
+    }
+}
+
 fn main() -> ExitCode {
     let words: Vec<String> = env::args_os()
         .skip(1)
@@ -88,8 +97,10 @@ fn run(words: &[&str]) -> Result<(), Failure> {
     match words {
         ["replay", script] => replay(script),
         ["image", "save", script, out] => image::save(Form::Second, script, out),
-        ["image", "save", "--form", "1", script, out] => image::save(Form::First, script, out),
-        ["image", "save", "--form", "2", script, out] => image::save(Form::Second, script, out),
+        ["image", "save", "--form", form @ ("1" | "2"), script, out]
+        | ["image", "save", script, out, "--form", form @ ("1" | "2")] => {
+            image::save(form_numbered(form), script, out)
+        }
         ["image", "show", file] => image::show(file),
         ["image", "compare", first, second] => image::compare(first, second),
         ["image", "move", "up", image, out] => image::move_to(Form::Second, image, out),
