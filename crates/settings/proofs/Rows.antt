@@ -140,7 +140,7 @@ refused-rows : (add-of 7 0 (replicate 65 1) small 5 .answer ≡ NotAdded Malform
 unfolding shown
 refused-rows = (refl, refl, refl, refl, refl, refl, refl, refl, refl, refl, refl, refl)
 
--- one entry after the other: each, the end, a place behind the end, a cut entry, a falling version, a used length beyond the buffer
+-- one entry after the other: each, the end, a place behind the end, an entry that is cut, one whose version falls, more used bytes than there are
 next-rows : (next-entry 0 0 four 20 ≡ There (entry 1 5 4 5))
     × (next-entry 1 5 four 20 ≡ There (entry 3 5 9 11))
     × (next-entry 3 16 four 20 ≡ There (entry 3 5 20 20))

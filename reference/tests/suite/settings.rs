@@ -181,7 +181,7 @@ fn the_refusals_of_adding_in_their_order() {
 }
 
 #[test]
-fn a_higher_version_changes_no_answer_at_lower_ones() {
+fn older_answers_stay_when_a_newer_entry_comes() {
     let mut prng = Prng::new(51);
     for _ in 0..100 {
         let mut bytes = vec![0; 300];
