@@ -5,7 +5,7 @@ use std::env;
 use std::path::{Path, PathBuf};
 
 /// The libraries, as the linker names them.
-const LIBRARIES: [&str; 4] = [
+const LIBRARIES: [&str; 5] = [
     "lokhazim",
     "lokhazim_image",
     "lokhazim_compare",
