@@ -5,7 +5,13 @@ use std::env;
 use std::path::Path;
 
 /// The crates whose exported functions are called.
-const LIBRARIES: [&str; 4] = ["c_api", "image_api", "comparison_api", "report_api"];
+const LIBRARIES: [&str; 5] = [
+    "c_api",
+    "image_api",
+    "comparison_api",
+    "report_api",
+    "settings_api",
+];
 
 /// Tells cargo where the libraries are. Where one is missing, the crate says so itself when it is
 /// built; lints need no library.

@@ -5,11 +5,12 @@ use std::env;
 use std::path::{Path, PathBuf};
 
 /// The libraries, as the linker names them.
-const LIBRARIES: [&str; 4] = [
+const LIBRARIES: [&str; 5] = [
     "lokhazim",
     "lokhazim_image",
     "lokhazim_compare",
     "lokhazim_report",
+    "lokhazim_settings",
 ];
 
 /// Tells cargo where the libraries are. Where one is missing, the crate says so itself when it is

@@ -1,4 +1,4 @@
-//! The command `lokhazim`: replays scripts, works on images and reads audit reports. Every rule is in the proved library;
+//! The command `lokhazim`: replays scripts, works on images and settings, and reads audit reports. Every rule is in the proved library;
 //! this program reads files, calls it and prints.
 //!
 //! Exit status: 0 where all went well, 1 where the library refuses, 2 for wrong words or a file that
@@ -17,6 +17,7 @@ mod json;
 mod proved;
 mod report;
 mod script;
+mod settings;
 
 use std::env;
 use std::process::ExitCode;
@@ -24,6 +25,7 @@ use std::process::ExitCode;
 use failure::Failure;
 use image::Form;
 use lokhazim::QUOTAS;
+use settings::Form as ValueForm;
 
 /// What the command can do.
 fn help() -> String {
@@ -46,14 +48,31 @@ lokhazim: a heap that parts of a firmware share, by its proved library
     lokhazim report import FILE       print the grants in an audit report, to stand behind 'open H': FILE
                                       has a line for each quota, or is the linker's JSON
     lokhazim report export G..        print grants as a report of 32 lines; missing ones are 0
+    lokhazim settings get BOARD DEFAULTS NAME VERSION [--hex]
+                                      print the value of a name at a version, from the first file,
+                                      else from the second: its bytes, or its digits on a line
+    lokhazim settings add FILE NAME VERSION VALUE [--hex]
+                                      add an entry to a file and print its new length
+    lokhazim settings list FILE       print the entries: entry VERSION NAME LENGTH DIGITS
     lokhazim help | version
 
 A script begins with 'open H' and {QUOTAS} grants, then has a call to a line: alloc q n, array q n s,
 claim q b l s, free q b l s, all q, realloc q b l s n. SCRIPT, FILE and IN can be - for standard input.
+A file of settings holds the used bytes of a store; an empty one is a store without entries. NAME is
+0 to 255, VERSION 0 to 65535; with --hex a value is two hexadecimal digits for each byte.
 Status 0: done. 1: refused, with the number and the reason. 2: wrong words, or a file that can't be
 read or written. docs/RULES.md has every rule.
 "
     )
+}
+
+/// The form with a number that is 1 or 2.
+fn form_numbered(number: &str) -> Form {
+    if number == "1" {
+        Form::First
+    } else {
+        Form::Second
+    }
 }
 
 fn main() -> ExitCode {
@@ -78,14 +97,29 @@ fn run(words: &[&str]) -> Result<(), Failure> {
     match words {
         ["replay", script] => replay(script),
         ["image", "save", script, out] => image::save(Form::Second, script, out),
-        ["image", "save", "--form", "1", script, out] => image::save(Form::First, script, out),
-        ["image", "save", "--form", "2", script, out] => image::save(Form::Second, script, out),
+        ["image", "save", "--form", form @ ("1" | "2"), script, out]
+        | ["image", "save", script, out, "--form", form @ ("1" | "2")] => {
+            image::save(form_numbered(form), script, out)
+        }
         ["image", "show", file] => image::show(file),
         ["image", "compare", first, second] => image::compare(first, second),
         ["image", "move", "up", image, out] => image::move_to(Form::Second, image, out),
         ["image", "move", "down", image, out] => image::move_to(Form::First, image, out),
         ["report", "import", file] => report::import(file),
         ["report", "export", grants @ ..] if !grants.is_empty() => report::export(grants),
+        ["settings", "get", board, defaults, name, version] => {
+            settings::get(board, defaults, name, version, ValueForm::Text)
+        }
+        ["settings", "get", board, defaults, name, version, "--hex"] => {
+            settings::get(board, defaults, name, version, ValueForm::Hex)
+        }
+        ["settings", "add", file, name, version, value] => {
+            settings::add(file, name, version, value, ValueForm::Text)
+        }
+        ["settings", "add", file, name, version, value, "--hex"] => {
+            settings::add(file, name, version, value, ValueForm::Hex)
+        }
+        ["settings", "list", file] => settings::list(file),
         ["help" | "--help" | "-h"] => files::print(help().as_bytes()),
         ["version" | "--version"] => {
             files::print(concat!("lokhazim ", env!("CARGO_PKG_VERSION"), "\n").as_bytes())

@@ -58,6 +58,7 @@ fn an_image_is_saved_and_shown() {
     for (words, length, form) in [
         (&["image", "save", "a", "a.image"][..], 5_120, 2),
         (&["image", "save", "--form", "1", "a", "a.image"], 1_536, 1),
+        (&["image", "save", "a", "a.image", "--form", "1"], 1_536, 1),
         (&["image", "save", "--form", "2", "a", "a.image"], 5_120, 2),
     ] {
         expect(&lokhazim(&folder, words), 0, &format!("ok {length}\n"), "");

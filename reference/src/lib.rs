@@ -25,6 +25,7 @@ mod refusal;
 mod replay;
 mod report;
 mod rounding;
+mod settings;
 mod sound;
 
 pub use accounts::{Accounts, Hold, Quota, ALL_PERMISSIONS, HOLDS, QUOTAS};
@@ -42,4 +43,5 @@ pub use refusal::Refusal;
 pub use replay::{replay, MAX_INPUT};
 pub use report::{export_grants, import_grants, ReportRefusal, REPORT_BYTES};
 pub use rounding::{round_request, unit_of, Rounded, MAX_REQUEST};
+pub use settings::{add_setting, find_setting, setting, SettingRefusal, Source, Store};
 pub use sound::{check, MAX_HEAP, MIN_HEAP};

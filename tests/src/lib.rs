@@ -40,6 +40,7 @@ pub mod rounds;
 pub mod script;
 pub mod seed;
 pub mod sentences;
+pub mod settings;
 pub mod state;
 pub mod states;
 pub mod tally;

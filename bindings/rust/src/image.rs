@@ -187,7 +187,7 @@ impl ImageRefusal {
             ImageRefusal::Room => "the lent image is too short, or the lent heap has not the length of the image's; see image_length",
             ImageRefusal::HeapLengths => "the heaps of the two images have different lengths; only images of one length are compared",
             ImageRefusal::NotCarried => "the accounts have more quotas or records than form 1 has, or a quota lacks a permission; save form 2",
-            ImageRefusal::FormsDiffer => "the two images are of different forms; save both in one form to compare them",
+            ImageRefusal::FormsDiffer => "the two images are of different forms; move one to the form of the other to compare them",
             ImageRefusal::Inconsistent => "the heap and the accounts in the image don't agree; it was not written by this library",
         }
     }

@@ -1,6 +1,6 @@
 //! The structs that cross the boundary, field by field as the library has them.
 //!
-//! `include/lokhazim.h` and `include/lokhazim_image.h` have the same structs for C, and the same numbers in its assertions.
+//! The headers in `include/` have the same structs for C, and the same numbers in their assertions.
 
 use core::mem::{offset_of, size_of};
 
@@ -216,6 +216,45 @@ pub struct ExportReply {
     pub length: usize,
 }
 
+/// The reply of finding a setting.
+#[repr(C)]
+pub struct FindReply {
+    /// The refusal's number.
+    pub refusal: u32,
+    /// The store in which the value lies: 1 the board's, 2 the defaults, 0 none.
+    pub store: u32,
+    /// The value's first byte in it.
+    pub start: usize,
+    /// The byte behind the value.
+    pub end: usize,
+}
+
+/// The reply of adding a setting.
+#[repr(C)]
+pub struct AddReply {
+    /// The refusal's number.
+    pub refusal: u32,
+    /// The new used length.
+    pub used: usize,
+}
+
+/// The reply of asking for the next entry of a store.
+#[repr(C)]
+pub struct EntryReply {
+    /// The refusal's number.
+    pub refusal: u32,
+    /// 1 where an entry is given, else 0.
+    pub there: u32,
+    /// Its version.
+    pub version: u16,
+    /// Its name's number.
+    pub name: u8,
+    /// Its value's first byte in the store.
+    pub start: usize,
+    /// The byte behind its value, where the next entry begins.
+    pub end: usize,
+}
+
 /// Holds a struct to its size and to the offset of each field, when the crate is compiled.
 macro_rules! lies {
     ($type:ty, $size:literal: $($field:ident at $offset:literal),+) => {
@@ -244,3 +283,6 @@ lies!(CompareReply, 32: refusal at 0, which at 4, kind at 8, place at 16, length
 lies!(NextReply, 40: kind at 0, place at 8, length at 16, part at 24, at at 32);
 lies!(ImportReply, 136: grants at 0, refusal at 128, line at 132);
 lies!(ExportReply, 16: refusal at 0, length at 8);
+lies!(FindReply, 24: refusal at 0, store at 4, start at 8, end at 16);
+lies!(AddReply, 16: refusal at 0, used at 8);
+lies!(EntryReply, 32: refusal at 0, there at 4, version at 8, name at 10, start at 16, end at 24);

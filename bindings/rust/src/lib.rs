@@ -54,7 +54,7 @@
 
 #[cfg(all(library_missing, not(clippy), not(doc)))]
 compile_error!(concat!(
-    "a library of lokhazim (liblokhazim.a, liblokhazim_image.a, liblokhazim_compare.a, liblokhazim_report.a) is missing in ",
+    "a library of lokhazim (liblokhazim.a, liblokhazim_image.a, liblokhazim_compare.a, liblokhazim_report.a, liblokhazim_settings.a) is missing in ",
     env!("LOKHAZIM_LOOKED"),
     ": run 'make lib' in the repository, or name its folder in LOKHAZIM_LIB_DIR, then build again"
 ));
@@ -72,6 +72,7 @@ mod queries;
 mod raw;
 mod refusal;
 mod report;
+mod settings;
 
 pub use blocks::{Block, Blocks};
 pub use comparison::{compare_images, CompareRefusal, Difference, Differences, Which};
@@ -86,6 +87,9 @@ pub use permissions::Permissions;
 pub use refusal::Refusal;
 pub use report::{
     export_grants, import_grants, ImportRefusal, ReportRefusal, REPORT_LENGTH, REPORT_LINE,
+};
+pub use settings::{
+    add_setting, lookup, Entries, Entry, SettingsRefusal, Store, ENTRY_FRONT, VALUE_MAX,
 };
 
 /// The length of the shortest heap; a heap's length is a multiple of 8.

@@ -6,8 +6,9 @@
 //! a slice is. The memory of a `&[u8]` is not written.
 
 use crate::layout::{
-    Accounts, Amount, AmountReply, BlockReply, CompareReply, ExamineReply, ExportReply, Grants,
-    Handle, HandleReply, ImageReply, ImportReply, NextReply, OpenReply, RangeReply, RestoreReply,
+    Accounts, AddReply, Amount, AmountReply, BlockReply, CompareReply, EntryReply, ExamineReply,
+    ExportReply, FindReply, Grants, Handle, HandleReply, ImageReply, ImportReply, NextReply,
+    OpenReply, RangeReply, RestoreReply,
 };
 
 extern "C" {
@@ -144,6 +145,32 @@ extern "C" {
     ) -> RestoreReply;
     fn lokhazim_report_import(text: *const u8, length: usize) -> ImportReply;
     fn lokhazim_report_export(text: *mut u8, length: usize, grants: Grants) -> ExportReply;
+    fn lokhazim_settings_find(
+        board: *const u8,
+        board_length: usize,
+        board_used: usize,
+        defaults: *const u8,
+        defaults_length: usize,
+        defaults_used: usize,
+        name: u8,
+        version: u16,
+    ) -> FindReply;
+    fn lokhazim_settings_add(
+        store: *mut u8,
+        length: usize,
+        used: usize,
+        name: u8,
+        version: u16,
+        value: *const u8,
+        value_length: usize,
+    ) -> AddReply;
+    fn lokhazim_settings_next(
+        store: *const u8,
+        length: usize,
+        used: usize,
+        at: usize,
+        last: u16,
+    ) -> EntryReply;
 }
 
 /// Makes a safe function of one of the library's: the slice becomes its pointer and its length,
@@ -247,6 +274,37 @@ pub fn report_import(text: &[u8]) -> ImportReply {
 pub fn report_export(text: &mut [u8], grants: Grants) -> ExportReply {
     // SAFETY: pointer and length are those of a slice that is borrowed for the call.
     unsafe { lokhazim_report_export(text.as_mut_ptr(), text.len(), grants) }
+}
+
+/// Each store is its bytes and how many of them are used.
+pub fn settings_find(
+    (board, board_used): (&[u8], usize),
+    (defaults, defaults_used): (&[u8], usize),
+    name: u8,
+    version: u16,
+) -> FindReply {
+    let (a, b) = (board.as_ptr(), defaults.as_ptr());
+    let (m, n) = (board.len(), defaults.len());
+    // SAFETY: pointers and lengths are those of two slices that are borrowed for the call.
+    unsafe { lokhazim_settings_find(a, m, board_used, b, n, defaults_used, name, version) }
+}
+
+pub fn settings_add(
+    store: &mut [u8],
+    used: usize,
+    name: u8,
+    version: u16,
+    value: &[u8],
+) -> AddReply {
+    let (at, length) = (store.as_mut_ptr(), store.len());
+    let (from, count) = (value.as_ptr(), value.len());
+    // SAFETY: pointers and lengths are those of two slices that are borrowed for the call.
+    unsafe { lokhazim_settings_add(at, length, used, name, version, from, count) }
+}
+
+pub fn settings_next(store: &[u8], used: usize, at: usize, last: u16) -> EntryReply {
+    // SAFETY: pointer and length are those of a slice that is borrowed for the call.
+    unsafe { lokhazim_settings_next(store.as_ptr(), store.len(), used, at, last) }
 }
 
 #[cfg(test)]

@@ -30,6 +30,17 @@ fn a_report_goes_from_c_and_back() {
 }
 
 #[test]
+fn settings_go_from_c_and_back() {
+    for level in ["-O0", "-O2"] {
+        run(
+            &compile("bindings/rust/tests/c/settings.c", level),
+            &[],
+            b"",
+        );
+    }
+}
+
+#[test]
 fn every_field_goes_through_the_library_from_c() {
     for level in ["-O0", "-O2"] {
         run(&compile("bindings/rust/tests/c/library.c", level), &[], b"");

@@ -12,9 +12,9 @@ use std::mem::MaybeUninit;
 use std::slice;
 
 use layout::{
-    Accounts, Amount, AmountReply, BlockReply, CompareReply, ExamineReply, ExportReply, Grants,
-    Handle, HandleReply, Hold, ImageReply, ImportReply, NextReply, OpenReply, Quota, RangeReply,
-    RestoreReply,
+    Accounts, AddReply, Amount, AmountReply, BlockReply, CompareReply, EntryReply, ExamineReply,
+    ExportReply, FindReply, Grants, Handle, HandleReply, Hold, ImageReply, ImportReply, NextReply,
+    OpenReply, Quota, RangeReply, RestoreReply,
 };
 use support::{compile, run};
 
@@ -32,6 +32,14 @@ impl Visitor {
         self.wide += 1;
         if self.setting {
             *field = self.wide.wrapping_mul(0x9E37_79B1);
+        }
+        self.noted.push(u64::from(*field));
+    }
+
+    fn visit16(&mut self, field: &mut u16) {
+        self.wide += 1;
+        if self.setting {
+            *field = self.wide.wrapping_mul(0x9E37) as u16;
         }
         self.noted.push(u64::from(*field));
     }
@@ -205,6 +213,33 @@ impl Fields for ExportReply {
     }
 }
 
+impl Fields for FindReply {
+    fn visit(&mut self, visitor: &mut Visitor) {
+        visitor.visit32(&mut self.refusal);
+        visitor.visit32(&mut self.store);
+        visitor.visit_size(&mut self.start);
+        visitor.visit_size(&mut self.end);
+    }
+}
+
+impl Fields for AddReply {
+    fn visit(&mut self, visitor: &mut Visitor) {
+        visitor.visit32(&mut self.refusal);
+        visitor.visit_size(&mut self.used);
+    }
+}
+
+impl Fields for EntryReply {
+    fn visit(&mut self, visitor: &mut Visitor) {
+        visitor.visit32(&mut self.refusal);
+        visitor.visit32(&mut self.there);
+        visitor.visit16(&mut self.version);
+        visitor.visit8(&mut self.name);
+        visitor.visit_size(&mut self.start);
+        visitor.visit_size(&mut self.end);
+    }
+}
+
 /// Takes the bytes of a struct from the front, visits its fields where they lie, and puts the bytes
 /// behind what is there.
 fn exchange<T: Fields>(visitor: &mut Visitor, bytes: &mut Vec<u8>) {
@@ -240,6 +275,9 @@ fn exchange_all(visitor: &mut Visitor, bytes: &mut Vec<u8>) {
     exchange::<NextReply>(visitor, bytes);
     exchange::<ImportReply>(visitor, bytes);
     exchange::<ExportReply>(visitor, bytes);
+    exchange::<FindReply>(visitor, bytes);
+    exchange::<AddReply>(visitor, bytes);
+    exchange::<EntryReply>(visitor, bytes);
 }
 
 /// The bytes of all structs as Rust sets them, and the number that each field got.

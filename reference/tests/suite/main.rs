@@ -20,4 +20,5 @@ mod replay;
 mod replay_lists;
 mod report;
 mod run_m;
+mod settings;
 mod state;

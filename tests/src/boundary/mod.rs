@@ -9,6 +9,7 @@ use crate::state::{Answer, Call};
 
 pub mod images;
 pub mod report;
+pub mod settings;
 
 /// A quota as it crosses the boundary.
 #[repr(C)]

@@ -1,11 +1,12 @@
 /*
- * Sets every field of every struct of lokhazim.h and lokhazim_image.h to a distinct number, or reads them.
+ * Sets every field of every struct of the headers to a distinct number, or reads them.
  *
  *     fields set      writes the structs to standard output, as they lie in memory
  *     fields print    reads such structs from standard input and prints each field's number
  */
 #include "lokhazim_image.h"
 #include "lokhazim_report.h"
+#include "lokhazim_settings.h"
 
 #include <inttypes.h>
 #include <stdio.h>
@@ -31,6 +32,15 @@ static void visit32(uint32_t *field)
     wide++;
     if (setting) {
         *field = wide * 0x9E3779B1u;
+    }
+    print(*field);
+}
+
+static void visit16(uint16_t *field)
+{
+    wide++;
+    if (setting) {
+        *field = (uint16_t)(wide * 0x9E37u);
     }
     print(*field);
 }
@@ -183,6 +193,30 @@ static void visit_export_reply(struct lokhazim_export_reply *it)
     visit_size(&it->length);
 }
 
+static void visit_find_reply(struct lokhazim_find_reply *it)
+{
+    visit32(&it->refusal);
+    visit32(&it->store);
+    visit_size(&it->start);
+    visit_size(&it->end);
+}
+
+static void visit_add_reply(struct lokhazim_add_reply *it)
+{
+    visit32(&it->refusal);
+    visit_size(&it->used);
+}
+
+static void visit_entry_reply(struct lokhazim_entry_reply *it)
+{
+    visit32(&it->refusal);
+    visit32(&it->there);
+    visit16(&it->version);
+    visit8(&it->name);
+    visit_size(&it->start);
+    visit_size(&it->end);
+}
+
 /* Stops where fewer bytes could be read or written than a struct has. */
 static void need(size_t done)
 {
@@ -227,5 +261,8 @@ int main(int count, char **words)
     EXCHANGE(next_reply);
     EXCHANGE(import_reply);
     EXCHANGE(export_reply);
+    EXCHANGE(find_reply);
+    EXCHANGE(add_reply);
+    EXCHANGE(entry_reply);
     return EXIT_SUCCESS;
 }

@@ -45,6 +45,7 @@ pub fn compile(source: &str, level: &str) -> PathBuf {
                 "liblokhazim_image.a",
                 "liblokhazim_compare.a",
                 "liblokhazim_report.a",
+                "liblokhazim_settings.a",
             ]
             .map(library),
         )

@@ -1,0 +1,109 @@
+/*
+ * Settings from C: entries are added behind each other, the value is a pointer into the board's store or into the
+ * defaults, every entry is listed, and each refusal leaves store, used length and pointers alone.
+ */
+#include "lokhazim_settings.h"
+
+#include <stdio.h>
+#include <stdlib.h>
+#include <string.h>
+
+#define CHECK(fact)                                                           \
+    do {                                                                      \
+        if (!(fact)) {                                                        \
+            fprintf(stderr, "FAILED: line %d: %s\n", __LINE__, #fact);        \
+            exit(EXIT_FAILURE);                                               \
+        }                                                                     \
+    } while (0)
+
+static const uint8_t defaults[] = {0, 0, 7, 3, 'o', 'f', 'f', 0xFF, 0xFF, 0xFF, 1, 9};
+static uint8_t board[80];
+static size_t used;
+
+static enum lokhazim_settings_refusal put(uint8_t name, uint16_t version, const char *value, size_t length)
+{
+    return lokhazim_settings_put(board, sizeof board, &used, name, version, (const uint8_t *)value, length);
+}
+
+static enum lokhazim_settings_refusal get(uint8_t name, uint16_t version, const uint8_t **value, size_t *length)
+{
+    return lokhazim_settings_get(
+        board, sizeof board, used, defaults, sizeof defaults, sizeof defaults, name, version, value, length);
+}
+
+/* Entries behind each other, and the bytes that they are. */
+static void add(void)
+{
+    static const uint8_t written[] = {1, 2, 7, 2, 'o', 'n', 0xFF, 0xFF, 0xFE, 0};
+    memset(board, 0xEE, sizeof board);
+    CHECK(put(7, 0x0201, "on", 2) == LOKHAZIM_SETTINGS_ACCEPTED && used == 6);
+    CHECK(put(0xFE, 0xFFFF, "", 0) == LOKHAZIM_SETTINGS_ACCEPTED && used == 10);
+    CHECK(memcmp(board, written, sizeof written) == 0);
+    for (size_t i = used; i < sizeof board; i++) {
+        CHECK(board[i] == 0xEE);
+    }
+}
+
+/* The value is where it lies, in one of the two. */
+static void ask(void)
+{
+    const uint8_t *value = NULL;
+    size_t length = 99;
+    CHECK(get(7, 0x0200, &value, &length) == LOKHAZIM_SETTINGS_ACCEPTED && value == defaults + 4 && length == 3);
+    CHECK(get(7, 0x0201, &value, &length) == LOKHAZIM_SETTINGS_ACCEPTED && value == board + 4 && length == 2);
+    CHECK(get(0xFF, 0xFFFF, &value, &length) == LOKHAZIM_SETTINGS_ACCEPTED && value == defaults + 11 && length == 1);
+    CHECK(get(0xFE, 0xFFFF, &value, &length) == LOKHAZIM_SETTINGS_ACCEPTED && value == board + 10 && length == 0);
+}
+
+/* Each refusal, and what it leaves alone. */
+static void refuse(void)
+{
+    static const char long_value[65] = "";
+    const uint8_t *value = defaults;
+    size_t length = 99;
+    uint8_t before[sizeof board];
+    memcpy(before, board, sizeof board);
+    CHECK(get(8, 0xFFFF, &value, &length) == LOKHAZIM_SETTINGS_MISSING);
+    CHECK(put(7, 0, long_value, 65) == LOKHAZIM_SETTINGS_VALUE_LENGTH);
+    CHECK(put(7, 0xFFFE, long_value, 64) == LOKHAZIM_SETTINGS_VERSION_FALLS);
+    used = 9;
+    CHECK(get(7, 1, &value, &length) == LOKHAZIM_SETTINGS_MALFORMED);
+    CHECK(put(7, 0, long_value, 65) == LOKHAZIM_SETTINGS_MALFORMED && used == 9);
+    used = sizeof board + 1;
+    CHECK(put(7, 0, long_value, 65) == LOKHAZIM_SETTINGS_MALFORMED);
+    used = 10;
+    CHECK(value == defaults && length == 99);
+    CHECK(memcmp(before, board, sizeof board) == 0);
+    CHECK(put(7, 0xFFFF, long_value, LOKHAZIM_SETTINGS_VALUE_MAX) == LOKHAZIM_SETTINGS_ACCEPTED && used == 78);
+    CHECK(put(7, 0xFFFF, "", 0) == LOKHAZIM_SETTINGS_FULL && used == 78);
+}
+
+/* Every entry in its order. */
+static void list(void)
+{
+    static const uint8_t names[] = {7, 0xFE, 7};
+    size_t at = 0, count = 0;
+    uint16_t last = 0;
+    for (;;) {
+        const struct lokhazim_entry_reply entry = lokhazim_settings_next(board, sizeof board, used, at, last);
+        CHECK(entry.refusal == LOKHAZIM_SETTINGS_ACCEPTED);
+        if (!entry.there) {
+            break;
+        }
+        CHECK(entry.name == names[count] && entry.start == at + LOKHAZIM_SETTINGS_FRONT);
+        count++;
+        at = entry.end;
+        last = entry.version;
+    }
+    CHECK(count == 3 && at == used && last == 0xFFFF);
+    CHECK(lokhazim_settings_next(board, sizeof board, used - 1, 10, last).refusal == LOKHAZIM_SETTINGS_MALFORMED);
+}
+
+int main(void)
+{
+    add();
+    ask();
+    refuse();
+    list();
+    return EXIT_SUCCESS;
+}

@@ -1,0 +1,26 @@
+-- The numbers of the answer's case.
+-- Assumes nothing.
+use mathlib.Core.Path.{ap, sym, _∙_}
+use Rattle.settings_api.specs.Replies.{add-reply}
+use borrow.Author.Needs.{needs}
+use Rattle.settings_api.proofs.replies.reply_of_add.Statement.{statement}
+use Rattle.settings_api.proofs.replies.reply_of_add.Tie as tie
+
+enum-known-answer : tie.Need-enum-known-answer
+enum-known-answer c = search needs
+
+enum-known-answer-2 : tie.Need-enum-known-answer-2
+enum-known-answer-2 c = search needs
+
+number-requires : tie.Need-number-requires
+number-requires c κs = search needs
+
+returns : tie.Need-returns
+returns c = ap add-reply (sym (c .before .answer .given .1))
+
+returns-2 : tie.Need-returns-2
+returns-2 c = (λ i. record { refusal = c .number .ensures i; used = 0 }) ∙ ap add-reply (sym (c .before .before .answer2 .given .1))
+
+pub reply-of-add-spec : {M : Type 1} → statement M
+reply-of-add-spec =
+    tie.close (tie.spec enum-known-answer enum-known-answer-2 number-requires returns returns-2)
