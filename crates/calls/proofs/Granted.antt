@@ -40,7 +40,8 @@ use Rattle.access.specs.Results.{outcome}
 use Rattle.calls.specs.Results.{handle-outcome}
 use Rattle.writer.specs.Carving.{carve-in}
 use Rattle.calls.specs.Ready.{Checked, Ready}
-use Rattle.access.proofs.Lines.{check-refuses, check-accepts, refused-is, accepted-is, line-refuses, line-passes, line-3-refuses, line-12-refuses, line-12-passes}
+use Rattle.access.proofs.Lines.{check-refuses, check-accepts, refused-is, accepted-is, line-refuses, line-passes, line-3-refuses, line-12-refuses}
+use Rattle.access.proofs.Lines.{line-12-passes}
 use Rattle.access.proofs.Records.{found-some, found-change, nothing-some}
 use Rattle.quotas.proofs.Claims.{all-used}
 use Rattle.calls.proofs.Ready.{checked-passes, ready-passes}

@@ -96,7 +96,8 @@ module _ (unit : ℕ → ℕ) (s : List ℕ) (k : Accounts) (q : ℕ) (h old : H
   release-leaves = rw (release-passes, named) (refl, refl)
 
 -- a request that passes lines 1 to 6: h names the object old, and the quota has a record for it
-module _ (unit : ℕ → ℕ) (units : Units unit) (s : List ℕ) (k : Accounts) (q : ℕ) (h : Handle) (n : ℕ) (r : Ready unit s k q n) (old : Handle) (handle-is : h ≡ old) (named : lookup h s ≡ some old) (held : has-record (k .holds) q (old .serial) ≡ true) where
+module _ (unit : ℕ → ℕ) (units : Units unit) (s : List ℕ) (k : Accounts) (q : ℕ) (h : Handle) (n : ℕ) (r : Ready unit s k q n) (old : Handle)
+    (handle-is : h ≡ old) (named : lookup h s ≡ some old) (held : has-record (k .holds) q (old .serial) ≡ true) where
   -- the lines behind them are allocate's
   same-number : first-refusal (reallocate-lines unit s k q h n) ≡ first-refusal (allocate-lines unit s k q n)
   unfolding reallocate-lines allocate-lines

@@ -70,7 +70,8 @@ module _ (unit : ℕ → ℕ) where
       (r .0, subst here (good-heap t (g .good) .blocks) (r .1))
 
   -- and begins in such a state, whose heap is the one that it began with
-  module _ (d : Drop) (ds : List Drop) (s : List ℕ) (k : Accounts) (f : Fits s k) (e : accepted-throughout (cleaned (release unit) (d ∷ ds) s k .answers) ≡ true) where
+  module _ (d : Drop) (ds : List Drop) (s : List ℕ) (k : Accounts) (f : Fits s k)
+      (e : accepted-throughout (cleaned (release unit) (d ∷ ds) s k .answers) ≡ true) where
     taken : release unit s k (d .quota) (d .handle) .values .refusal ≡ 0
     unfolding cleaned accepted-throughout all
     taken = eqb-true _ 0 (and-left _ _ e)

@@ -25,7 +25,8 @@ abbrev pub but-remainders : Accounts → List Quota
 but-remainders k = map (with-remainder 0) (k .quotas)
 
 -- two good states that have them, the records and the blocks in common
-module _ (t u : State) (g : Good t) (h : Good u) (e : but-remainders (t .accounts) ≡ but-remainders (u .accounts)) (r : t .accounts .holds ≡ u .accounts .holds) (b : t .blocks ≡ u .blocks) where
+module _ (t u : State) (g : Good t) (h : Good u) (e : but-remainders (t .accounts) ≡ but-remainders (u .accounts))
+    (r : t .accounts .holds ≡ u .accounts .holds) (b : t .blocks ≡ u .blocks) where
   quota-of : (k : Accounts) (j : ℕ) → getD (but-remainders k) j zero-quota ≡ with-remainder 0 (getD (k .quotas) j zero-quota)
   quota-of k j = List·getD-map (with-remainder 0) (k .quotas) j zero-quota
 

@@ -91,7 +91,8 @@ module _ (unit : ℕ → ℕ) (q : ℕ) where
       (and-right (all long-enough (t .blocks)) (free-apart (t .blocks)) (g .tests .cut)))
 
   -- a release that is possible, in front of a list
-  module _ (t : State) (g : Sound unit t) (d : Drop) (o : Handle) (p : Possible (d .quota) (d .handle) o t) (here : d .quota ≡ q) (ds : List Drop) (e : Ends ds (released (d .quota) o t)) where
+  module _ (t : State) (g : Sound unit t) (d : Drop) (o : Handle) (p : Possible (d .quota) (d .handle) o t) (here : d .quota ≡ q) (ds : List Drop)
+      (e : Ends ds (released (d .quota) o t)) where
     abbrev left : List Hold
     left = lower-count (o .serial) (d .quota) (t .accounts .holds)
 
@@ -151,7 +152,8 @@ module _ (unit : ℕ → ℕ) (q : ℕ) where
       (and-right (eqb (d .quota) q) _ f))
 
   -- with no record left that is where free-all ends
-  module _ (ds : List Drop) (t : State) (g : Sound unit t) (exists : q < QUOTAS) (a : Accepted unit ds t) (f : all-for q ds ≡ true) (none : any (record-of q) (after unit ds t .accounts .holds) ≡ false) where
+  module _ (ds : List Drop) (t : State) (g : Sound unit t) (exists : q < QUOTAS) (a : Accepted unit ds t) (f : all-for q ds ≡ true)
+      (none : any (record-of q) (after unit ds t .accounts .holds) ≡ false) where
     end : Ends ds t
     end = ends ds t g a f
 

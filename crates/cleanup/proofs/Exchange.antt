@@ -35,7 +35,8 @@ abbrev pub answer : ℕ → Handle → State → Answered
 answer q o t = record { quota = q; values = amount-of (given-back q o (t .accounts)) }
 
 -- two releases, one after the other
-module _ (t : State) (g : Good t) (d e : Drop) (o p : Handle) (a : Possible (d .quota) (d .handle) o t) (b : Possible (e .quota) (e .handle) p (released (d .quota) o t)) where
+module _ (t : State) (g : Good t) (d e : Drop) (o p : Handle) (a : Possible (d .quota) (d .handle) o t)
+    (b : Possible (e .quota) (e .handle) p (released (d .quota) o t)) where
   -- the second was possible before the first
   earlier : Possible (e .quota) (e .handle) p t
   earlier =

@@ -43,7 +43,8 @@ module _ {A : Type 0} (p : A → Bool) (f : A → A) where
       go false t ih = rw t (⊎-elim (λ a. or-left (r x) _ a) (λ b. or-right (r x) _ (ih b)) (or-cases (r x) (any r xs) e))
 
 -- two changes may be exchanged if what one is about is not what the other is about, before it is changed and after
-module _ {A : Type 0} (p r : A → Bool) (f g : A → A) (apart : (x : A) → p x ≡ true → r x ≡ true → ⊥) (left : (x : A) → r (f x) ≡ true → r x ≡ true) (right : (x : A) → p (g x) ≡ true → p x ≡ true) where
+module _ {A : Type 0} (p r : A → Bool) (f g : A → A) (apart : (x : A) → p x ≡ true → r x ≡ true → ⊥) (left : (x : A) → r (f x) ≡ true → r x ≡ true)
+    (right : (x : A) → p (g x) ≡ true → p x ≡ true) where
   exchanged : (xs : List A) → change-first p f (change-first r g xs) ≡ change-first r g (change-first p f xs)
   unfolding change-first
   exchanged [] = refl

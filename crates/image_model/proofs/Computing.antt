@@ -8,7 +8,8 @@ use Rattle.image_model.specs.Stream.{marks-of, marks-right, with-marks, 
 use Rattle.image_model.specs.Stream.{record-bytes, entry-bytes, head-length, head-of, stream, image-of, image-length}
 use Rattle.image_model.specs.Reading.{entry-of, entry-right, record-of, record-right, accounts-of, heap-of, items-right, form-in, form-of, size-in}
 use Rattle.image_model.specs.Reading.{accounts-in, heap-in, contents-right}
-use Rattle.image_model.specs.Images.{line-28, put-lines, write-lines, line-21, line-22, line-23, line-24, line-25, line-26, shape-lines, read-lines, examine-lines}
+use Rattle.image_model.specs.Images.{line-28, put-lines, write-lines, line-21, line-22, line-23, line-24, line-25, line-26, shape-lines, read-lines}
+use Rattle.image_model.specs.Images.{examine-lines}
 use Rattle.image_model.specs.Images.{unless-written, unless-read, write-image, read-image}
 
 unfoldable pub computing : Unit {0}

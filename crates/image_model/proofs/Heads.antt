@@ -23,7 +23,8 @@ use Rattle.image_model.specs.declared.Form.{Form}
 use Rattle.image_model.proofs.Items.{All, places-all, all-take, all-map, all-two, many-length, each-many, every-many}
 use Rattle.image_model.proofs.Parts.{part-here, part-behind, number-here}
 use Rattle.image_model.proofs.Places.{Known, QuotaSound, known-shaped, marks-length, marks-back, all-carried, quotas-whole, holds-whole}
-use Rattle.image_model.proofs.Entries.{EntryFits, EntryCarried, RecordFits, entry-length, entry-back, entry-tested, record-length, record-back, record-tested}
+use Rattle.image_model.proofs.Entries.{EntryFits, EntryCarried, RecordFits, entry-length, entry-back, entry-tested, record-length, record-back}
+use Rattle.image_model.proofs.Entries.{record-tested}
 use Rattle.image_model.proofs.Cuts.{padded-take}
 
 -- the quotas and records that a form carries, and their bytes

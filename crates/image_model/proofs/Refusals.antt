@@ -18,7 +18,8 @@ use Rattle.model.specs.Refusals.{Line, _when_, line-number, line-holds, first-r
 use Rattle.model.proofs.Refusals.{Numbered, FirstToHold, refused-exactly, accepted-exactly}
 use Rattle.image_model.specs.Stream.{image-of, image-length}
 use Rattle.image_model.specs.Reading.{size-in, heap-in, accounts-in}
-use Rattle.image_model.specs.Images.{line-28, put-lines, write-lines, line-21, line-22, line-23, line-24, line-25, line-26, shape-lines, read-lines, examine-lines}
+use Rattle.image_model.specs.Images.{line-28, put-lines, write-lines, line-21, line-22, line-23, line-24, line-25, line-26, shape-lines, read-lines}
+use Rattle.image_model.specs.Images.{examine-lines}
 use Rattle.image_model.specs.Images.{unless-written, unless-read, write-image, read-image}
 use Rattle.image_model.specs.declared.Form.{Form}
 

@@ -97,7 +97,8 @@ module _ (q : ℕ) (o : Handle) (t : State) (g : Good t) (there : List·Memᴰ o
   released-paid =
       let hs = t .accounts .holds in
       let r = good-recorded t g .ordered in
-      settled-paid q (given-back q o (t .accounts)) t g (counted-quota hs r (o .serial) q some) (lower-count (o .serial) q hs) (lower-ordered hs r (o .serial) q held) released-less
+      settled-paid q (given-back q o (t .accounts)) t g (counted-quota hs r (o .serial) q some) (lower-count (o .serial) q hs)
+      (lower-ordered hs r (o .serial) q held) released-less
 
   -- so the state is good
   pub released-good : Good (released q o t)
@@ -151,7 +152,8 @@ module _ (q : ℕ) (t : State) (g : Good t) (exists : q < QUOTAS) where
           )
 
   -- and is paid all of it
-  pub freed-paid : remaining q (freed q (charges (t .accounts .holds) q (objects (t .blocks))) t .accounts) ≡ remaining q (t .accounts) + charges (t .accounts .holds) q (objects (t .blocks))
+  pub freed-paid : remaining q (freed q (charges (t .accounts .holds) q (objects (t .blocks))) t .accounts)
+      ≡ remaining q (t .accounts) + charges (t .accounts .holds) q (objects (t .blocks))
   unfolding freed
   freed-paid =
       let hs = t .accounts .holds in

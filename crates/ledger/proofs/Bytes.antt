@@ -16,11 +16,14 @@ use Rattle.model.specs.Lists.{all}
 use Rattle.model.specs.Objects.{objects, blocks-of, objects-of, lookup, lookup-whole, found}
 use Rattle.model.specs.Consistent.{long-enough, free-apart, well-cut, charges, has-record}
 use Rattle.model.specs.Space.{body-of}
-use Rattle.model.specs.Calls.{Outcome, State, unless, state-of, allocated, released, freed, copied, new-object, allocate, allocate-array, claim, release, free-all, reallocate, lend, remaining-of, can-release, list-block, clear}
-use Rattle.model.specs.Refusals.{first-refusal, quota-lines, free-all-lines, lend-lines, release-lines, claim-lines, check-lines, allocate-lines, reallocate-lines}
+use Rattle.model.specs.Calls.{Outcome, State, unless, state-of, allocated, released, freed, copied, new-object, allocate, allocate-array, claim, release}
+use Rattle.model.specs.Calls.{free-all, reallocate, lend, remaining-of, can-release, list-block, clear}
+use Rattle.model.specs.Refusals.{first-refusal, quota-lines, free-all-lines, lend-lines, release-lines, claim-lines, check-lines, allocate-lines}
+use Rattle.model.specs.Refusals.{reallocate-lines}
 use Rattle.model.specs.Step.{step}
 use Rattle.model.specs.declared.Call.{Call}
-use Rattle.model.specs.declared.Call.the-variants.{Allocate, AllocateArray, Claim, Release, FreeAll, Reallocate, Lend, Remaining, CanRelease, ListBlock, ClearPermissions}
+use Rattle.model.specs.declared.Call.the-variants.{Allocate, AllocateArray, Claim, Release, FreeAll, Reallocate, Lend, Remaining, CanRelease, ListBlock}
+use Rattle.model.specs.declared.Call.the-variants.{ClearPermissions}
 use Rattle.model.proofs.Refusals.{accepted-exactly, by-lines}
 use Rattle.model.specs.declared.Handle.{Handle}
 use Rattle.model.proofs.Bools.{and-right}
@@ -165,7 +168,8 @@ module _ (unit : ℕ → ℕ) (units : Units unit) where
       (λ e. release-bytes unit units l s k a q h (release-passed unit s k q h (accepted-exactly (release-lines unit s k q h) (by-lines unit (Release q h) s k .numbered) .0 e)))
   step-bytes (FreeAll q) l s k a =
       accepted-bytes s k (first-refusal (free-all-lines unit s k q)) _
-      (λ e. free-bytes unit units l s k a q (free-all-passed unit s k q (accepted-exactly (free-all-lines unit s k q) (by-lines unit (FreeAll q) s k .numbered) .0 e)))
+      (λ e. free-bytes unit units l s k a q (free-all-passed unit s k q
+      (accepted-exactly (free-all-lines unit s k q) (by-lines unit (FreeAll q) s k .numbered) .0 e)))
   step-bytes (Reallocate q h n) l s k a =
       accepted-bytes s k (first-refusal (reallocate-lines unit s k q h n)) _
       (λ e. reallocate-bytes unit units l s k a q h n (reallocate-passed unit s k q h n (accepted-exactly (reallocate-lines unit s k q h n) (by-lines unit (Reallocate q h n) s k .numbered) .0 e)))

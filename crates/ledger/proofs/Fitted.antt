@@ -13,12 +13,15 @@ use Rattle.accounts.specs.Accounts.{permissions, permissible}
 use Rattle.rounding.specs.Rounding.{Units}
 use Rattle.model.specs.Objects.{objects-of}
 use Rattle.model.specs.Consistent.{consistent, in-units, sound}
-use Rattle.model.specs.Refusals.{first-refusal, quota-lines, free-all-lines, lend-lines, release-lines, claim-lines, check-lines, allocate-lines, reallocate-lines}
-use Rattle.model.specs.Calls.{Outcome, unless, allocate, allocate-array, claim, release, free-all, reallocate, lend, remaining-of, can-release, list-block, clear}
+use Rattle.model.specs.Refusals.{first-refusal, quota-lines, free-all-lines, lend-lines, release-lines, claim-lines, check-lines, allocate-lines}
+use Rattle.model.specs.Refusals.{reallocate-lines}
+use Rattle.model.specs.Calls.{Outcome, unless, allocate, allocate-array, claim, release, free-all, reallocate, lend, remaining-of, can-release, list-block}
+use Rattle.model.specs.Calls.{clear}
 use Rattle.model.specs.Step.{step}
 use Rattle.model.specs.declared.Handle.{Handle}
 use Rattle.model.specs.declared.Call.{Call}
-use Rattle.model.specs.declared.Call.the-variants.{Allocate, AllocateArray, Claim, Release, FreeAll, Reallocate, Lend, Remaining, CanRelease, ListBlock, ClearPermissions}
+use Rattle.model.specs.declared.Call.the-variants.{Allocate, AllocateArray, Claim, Release, FreeAll, Reallocate, Lend, Remaining, CanRelease, ListBlock}
+use Rattle.model.specs.declared.Call.the-variants.{ClearPermissions}
 use Rattle.model.proofs.Bools.{and-both}
 use Rattle.model.proofs.Consistent.{sound-fits}
 use Rattle.model.specs.Lists.{all}

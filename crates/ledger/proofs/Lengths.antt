@@ -13,12 +13,15 @@ use Rattle.model.specs.Lists.{all, total}
 use Rattle.model.specs.Objects.{blocks-of, objects-of, lookup-whole, found}
 use Rattle.model.specs.Consistent.{long-enough, free-apart, well-cut}
 use Rattle.model.specs.Space.{body-of}
-use Rattle.model.specs.Refusals.{first-refusal, quota-lines, free-all-lines, lend-lines, release-lines, claim-lines, check-lines, allocate-lines, reallocate-lines}
-use Rattle.model.specs.Calls.{Outcome, State, unless, state-of, allocated, released, freed, copied, new-object, allocate, allocate-array, claim, release, free-all, reallocate, lend, remaining-of, can-release, list-block, clear}
+use Rattle.model.specs.Refusals.{first-refusal, quota-lines, free-all-lines, lend-lines, release-lines, claim-lines, check-lines, allocate-lines}
+use Rattle.model.specs.Refusals.{reallocate-lines}
+use Rattle.model.specs.Calls.{Outcome, State, unless, state-of, allocated, released, freed, copied, new-object, allocate, allocate-array, claim, release}
+use Rattle.model.specs.Calls.{free-all, reallocate, lend, remaining-of, can-release, list-block, clear}
 use Rattle.model.specs.Step.{step}
 use Rattle.model.specs.declared.Handle.{Handle}
 use Rattle.model.specs.declared.Call.{Call}
-use Rattle.model.specs.declared.Call.the-variants.{Allocate, AllocateArray, Claim, Release, FreeAll, Reallocate, Lend, Remaining, CanRelease, ListBlock, ClearPermissions}
+use Rattle.model.specs.declared.Call.the-variants.{Allocate, AllocateArray, Claim, Release, FreeAll, Reallocate, Lend, Remaining, CanRelease, ListBlock}
+use Rattle.model.specs.declared.Call.the-variants.{ClearPermissions}
 use Rattle.model.proofs.Bools.{and-right}
 use Rattle.model.proofs.Refusals.{accepted-exactly, by-lines}
 use Rattle.model.proofs.Carve.{carved, carved-total}

@@ -21,11 +21,13 @@ use Rattle.layout.specs.Blocks.{Block, size, live}
 use Rattle.model.specs.Lists.{any, keep, is-none}
 use Rattle.model.specs.Objects.{objects-from, objects, blocks-of, objects-of, lookup-whole, found}
 use Rattle.model.specs.Space.{suitable}
-use Rattle.model.specs.Refusals.{Line, _when_, line-holds, first-refusal, line-1, line-2, line-3, line-4, line-5, line-6, line-8, line-9, line-10, line-11, line-12, base-for, allocate-lines, reallocate-lines}
+use Rattle.model.specs.Refusals.{Line, _when_, line-holds, first-refusal, line-1, line-2, line-3, line-4, line-5, line-6, line-8, line-9, line-10, line-11}
+use Rattle.model.specs.Refusals.{line-12, base-for, allocate-lines, reallocate-lines}
 use Rattle.model.specs.Step.{step}
 use Rattle.model.specs.declared.Handle.{Handle}
 use Rattle.model.specs.declared.Call.{Call}
-use Rattle.model.specs.declared.Call.the-variants.{Allocate, AllocateArray, Claim, Release, FreeAll, Reallocate, Lend, Remaining, CanRelease, ListBlock, ClearPermissions}
+use Rattle.model.specs.declared.Call.the-variants.{Allocate, AllocateArray, Claim, Release, FreeAll, Reallocate, Lend, Remaining, CanRelease, ListBlock}
+use Rattle.model.specs.declared.Call.the-variants.{ClearPermissions}
 use Rattle.model.proofs.Refusals.{lines-of, by-lines, refusal-of-lines}
 use Rattle.model.proofs.Base.{in-occupied, lowest-some, lowest-none, suitable-bytes, bytes-suitable}
 use Rattle.ledger.specs.Demand3.{in-live-block, SuitableRun, Request, request-of, passes-others}
@@ -109,13 +111,15 @@ module _ (unit : ℕ → ℕ) (units : Units unit) (s : List ℕ) (k : Accounts)
   allocate-decided : (q n : ℕ) → passes-others (allocate-lines unit s k q n) ≡ true → Decided unit s n (first-refusal (allocate-lines unit s k q n))
   unfolding passes-others allocate-lines keep line-1 line-2 line-3 line-12 line-4 line-8 line-9 line-10 line-11
   allocate-decided q n e =
-      line-decides unit units s n (line-1 s ∷ line-2 unit s k ∷ line-3 q ∷ line-12 ALLOCATE k q ∷ line-4 n ∷ line-8 k q (object-length unit n) ∷ line-9 k ∷ line-10 k ∷ []) (not-true _ e)
+      line-decides unit units s n (line-1 s ∷ line-2 unit s k ∷ line-3 q ∷ line-12 ALLOCATE k q ∷ line-4 n ∷ line-8 k q (object-length unit n) ∷ line-9 k
+      ∷ line-10 k ∷ []) (not-true _ e)
 
   reallocate-decided : (q : ℕ) (h : Handle) (n : ℕ) → passes-others (reallocate-lines unit s k q h n) ≡ true → Decided unit s n (first-refusal (reallocate-lines unit s k q h n))
   unfolding passes-others reallocate-lines keep line-1 line-2 line-3 line-12 line-4 line-5 line-6 line-8 line-9 line-10 line-11
   reallocate-decided q h n e =
       line-decides unit units s n
-      (line-1 s ∷ line-2 unit s k ∷ line-3 q ∷ line-12 ALLOCATE k q ∷ line-4 n ∷ line-5 (lookup-whole h s) ∷ line-6 k q (found (lookup-whole h s)) ∷ line-8 k q (object-length unit n) ∷ line-9 k ∷ line-10 k ∷ [])
+      (line-1 s ∷ line-2 unit s k ∷ line-3 q ∷ line-12 ALLOCATE k q ∷ line-4 n ∷ line-5 (lookup-whole h s) ∷ line-6 k q (found (lookup-whole h s))
+      ∷ line-8 k q (object-length unit n) ∷ line-9 k ∷ line-10 k ∷ [])
       (not-true _ e)
 
   -- the lines of a call give its refusal

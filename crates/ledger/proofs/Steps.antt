@@ -19,12 +19,15 @@ use Rattle.model.specs.Lists.{keep, or-else}
 use Rattle.model.specs.Objects.{blocks-of, objects, objects-of, lookup, lookup-whole, found}
 use Rattle.model.specs.Consistent.{charges, has-record}
 use Rattle.model.specs.Holds.{count-of, lower-count}
-use Rattle.model.specs.Refusals.{first-refusal, quota-lines, free-all-lines, lend-lines, release-lines, claim-lines, check-lines, allocate-lines, reallocate-lines}
-use Rattle.model.specs.Calls.{Outcome, State, unless, state-of, allocated, claimed, released, freed, copied, new-object, allocate, allocate-array, claim, release, free-all, reallocate, lend, remaining-of, can-release, list-block, clear}
+use Rattle.model.specs.Refusals.{first-refusal, quota-lines, free-all-lines, lend-lines, release-lines, claim-lines, check-lines, allocate-lines}
+use Rattle.model.specs.Refusals.{reallocate-lines}
+use Rattle.model.specs.Calls.{Outcome, State, unless, state-of, allocated, claimed, released, freed, copied, new-object, allocate, allocate-array, claim}
+use Rattle.model.specs.Calls.{release, free-all, reallocate, lend, remaining-of, can-release, list-block, clear}
 use Rattle.model.specs.Step.{step}
 use Rattle.model.specs.declared.Handle.{Handle}
 use Rattle.model.specs.declared.Call.{Call}
-use Rattle.model.specs.declared.Call.the-variants.{Allocate, AllocateArray, Claim, Release, FreeAll, Reallocate, Lend, Remaining, CanRelease, ListBlock, ClearPermissions}
+use Rattle.model.specs.declared.Call.the-variants.{Allocate, AllocateArray, Claim, Release, FreeAll, Reallocate, Lend, Remaining, CanRelease, ListBlock}
+use Rattle.model.specs.declared.Call.the-variants.{ClearPermissions}
 use Rattle.model.proofs.Refusals.{accepted-exactly, by-lines}
 use Rattle.model.proofs.Lookup.{lookup-named, found-serial, lookup-whole-exactly}
 use Rattle.model.proofs.Settle.{object-held}
@@ -38,7 +41,8 @@ use Rattle.invariant.proofs.Heaps.{good-heap, heap-good, heap-again, good-order
 use Rattle.invariant.proofs.Transitions.{Room, allocated-good, allocated-objects, allocated-fresh, allocated-counts, claimed-good, claimed-counts, released-good, released-objects, freed-good, freed-objects, copied-good, copied-objects}
 use Rattle.invariant.proofs.Requested.{requested-room, requested-fresh, still-releasable}
 use Rattle.ledger.proofs.Matching.{match-added, match-raised, match-lowered, match-dropped}
-use Rattle.invariant.proofs.Passed.{Allocatable, allocate-passed, Claimable, claim-passed, Releasable, release-passed, free-all-passed, Reallocatable, reallocate-passed}
+use Rattle.invariant.proofs.Passed.{Allocatable, allocate-passed, Claimable, claim-passed, Releasable, release-passed, free-all-passed, Reallocatable}
+use Rattle.invariant.proofs.Passed.{reallocate-passed}
 
 -- a refused call is not recorded and changes nothing
 accepted-step : (c : Call) (l : Ledger) (s : List ℕ) (k : Accounts) (n : ℕ) (done : Outcome) → Agrees l s k → done .values .refusal ≡ 0
@@ -247,4 +251,5 @@ module _ (unit : ℕ → ℕ) (units : Units unit) where
   step-agrees (Remaining q) l s k a = accepted-step (Remaining q) l s k (first-refusal (quota-lines unit s k q)) _ a refl (λ e. a)
   step-agrees (CanRelease q h) l s k a = accepted-step (CanRelease q h) l s k (first-refusal (release-lines unit s k q h)) _ a refl (λ e. a)
   step-agrees (ListBlock at) l s k a = accepted-step (ListBlock at) l s k (first-refusal (check-lines unit s k)) _ a refl (λ e. a)
-  step-agrees (ClearPermissions q n) l s k a = accepted-step (ClearPermissions q n) l s k (first-refusal (quota-lines unit s k q)) _ a refl (λ e. clear-agrees l s k a q n)
+  step-agrees (ClearPermissions q n) l s k a = accepted-step (ClearPermissions q n) l s k (first-refusal (quota-lines unit s k q)) _ a refl
+      (λ e. clear-agrees l s k a q n)

@@ -23,7 +23,8 @@ use Rattle.model.proofs.Consistent.{serials-exactly, sound-permissible}
 use Rattle.model.proofs.Permissions.{step-permissible}
 use Rattle.model.specs.Answers.{Values}
 use Rattle.model.specs.declared.Call.{Call}
-use Rattle.model.specs.declared.Call.the-variants.{Allocate, AllocateArray, Claim, Release, FreeAll, Reallocate, Lend, Remaining, CanRelease, ListBlock, ClearPermissions}
+use Rattle.model.specs.declared.Call.the-variants.{Allocate, AllocateArray, Claim, Release, FreeAll, Reallocate, Lend, Remaining, CanRelease, ListBlock}
+use Rattle.model.specs.declared.Call.the-variants.{ClearPermissions}
 use Rattle.ledger.specs.Ledger.{Ledger, Event, Called, Wrote, Saved, Restored, leave, add-object, add-hold, take-hold, take-all, record-accepted, record-call, record-event, unrestored, ledger-of}
 use Rattle.ledger.specs.History.{History}
 use Rattle.ledger.specs.Demand3.{Within, objects-in, HeldIn, Holds, Demand3}

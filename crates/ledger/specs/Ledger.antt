@@ -14,7 +14,8 @@ use Rattle.model.specs.Lists.{any, keep}
 use Rattle.model.specs.Answers.{Values}
 use Rattle.model.specs.declared.Handle.{Handle}
 use Rattle.model.specs.declared.Call.{Call}
-use Rattle.model.specs.declared.Call.the-variants.{Allocate, AllocateArray, Claim, Release, FreeAll, Reallocate, Lend, Remaining, CanRelease, ListBlock, ClearPermissions}
+use Rattle.model.specs.declared.Call.the-variants.{Allocate, AllocateArray, Claim, Release, FreeAll, Reallocate, Lend, Remaining, CanRelease, ListBlock}
+use Rattle.model.specs.declared.Call.the-variants.{ClearPermissions}
 
 -- an object of the ledger: its base, length and serial, and each quota's holds on it, by the quota's number
 pub record Entry : Type 0 where

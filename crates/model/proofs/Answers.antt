@@ -25,7 +25,8 @@ use Rattle.model.proofs.Bools.{and-left, and-right}
 use Rattle.model.proofs.Refusals.{lines-of, tables}
 use Rattle.model.specs.declared.ListedBlock.{ListedBlock}
 use Rattle.model.specs.declared.Refusal.{Refusal}
-use Rattle.model.specs.declared.Refusal.the-variants.{HeapLength, Inconsistent, QuotaNumber, ObjectLength, NoSuchObject, NotHeld, CountLimit, QuotaExceeded, HoldsExhausted, SerialsExhausted, NoSpace, NotPermitted}
+use Rattle.model.specs.declared.Refusal.the-variants.{HeapLength, Inconsistent, QuotaNumber, ObjectLength, NoSuchObject, NotHeld, CountLimit}
+use Rattle.model.specs.declared.Refusal.the-variants.{QuotaExceeded, HoldsExhausted, SerialsExhausted, NoSpace, NotPermitted}
 use Rattle.model.specs.declared.Verdict.{Verdict}
 use Rattle.model.specs.declared.Verdict.the-variants.{Accepted, Refused as NotAccepted}
 use Rattle.model.specs.declared.HandleAnswer.{HandleAnswer}
@@ -39,7 +40,8 @@ use Rattle.model.specs.declared.BlockAnswer.the-variants.{Listed, NoBloc
 use Rattle.model.specs.declared.Answer.{Answer}
 use Rattle.model.specs.declared.Answer.the-variants.{Verdict as OfVerdict, Handle as OfHandle, Amount as OfAmount, Range as OfRange, Block as OfBlock}
 use Rattle.model.specs.declared.Call.{Call}
-use Rattle.model.specs.declared.Call.the-variants.{Allocate, AllocateArray, Claim, Release, FreeAll, Reallocate, Lend, Remaining, CanRelease, ListBlock, ClearPermissions}
+use Rattle.model.specs.declared.Call.the-variants.{Allocate, AllocateArray, Claim, Release, FreeAll, Reallocate, Lend, Remaining, CanRelease, ListBlock}
+use Rattle.model.specs.declared.Call.the-variants.{ClearPermissions}
 
 -- every number from 1 to 12 is a refusal's
 pub refusal-numbers : map refusal-number refusals ≡ 1 ∷ 2 ∷ 3 ∷ 4 ∷ 5 ∷ 6 ∷ 7 ∷ 8 ∷ 9 ∷ 10 ∷ 11 ∷ 12 ∷ []

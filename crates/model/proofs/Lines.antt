@@ -6,7 +6,8 @@ use Rattle.rounding.specs.Rounding.{unit}
 use Rattle.model.specs.Refusals.{first-refusal}
 use Rattle.model.specs.Tables.{run, values-of, got, wanted, parts, accounts-of}
 use Rattle.model.specs.Cases.{block}
-use Rattle.model.specs.Lines.{opening, every-call, one-block, each-refused, filled-from, holders, records-from, full-heap, full-accounts, four-accounts, four-objects, barred-accounts, zero-state}
+use Rattle.model.specs.Lines.{opening, every-call, one-block, each-refused, filled-from, holders, records-from, full-heap, full-accounts, four-accounts}
+use Rattle.model.specs.Lines.{four-objects, barred-accounts, zero-state}
 use Rattle.model.specs.Lines.{heap-lengths, openings, first-lines, full-lines, last-lines, permission-lines}
 use Rattle.model.proofs.Computing.{computing-but-sound, computing}
 

@@ -24,12 +24,15 @@ use Rattle.model.specs.Lists.{all}
 use Rattle.model.specs.Objects.{objects, objects-of, lookup, lookup-whole, found}
 use Rattle.model.specs.Consistent.{charge-of, charges, balanced-from, consistent-blocks, consistent-parsed, consistent}
 use Rattle.model.specs.Holds.{take-record, raise-count}
-use Rattle.model.specs.Refusals.{first-refusal, claims-first, quota-lines, free-all-lines, release-lines, claim-lines, allocate-lines, reallocate-lines, lend-lines, check-lines}
-use Rattle.model.specs.Calls.{Outcome, State, unless, state-of, allocated, claimed, given-back, released, freed, copied, new-object, allocate, allocate-array, claim, release, free-all, reallocate, lend, remaining-of, can-release, list-block, clear}
+use Rattle.model.specs.Refusals.{first-refusal, claims-first, quota-lines, free-all-lines, release-lines, claim-lines, allocate-lines, reallocate-lines}
+use Rattle.model.specs.Refusals.{lend-lines, check-lines}
+use Rattle.model.specs.Calls.{Outcome, State, unless, state-of, allocated, claimed, given-back, released, freed, copied, new-object, allocate}
+use Rattle.model.specs.Calls.{allocate-array, claim, release, free-all, reallocate, lend, remaining-of, can-release, list-block, clear}
 use Rattle.model.specs.Step.{step}
 use Rattle.model.specs.declared.Handle.{Handle}
 use Rattle.model.specs.declared.Call.{Call}
-use Rattle.model.specs.declared.Call.the-variants.{Allocate, AllocateArray, Claim, Release, FreeAll, Reallocate, Lend, Remaining, CanRelease, ListBlock, ClearPermissions}
+use Rattle.model.specs.declared.Call.the-variants.{Allocate, AllocateArray, Claim, Release, FreeAll, Reallocate, Lend, Remaining, CanRelease, ListBlock}
+use Rattle.model.specs.declared.Call.the-variants.{ClearPermissions}
 use Rattle.model.proofs.Bools.{and-both, and-left, and-right, and-no, and-yes}
 
 -- payments leave the permissions

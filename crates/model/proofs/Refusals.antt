@@ -15,12 +15,16 @@ use Rattle.accounts.specs.declared.Accounts.{Accounts}
 use Rattle.accounts.specs.Accounts.{zero-accounts}
 use Rattle.model.specs.Lists.{all, any}
 use Rattle.model.specs.Answers.{Values, refused}
-use Rattle.model.specs.Refusals.{Line, _when_, line-number, line-holds, first-refusal, line-1, line-2, line-3, line-4, line-5, line-6, line-7, line-8, line-9, line-10, line-11, line-12, only-if, open-lines, check-lines, quota-lines, free-all-lines, lend-lines, release-lines, claim-lines, allocate-lines, reallocate-lines}
-use Rattle.model.specs.Calls.{Outcome, unless, unchanged, open-heap, allocate, allocate-array, claim, release, free-all, reallocate, lend, remaining-of, can-release, check, list-block, clear}
+use Rattle.model.specs.Refusals.{Line, _when_, line-number, line-holds, first-refusal, line-1, line-2, line-3, line-4, line-5, line-6, line-7, line-8}
+use Rattle.model.specs.Refusals.{line-9, line-10, line-11, line-12, only-if, open-lines, check-lines, quota-lines, free-all-lines, lend-lines}
+use Rattle.model.specs.Refusals.{release-lines, claim-lines, allocate-lines, reallocate-lines}
+use Rattle.model.specs.Calls.{Outcome, unless, unchanged, open-heap, allocate, allocate-array, claim, release, free-all, reallocate, lend, remaining-of}
+use Rattle.model.specs.Calls.{can-release, check, list-block, clear}
 use Rattle.model.specs.Step.{step}
 use Rattle.model.specs.declared.Handle.{Handle}
 use Rattle.model.specs.declared.Call.{Call}
-use Rattle.model.specs.declared.Call.the-variants.{Allocate, AllocateArray, Claim, Release, FreeAll, Reallocate, Lend, Remaining, CanRelease, ListBlock, ClearPermissions}
+use Rattle.model.specs.declared.Call.the-variants.{Allocate, AllocateArray, Claim, Release, FreeAll, Reallocate, Lend, Remaining, CanRelease, ListBlock}
+use Rattle.model.specs.declared.Call.the-variants.{ClearPermissions}
 use Rattle.model.proofs.Bools.{and-left, and-right}
 
 -- no line has the number 0, which stands for no refusal

@@ -14,13 +14,17 @@ use Rattle.accounts.specs.Accounts.{clear-at, clear-permissions}
 use Rattle.model.specs.Objects.{objects-of, lookup, lookup-whole, found}
 use Rattle.model.specs.Consistent.{charge-of, charges}
 use Rattle.model.specs.Holds.{take-record, raise-count}
-use Rattle.model.specs.Refusals.{first-refusal, claims-first, quota-lines, free-all-lines, release-lines, claim-lines, allocate-lines, reallocate-lines, lend-lines, check-lines}
-use Rattle.model.specs.Calls.{Outcome, unless, state-of, allocated, claimed, given-back, released, freed, copied, new-object, allocate, allocate-array, claim, release, free-all, reallocate, lend, remaining-of, can-release, list-block, clear}
+use Rattle.model.specs.Refusals.{first-refusal, claims-first, quota-lines, free-all-lines, release-lines, claim-lines, allocate-lines, reallocate-lines}
+use Rattle.model.specs.Refusals.{lend-lines, check-lines}
+use Rattle.model.specs.Calls.{Outcome, unless, state-of, allocated, claimed, given-back, released, freed, copied, new-object, allocate, allocate-array}
+use Rattle.model.specs.Calls.{claim, release, free-all, reallocate, lend, remaining-of, can-release, list-block, clear}
 use Rattle.model.specs.Step.{step}
 use Rattle.model.specs.declared.Handle.{Handle}
 use Rattle.model.specs.declared.Call.{Call}
-use Rattle.model.specs.declared.Call.the-variants.{Allocate, AllocateArray, Claim, Release, FreeAll, Reallocate, Lend, Remaining, CanRelease, ListBlock, ClearPermissions}
-use Rattle.model.proofs.Frame.{Kept, kept-quotas, kept-same, beside-unused, beside-claim, beside-both, other-record, other-quota, allocated-keeps, claimed-keeps, released-keeps, reallocated-keeps, freed-keeps, clear-keeps}
+use Rattle.model.specs.declared.Call.the-variants.{Allocate, AllocateArray, Claim, Release, FreeAll, Reallocate, Lend, Remaining, CanRelease, ListBlock}
+use Rattle.model.specs.declared.Call.the-variants.{ClearPermissions}
+use Rattle.model.proofs.Frame.{Kept, kept-quotas, kept-same, beside-unused, beside-claim, beside-both, other-record, other-quota, allocated-keeps}
+use Rattle.model.proofs.Frame.{claimed-keeps, released-keeps, reallocated-keeps, freed-keeps, clear-keeps}
 
 -- the quotas that a call may change
 abbrev pub pays : Call → ℕ → Bool

@@ -5,7 +5,8 @@ use mathlib.Core.Bool.{cond}
 use lib.ListN.{length, replicate}
 use lib.Dec.{eqb}
 use Rattle.accounts.specs.declared.Accounts.{Accounts}
-use Rattle.accounts.specs.Accounts.{zero-accounts, opened, with-holds, with-last-serial, charge, refund, remaining, drop-records, left-permissions, clear-permissions}
+use Rattle.accounts.specs.Accounts.{zero-accounts, opened, with-holds, with-last-serial, charge, refund, remaining, drop-records, left-permissions}
+use Rattle.accounts.specs.Accounts.{clear-permissions}
 use Rattle.layout.specs.Blocks.{Block, size, render}
 use Rattle.rounding.specs.Rounding.{object-length}
 use Rattle.model.specs.Lists.{first, or-else}
@@ -14,7 +15,8 @@ use Rattle.model.specs.Objects.{blocks-of, objects-of, lookup, lookup-wh
 use Rattle.model.specs.Consistent.{charge-of, charges}
 use Rattle.model.specs.Space.{carve, settle, body-of, copy-into}
 use Rattle.model.specs.Holds.{count-of, take-record, raise-count, lower-count}
-use Rattle.model.specs.Refusals.{first-refusal, open-lines, check-lines, quota-lines, free-all-lines, lend-lines, release-lines, claim-lines, claims-first, base-for, allocate-lines, reallocate-lines}
+use Rattle.model.specs.Refusals.{first-refusal, open-lines, check-lines, quota-lines, free-all-lines, lend-lines, release-lines, claim-lines}
+use Rattle.model.specs.Refusals.{claims-first, base-for, allocate-lines, reallocate-lines}
 use Rattle.model.specs.declared.Handle.{Handle}
 use Rattle.model.specs.declared.ListedBlock.{ListedBlock}
 

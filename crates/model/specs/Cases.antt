@@ -10,7 +10,8 @@ use Rattle.model.specs.Calls.{Outcome, open-heap}
 use Rattle.model.specs.Marked.{handle}
 use Rattle.model.specs.Tables.{Case, case, run, head, zeros, parts, quota-with, quota, hold, places, accounts-of, state, written}
 use Rattle.model.specs.declared.Call.{Call}
-use Rattle.model.specs.declared.Call.the-variants.{Allocate, AllocateArray, Claim, Release, FreeAll, Reallocate, Lend, Remaining, CanRelease, ListBlock, ClearPermissions}
+use Rattle.model.specs.declared.Call.the-variants.{Allocate, AllocateArray, Claim, Release, FreeAll, Reallocate, Lend, Remaining, CanRelease, ListBlock}
+use Rattle.model.specs.declared.Call.the-variants.{ClearPermissions}
 
 -- a fresh heap of H bytes with two grants, and with as many records as the accounts of a case have
 unfoldable pub opened-heap : ℕ → ℕ → ℕ → Outcome

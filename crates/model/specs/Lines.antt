@@ -13,7 +13,8 @@ use Rattle.model.specs.Refusals.{Line, allocate-lines, reallocate-lines,
 use Rattle.model.specs.Tables.{Case, case, head, zeros, parts, quota-with, quota, hold, accounts-to, accounts-of, state}
 use Rattle.model.specs.Cases.{block}
 use Rattle.model.specs.declared.Call.{Call}
-use Rattle.model.specs.declared.Call.the-variants.{Allocate, AllocateArray, Claim, Release, FreeAll, Reallocate, Lend, Remaining, CanRelease, ListBlock, ClearPermissions}
+use Rattle.model.specs.declared.Call.the-variants.{Allocate, AllocateArray, Claim, Release, FreeAll, Reallocate, Lend, Remaining, CanRelease, ListBlock}
+use Rattle.model.specs.declared.Call.the-variants.{ClearPermissions}
 
 -- what open answers and leaves for a heap of H bytes: its first bytes and the accounts
 unfoldable pub opening : ℕ → Values × List ℕ × Accounts

@@ -12,7 +12,8 @@ use Rattle.accounts.specs.declared.Accounts.{Accounts}
 use Rattle.accounts.specs.declared.Hold.{Hold}
 use Rattle.accounts.specs.declared.Place.{Place}
 use Rattle.accounts.specs.declared.Place.the-variants.{At, Nothing}
-use Rattle.accounts.specs.Accounts.{QUOTAS, CLAIM, quota-at, permits, zero-hold, with-holds, remaining, charge, used, unused, is-for, find-hold, lowest-unused, hold-at, put-hold}
+use Rattle.accounts.specs.Accounts.{QUOTAS, CLAIM, quota-at, permits, zero-hold, with-holds, remaining, charge, used, unused, is-for, find-hold}
+use Rattle.accounts.specs.Accounts.{lowest-unused, hold-at, put-hold}
 use Rattle.accounts.proofs.Laws.{charge-kept}
 use Rattle.finder.specs.declared.Met.{Met}
 use Rattle.finder.specs.declared.Lookup.the-variants.{Found, Missing}
@@ -207,7 +208,8 @@ module _ (unit : ℕ → ℕ) (s : List ℕ) (k : Accounts) (v : Verdict) (told 
       quota-passes unit s k v told accepts q (line-12 CLAIM k q ∷ rest) l ∙ line-12-refuses CLAIM q k rest z
 
 -- so the call's outcome is the definition's
-module _ (unit : ℕ → ℕ) (s : List ℕ) (k : Accounts) (v : Verdict) (told : verdict-values v ≡ check unit s k .values) (accepts : v ≡ Accepted) (h : Handle) (m : Met)
+module _ (unit : ℕ → ℕ) (s : List ℕ) (k : Accounts) (v : Verdict) (told : verdict-values v ≡ check unit s k .values) (accepts : v ≡ Accepted) (h : Handle)
+    (m : Met)
     (e : find-object h s ≡ Found m) (q : ℕ) (l : q < QUOTAS) (permitted : permits CLAIM q k ≡ true) where
   due : unless (first-refusal (claim-rest k q (object-met m))) s k (claim-done s k q (object-met m)) ≡ claim unit s k q h
   unfolding claim

@@ -6,7 +6,8 @@ use mathlib.Core.List.{[], _∷_, map}
 use Rattle.rounding.specs.Rounding.{unit, object-length, alignment, leading-zeros, exponent, representable-alignment}
 
 -- the unit at both ends of each row, and above the table (6.5)
-pub unit-rows : map unit (0 ∷ 1 ∷ 8191 ∷ 8192 ∷ 16383 ∷ 16384 ∷ 32767 ∷ 32768 ∷ 65536 ∷ 2147483648 ∷ 4294967295 ∷ []) ≡ 8 ∷ 8 ∷ 8 ∷ 16 ∷ 16 ∷ 32 ∷ 32 ∷ 64 ∷ 64 ∷ 64 ∷ 64 ∷ []
+pub unit-rows : map unit (0 ∷ 1 ∷ 8191 ∷ 8192 ∷ 16383 ∷ 16384 ∷ 32767 ∷ 32768 ∷ 65536 ∷ 2147483648 ∷ 4294967295 ∷ [])
+    ≡ 8 ∷ 8 ∷ 8 ∷ 16 ∷ 16 ∷ 32 ∷ 32 ∷ 64 ∷ 64 ∷ 64 ∷ 64 ∷ []
 unfolding unit
 unit-rows = refl
 
@@ -30,7 +31,8 @@ unfolding unit object-length alignment
 longest-rows = refl
 
 -- the leading zeros of numbers of 32 bits, on both sides of a power of two
-pub zeros-rows : map (leading-zeros 32) (0 ∷ 1 ∷ 2 ∷ 3 ∷ 255 ∷ 256 ∷ 65535 ∷ 65536 ∷ 2147483647 ∷ 2147483648 ∷ 4294967295 ∷ []) ≡ 32 ∷ 31 ∷ 30 ∷ 30 ∷ 24 ∷ 23 ∷ 16 ∷ 15 ∷ 1 ∷ 0 ∷ 0 ∷ []
+pub zeros-rows : map (leading-zeros 32) (0 ∷ 1 ∷ 2 ∷ 3 ∷ 255 ∷ 256 ∷ 65535 ∷ 65536 ∷ 2147483647 ∷ 2147483648 ∷ 4294967295 ∷ [])
+    ≡ 32 ∷ 31 ∷ 30 ∷ 30 ∷ 24 ∷ 23 ∷ 16 ∷ 15 ∷ 1 ∷ 0 ∷ 0 ∷ []
 unfolding leading-zeros
 zeros-rows = refl
 

@@ -54,7 +54,8 @@ returns-4 : tie.Need-returns-4
 returns-4 c =
     let u = c .before in
     let s = u .before .before .before .before in
-    sym (base-fits unit (s .args .size) (s .args .end) (u .object-unit .result) (s .pre .2) (u .object-unit .ensures) (omega arith) (omega (arith, c .if3 .left)))
+    sym (base-fits unit (s .args .size) (s .args .end) (u .object-unit .result) (s .pre .2) (u .object-unit .ensures) (omega arith)
+    (omega (arith, c .if3 .left)))
 
 pub is-fitting-spec : {M : Type 1} → statement M
 is-fitting-spec =

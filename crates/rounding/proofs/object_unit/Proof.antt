@@ -21,7 +21,9 @@ array-read-power : tie.Need-array-read-power
 array-read-power c = omega (arith, zeros-fit 32 (c .before .args .length) (c .before .fits .length .fits), c .leading-zeros .ensures)
 
 cast-power : tie.Need-cast-power
-cast-power c = record { fits = omega (arith, powers-most (c .before .args .length) (c .leading-zeros .result) (c .before .fits .length .fits) (c .leading-zeros .ensures)) }
+cast-power c =
+    let most = powers-most (c .before .args .length) (c .leading-zeros .result) (c .before .fits .length .fits) (c .leading-zeros .ensures) in
+    record { fits = omega (arith, most) }
 
 shl-result : tie.Need-shl-result
 shl-result c = omega (arith, powers-most (c .before .args .length) (c .leading-zeros .result) (c .before .fits .length .fits) (c .leading-zeros .ensures))

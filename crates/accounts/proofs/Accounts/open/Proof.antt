@@ -62,7 +62,8 @@ returns c =
     let gs = start .args .t1 in
     let given : length gs ≡ QUOTAS = start .good .0 .1 .0 .1 in
     ap (with-quotas (at .loop .quotas)) (at .before .before .zero .ensures)
-    ∙ ap (λ (qs : List Quota). with-quotas qs zero-accounts) (mapped-all granted 0 (granted 0) refl gs (at .loop .quotas) (at .loop .i) (at .loop .inv .2) (at .loop .inv .1 ∙ sym given) (omega arith))
+    ∙ ap (λ (qs : List Quota). with-quotas qs zero-accounts)
+    (mapped-all granted 0 (granted 0) refl gs (at .loop .quotas) (at .loop .i) (at .loop .inv .2) (at .loop .inv .1 ∙ sym given) (omega arith))
 
 pub open-spec : {M : Type 1} → statement M
 open-spec =

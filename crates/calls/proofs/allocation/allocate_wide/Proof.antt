@@ -31,7 +31,8 @@ returns c =
     let x = c .before .before in
     let k = x .before .before in
     let a = k .before .before .before .args in
-    refused-check unit (a .heap .now) (a .t2) (a .quota) (a .length) (k .check .result) (k .check .ensures) (x .refusal .given .0 .0) (x .refusal .given .1) (c .refused .result)
+    refused-check unit (a .heap .now) (a .t2) (a .quota) (a .length) (k .check .result) (k .check .ensures) (x .refusal .given .0 .0) (x .refusal .given .1)
+    (c .refused .result)
     (c .refused .ensures)
 
 enum-told : tie.Need-enum-told
@@ -48,7 +49,8 @@ returns-2 c =
     let t = c .before .before in
     let k = t .before .before in
     let a = k .before .before .before .args in
-    refused-3 unit (a .heap .now) (a .t2) (a .quota) (a .length) (k .check .result) (k .check .ensures) (t .enum-told .given .1) (c .before .if1 .taken) (c .refused2 .result)
+    refused-3 unit (a .heap .now) (a .t2) (a .quota) (a .length) (k .check .result) (k .check .ensures) (t .enum-told .given .1) (c .before .if1 .taken)
+    (c .refused2 .result)
     (c .refused2 .ensures)
 
 -- what is known once the quota's number was tested
@@ -92,7 +94,8 @@ returns-4 c =
     let m = c .before .before in
     let e = m .before in
     let a = e .before .before .before .before .before .before .args in
-    refused-4 unit (a .heap .now) (a .t2) (a .quota) (a .length) (checked e) (may m) (line-4-zero (a .length) (from-8 unit (a .heap .now) (a .t2) (a .quota) (a .length)) (c .before .if3 .taken))
+    refused-4 unit (a .heap .now) (a .t2) (a .quota) (a .length) (checked e) (may m)
+    (line-4-zero (a .length) (from-8 unit (a .heap .now) (a .t2) (a .quota) (a .length)) (c .before .if3 .taken))
     (c .refused4 .result) (c .refused4 .ensures)
 
 refused-requires-5 : tie.Need-refused-requires-5
@@ -106,7 +109,8 @@ returns-5 c =
     let m = c .before .before .before in
     let e = m .before in
     let a = e .before .before .before .before .before .before .args in
-    refused-4 unit (a .heap .now) (a .t2) (a .quota) (a .length) (checked e) (may m) (line-4-long (a .length) (from-8 unit (a .heap .now) (a .t2) (a .quota) (a .length)) (c .before .if4 .taken))
+    refused-4 unit (a .heap .now) (a .t2) (a .quota) (a .length) (checked e) (may m)
+    (line-4-long (a .length) (from-8 unit (a .heap .now) (a .t2) (a .quota) (a .length)) (c .before .if4 .taken))
     (c .refused5 .result) (c .refused5 .ensures)
 
 cast-grant : tie.Need-cast-grant

@@ -158,7 +158,8 @@ returns-3 c =
     let b = t .before .before .before .before in
     let e = b .before .before .before .before .before in
     let a = e .args in
-    refused-too unit unit-is (a .heap .now) (a .accounts) (a .quota) (a .handle) (a .length) (e .pre) (object-met (b .old .given .0 .0)) (is-whole t) (named t) (held t) (g .grant .last .0) (g .grant .result)
+    refused-too unit unit-is (a .heap .now) (a .accounts) (a .quota) (a .handle) (a .length) (e .pre) (object-met (b .old .given .0 .0)) (is-whole t)
+    (named t) (held t) (g .grant .last .0) (g .grant .result)
     (c .enum-told3 .given .0 .0) (c .enum-told3 .given .1) (g .grant .ensures)
 
 cast-shorter : tie.Need-cast-shorter
@@ -209,7 +210,8 @@ ready m =
     let k = b .before .before .before .before in
     let e = k .before in
     let a = e .args in
-    copied-checked unit unit-is (a .heap .now) (a .accounts) (a .quota) (a .handle) (a .length) (e .pre) (object-met (b .old .given .0 .0)) (is-whole t) (named t) (held t) (octets k) (limits e) (g .grant .last .0) (g .grant .result)
+    copied-checked unit unit-is (a .heap .now) (a .accounts) (a .quota) (a .handle) (a .length) (e .pre) (object-met (b .old .given .0 .0)) (is-whole t)
+    (named t) (held t) (octets k) (limits e) (g .grant .last .0) (g .grant .result)
     (g .grant .ensures) (w .answer .given .0 .0) (w .answer .given .1) (m .copy-part .last .0) (copied m)
 
 -- the old block is found where it stood, and the quota's record too
@@ -225,7 +227,8 @@ again n =
     let e = k .before in
     let a = e .args in
     found-again unit (m .copy-part .last .0) (g .grant .result .accounts) (a .quota) (ready m) (a .handle) (b .old .given .0 .0) (lies t .header)
-    (copied-named unit unit-is (a .heap .now) (a .accounts) (a .quota) (a .handle) (a .length) (e .pre) (object-met (b .old .given .0 .0)) (is-whole t) (named t) (held t) (octets k) (limits e) (g .grant .last .0) (g .grant .result)
+    (copied-named unit unit-is (a .heap .now) (a .accounts) (a .quota) (a .handle) (a .length) (e .pre) (object-met (b .old .given .0 .0)) (is-whole t)
+    (named t) (held t) (octets k) (limits e) (g .grant .last .0) (g .grant .result)
     (g .grant .ensures) (w .answer .given .0 .0) (w .answer .given .1) (m .copy-part .last .0) (copied m))
     ∙ ap Found (sym (n .current .ensures))
 
@@ -242,7 +245,8 @@ placed n =
     let e = k .before in
     let a = e .args in
     ap (λ (x : Met). find-hold (x .serial) (a .quota) (g .grant .result .accounts)) (n .current .ensures)
-    ∙ copied-place unit unit-is (a .heap .now) (a .accounts) (a .quota) (a .handle) (a .length) (e .pre) (object-met (b .old .given .0 .0)) (is-whole t) (named t) (held t) (octets k) (limits e) (g .grant .last .0) (g .grant .result)
+    ∙ copied-place unit unit-is (a .heap .now) (a .accounts) (a .quota) (a .handle) (a .length) (e .pre) (object-met (b .old .given .0 .0)) (is-whole t)
+    (named t) (held t) (octets k) (limits e) (g .grant .last .0) (g .grant .result)
     (g .grant .ensures) (w .answer .given .0 .0) (w .answer .given .1) (m .copy-part .last .0) (copied m)
     (t .place .given .0 .0) (sym (t .before .before .find-hold .ensures) ∙ t .place .given .1)
 
@@ -285,7 +289,8 @@ returns-4 c =
     let s = u .drop-claim .last .0 in
     ap (handle-outcome s) (c .with-accounts .ensures)
     ∙ ap (λ (x : HandleAnswer). outcome s (u .drop-claim .result .accounts) (handle-values x)) (w .answer .given .1)
-    ∙ given-too unit unit-is (a .heap .now) (a .accounts) (a .quota) (a .handle) (a .length) (e .pre) (object-met (b .old .given .0 .0)) (is-whole t) (named t) (held t) (octets k) (limits e) (g .grant .last .0) (g .grant .result)
+    ∙ given-too unit unit-is (a .heap .now) (a .accounts) (a .quota) (a .handle) (a .length) (e .pre) (object-met (b .old .given .0 .0)) (is-whole t)
+    (named t) (held t) (octets k) (limits e) (g .grant .last .0) (g .grant .result)
     (g .grant .ensures) (w .answer .given .0 .0) (w .answer .given .1) (m .copy-part .last .0) (copied m) (u .drop-claim .last .0) (u .drop-claim .result)
     (u .drop-claim .ensures
     ∙ dropped unit (m .copy-part .last .0) (g .grant .result .accounts) (a .quota) (a .handle) (ready m) (n .current .result) (again n) (t .place .given .0 .0) (placed n))

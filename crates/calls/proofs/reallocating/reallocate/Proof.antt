@@ -33,7 +33,8 @@ returns c =
     let k = x .before .before in
     let a = k .before .before .before .args in
     refuses unit (a .heap .now) (a .t2) (a .quota) (a .handle) (a .length) (c .refused .result) (x .refusal .given .0 .0) (c .refused .ensures)
-    (by-check unit (a .heap .now) (a .t2) (a .quota) (a .handle) (a .length) (k .check .result) (k .check .ensures) (x .refusal .given .0 .0) (x .refusal .given .1))
+    (by-check unit (a .heap .now) (a .t2) (a .quota) (a .handle) (a .length) (k .check .result) (k .check .ensures) (x .refusal .given .0 .0)
+    (x .refusal .given .1))
 
 enum-told : tie.Need-enum-told
 enum-told c = search needs
@@ -50,7 +51,8 @@ returns-2 c =
     let k = t .before .before in
     let a = k .before .before .before .args in
     refuses unit (a .heap .now) (a .t2) (a .quota) (a .handle) (a .length) (c .refused2 .result) QuotaNumber (c .refused2 .ensures)
-    (by-quota unit (a .heap .now) (a .t2) (a .quota) (a .handle) (a .length) (k .check .result) (k .check .ensures) (t .enum-told .given .1) (c .before .if1 .taken))
+    (by-quota unit (a .heap .now) (a .t2) (a .quota) (a .handle) (a .length) (k .check .result) (k .check .ensures) (t .enum-told .given .1)
+    (c .before .if1 .taken))
 
 -- what is known once the quota's number was tested
 checked : (e : tie.Else1) → let a = e .before .before .before .before .before .before .args in Checked unit (a .heap .now) (a .t2) (a .quota)

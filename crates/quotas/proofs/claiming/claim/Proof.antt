@@ -37,7 +37,8 @@ returns c =
     let o = lookup (a .handle) (a .heap .now) in
     ap (amount-outcome (a .heap .now)) (c .refused .ensures)
     ∙ refused-is _ (a .heap .now) (a .t2) _ (r .0 .0)
-    (check-refuses unit (a .heap .now) (a .t2) (k .result) (k .ensures) (line-3 (a .quota) ∷ line-12 CLAIM (a .t2) (a .quota) ∷ line-5 o ∷ claim-rest (a .t2) (a .quota) (found o)) (r .0 .0) (r .1))
+    (check-refuses unit (a .heap .now) (a .t2) (k .result) (k .ensures)
+    (line-3 (a .quota) ∷ line-12 CLAIM (a .t2) (a .quota) ∷ line-5 o ∷ claim-rest (a .t2) (a .quota) (found o)) (r .0 .0) (r .1))
 
 enum-told : tie.Need-enum-told
 enum-told c = search needs
@@ -55,7 +56,8 @@ returns-2 c =
     let rest = line-12 CLAIM (a .t2) (a .quota) ∷ line-5 o ∷ claim-rest (a .t2) (a .quota) (found o) in
     ap (amount-outcome (a .heap .now)) (c .refused2 .ensures)
     ∙ refused-is _ (a .heap .now) (a .t2) _ QuotaNumber
-    (check-accepts unit (a .heap .now) (a .t2) (k .result) (k .ensures) (line-3 (a .quota) ∷ rest) (e .enum-told .given .1) ∙ line-3-refuses (a .quota) rest (c .before .if1 .taken))
+    (check-accepts unit (a .heap .now) (a .t2) (k .result) (k .ensures) (line-3 (a .quota) ∷ rest) (e .enum-told .given .1) ∙ line-3-refuses (a .quota) rest
+    (c .before .if1 .taken))
 
 mul-if2 : tie.Need-mul-if2
 mul-if2 c = search needs
@@ -75,7 +77,8 @@ returns-3 c =
     let k = e .before .before .check in
     ap (amount-outcome (a .heap .now)) (c .refused3 .ensures)
     ∙ refused-is _ (a .heap .now) (a .t2) _ NotPermitted
-    (claim-forbidden unit (a .heap .now) (a .t2) (k .result) (k .ensures) (e .enum-told .given .1) (a .handle) (a .quota) (f .if1 .left) (c .before .if2 .taken))
+    (claim-forbidden unit (a .heap .now) (a .t2) (k .result) (k .ensures) (e .enum-told .given .1) (a .handle) (a .quota) (f .if1 .left)
+    (c .before .if2 .taken))
 
 find-object-requires : tie.Need-find-object-requires
 find-object-requires c κs = search needs
@@ -98,7 +101,8 @@ returns-4 c =
     let k = e .before .before .check in
     ap (amount-outcome (a .heap .now)) (c .refused4 .ensures)
     ∙ refused-is _ (a .heap .now) (a .t2) _ NoSuchObject
-    (claim-missing unit (a .heap .now) (a .t2) (k .result) (k .ensures) (e .enum-told .given .1) (a .handle) (sym (f .find-object .ensures) ∙ c .before .enum-told2 .given .1)
+    (claim-missing unit (a .heap .now) (a .t2) (k .result) (k .ensures) (e .enum-told .given .1) (a .handle)
+    (sym (f .find-object .ensures) ∙ c .before .enum-told2 .given .1)
     (a .quota) (f .before .before .if1 .left) (permitted CLAIM (a .quota) (a .t2) (f .before .if2 .left)))
 
 sub-length : tie.Need-sub-length
@@ -108,7 +112,8 @@ sub-length c =
     let e = f .before .before .before in
     let a = e .before .before .before .before .args in
     let k = e .before .before .check in
-    let l = located unit (a .heap .now) (a .t2) (k .result) (k .ensures) (e .enum-told .given .1) (a .handle) (b .block .given .0 .0) (sym (f .find-object .ensures) ∙ b .block .given .1) in
+    let l = located unit (a .heap .now) (a .t2) (k .result) (k .ensures) (e .enum-told .given .1) (a .handle) (b .block .given .0 .0)
+    (sym (f .find-object .ensures) ∙ b .block .given .1) in
     omega (arith, l .header)
 
 cast-length : tie.Need-cast-length
@@ -118,7 +123,8 @@ cast-length c =
     let e = f .before .before .before in
     let a = e .before .before .before .before .args in
     let k = e .before .before .check in
-    let l = located unit (a .heap .now) (a .t2) (k .result) (k .ensures) (e .enum-told .given .1) (a .handle) (b .block .given .0 .0) (sym (f .find-object .ensures) ∙ b .block .given .1) in
+    let l = located unit (a .heap .now) (a .t2) (k .result) (k .ensures) (e .enum-told .given .1) (a .handle) (b .block .given .0 .0)
+    (sym (f .find-object .ensures) ∙ b .block .given .1) in
     record { fits = omega (arith, l .header, l .end) }
 
 cast-holder : tie.Need-cast-holder
@@ -143,8 +149,10 @@ returns-5 c =
     let a = e .before .before .before .before .args in
     let k = e .before .before .check in
     ap (amount-outcome (a .heap .now)) (c .claim-again .ensures)
-    ∙ claims-again unit (a .heap .now) (a .t2) (k .result) (k .ensures) (e .enum-told .given .1) (a .handle) (b .block .given .0 .0) (sym (f .find-object .ensures) ∙ b .block .given .1)
-    (a .quota) (f .before .before .if1 .left) (permitted CLAIM (a .quota) (a .t2) (f .before .if2 .left)) (p .at .given .0 .0) (sym (d .find-hold .ensures) ∙ p .at .given .1)
+    ∙ claims-again unit (a .heap .now) (a .t2) (k .result) (k .ensures) (e .enum-told .given .1) (a .handle) (b .block .given .0 .0)
+    (sym (f .find-object .ensures) ∙ b .block .given .1)
+    (a .quota) (f .before .before .if1 .left) (permitted CLAIM (a .quota) (a .t2) (f .before .if2 .left)) (p .at .given .0 .0)
+    (sym (d .find-hold .ensures) ∙ p .at .given .1)
 
 enum-told-3 : tie.Need-enum-told-3
 enum-told-3 c = search needs
@@ -156,7 +164,8 @@ claim-first-requires c κs =
     let e = f .before .before .before in
     let a = e .before .before .before .before .args in
     let k = e .before .before .check in
-    let l = located unit (a .heap .now) (a .t2) (k .result) (k .ensures) (e .enum-told .given .1) (a .handle) (b .block .given .0 .0) (sym (f .find-object .ensures) ∙ b .block .given .1) in
+    let l = located unit (a .heap .now) (a .t2) (k .result) (k .ensures) (e .enum-told .given .1) (a .handle) (b .block .given .0 .0)
+    (sym (f .find-object .ensures) ∙ b .block .given .1) in
     (omega (arith, f .before .before .if1 .left), omega (arith, l .header, l .end))
 
 returns-6 : tie.Need-returns-6
@@ -169,8 +178,10 @@ returns-6 c =
     let a = e .before .before .before .before .args in
     let k = e .before .before .check in
     ap (amount-outcome (a .heap .now)) (c .claim-first .ensures)
-    ∙ claims-anew unit (a .heap .now) (a .t2) (k .result) (k .ensures) (e .enum-told .given .1) (a .handle) (b .block .given .0 .0) (sym (f .find-object .ensures) ∙ b .block .given .1)
-    (a .quota) (f .before .before .if1 .left) (permitted CLAIM (a .quota) (a .t2) (f .before .if2 .left)) (sym (d .find-hold .ensures) ∙ t .enum-told3 .given .1)
+    ∙ claims-anew unit (a .heap .now) (a .t2) (k .result) (k .ensures) (e .enum-told .given .1) (a .handle) (b .block .given .0 .0)
+    (sym (f .find-object .ensures) ∙ b .block .given .1)
+    (a .quota) (f .before .before .if1 .left) (permitted CLAIM (a .quota) (a .t2) (f .before .if2 .left))
+    (sym (d .find-hold .ensures) ∙ t .enum-told3 .given .1)
 
 pub claim-spec : {M : Type 1} → statement M
 claim-spec =

@@ -124,7 +124,8 @@ walked c =
     let yes = p .before .before .before .enum-told .given .1 in
     let sound = check-consistent unit (a .heap .now) (a .t2) (k .result) (k .ensures) yes in
     let below = p .before .before .if1 .left in
-    all-freed unit (a .heap .now) (a .t2) (octets (p .before .before .before .before .before .before .before)) (allowed-most _ (sound .0)) (sound .1) (sized (start c)) (a .quota) below (p .spent .result) (p .spent .ensures)
+    all-freed unit (a .heap .now) (a .t2) (octets (p .before .before .before .before .before .before .before)) (allowed-most _ (sound .0)) (sound .1)
+    (sized (start c)) (a .quota) below (p .spent .result) (p .spent .ensures)
     (l .before .refund .result) (l .drop-holds .result) (l .before .refund .ensures) (l .drop-holds .ensures)
     (c .before .live-serials .result) (c .before .live-serials .ensures) (c .held-each .result) (c .held-each .ensures)
     (all-passes unit (a .heap .now) (a .t2) (a .quota) (k .result) (k .ensures) yes below (permitted FREE-ALL (a .quota) (a .t2) (p .before .if2 .left)))
