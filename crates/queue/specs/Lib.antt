@@ -1,0 +1,5 @@
+-- The crate's definitions.
+pub mod Queue
+pub mod Results
+pub mod Runs
+pub mod Packets
