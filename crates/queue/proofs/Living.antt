@@ -16,14 +16,13 @@ use Rattle.accounts.specs.declared.Hold.{Hold}
 use Rattle.accounts.specs.declared.Accounts.{Accounts}
 use Rattle.rounding.specs.Rounding.{unit, Units}
 use Rattle.rounding.proofs.Rounding.{unit-is}
-use Rattle.layout.specs.Blocks.{render}
 use Rattle.model.specs.Lists.{is-none}
 use Rattle.model.specs.Answers.{lent, zero-handle}
-use Rattle.model.specs.Objects.{blocks-of, objects-of, lookup}
+use Rattle.model.specs.Objects.{objects-of, lookup}
 use Rattle.model.specs.Consistent.{allowed, sound}
 use Rattle.model.specs.Holds.{count-of}
 use Rattle.model.specs.Refusals.{Line, _when_, first-refusal, line-1, line-2, line-5, lend-lines}
-use Rattle.model.specs.Calls.{Outcome, unless, unchanged, claimed, claim, release, can-release, lend}
+use Rattle.model.specs.Calls.{Outcome, unless, unchanged, can-release, lend}
 use Rattle.model.specs.Step.{step}
 use Rattle.model.specs.declared.Handle.{Handle}
 use Rattle.model.specs.declared.Call.the-variants.{Claim, Release}
@@ -39,7 +38,7 @@ use Rattle.queue.specs.declared.Queue.{Queue}
 use Rattle.queue.specs.Queue.{PLACES, waiting, line-53, line-51, line-of, send-lines, sent-unless, send, receive}
 use Rattle.queue.specs.Packets.{HoldsIn, NobodyHolds, packet, claimed-by, released-by, send-events, Joins, Lives, Packets}
 use Rattle.queue.proofs.Sending.{line-gives, line-none, receive-done}
-use Rattle.queue.proofs.Moving.{named, claim-is, release-is, receiver-has, packet-lives}
+use Rattle.queue.proofs.Moving.{named, left, both-made, receiver-has, packet-lives}
 
 -- a call whose line does not refuse is accepted
 line-accepts : (t : Outcome) (rest : List Line) → first-refusal (line-of t ∷ rest) ≡ 0 → (t .values .refusal ≡ 0) × (first-refusal rest ≡ 0)
@@ -131,7 +130,7 @@ module _ (unit : ℕ → ℕ) (units : Units unit) (begun : Ledger) where
     live-held o m =
         let f = consistent-facts s k (sound-consistent unit s k (after .kept-sound)) .recorded o m in
         let r = after .record-held (f .0) (f .1) (f .2) in
-        (f .0 .quota, r .0, r .1, r .2 ∙ f .3, omega (arith, r .3, r .4))
+        (f .0 .quota, (r .0, r .1, r .2 ∙ f .3, omega (arith, r .3, r .4)))
 
     -- nobody holds an object with the serial: no handle with it names one
     names-none : (h : Handle) (serial : ℕ) → h .serial ≡ serial → NobodyHolds serial (ledger-of begun es) → lookup h s ≡ none
@@ -162,27 +161,22 @@ module _ (unit : ℕ → ℕ) (units : Units unit) (begun : Ledger) where
 
     -- an accepted send
     module _ (a : Accepted unit s k u h) where
-      release-done : released-by unit s k u h ≡ release unit s (claimed (u .receiver) (packet h s) k) (u .sender) h
-      release-done =
-          ap (λ (c : Outcome). release unit (c .heap) (c .accounts) (u .sender) h)
-          (claim-is unit units begun es s k past (u .sender) (u .receiver) h (a .claims) (a .can))
-
-      left : released-by unit s k u h ≡ _
-      left = release-done ∙ release-is unit units begun es s k past (u .sender) (u .receiver) h (a .claims) (a .can)
+      made : released-by unit s k u h ≡ left unit units begun es s k past (u .sender) (u .receiver) h (a .claims) (a .can)
+      made = both-made unit units begun es s k past (u .sender) (u .receiver) h (a .claims) (a .can)
 
       both-done : released-by unit s k u h .values .refusal ≡ 0
-      both-done = ap (λ (t : Outcome). t .values .refusal) left
+      both-done = ap (λ (t : Outcome). t .values .refusal) made
 
       holds-now : HoldsIn (u .receiver) (packet h s .serial) (ledger-of begun sent-events)
       holds-now =
           counted-holds sent-events (send unit s k u h .heap) (send unit s k u h .accounts) (joined (inl a)) (u .receiver) (packet h s .serial)
-          (subst (λ (x : Accounts). 0 < count-of (packet h s .serial) (u .receiver) (x .holds)) (sym (ap (λ (t : Outcome). t .accounts) left) ∙ a .accounts)
+          (subst (λ (x : Accounts). 0 < count-of (packet h s .serial) (u .receiver) (x .holds)) (sym (ap (λ (t : Outcome). t .accounts) made) ∙ a .accounts)
           (receiver-has unit units begun es s k past (u .sender) (u .receiver) h (a .claims) (a .can)))
 
       recorded-now : List·Memᴰ (packet h s) (objects-in (ledger-of begun sent-events))
       recorded-now =
           after sent-events (send unit s k u h .heap) (send unit s k u h .accounts) (joined (inl a)) .live-recorded (packet h s)
-          (subst (λ (x : List ℕ). List·Memᴰ (packet h s) (objects-of x)) (sym (ap (λ (t : Outcome). t .heap) left) ∙ a .heap)
+          (subst (λ (x : List ℕ). List·Memᴰ (packet h s) (objects-of x)) (sym (ap (λ (t : Outcome). t .heap) made) ∙ a .heap)
           (packet-lives unit units begun es s k past (u .sender) (u .receiver) h (a .claims) (a .can)))
 
       narrowed : Narrowed h (packet h s)

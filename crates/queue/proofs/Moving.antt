@@ -4,7 +4,7 @@
 -- Assumes nothing.
 use Prim.Native.Nat.{ℕ, zero, suc, _+_, _-_, _<_}
 use native.Mathlib.Omega.{arith}
-use mathlib.Core.Path.{_≡_, refl, subst}
+use mathlib.Core.Path.{_≡_, refl, ap, subst, _∙_}
 use mathlib.Core.List.{List, [], _∷_, _++_, List·Memᴰ}
 use mathlib.Core.Bool.{Bool, true, false, cond, _&&_}
 use mathlib.Core.Option.{some}
@@ -12,14 +12,13 @@ use lib.Dec.{eqb}
 use borrow.Author.Tests.{eqb-true, eq-eqb}
 use Rattle.accounts.specs.declared.Accounts.{Accounts}
 use Rattle.rounding.specs.Rounding.{Units}
-use Rattle.layout.specs.Blocks.{render}
 use Rattle.model.specs.Lists.{or-else}
 use Rattle.model.specs.Answers.{amount-of}
 use Rattle.model.specs.Objects.{blocks-of, objects, objects-of, lookup, found}
 use Rattle.model.specs.Consistent.{consistent, sound, has-record}
 use Rattle.model.specs.Holds.{count-of, lower-count}
 use Rattle.model.specs.Refusals.{first-refusal, claim-lines}
-use Rattle.model.specs.Calls.{State, leaves, unless, unchanged, state-of, claimed, given-back, released, claim, release, can-release}
+use Rattle.model.specs.Calls.{Outcome, State, leaves, unless, unchanged, state-of, claimed, given-back, released, claim, release, can-release}
 use Rattle.model.specs.Step.{step}
 use Rattle.model.specs.declared.Handle.{Handle}
 use Rattle.model.specs.declared.Call.the-variants.{Claim, CanRelease}
@@ -65,7 +64,7 @@ module _ (unit : ℕ → ℕ) (units : Units unit) (begun : Ledger) (es : List E
   unfolding found or-else
   named = rw (claimable .names)
 
-  pub there : List·Memᴰ object (objects-of s)
+  there : List·Memᴰ object (objects-of s)
   there = lookup-named h s object named .1
 
   there-among : List·Memᴰ object (objects (blocks-of s))
@@ -76,7 +75,7 @@ module _ (unit : ℕ → ℕ) (units : Units unit) (begun : Ledger) (es : List E
   abbrev held : State
   held = record { blocks = blocks-of s; accounts = claimed to object k }
 
-  pub claim-is : claim unit s k to h ≡ unchanged s (claimed to object k) (claim unit s k to h .values)
+  claim-is : claim unit s k to h ≡ unchanged s (claimed to object k) (claim unit s k to h .values)
   unfolding claim unless
   claim-is = go (first-refusal (claim-lines unit s k to h)) c
     where
@@ -134,13 +133,19 @@ module _ (unit : ℕ → ℕ) (units : Units unit) (begun : Ledger) (es : List E
   abbrev moved : State
   moved = released from object held
 
-  pub release-is : release unit s (claimed to object k) from h ≡ leaves moved (amount-of (given-back from object (claimed to object k)))
+  abbrev pub left : Outcome
+  left = leaves moved (amount-of (given-back from object (claimed to object k)))
+
+  release-is : release unit s (claimed to object k) from h ≡ left
   release-is =
-      subst (λ (x : List ℕ). release unit x (claimed to object k) from h ≡ leaves moved (amount-of (given-back from object (claimed to object k))))
+      subst (λ (x : List ℕ). release unit x (claimed to object k) from h ≡ left)
       (again (ledger-of begun es) s k agrees) (does from h object held held-good possible unit held-fitting)
 
+  pub both-made : release unit (claim unit s k to h .heap) (claim unit s k to h .accounts) from h ≡ left
+  both-made = ap (λ (t : Outcome). release unit (t .heap) (t .accounts) from h) claim-is ∙ release-is
+
   -- the receiver's count is above 0 then
-  pub receiver-has : 0 < count-of (object .serial) to (moved .accounts .holds)
+  pub receiver-has : 0 < count-of (object .serial) to (left .accounts .holds)
   unfolding released
   receiver-has = rw (lower-counted (claimed to object k .holds) held-ordered (object .serial) from recorded (object .serial) to) (go (eqb from to) refl)
     where
@@ -153,14 +158,17 @@ module _ (unit : ℕ → ℕ) (units : Units unit) (begun : Ledger) (es : List E
       go true e = rw (eq-eqb (object .serial) (object .serial) refl, e) (omega (arith, one-more, rw (eqb-true from to e) at had))
       go false e = rw (eq-eqb (object .serial) (object .serial) refl, e) (omega (arith, one-more))
 
+  receiver-counted : 0 < count-of (object .serial) to (lower-count (object .serial) from (claimed to object k .holds))
+  unfolding released
+  receiver-counted = receiver-has
+
   -- and the packet is live
-  pub packet-lives : List·Memᴰ object (objects-of (render (moved .blocks)))
+  pub packet-lives : List·Memᴰ object (objects-of (left .heap))
   packet-lives =
       let hs = lower-count (object .serial) from (claimed to object k .holds) in
       rw (good-heap moved (possible-good from h object held held-good possible) .objects, released-objects from object held held-good there-among recorded)
       (keep-exactly (object-held hs) (objects (blocks-of s)) object .1
-      (there-among, held-counted hs (lower-ordered (claimed to object k .holds) held-ordered (object .serial) from recorded) (object .serial) .1 (to, counted)))
-    where
-      counted : 0 < count-of (object .serial) to (lower-count (object .serial) from (claimed to object k .holds))
-      unfolding released
-      counted = receiver-has
+      (
+        there-among,
+        held-counted hs (lower-ordered (claimed to object k .holds) held-ordered (object .serial) from recorded) (object .serial) .1 (to, receiver-counted),
+      ))
