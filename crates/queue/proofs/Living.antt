@@ -6,12 +6,12 @@ use Prim.Native.Nat.{ℕ, zero, suc, _+_, _≤_, _<_}
 use native.Mathlib.Omega.{arith}
 use mathlib.Core.Path.{_≡_, refl, ap, sym, subst, _∙_}
 use mathlib.Core.List.{List, [], _∷_, _++_, List·Memᴰ, cons≢nil}
-use mathlib.Core.Bool.{Bool, true, false, cond}
+use mathlib.Core.Bool.{Bool, true, false}
 use mathlib.Core.Option.{Option, none, some}
 use mathlib.Core.Logic.{_⊎_, inl, inr, ⊎-elim}
 use lib.ListN.{length, getD, take}
 use lib.Dec.{ltb, eqb}
-use borrow.Author.Tests.{eqb-true, eqb-false, eq-eqb, ne-eqb}
+use borrow.Author.Tests.{eq-eqb, ne-eqb}
 use Rattle.accounts.specs.declared.Hold.{Hold}
 use Rattle.accounts.specs.declared.Accounts.{Accounts}
 use Rattle.rounding.specs.Rounding.{unit, Units}
@@ -29,7 +29,7 @@ use Rattle.model.specs.declared.Call.the-variants.{Claim, Release}
 use Rattle.model.proofs.Consistent.{sound-consistent, consistent-facts}
 use Rattle.model.proofs.Lookup.{Narrowed, names-exactly, lookup-named, found-serial}
 use Rattle.invariant.proofs.Counts.{counted-used, member-count}
-use Rattle.ledger.specs.Ledger.{Ledger, Event, Called, unrestored, ledger-of}
+use Rattle.ledger.specs.Ledger.{Ledger, Event, Called, ledger-of}
 use Rattle.ledger.specs.History.{History}
 use Rattle.ledger.specs.Demand3.{Holds, objects-in}
 use Rattle.ledger.proofs.Narrowing.{held-found}
@@ -150,8 +150,7 @@ module _ (unit : ℕ → ℕ) (units : Units unit) (begun : Ledger) where
     joined : Accepted unit s k u h ⊎ Refused unit s k u h → History unit (step unit) begun sent-events (send unit s k u h .heap) (send unit s k u h .accounts)
     unfolding step
     joined (inl a) =
-        rw (accepted-events unit s k u h (a .zero))
-        (
+        rw (accepted-events unit s k u h (a .zero)) (
           claimed-by unit s k u h .heap,
           claimed-by unit s k u h .accounts,
           (s, k, past, refl),
@@ -209,7 +208,10 @@ module _ (unit : ℕ → ℕ) (units : Units unit) (begun : Ledger) where
               lend-gives unit s′ k′ (w .length-allowed) (w .kept-sound) h o
               (held-found unit units begun s′ k′ h o (narrowed b) sent-events later now r (recorded-now b)
               (λ late early q. (let x = f late early q in (x .0, u .receiver, x .1, x .2, x .3))));
-          gone = λ f. lend-refuses unit s′ k′ (w .length-allowed) (w .kept-sound) h (names-none (later ++ sent-events) s′ k′ now h (o .serial) (narrowed b .serial) f);
+          gone =
+              λ f.
+              lend-refuses unit s′ k′ (w .length-allowed) (w .kept-sound) h
+              (names-none (later ++ sent-events) s′ k′ now h (o .serial) (narrowed b .serial) f);
           still-given = λ v rest. given-still v h rest;
         }
 

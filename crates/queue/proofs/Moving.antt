@@ -5,7 +5,7 @@
 use Prim.Native.Nat.{ℕ, zero, suc, _+_, _-_, _<_}
 use native.Mathlib.Omega.{arith}
 use mathlib.Core.Path.{_≡_, refl, ap, subst, _∙_}
-use mathlib.Core.List.{List, [], _∷_, _++_, List·Memᴰ}
+use mathlib.Core.List.{List, [], _∷_, List·Memᴰ}
 use mathlib.Core.Bool.{Bool, true, false, cond, _&&_}
 use mathlib.Core.Option.{some}
 use lib.Dec.{eqb}
@@ -101,13 +101,16 @@ module _ (unit : ℕ → ℕ) (units : Units unit) (begun : Ledger) (es : List E
 
   held-fitting : Fitting unit held
   unfolding sound objects-of
-  held-fitting = and-right (consistent s (claimed to object k)) _ (demand-3-of unit units .always begun claimed-events [] s (claimed to object k) claimed-past .kept-sound)
+  held-fitting =
+      and-right (consistent s (claimed to object k)) _
+      (demand-3-of unit units .always begun claimed-events [] s (claimed to object k) claimed-past .kept-sound)
 
   held-ordered : Ordered (claimed to object k .holds)
   held-ordered = good-ordered held held-good
 
   -- the counts after the claim
-  counts : (n j : ℕ) → count-of n j (claimed to object k .holds) ≡ cond (eqb (object .serial) n && eqb to j) (count-of n j (k .holds) + 1) (count-of n j (k .holds))
+  counts : (n j : ℕ) → count-of n j (claimed to object k .holds)
+      ≡ cond (eqb (object .serial) n && eqb to j) (count-of n j (k .holds) + 1) (count-of n j (k .holds))
   counts = claimed-counts to object (state-of s k) good-now there-among (claimable .exists) (claimable .pays) (claimable .unused)
 
   -- the sender's count was above 0, and still is
@@ -167,8 +170,7 @@ module _ (unit : ℕ → ℕ) (units : Units unit) (begun : Ledger) (es : List E
   packet-lives =
       let hs = lower-count (object .serial) from (claimed to object k .holds) in
       rw (good-heap moved (possible-good from h object held held-good possible) .objects, released-objects from object held held-good there-among recorded)
-      (keep-exactly (object-held hs) (objects (blocks-of s)) object .1
-      (
+      (keep-exactly (object-held hs) (objects (blocks-of s)) object .1 (
         there-among,
         held-counted hs (lower-ordered (claimed to object k .holds) held-ordered (object .serial) from recorded) (object .serial) .1 (to, receiver-counted),
       ))

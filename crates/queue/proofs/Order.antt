@@ -8,17 +8,17 @@ use mathlib.Core.Path.{_≡_, refl, ap, sym, _∙_}
 use mathlib.Core.List.{List, [], _∷_, _++_, append-assoc, append-nil, cons≢nil}
 use mathlib.Core.Bool.{Bool, true, false}
 use mathlib.Core.Logic.{_⊎_, inl, inr}
-use lib.ListN.{length, getD, set, take, drop, length-append, length-drop, length-set, length-take}
+use lib.ListN.{length, getD, take, drop, length-append, length-drop, length-set}
 use lib.Seq.{take-suc-set, take-append-le}
 use lib.Dec.{ltb, eqb}
-use borrow.Author.Tests.{ltb-true, ltb-false, eqb-true, eqb-false, ne-eqb}
+use borrow.Author.Tests.{ltb-false, eqb-true, eqb-false, ne-eqb}
 use Rattle.accounts.specs.declared.Accounts.{Accounts}
 use Rattle.model.specs.Answers.{zero-handle}
-use Rattle.model.specs.Refusals.{Line, _when_, first-refusal}
+use Rattle.model.specs.Refusals.{Line, first-refusal}
 use Rattle.model.specs.declared.Handle.{Handle}
 use Rattle.queue.specs.declared.Queue.{Queue}
 use Rattle.queue.specs.Queue.{PLACES, waiting, with-handle, without-oldest, line-53, line-51, send-lines, sent-unless, send, receive}
-use Rattle.queue.specs.Runs.{Performer, by-rules, QueueCall, Sends, Receives, Traffic, and-then, next, traffic, Fifo, FirstInFirstOut}
+use Rattle.queue.specs.Runs.{by-rules, QueueCall, Sends, Receives, Traffic, and-then, next, traffic, Fifo, FirstInFirstOut}
 use Rattle.queue.proofs.Sending.{receive-empty, receive-done}
 
 -- a queue that is not damaged

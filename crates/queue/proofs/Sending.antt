@@ -2,15 +2,13 @@
 -- Assumes nothing.
 use Prim.Native.Nat.{ℕ, zero, suc, _≤_, _<_}
 use native.Mathlib.Omega.{arith}
-use mathlib.Core.Path.{_≡_, refl, ap, sym, _∙_}
+use mathlib.Core.Path.{_≡_, ap, sym, _∙_}
 use mathlib.Core.List.{List, [], _∷_}
-use mathlib.Core.Bool.{true, false}
 use lib.ListN.{getD}
-use lib.Dec.{ltb, eqb}
 use borrow.Author.Tests.{lt-ltb, le-ltb, eq-eqb, ne-eqb}
 use Rattle.accounts.specs.declared.Accounts.{Accounts}
 use Rattle.model.specs.Answers.{Values, zero-handle}
-use Rattle.model.specs.Refusals.{Line, _when_, first-refusal}
+use Rattle.model.specs.Refusals.{Line, first-refusal}
 use Rattle.model.specs.Calls.{Outcome, claim, release, can-release}
 use Rattle.model.specs.declared.Handle.{Handle}
 use Rattle.queue.specs.declared.Queue.{Queue}
@@ -47,13 +45,16 @@ module _ (unit : ℕ → ℕ) (s : List ℕ) (k : Accounts) (u : Queue) (h : Han
 
     module _ (room : u .count ≡ PLACES → ⊥) where
       -- the two lines of the queue do not hold
-      heap-lines : first-refusal (send-lines unit s k u h) ≡ first-refusal (line-of (claim unit s k (u .receiver) h) ∷ line-of (can-release unit s k (u .sender) h) ∷ [])
+      heap-lines : first-refusal (send-lines unit s k u h)
+          ≡ first-refusal (line-of (claim unit s k (u .receiver) h) ∷ line-of (can-release unit s k (u .sender) h) ∷ [])
       unfolding send-lines line-53 line-51 first-refusal
       heap-lines = rw (le-ltb PLACES (u .count) whole, ne-eqb (u .count) PLACES room)
 
       pub send-unclaimed : (n : ℕ) → claim unit s k (u .receiver) h .values .refusal ≡ n → 0 < n → kept s k u n ≡ send unit s k u h
       unfolding send
-      send-unclaimed n e p = sym (kept-unless s k u _ _ n (heap-lines ∙ line-gives (claim unit s k (u .receiver) h) (line-of (can-release unit s k (u .sender) h) ∷ []) n e p) p)
+      send-unclaimed n e p =
+          sym (kept-unless s k u _ _ n
+          (heap-lines ∙ line-gives (claim unit s k (u .receiver) h) (line-of (can-release unit s k (u .sender) h) ∷ []) n e p) p)
 
       module _ (claims : claim unit s k (u .receiver) h .values .refusal ≡ 0) where
         release-line : first-refusal (send-lines unit s k u h) ≡ first-refusal (line-of (can-release unit s k (u .sender) h) ∷ [])
@@ -65,7 +66,9 @@ module _ (unit : ℕ → ℕ) (s : List ℕ) (k : Accounts) (u : Queue) (h : Han
 
         -- a claim and then a release
         abbrev done : Outcome → Sent
-        done c = let r = release unit (c .heap) (c .accounts) (u .sender) h in record { heap = r .heap; accounts = r .accounts; queue = with-handle h u; refusal = 0 }
+        done c =
+            let r = release unit (c .heap) (c .accounts) (u .sender) h in
+            record { heap = r .heap; accounts = r .accounts; queue = with-handle h u; refusal = 0 }
 
         send-done : can-release unit s k (u .sender) h .values .refusal ≡ 0 → done (claim unit s k (u .receiver) h) ≡ send unit s k u h
         unfolding send sent-unless first-refusal
@@ -74,7 +77,8 @@ module _ (unit : ℕ → ℕ) (s : List ℕ) (k : Accounts) (u : Queue) (h : Han
         pub send-made : (s′ : List ℕ) (k₁ k₂ : Accounts) (v₁ v₂ : Values) → record { heap = s; accounts = k₁; values = v₁ } ≡ claim unit s k (u .receiver) h
             → can-release unit s k (u .sender) h .values .refusal ≡ 0 → record { heap = s′; accounts = k₂; values = v₂ } ≡ release unit s k₁ (u .sender) h
             → record { heap = s′; accounts = k₂; queue = with-handle h u; refusal = 0 } ≡ send unit s k u h
-        send-made s′ k₁ k₂ v₁ v₂ e c f = ap (λ (r : Outcome). record { heap = r .heap; accounts = r .accounts; queue = with-handle h u; refusal = 0 }) f ∙ ap done e ∙ send-done c
+        send-made s′ k₁ k₂ v₁ v₂ e c f =
+            ap (λ (r : Outcome). record { heap = r .heap; accounts = r .accounts; queue = with-handle h u; refusal = 0 }) f ∙ ap done e ∙ send-done c
 
 -- a receive
 module _ (u : Queue) where
@@ -86,6 +90,7 @@ module _ (u : Queue) where
   unfolding receive receive-lines line-53 line-52 first-refusal received-unless
   receive-empty e z = rw (le-ltb PLACES (u .count) e, eq-eqb (u .count) 0 z)
 
-  pub receive-done : u .count ≤ PLACES → (u .count ≡ 0 → ⊥) → record { queue = without-oldest u; refusal = 0; handle = getD (u .handles) 0 zero-handle } ≡ receive u
+  pub receive-done : u .count ≤ PLACES → (u .count ≡ 0 → ⊥)
+      → record { queue = without-oldest u; refusal = 0; handle = getD (u .handles) 0 zero-handle } ≡ receive u
   unfolding receive receive-lines line-53 line-52 first-refusal received-unless
   receive-done e z = rw (le-ltb PLACES (u .count) e, ne-eqb (u .count) 0 z)

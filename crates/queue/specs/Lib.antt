@@ -3,3 +3,4 @@ pub mod Queue
 pub mod Results
 pub mod Runs
 pub mod Packets
+pub mod Wrong

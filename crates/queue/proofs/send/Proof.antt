@@ -1,8 +1,7 @@
 -- `queue::send` meets its contract: the queue's own lines come first, then the refusals of a claim and of a release on the state that came in, and then
 -- the claim's accounts go into the release.
 -- Assumes nothing.
-use Prim.Native.Nat.{ℕ}
-use mathlib.Core.Path.{_≡_, refl, ap, sym, _∙_}
+use mathlib.Core.Path.{ap, sym, _∙_}
 use borrow.Author.Needs.{needs}
 use Rattle.rounding.specs.Rounding.{unit}
 use Rattle.model.specs.Answers.{amount-values, verdict-values, refusal-number}
@@ -32,7 +31,8 @@ returns-2 : tie.Need-returns-2
 unfolding send-number
 returns-2 c =
     let a = c .before .before .before .before .before .before .args in
-    ap (send-outcome (a .heap .now)) (c .not-sent2 .ensures) ∙ send-full unit (a .heap .now) (a .accounts) (a .queue) (a .handle) (c .before .before .before .if1 .left) (c .before .if2 .taken)
+    ap (send-outcome (a .heap .now)) (c .not-sent2 .ensures)
+    ∙ send-full unit (a .heap .now) (a .accounts) (a .queue) (a .handle) (c .before .before .before .if1 .left) (c .before .if2 .taken)
 
 claim-requires : tie.Need-claim-requires
 claim-requires c κs = search needs
@@ -55,7 +55,8 @@ returns-3 c =
     let r = c .before .before .answer .given in
     ap (send-outcome (a .heap .now)) (c .not-sent3 .ensures)
     ∙ send-unclaimed unit (a .heap .now) (a .accounts) (a .queue) (a .handle) (e .before .before .if1 .left) (e .if2 .left) (refusal-number (r .0 .0))
-    (sym (ap (λ (t : Outcome). t .values .refusal) (m .before .claim .ensures)) ∙ ap (λ (x : AmountAnswer). amount-values x .refusal) (r .1)) (refusal-number-is (r .0 .0) .1)
+    (sym (ap (λ (t : Outcome). t .values .refusal) (m .before .claim .ensures)) ∙ ap (λ (x : AmountAnswer). amount-values x .refusal) (r .1))
+    (refusal-number-is (r .0 .0) .1)
 
 enum-told : tie.Need-enum-told
 enum-told c = search needs
@@ -85,7 +86,8 @@ returns-4 c =
     ∙ send-unreleased unit (a .heap .now) (a .accounts) (a .queue) (a .handle) (e .before .before .if1 .left) (e .if2 .left)
     (sym (ap (λ (t : Outcome). t .values .refusal) (m .claim .ensures)) ∙ ap (λ (x : AmountAnswer). amount-values x .refusal) (told .enum-told .given .1))
     (refusal-number (r .0 .0))
-    (sym (ap (λ (t : Outcome). t .values .refusal) (v .can-release .ensures)) ∙ ap (λ (x : Verdict). verdict-values x .refusal) (r .1)) (refusal-number-is (r .0 .0) .1)
+    (sym (ap (λ (t : Outcome). t .values .refusal) (v .can-release .ensures)) ∙ ap (λ (x : Verdict). verdict-values x .refusal) (r .1))
+    (refusal-number-is (r .0 .0) .1)
 
 enum-told-2 : tie.Need-enum-told-2
 enum-told-2 c = search needs
@@ -109,11 +111,14 @@ returns-5 c =
     let m = told .before .before in
     let e = m .before .before in
     let a = e .before .before .before .before .before .args in
-    let z = sym (ap (λ (t : Outcome). t .values .refusal) (m .claim .ensures)) ∙ ap (λ (x : AmountAnswer). amount-values x .refusal) (told .enum-told .given .1) in
+    let z =
+    sym (ap (λ (t : Outcome). t .values .refusal) (m .claim .ensures)) ∙ ap (λ (x : AmountAnswer). amount-values x .refusal) (told .enum-told .given .1) in
     ap (λ (u : Queue). record { heap = f .release .last .0; accounts = f .release .result .accounts; queue = u; refusal = 0 }) (c .with-handle .ensures)
-    ∙ send-made unit (a .heap .now) (a .accounts) (a .queue) (a .handle) (e .before .before .if1 .left) (e .if2 .left) z (f .release .last .0) (m .claim .result .accounts) (f .release .result .accounts)
+    ∙ send-made unit (a .heap .now) (a .accounts) (a .queue) (a .handle) (e .before .before .if1 .left) (e .if2 .left) z
+    (f .release .last .0) (m .claim .result .accounts) (f .release .result .accounts)
     (amount-values (m .claim .result .answer)) (amount-values (f .release .result .answer)) (m .claim .ensures)
-    (sym (ap (λ (t : Outcome). t .values .refusal) (v .can-release .ensures)) ∙ ap (λ (x : Verdict). verdict-values x .refusal) (told₂ .enum-told2 .given .1)) (f .release .ensures)
+    (sym (ap (λ (t : Outcome). t .values .refusal) (v .can-release .ensures)) ∙ ap (λ (x : Verdict). verdict-values x .refusal) (told₂ .enum-told2 .given .1))
+    (f .release .ensures)
 
 pub send-spec : {M : Type 1} → statement M
 send-spec =
