@@ -138,10 +138,10 @@ fn not_sent(accounts: Accounts, queue: Queue, refusal: QueueRefusal) -> SendResu
 pub fn send(heap: &mut [u8], accounts: Accounts, queue: Queue, handle: Handle) -> SendResult
     ensures { λ r. ⌜ send-outcome (now (heap .exit)) r ≡ send-of unit (now (heap .entry)) accounts queue handle ⌝ }
 {
-    if 16 < queue.count {
+    if PLACES < queue.count as usize {
         return not_sent(accounts, queue, QueueRefusal::Damaged);
     }
-    if queue.count == 16 {
+    if queue.count as usize == PLACES {
         return not_sent(accounts, queue, QueueRefusal::Full);
     }
     let claimed = heap::claim(heap, accounts, queue.receiver, handle);
@@ -166,7 +166,7 @@ pub fn send(heap: &mut [u8], accounts: Accounts, queue: Queue, handle: Handle) -
 pub fn receive(queue: Queue) -> ReceiveResult
     ensures { λ r. ⌜ receive-outcome r ≡ receive-of queue ⌝ }
 {
-    if 16 < queue.count {
+    if PLACES < queue.count as usize {
         return ReceiveResult {
             queue: queue,
             answer: ReceiveAnswer::Refused(QueueRefusal::Damaged),

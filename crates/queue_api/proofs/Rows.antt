@@ -1,7 +1,7 @@
 -- The numbers of every kind of answer, computed.
 -- Assumes nothing.
 use mathlib.Core.Path.{_≡_, refl}
-use mathlib.Core.List.{List, [], _∷_, map}
+use mathlib.Core.List.{[], _∷_}
 use Prim.Native.Nat.{ℕ}
 use Rattle.accounts.specs.Accounts.{zero-accounts}
 use Rattle.model.specs.Answers.{zero-handle}

@@ -15,6 +15,9 @@ use Rattle.queue.proofs.Sending.{send-damaged, send-full, send-unclaime
 use Rattle.queue.proofs.send.Statement.{statement}
 use Rattle.queue.proofs.send.Tie as tie
 
+cast-if1 : tie.Need-cast-if1
+cast-if1 c = search needs
+
 not-sent-requires : tie.Need-not-sent-requires
 not-sent-requires c κs = search needs
 
@@ -23,6 +26,9 @@ unfolding send-number
 returns c =
     let a = c .before .before .before .before .args in
     ap (send-outcome (a .heap .now)) (c .not-sent .ensures) ∙ send-damaged unit (a .heap .now) (a .accounts) (a .queue) (a .handle) (c .before .if1 .taken)
+
+cast-if2 : tie.Need-cast-if2
+cast-if2 c = search needs
 
 not-sent-requires-2 : tie.Need-not-sent-requires-2
 not-sent-requires-2 c κs = search needs
@@ -124,8 +130,10 @@ pub send-spec : {M : Type 1} → statement M
 send-spec =
     tie.close
     (tie.spec
+    cast-if1
     not-sent-requires
     returns
+    cast-if2
     not-sent-requires-2
     returns-2
     claim-requires
