@@ -39,6 +39,7 @@ use Rattle.ledger.specs.History.{History}
 use Rattle.ledger.proofs.Agreement.{Agrees}
 use Rattle.ledger.proofs.Steps.{good, again}
 use Rattle.ledger.proofs.Theorem.{history-agrees, demand-3-of}
+use Rattle.queue.proofs.Rows
 
 module _ (unit : ℕ → ℕ) (units : Units unit) (begun : Ledger) (es : List Event) (s : List ℕ) (k : Accounts) (past : History unit (step unit) begun es s k)
     (from to : ℕ) (h : Handle) (c : claim unit s k to h .values .refusal ≡ 0) (r : can-release unit s k from h .values .refusal ≡ 0) where

@@ -14,6 +14,7 @@ use Rattle.model.specs.declared.Handle.{Handle}
 use Rattle.queue.specs.declared.Queue.{Queue}
 use Rattle.queue.specs.Queue.{PLACES, with-handle, without-oldest, line-53, line-51, line-52, line-of, Sent, sent-unless, send-lines, send}
 use Rattle.queue.specs.Queue.{received-unless, receive-lines, receive}
+use Rattle.queue.proofs.Rows
 
 -- a send that is refused leaves what came in
 abbrev pub kept : List ℕ → Accounts → Queue → ℕ → Sent
