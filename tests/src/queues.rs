@@ -86,7 +86,10 @@ impl Queues {
         let (found, refusal, handle) = proved::receive(&before);
         let numbers = (number(&wanted), wanted.unwrap_or_default());
         assert_eq!((refusal, handle), numbers, "proved, then reference");
-        assert_eq!(found, *queue, "the queue that a receive of {before:?} leaves");
+        assert_eq!(
+            found, *queue,
+            "the queue that a receive of {before:?} leaves"
+        );
         if refusal != 0 {
             assert_eq!(*queue, before);
         }
@@ -196,14 +199,19 @@ impl Line {
 }
 
 impl Run<'_> {
-    /// Sends one of the live objects, or a handle of another kind, on one of the queues.
-    fn send(&mut self, seed: &mut Seed, which: usize) {
+    /// Sends on one of the queues: most often an object that the sender holds, which may have been
+    /// made for it, now and then another one or a handle of another kind.
+    fn send(&mut self, pair: &mut Pair, seed: &mut Seed, which: usize) -> Result<(), Failure> {
         let line = &mut self.lines[which];
+        let sender = line.queue.sender;
+        if seed.percent(70) {
+            pair.call(&mut self.state, Call::Allocate(sender, seed.between(1, 24)))?;
+        }
         let live = live_handles(&self.state.heap);
-        let held: Vec<Handle> = live
-            .iter()
-            .copied()
-            .filter(|h| holds(&self.state.accounts, line.queue.sender, h.serial) > 0)
+        let accounts = &self.state.accounts;
+        let held = live.iter().copied();
+        let held: Vec<Handle> = held
+            .filter(|object| holds(accounts, sender, object.serial) > 0)
             .collect();
         let handle = match seed.percent(85) {
             true => any_handle(seed, &held),
@@ -214,6 +222,7 @@ impl Run<'_> {
             let count = holds(&self.state.accounts, line.queue.receiver, handle.serial);
             assert!(count > 0, "the receiver has no hold");
         }
+        Ok(())
     }
 
     /// Receives from one of the queues; what comes is the next that was accepted.
@@ -237,9 +246,6 @@ impl Run<'_> {
     /// handles that wait, with zeros behind them.
     fn check(&self) {
         let live = live_handles(&self.state.heap);
-        for Line { queue, .. } in &self.lines {
-            assert!(queue.count <= 16);
-        }
         for line in &self.lines {
             let waiting = line.waiting();
             for handle in &waiting {
@@ -249,6 +255,7 @@ impl Run<'_> {
                 }
             }
             let behind = std::iter::repeat(Handle::default());
+            assert_eq!(line.queue.count as usize, waiting.len());
             let places: Vec<Handle> = waiting.into_iter().chain(behind).take(16).collect();
             assert_eq!(line.queue.places.to_vec(), places);
         }
@@ -272,7 +279,7 @@ pub fn history(pair: &mut Pair, queues: &mut Queues, seed: u64, n: u64) -> Resul
         heap: vec![0; heap_length(seed).min(2_048) as usize],
         accounts: Accounts::default(),
     };
-    let grant = seed.pick(&[200, 1_000, 100_000]);
+    let grant = seed.pick(&[60, 200, 1_000, 100_000]);
     pair.call(&mut state, Call::Open([grant; QUOTAS]))?;
     let lines = [Line::new(seed.below(4), seed.below(4)), Line::new(0, 1)];
     let mut run = Run {
@@ -280,12 +287,12 @@ pub fn history(pair: &mut Pair, queues: &mut Queues, seed: u64, n: u64) -> Resul
         state,
         lines,
     };
-    let sending = seed.pick(&[20, 40, 60]);
+    let (sending, receiving) = (seed.pick(&[20, 40, 60]), seed.pick(&[3, 10, 30]));
     for _ in 0..seed.between(20, 200) {
         let which = seed.place(2);
         match seed.below(100) {
-            share if share < sending => run.send(seed, which),
-            share if share < sending + 15 => run.receive(pair, which)?,
+            share if share < sending => run.send(pair, seed, which)?,
+            share if share < sending + receiving => run.receive(pair, which)?,
             _ => {
                 let view = View::new(&run.state.heap, &[]);
                 match choose(seed, &HABITS, &view, &run.state.accounts) {
