@@ -14,7 +14,7 @@
  * for the sender. If one of the two would be refused, nothing has changed. So from
  * the send on the receiver holds the packet, before it has taken the handle; when it
  * is done with it, it releases it. A packet that its receiver has released, and that
- * nobody else holds, is gone: the queue still gives the handle, and lend gives 5.
+ * nobody else holds, is gone: its handle comes out all the same, and lend refuses it.
  * Sender and receiver may be one quota.
  *
  * The duties of lokhazim.h hold here too. A queue is a value like the accounts: one

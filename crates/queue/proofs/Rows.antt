@@ -131,7 +131,7 @@ receive-rows : (receive (with-handle (handle 2 2 2) (with-handle (handle 1 1 1) 
 unfolding rows
 receive-rows = (refl, refl, refl, refl)
 
--- the packet is dropped by its receiver: the queue still gives the handle, and lend gives 5
+-- the packet is dropped by its receiver: its handle comes out of the queue as before, and lend refuses it by 5
 dropped-rows : (release unit (moved .heap) (moved .accounts) 1 packet .values .refusal ≡ 0)
     × (lend unit (dropped .heap) (dropped .accounts) packet .values .refusal ≡ 5)
     × (receive (moved .queue) .refusal ≡ 0) × (receive (moved .queue) .handle ≡ packet)

@@ -1,4 +1,4 @@
--- Packets in demand 3's lists (rules 21.10 to 21.13): how a send joins a history, and how long a packet lives.
+-- Packets in demand 3's lists (rules 21.10 to 21.12): how a send joins a history, and how long a packet lives.
 use Prim.Native.Nat.{ℕ, _+_, _≤_, _<_}
 use mathlib.Core.Path.{_≡_}
 use mathlib.Core.List.{List, [], _∷_, _++_, List·Memᴰ}

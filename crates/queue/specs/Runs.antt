@@ -1,4 +1,4 @@
--- Lists of sends and receives on one queue (rules 21.8 and 21.9): each is given the queue that the one before left, and whatever heap and accounts there are.
+-- Lists of sends and receives on one queue (rules 21.8 and 21.9): a call takes the queue as its forerunner left it, and whatever heap and accounts there are.
 use Prim.Native.Nat.{ℕ, _≤_}
 use mathlib.Core.Path.{_≡_}
 use mathlib.Core.List.{List, [], _∷_, _++_}

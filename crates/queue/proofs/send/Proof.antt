@@ -1,5 +1,5 @@
--- `queue::send` meets its contract: the queue's own lines come first, then the refusals of a claim and of a release on the state that came in, and then
--- the claim's accounts go into the release.
+-- `queue::send` meets its contract: first the lines of the queue, next those of a claim and of a release, both with the accounts as they came; after that
+-- the release takes the accounts of the claim.
 -- Assumes nothing.
 use mathlib.Core.Path.{ap, sym, _∙_}
 use borrow.Author.Needs.{needs}
