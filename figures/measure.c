@@ -2,11 +2,12 @@
  * Prints the bytes of accounts and of a handle, and the stack that each call has used: 'call_NAME BYTES'.
  *
  * Each call is made once, on a stack of its own that was painted before; what has lost its paint was used.
- * A call_NAME does nothing but call the function of lokhazim.h or lokhazim_image.h, so that the copies which that function makes
+ * A call_NAME does nothing but call the function of lokhazim.h, lokhazim_image.h or lokhazim_queue.h, so that the copies which that function makes
  * of accounts and reply are counted too.
  */
 #define _XOPEN_SOURCE 700
 #include "lokhazim_image.h"
+#include "lokhazim_queue.h"
 
 #include <stdio.h>
 #include <stdlib.h>
@@ -87,6 +88,20 @@ __attribute__((noinline)) void call_move_up(void)
     refusal = (enum lokhazim_refusal)lokhazim_image_move_up(first_form, first_length, image, sizeof image).refusal;
 }
 
+static struct lokhazim_queue queue;
+
+void call_send(void);
+__attribute__((noinline)) void call_send(void)
+{
+    refusal = (enum lokhazim_refusal)lokhazim_queue_put(heap, sizeof heap, &accounts, &queue, middle);
+}
+
+void call_receive(void);
+__attribute__((noinline)) void call_receive(void)
+{
+    refusal = (enum lokhazim_refusal)lokhazim_queue_take(&queue, &given);
+}
+
 static void expect_accepted(const char *name)
 {
     if (refusal != LOKHAZIM_ACCEPTED) {
@@ -114,6 +129,8 @@ static void prepare(void)
     expect_accepted("save");
     call_move_down();
     expect_accepted("move down");
+    queue = lokhazim_queue_new(0, 1);
+    queue.count = 1;
 }
 
 static _Alignas(64) unsigned char stack[131072];
@@ -177,5 +194,7 @@ int main(void)
     MEASURE(restore);
     MEASURE(move_down);
     MEASURE(move_up);
+    MEASURE(send);
+    MEASURE(receive);
     return EXIT_SUCCESS;
 }

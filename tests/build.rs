@@ -5,12 +5,13 @@ use std::env;
 use std::path::Path;
 
 /// The crates whose exported functions are called.
-const LIBRARIES: [&str; 5] = [
+const LIBRARIES: [&str; 6] = [
     "c_api",
     "image_api",
     "comparison_api",
     "report_api",
     "settings_api",
+    "queue_api",
 ];
 
 /// Tells cargo where the libraries are. Where one is missing, the crate says so itself when it is

@@ -5,12 +5,13 @@ use std::env;
 use std::path::{Path, PathBuf};
 
 /// The libraries, as the linker names them.
-const LIBRARIES: [&str; 5] = [
+const LIBRARIES: [&str; 6] = [
     "lokhazim",
     "lokhazim_image",
     "lokhazim_compare",
     "lokhazim_report",
     "lokhazim_settings",
+    "lokhazim_queue",
 ];
 
 /// Tells cargo where the libraries are. Where one is missing, the crate says so itself when it is

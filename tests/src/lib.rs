@@ -35,6 +35,7 @@ pub mod malformed;
 pub mod moves;
 pub mod narrowing;
 pub mod programs;
+pub mod queues;
 pub mod reports;
 pub mod rounds;
 pub mod script;

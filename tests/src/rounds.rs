@@ -10,6 +10,7 @@ use crate::histories::{self, Beginning};
 use crate::image_cases;
 use crate::moves;
 use crate::programs::{Feed, Programs};
+use crate::queues::{self, Queues};
 use crate::reports::{self, Reports};
 use crate::seed::Seed;
 use crate::tally::Tally;
@@ -52,6 +53,7 @@ pub fn calls(pair: &mut Pair, seed: u64, n: u64) -> Result<(), Failure> {
         unsound::together(pair, seed, 4 * n + turn)?;
     }
     cleanup::lists(pair, seed, n)?;
+    queues::history(pair, &mut Queues::default(), seed, n)?;
     unsound::lengths(pair, seed, n)?;
     for turn in 0..8 {
         let place = (8 * n + turn) as usize % DAMAGES.len();

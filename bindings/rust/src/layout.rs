@@ -10,6 +10,9 @@ pub const QUOTAS: usize = 32;
 /// The number of hold records.
 pub const HOLDS: usize = 512;
 
+/// How many handles a queue has room for.
+pub const QUEUE_PLACES: usize = 16;
+
 /// What a quota was granted at the opening, what remains of it, and what it may do.
 #[derive(Clone, Copy, Debug, Default, PartialEq, Eq, Hash)]
 #[repr(C)]
@@ -61,6 +64,24 @@ pub struct Handle {
     pub length: u32,
     /// The object's serial.
     pub serial: u32,
+}
+
+/// A queue of handles on their way from a sending quota to a receiving one, first in, first out.
+///
+/// [`send`](Queue::send) makes the receiver hold the object and then takes the sender's hold, and
+/// [`receive`](Queue::receive) gives the handles in the order in which they were sent. Any numbers
+/// may stand in the fields; a count above [`QUEUE_PLACES`] is refused.
+#[derive(Clone, Debug, PartialEq, Eq, Hash)]
+#[repr(C)]
+pub struct Queue {
+    /// The number of the sending quota.
+    pub sender: u32,
+    /// The number of the receiving quota.
+    pub receiver: u32,
+    /// How many handles are on their way.
+    pub count: u32,
+    /// The places; the first `count` are the handles on their way, the oldest first.
+    pub handles: [Handle; QUEUE_PLACES],
 }
 
 /// What each quota is granted.
@@ -255,6 +276,28 @@ pub struct EntryReply {
     pub end: usize,
 }
 
+/// The reply of sending a handle.
+#[repr(C)]
+pub struct SendReply {
+    /// The accounts after the call.
+    pub accounts: Accounts,
+    /// The queue after it.
+    pub queue: Queue,
+    /// The refusal's number.
+    pub refusal: u32,
+}
+
+/// The reply of receiving a handle.
+#[repr(C)]
+pub struct ReceiveReply {
+    /// The queue after the call.
+    pub queue: Queue,
+    /// The refusal's number.
+    pub refusal: u32,
+    /// The oldest handle.
+    pub handle: Handle,
+}
+
 /// Holds a struct to its size and to the offset of each field, when the crate is compiled.
 macro_rules! lies {
     ($type:ty, $size:literal: $($field:ident at $offset:literal),+) => {
@@ -286,3 +329,6 @@ lies!(ExportReply, 16: refusal at 0, length at 8);
 lies!(FindReply, 24: refusal at 0, store at 4, start at 8, end at 16);
 lies!(AddReply, 16: refusal at 0, used at 8);
 lies!(EntryReply, 32: refusal at 0, there at 4, version at 8, name at 10, start at 16, end at 24);
+lies!(Queue, 204: sender at 0, receiver at 4, count at 8, handles at 12);
+lies!(SendReply, 4692: accounts at 0, queue at 4484, refusal at 4688);
+lies!(ReceiveReply, 220: queue at 0, refusal at 204, handle at 208);

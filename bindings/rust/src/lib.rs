@@ -54,7 +54,7 @@
 
 #[cfg(all(library_missing, not(clippy), not(doc)))]
 compile_error!(concat!(
-    "a library of lokhazim (liblokhazim.a, liblokhazim_image.a, liblokhazim_compare.a, liblokhazim_report.a, liblokhazim_settings.a) is missing in ",
+    "a library of lokhazim (liblokhazim.a, liblokhazim_image.a, liblokhazim_compare.a, liblokhazim_report.a, liblokhazim_settings.a, liblokhazim_queue.a) is missing in ",
     env!("LOKHAZIM_LOOKED"),
     ": run 'make lib' in the repository, or name its folder in LOKHAZIM_LIB_DIR, then build again"
 ));
@@ -68,6 +68,7 @@ mod layout;
 mod moves;
 mod permissions;
 mod queries;
+mod queue;
 #[allow(unsafe_code)]
 mod raw;
 mod refusal;
@@ -81,9 +82,10 @@ pub use image::{
     examine_image, image_length, image_length_form_1, ImageFacts, ImageRefusal, FORM_1_HOLDS,
     FORM_1_QUOTAS, IMAGE_MAX, IMAGE_MAX_FORM_1,
 };
-pub use layout::{Accounts, Handle, Hold, Quota, HOLDS, QUOTAS};
+pub use layout::{Accounts, Handle, Hold, Queue, Quota, HOLDS, QUEUE_PLACES, QUOTAS};
 pub use moves::{move_image_down, move_image_up};
 pub use permissions::Permissions;
+pub use queue::QueueRefusal;
 pub use refusal::Refusal;
 pub use report::{
     export_grants, import_grants, ImportRefusal, ReportRefusal, REPORT_LENGTH, REPORT_LINE,

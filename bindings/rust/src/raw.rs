@@ -8,7 +8,7 @@
 use crate::layout::{
     Accounts, AddReply, Amount, AmountReply, BlockReply, CompareReply, EntryReply, ExamineReply,
     ExportReply, FindReply, Grants, Handle, HandleReply, ImageReply, ImportReply, NextReply,
-    OpenReply, RangeReply, RestoreReply,
+    OpenReply, Queue, RangeReply, ReceiveReply, RestoreReply, SendReply,
 };
 
 extern "C" {
@@ -171,6 +171,15 @@ extern "C" {
         at: usize,
         last: u16,
     ) -> EntryReply;
+    fn lokhazim_queue_new(sender: u32, receiver: u32) -> Queue;
+    fn lokhazim_queue_send(
+        heap: *mut u8,
+        length: usize,
+        accounts: Accounts,
+        queue: Queue,
+        handle: Handle,
+    ) -> SendReply;
+    fn lokhazim_queue_receive(queue: Queue) -> ReceiveReply;
 }
 
 /// Makes a safe function of one of the library's: the slice becomes its pointer and its length,
@@ -208,6 +217,7 @@ safe!(ref remaining = lokhazim_remaining(quota: u32) -> Amount);
 safe!(ref can_release = lokhazim_can_release(quota: u32, handle: Handle) -> u32);
 safe!(ref list_block = lokhazim_list_block(at: usize) -> BlockReply);
 safe!(ref check = lokhazim_check() -> u32);
+safe!(mut queue_send = lokhazim_queue_send(queue: Queue, handle: Handle) -> SendReply);
 
 pub fn image_length(heap_length: usize) -> usize {
     // SAFETY: the function takes and gives a number.
@@ -305,6 +315,16 @@ pub fn settings_add(
 pub fn settings_next(store: &[u8], used: usize, at: usize, last: u16) -> EntryReply {
     // SAFETY: pointer and length are those of a slice that is borrowed for the call.
     unsafe { lokhazim_settings_next(store.as_ptr(), store.len(), used, at, last) }
+}
+
+pub fn queue_new(sender: u32, receiver: u32) -> Queue {
+    // SAFETY: the function takes and gives numbers.
+    unsafe { lokhazim_queue_new(sender, receiver) }
+}
+
+pub fn queue_receive(queue: Queue) -> ReceiveReply {
+    // SAFETY: the function takes and gives numbers.
+    unsafe { lokhazim_queue_receive(queue) }
 }
 
 #[cfg(test)]

@@ -16,6 +16,23 @@ fn the_valve_example_tells_its_story() {
 }
 
 #[test]
+fn the_gateway_example_tells_its_story() {
+    let told = run(&compile("examples/gateway.c", "-O2"), &[], b"");
+    let story = std::fs::read(repository("examples/gateway.out")).expect("the story is there");
+    assert_eq!(
+        String::from_utf8_lossy(&told),
+        String::from_utf8_lossy(&story)
+    );
+}
+
+#[test]
+fn a_queue_goes_from_c_and_back() {
+    for level in ["-O0", "-O2"] {
+        run(&compile("bindings/rust/tests/c/queue.c", level), &[], b"");
+    }
+}
+
+#[test]
 fn an_image_goes_from_c_and_back() {
     for level in ["-O0", "-O2"] {
         run(&compile("bindings/rust/tests/c/images.c", level), &[], b"");

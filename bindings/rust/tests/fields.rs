@@ -14,7 +14,7 @@ use std::slice;
 use layout::{
     Accounts, AddReply, Amount, AmountReply, BlockReply, CompareReply, EntryReply, ExamineReply,
     ExportReply, FindReply, Grants, Handle, HandleReply, Hold, ImageReply, ImportReply, NextReply,
-    OpenReply, Quota, RangeReply, RestoreReply,
+    OpenReply, Queue, Quota, RangeReply, ReceiveReply, RestoreReply, SendReply,
 };
 use support::{compile, run};
 
@@ -240,6 +240,33 @@ impl Fields for EntryReply {
     }
 }
 
+impl Fields for Queue {
+    fn visit(&mut self, visitor: &mut Visitor) {
+        visitor.visit32(&mut self.sender);
+        visitor.visit32(&mut self.receiver);
+        visitor.visit32(&mut self.count);
+        self.handles
+            .iter_mut()
+            .for_each(|handle| handle.visit(visitor));
+    }
+}
+
+impl Fields for SendReply {
+    fn visit(&mut self, visitor: &mut Visitor) {
+        self.accounts.visit(visitor);
+        self.queue.visit(visitor);
+        visitor.visit32(&mut self.refusal);
+    }
+}
+
+impl Fields for ReceiveReply {
+    fn visit(&mut self, visitor: &mut Visitor) {
+        self.queue.visit(visitor);
+        visitor.visit32(&mut self.refusal);
+        self.handle.visit(visitor);
+    }
+}
+
 /// Takes the bytes of a struct from the front, visits its fields where they lie, and puts the bytes
 /// behind what is there.
 fn exchange<T: Fields>(visitor: &mut Visitor, bytes: &mut Vec<u8>) {
@@ -278,6 +305,9 @@ fn exchange_all(visitor: &mut Visitor, bytes: &mut Vec<u8>) {
     exchange::<FindReply>(visitor, bytes);
     exchange::<AddReply>(visitor, bytes);
     exchange::<EntryReply>(visitor, bytes);
+    exchange::<Queue>(visitor, bytes);
+    exchange::<SendReply>(visitor, bytes);
+    exchange::<ReceiveReply>(visitor, bytes);
 }
 
 /// The bytes of all structs as Rust sets them, and the number that each field got.

@@ -13,6 +13,7 @@ mod naive;
 mod narrowed;
 mod permissions;
 mod prng;
+mod queue;
 mod random_bytes;
 mod random_lists;
 mod refusals;

@@ -8,6 +8,7 @@ use lokhazim_reference::{Accounts, Handle, Hold, Quota, HOLDS, QUOTAS};
 use crate::state::{Answer, Call};
 
 pub mod images;
+pub mod queue;
 pub mod report;
 pub mod settings;
 

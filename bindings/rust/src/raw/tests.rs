@@ -69,6 +69,26 @@ fn each_call_hands_back_every_field_that_it_refuses() {
 }
 
 #[test]
+fn a_send_hands_back_every_field_that_it_refuses() {
+    let accounts = distinct();
+    let mark = |n: usize| n as u32 * 0x0101_0101;
+    let handle = |n: usize| Handle {
+        base: mark(n),
+        length: mark(n + 1),
+        serial: mark(n + 2),
+    };
+    let queue = Queue {
+        sender: mark(1),
+        receiver: mark(2),
+        count: 3,
+        handles: core::array::from_fn(|i| handle(3 * i + 3)),
+    };
+    let reply = queue_send(&mut [0; 64], &accounts, queue.clone(), handle(60));
+    assert_eq!((reply.refusal, reply.accounts), (INCONSISTENT, accounts));
+    assert_eq!(reply.queue, queue);
+}
+
+#[test]
 fn each_grant_reaches_its_quota() {
     let values = core::array::from_fn(|i| (i as u32 + 1).wrapping_mul(0x9E37_79B1));
     let reply = open(&mut [7; 64], Grants { values });

@@ -5,6 +5,7 @@
  *     fields print    reads such structs from standard input and prints each field's number
  */
 #include "lokhazim_image.h"
+#include "lokhazim_queue.h"
 #include "lokhazim_report.h"
 #include "lokhazim_settings.h"
 
@@ -217,6 +218,30 @@ static void visit_entry_reply(struct lokhazim_entry_reply *it)
     visit_size(&it->end);
 }
 
+static void visit_queue(struct lokhazim_queue *it)
+{
+    visit32(&it->sender);
+    visit32(&it->receiver);
+    visit32(&it->count);
+    for (size_t i = 0; i < LOKHAZIM_QUEUE_PLACES; i++) {
+        visit_handle(&it->handles[i]);
+    }
+}
+
+static void visit_send_reply(struct lokhazim_send_reply *it)
+{
+    visit_accounts(&it->accounts);
+    visit_queue(&it->queue);
+    visit32(&it->refusal);
+}
+
+static void visit_receive_reply(struct lokhazim_receive_reply *it)
+{
+    visit_queue(&it->queue);
+    visit32(&it->refusal);
+    visit_handle(&it->handle);
+}
+
 /* Stops where fewer bytes could be read or written than a struct has. */
 static void need(size_t done)
 {
@@ -264,5 +289,8 @@ int main(int count, char **words)
     EXCHANGE(find_reply);
     EXCHANGE(add_reply);
     EXCHANGE(entry_reply);
+    EXCHANGE(queue);
+    EXCHANGE(send_reply);
+    EXCHANGE(receive_reply);
     return EXIT_SUCCESS;
 }

@@ -46,6 +46,7 @@ pub fn compile(source: &str, level: &str) -> PathBuf {
                 "liblokhazim_compare.a",
                 "liblokhazim_report.a",
                 "liblokhazim_settings.a",
+                "liblokhazim_queue.a",
             ]
             .map(library),
         )

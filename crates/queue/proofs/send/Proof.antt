@@ -1,0 +1,154 @@
+-- `queue::send` meets its contract: first the lines of the queue, next those of a claim and of a release, both with the accounts as they came; after that
+-- the release takes the accounts of the claim.
+-- Assumes nothing.
+use mathlib.Core.Path.{ap, sym, _∙_}
+use borrow.Author.Needs.{needs}
+use Rattle.rounding.specs.Rounding.{unit}
+use Rattle.model.specs.Answers.{amount-values, verdict-values, refusal-number}
+use Rattle.model.specs.Calls.{Outcome}
+use Rattle.model.specs.declared.AmountAnswer.{AmountAnswer}
+use Rattle.model.specs.declared.Verdict.{Verdict}
+use Rattle.model.proofs.Answers.{refusal-number-is}
+use Rattle.queue.specs.declared.Queue.{Queue}
+use Rattle.queue.specs.Results.{send-number, send-outcome}
+use Rattle.queue.proofs.Sending.{send-damaged, send-full, send-unclaimed, send-unreleased, send-made}
+use Rattle.queue.proofs.send.Statement.{statement}
+use Rattle.queue.proofs.send.Tie as tie
+
+cast-if1 : tie.Need-cast-if1
+cast-if1 c = search needs
+
+not-sent-requires : tie.Need-not-sent-requires
+not-sent-requires c κs = search needs
+
+returns : tie.Need-returns
+unfolding send-number
+returns c =
+    let a = c .before .before .before .before .args in
+    ap (send-outcome (a .heap .now)) (c .not-sent .ensures) ∙ send-damaged unit (a .heap .now) (a .accounts) (a .queue) (a .handle) (c .before .if1 .taken)
+
+cast-if2 : tie.Need-cast-if2
+cast-if2 c = search needs
+
+not-sent-requires-2 : tie.Need-not-sent-requires-2
+not-sent-requires-2 c κs = search needs
+
+returns-2 : tie.Need-returns-2
+unfolding send-number
+returns-2 c =
+    let a = c .before .before .before .before .before .before .args in
+    ap (send-outcome (a .heap .now)) (c .not-sent2 .ensures)
+    ∙ send-full unit (a .heap .now) (a .accounts) (a .queue) (a .handle) (c .before .before .before .if1 .left) (c .before .if2 .taken)
+
+claim-requires : tie.Need-claim-requires
+claim-requires c κs = search needs
+
+enum-known-answer : tie.Need-enum-known-answer
+enum-known-answer c = search needs
+
+not-sent-requires-3 : tie.Need-not-sent-requires-3
+not-sent-requires-3 c κs = search needs
+
+same-length : tie.Need-same-length
+same-length c = search needs
+
+returns-3 : tie.Need-returns-3
+unfolding send-number amount-values
+returns-3 c =
+    let m = c .before .before .before in
+    let e = m .before .before .before in
+    let a = e .before .before .before .before .before .args in
+    let r = c .before .before .answer .given in
+    ap (send-outcome (a .heap .now)) (c .not-sent3 .ensures)
+    ∙ send-unclaimed unit (a .heap .now) (a .accounts) (a .queue) (a .handle) (e .before .before .if1 .left) (e .if2 .left) (refusal-number (r .0 .0))
+    (sym (ap (λ (t : Outcome). t .values .refusal) (m .before .claim .ensures)) ∙ ap (λ (x : AmountAnswer). amount-values x .refusal) (r .1))
+    (refusal-number-is (r .0 .0) .1)
+
+enum-told : tie.Need-enum-told
+enum-told c = search needs
+
+can-release-requires : tie.Need-can-release-requires
+can-release-requires c κs = search needs
+
+enum-known-refusal : tie.Need-enum-known-refusal
+enum-known-refusal c = search needs
+
+not-sent-requires-4 : tie.Need-not-sent-requires-4
+not-sent-requires-4 c κs = search needs
+
+same-length-2 : tie.Need-same-length-2
+same-length-2 c = search needs
+
+returns-4 : tie.Need-returns-4
+unfolding send-number amount-values verdict-values
+returns-4 c =
+    let v = c .before .before .before .before in
+    let told = v .before .before in
+    let m = told .before .before in
+    let e = m .before .before in
+    let a = e .before .before .before .before .before .args in
+    let r = c .before .before .refusal .given in
+    ap (send-outcome (a .heap .now)) (c .not-sent4 .ensures)
+    ∙ send-unreleased unit (a .heap .now) (a .accounts) (a .queue) (a .handle) (e .before .before .if1 .left) (e .if2 .left)
+    (sym (ap (λ (t : Outcome). t .values .refusal) (m .claim .ensures)) ∙ ap (λ (x : AmountAnswer). amount-values x .refusal) (told .enum-told .given .1))
+    (refusal-number (r .0 .0))
+    (sym (ap (λ (t : Outcome). t .values .refusal) (v .can-release .ensures)) ∙ ap (λ (x : Verdict). verdict-values x .refusal) (r .1))
+    (refusal-number-is (r .0 .0) .1)
+
+enum-told-2 : tie.Need-enum-told-2
+enum-told-2 c = search needs
+
+release-requires : tie.Need-release-requires
+release-requires c κs = search needs
+
+with-handle-requires : tie.Need-with-handle-requires
+with-handle-requires c κs = search needs
+
+same-length-3 : tie.Need-same-length-3
+same-length-3 c = search needs
+
+returns-5 : tie.Need-returns-5
+unfolding send-number amount-values verdict-values
+returns-5 c =
+    let f = c .before .before .before .before in
+    let told₂ = f .before .before .before in
+    let v = told₂ .before .before in
+    let told = v .before .before in
+    let m = told .before .before in
+    let e = m .before .before in
+    let a = e .before .before .before .before .before .args in
+    let z =
+    sym (ap (λ (t : Outcome). t .values .refusal) (m .claim .ensures)) ∙ ap (λ (x : AmountAnswer). amount-values x .refusal) (told .enum-told .given .1) in
+    ap (λ (u : Queue). record { heap = f .release .last .0; accounts = f .release .result .accounts; queue = u; refusal = 0 }) (c .with-handle .ensures)
+    ∙ send-made unit (a .heap .now) (a .accounts) (a .queue) (a .handle) (e .before .before .if1 .left) (e .if2 .left) z
+    (f .release .last .0) (m .claim .result .accounts) (f .release .result .accounts)
+    (amount-values (m .claim .result .answer)) (amount-values (f .release .result .answer)) (m .claim .ensures)
+    (sym (ap (λ (t : Outcome). t .values .refusal) (v .can-release .ensures)) ∙ ap (λ (x : Verdict). verdict-values x .refusal) (told₂ .enum-told2 .given .1))
+    (f .release .ensures)
+
+pub send-spec : {M : Type 1} → statement M
+send-spec =
+    tie.close
+    (tie.spec
+    cast-if1
+    not-sent-requires
+    returns
+    cast-if2
+    not-sent-requires-2
+    returns-2
+    claim-requires
+    enum-known-answer
+    not-sent-requires-3
+    same-length
+    returns-3
+    enum-told
+    can-release-requires
+    enum-known-refusal
+    not-sent-requires-4
+    same-length-2
+    returns-4
+    enum-told-2
+    release-requires
+    with-handle-requires
+    same-length-3
+    returns-5)

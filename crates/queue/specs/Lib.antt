@@ -1,0 +1,6 @@
+-- The crate's definitions.
+pub mod Queue
+pub mod Results
+pub mod Runs
+pub mod Packets
+pub mod Wrong

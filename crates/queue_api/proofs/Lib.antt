@@ -1,0 +1,2 @@
+-- Computed rows.
+pub mod Rows

@@ -1,0 +1,41 @@
+// The exported functions, each the one of `queue` and its answer as numbers.
+use crate::ReceiveReply;
+use crate::SendReply;
+use crate::replies::reply_of_receive;
+use crate::replies::reply_of_send;
+use accounts::Accounts;
+use model::Handle;
+use queue::Queue;
+ghost use mathlib.Core.Path.{_≡_};
+ghost use Rattle.rounding.specs.Rounding.{unit};
+ghost use Rattle.queue.specs.Queue.{empty-queue, send, receive};
+ghost use Rattle.queue_api.specs.Replies.{send-reply, receive-reply};
+
+// A queue with nothing on its way from one quota to another.
+#[no_mangle]
+pub extern "C" fn lokhazim_queue_new(sender: u32, receiver: u32) -> Queue
+    ensures { λ r. ⌜ r ≡ empty-queue sender receiver ⌝ }
+{
+    Queue::new(sender, receiver)
+}
+
+// A handle is sent: the receiver claims its object, and the sender releases it.
+#[no_mangle]
+pub extern "C" fn lokhazim_queue_send(
+    heap: &mut [u8],
+    accounts: Accounts,
+    queue: Queue,
+    handle: Handle,
+) -> SendReply
+    ensures { λ r. ⌜ send-reply (now (heap .exit)) r ≡ send unit (now (heap .entry)) accounts queue handle ⌝ }
+{
+    reply_of_send(queue::send(heap, accounts, queue, handle))
+}
+
+// The oldest handle is given.
+#[no_mangle]
+pub extern "C" fn lokhazim_queue_receive(queue: Queue) -> ReceiveReply
+    ensures { λ r. ⌜ receive-reply r ≡ receive queue ⌝ }
+{
+    reply_of_receive(queue::receive(queue))
+}
