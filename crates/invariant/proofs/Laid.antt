@@ -19,7 +19,7 @@ use Rattle.layout.proofs.Numbers.{octets-take, octets-drop, octets-append}
 use Rattle.model.specs.Lists.{all, total}
 use Rattle.model.specs.Objects.{objects-from, objects}
 use Rattle.model.specs.Consistent.{allowed, long-enough, starts-free, free-apart, well-cut, serials-differ}
-use Rattle.model.specs.Space.{suitable, carve, vacate, settle, body-of, copy-into}
+use Rattle.model.specs.Space.{suitable, carve, vacate, reclaim, settle, body-of, copy-into}
 use Rattle.model.specs.declared.Handle.{Handle}
 use Rattle.model.proofs.Bools.{and-left, and-right, and-both}
 use Rattle.model.proofs.Lists.{all-member}
@@ -126,7 +126,7 @@ module _ (o : Handle) (bs : List Block) (l : Laid bs) (fits : suitable (total si
 
 -- blocks that no record holds become free, and those that are joined have bytes
 settle-stored : (hs : List Hold) (bs : List Block) → all storable bs ≡ true → all storable (settle hs bs) ≡ true
-unfolding settle vacate
+unfolding settle reclaim vacate
 settle-stored hs bs s =
     join-all storable
     (λ b c p q.

@@ -11,9 +11,10 @@ use borrow.Author.Tests.{eqb-true, eqb-false}
 use Rattle.accounts.specs.declared.Hold.{Hold}
 use Rattle.layout.specs.Blocks.{Block, live}
 use Rattle.model.specs.Consistent.{held}
-use Rattle.model.specs.Space.{left-over, cut-block, vacate, vacate-unheld, join-front, join-free, settle, body-of, copy-into}
+use Rattle.model.specs.Space.{left-over, cut-block, vacate, changed, reclaim, join-front, join-free, settle, body-of, copy-into}
 use Rattle.model.proofs.Carve.{Carved}
 use Rattle.model.proofs.Join.{joined, join-elim}
+use Rattle.model.proofs.Settle.{vacate-unheld}
 
 -- a free block is not live
 free-not : {A : Type 0} (b c : Block) → live b ≡ true → live c ≡ false → b ≡ c → A
@@ -52,7 +53,7 @@ joined-live [] b l m = m
 joined-live (c ∷ cs) b l m = ⊎-elim (λ x. List·Memᴰ·head x) (λ y. List·Memᴰ·tail (joined-live cs b l y)) (List·Memᴰ·cases-cons (join-live c (join-free cs) b l m))
 
 vacated-live : (hs : List Hold) (bs : List Block) (b : Block) → live b ≡ true → List·Memᴰ b (vacate-unheld hs bs) → List·Memᴰ b bs
-unfolding vacate-unheld vacate
+unfolding changed vacate
 vacated-live hs [] b l m = m
 vacated-live hs (c ∷ cs) b l m = go (live c && not (held hs (c .serial))) (List·Memᴰ·cases-cons m) (vacated-live hs cs b l)
   where
@@ -65,7 +66,7 @@ vacated-live hs (c ∷ cs) b l m = go (live c && not (held hs (c .serial))) (Lis
 
 -- settling: a live block was there
 pub settled-live : (hs : List Hold) (bs : List Block) (b : Block) → live b ≡ true → List·Memᴰ b (settle hs bs) → List·Memᴰ b bs
-unfolding settle
+unfolding settle reclaim
 settled-live hs bs b l m = vacated-live hs bs b l (joined-live (vacate-unheld hs bs) b l m)
 
 -- copying: a live block with another serial was there, and one with this serial has the bytes copied in front of its own

@@ -7,7 +7,7 @@ use Rattle.rounding.specs.Rounding.{unit, object-length, alignment}
 use Rattle.model.specs.Lists.{all, any, total, first, change-first, is-none, or-else}
 use Rattle.model.specs.Objects.{objects-from, objects, blocks-of, objects-of, whole, names, lookup, lookup-whole, found}
 use Rattle.model.specs.Consistent.{allowed, long-enough, starts-free, free-apart, well-cut, serials-differ, serials-given, record-valid, records-differ, is-of, held, has-record, charged-for, charges, balanced-from, consistent-blocks, consistent-parsed, consistent, in-units, sound}
-use Rattle.model.specs.Space.{outside-occupied, suitable, first-candidate, lowest-base, left-over, cut-block, carve-from, carve, vacate, vacate-unheld, join-front, join-free, settle, body-of, copy-into}
+use Rattle.model.specs.Space.{outside-occupied, suitable, first-candidate, lowest-base, left-over, cut-block, carve-from, carve, vacate, changed, join-front, join-free, reclaim, settle, body-of, copy-into}
 use Rattle.model.specs.Holds.{count-of, take-record, raise-count, less-one, lower-count}
 use Rattle.model.specs.Refusals.{first-refusal, line-1, line-2, line-3, line-4, line-5, line-6, line-7, line-8, line-9, line-10, line-12, only-if}
 use Rattle.model.specs.Refusals.{claims-first, open-lines, check-lines, quota-lines, free-all-lines, lend-lines, release-lines, claim-lines, base-for}
@@ -24,7 +24,7 @@ unfolding opened remaining set-remaining less-paid paid-back charge refund used 
     objects-from objects blocks-of objects-of whole names lookup lookup-whole found
     allowed long-enough starts-free free-apart well-cut serials-differ serials-given record-valid records-differ is-of held has-record charged-for
     charges balanced-from consistent-blocks consistent-parsed consistent in-units
-    outside-occupied suitable first-candidate lowest-base left-over cut-block carve-from carve vacate vacate-unheld join-front join-free settle body-of copy-into
+    outside-occupied suitable first-candidate lowest-base left-over cut-block carve-from carve vacate changed join-front join-free reclaim settle body-of copy-into
     count-of take-record raise-count less-one lower-count drop-records
     first-refusal line-1 line-2 line-3 line-4 line-5 line-6 line-7 line-8 line-9 line-10 line-12 only-if claims-first
     open-lines check-lines quota-lines free-all-lines lend-lines release-lines claim-lines base-for line-11 allocate-lines reallocate-lines

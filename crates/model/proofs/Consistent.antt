@@ -19,7 +19,7 @@ use Rattle.accounts.specs.declared.Hold.{Hold}
 use Rattle.accounts.specs.declared.Accounts.{Accounts}
 use Rattle.accounts.specs.Accounts.{QUOTAS, zero-quota, zero-hold, used, is-for, permissible, permissions}
 use Rattle.layout.specs.Bytes.{Octets}
-use Rattle.layout.specs.Blocks.{Block, size, live, render, parse, AllWritable}
+use Rattle.layout.specs.Blocks.{Block, size, live, occupied, render, parse, AllWritable}
 use Rattle.layout.proofs.Parse.{parse-is}
 use Rattle.model.specs.Lists.{all, any, or-else}
 use Rattle.model.specs.Answers.{zero-handle}
@@ -49,8 +49,8 @@ Held hs serial = (h : Hold) × (List·Memᴰ h hs) × (used h ≡ true) × (h .s
 
 -- what they say
 pub record Facts (bs : List Block) (k : Accounts) : Type 0 where
-  pub long : (b : Block) → List·Memᴰ b bs → live b ≡ true → 16 ≤ size b
-  pub apart : (xs ys : List Block) (b c : Block) → bs ≡ xs ++ (b ∷ c ∷ ys) → live b ≡ false → live c ≡ false → ⊥
+  pub long : (b : Block) → List·Memᴰ b bs → occupied b ≡ true → 16 ≤ size b
+  pub apart : (xs ys : List Block) (b c : Block) → bs ≡ xs ++ (b ∷ c ∷ ys) → occupied b ≡ false → occupied c ≡ false → ⊥
   pub serials : (i j : ℕ) → i < j → j < length (objects bs) → getD (objects bs) i zero-handle .serial ≡ getD (objects bs) j zero-handle .serial → ⊥
   pub given : (o : Handle) → List·Memᴰ o (objects bs) → o .serial ≤ k .«last_serial»
   pub valid : (h : Hold) → List·Memᴰ h (k .holds) → used h ≡ true → Valid (objects bs) h
@@ -82,29 +82,29 @@ tests-exactly bs k = (there, λ t. rw (t .cut, t .differ, t .given, t .valid, t 
           balance = and-right (all (λ o. held (k .holds) (o .serial)) (objects bs)) _ e₅;
         }
 
--- rule 5.2, live blocks
-pub long-exactly : (bs : List Block) → (all long-enough bs ≡ true) ↔ ((b : Block) → List·Memᴰ b bs → live b ≡ true → 16 ≤ size b)
+-- rule 5.2, blocks that are not free
+pub long-exactly : (bs : List Block) → (all long-enough bs ≡ true) ↔ ((b : Block) → List·Memᴰ b bs → occupied b ≡ true → 16 ≤ size b)
 unfolding long-enough
 long-exactly =
-    all-exactly long-enough (λ b. live b ≡ true → 16 ≤ size b)
-    (λ b. (λ e l. leb-true 16 (size b) (implies (live b) (leb 16 (size b)) e l), λ f. implied (live b) (leb 16 (size b)) (λ l. le-leb 16 (size b) (f l))))
+    all-exactly long-enough (λ b. occupied b ≡ true → 16 ≤ size b)
+    (λ b. (λ e l. leb-true 16 (size b) (implies (occupied b) (leb 16 (size b)) e l), λ f. implied (occupied b) (leb 16 (size b)) (λ l. le-leb 16 (size b) (f l))))
 
 -- rule 5.2, free blocks
 abbrev pub Apart : List Block → Type 0
-Apart bs = (xs ys : List Block) (b c : Block) → bs ≡ xs ++ (b ∷ c ∷ ys) → live b ≡ false → live c ≡ false → ⊥
+Apart bs = (xs ys : List Block) (b c : Block) → bs ≡ xs ++ (b ∷ c ∷ ys) → occupied b ≡ false → occupied c ≡ false → ⊥
 
-apart-at : (xs ys : List Block) (b c : Block) → free-apart (xs ++ (b ∷ c ∷ ys)) ≡ true → live b ≡ false → live c ≡ false → ⊥
+apart-at : (xs ys : List Block) (b c : Block) → free-apart (xs ++ (b ∷ c ∷ ys)) ≡ true → occupied b ≡ false → occupied c ≡ false → ⊥
 unfolding free-apart starts-free
 apart-at [] ys b c e eb ec = false≢true (rw (eb, ec) at e)
-apart-at (x ∷ xs) ys b c e eb ec = apart-at xs ys b c (and-right (live x || not (starts-free (xs ++ (b ∷ c ∷ ys)))) _ e) eb ec
+apart-at (x ∷ xs) ys b c e eb ec = apart-at xs ys b c (and-right (occupied x || not (starts-free (xs ++ (b ∷ c ∷ ys)))) _ e) eb ec
 
-apart-front : (b : Block) (bs : List Block) → Apart (b ∷ bs) → (x : Bool) → live b ≡ x → (live b || not (starts-free bs)) ≡ true
+apart-front : (b : Block) (bs : List Block) → Apart (b ∷ bs) → (x : Bool) → occupied b ≡ x → (occupied b || not (starts-free bs)) ≡ true
 unfolding starts-free
 apart-front b bs f true e = rw e
 apart-front b [] f false e = rw e
-apart-front b (c ∷ cs) f false e = rw e (go (live c) refl)
+apart-front b (c ∷ cs) f false e = rw e (go (occupied c) refl)
   where
-    go : (y : Bool) → live c ≡ y → not (not (live c)) ≡ true
+    go : (y : Bool) → occupied c ≡ y → not (not (occupied c)) ≡ true
     go true ec = rw ec
     go false ec = absurd (f [] cs b c refl e ec)
 
@@ -112,7 +112,7 @@ apart-all : (bs : List Block) → Apart bs → free-apart bs ≡ true
 unfolding free-apart
 apart-all [] f = refl
 apart-all (b ∷ bs) f =
-    and-both (live b || not (starts-free bs)) (free-apart bs) (apart-front b bs f (live b) refl)
+    and-both (occupied b || not (starts-free bs)) (free-apart bs) (apart-front b bs f (occupied b) refl)
     (apart-all bs (λ xs ys c d e. f (b ∷ xs) ys c d (ap (λ (l : List Block). b ∷ l) e)))
 
 pub apart-exactly : (bs : List Block) → (free-apart bs ≡ true) ↔ Apart bs

@@ -15,7 +15,7 @@ use Rattle.layout.specs.Blocks.{Block, size, live, AllWritable}
 use Rattle.model.specs.Lists.{all, any, total, keep}
 use Rattle.model.specs.Objects.{objects-from, objects}
 use Rattle.model.specs.Consistent.{long-enough, free-apart, well-cut, held}
-use Rattle.model.specs.Space.{vacate, vacate-unheld, join-front, join-free, settle}
+use Rattle.model.specs.Space.{join-front, join-free, vacates, vacate, changed, reclaim, settle}
 use Rattle.model.specs.Joining.{join-neighbours}
 use Rattle.model.specs.declared.Handle.{Handle}
 use Rattle.model.proofs.Bools.{and-left, and-right, and-both, or-neither}
@@ -31,9 +31,12 @@ object-held hs o = held hs (o .serial)
 abbrev pub stays : List Hold → Block → Bool
 stays hs b = not (live b) || held hs (b .serial)
 
--- what becomes of a block by itself
+-- what becomes of a block by itself, and of blocks before they join
 abbrev pub vacated : List Hold → Block → Block
-vacated hs b = cond (live b && not (held hs (b .serial))) (vacate b) b
+vacated hs b = cond (vacates hs b) (vacate b) b
+
+abbrev pub vacate-unheld : List Hold → List Block → List Block
+vacate-unheld hs bs = changed (vacates hs) vacate bs
 
 vacated-elim : (P : Block → Type 0) (hs : List Hold) (b : Block) → (stays hs b ≡ true → P b) → (live b ≡ true → held hs (b .serial) ≡ false → P (vacate b))
     → P (vacated hs b)
@@ -53,19 +56,19 @@ vacated-size hs b = vacated-elim (λ c. size c ≡ size b) hs b (λ e. refl) (λ
 
 -- every size stays
 pub vacated-sizes : (hs : List Hold) (bs : List Block) → map size (vacate-unheld hs bs) ≡ map size bs
-unfolding vacate-unheld
+unfolding changed
 vacated-sizes hs [] = refl
 vacated-sizes hs (b ∷ bs) = rw (vacated-size hs b, vacated-sizes hs bs)
 
 -- the sum of the sizes stays
 pub vacated-total : (hs : List Hold) (bs : List Block) → total size (vacate-unheld hs bs) ≡ total size bs
-unfolding vacate-unheld total
+unfolding changed total
 vacated-total hs [] = refl
 vacated-total hs (b ∷ bs) = rw (vacated-size hs b, vacated-total hs bs)
 
 -- a test of all blocks still holds if it holds of a vacated block
 pub vacated-all : (p : Block → Bool) → ((b : Block) → p b ≡ true → p (vacate b) ≡ true) → (hs : List Hold) (bs : List Block) → all p bs ≡ true → all p (vacate-unheld hs bs) ≡ true
-unfolding vacate-unheld all
+unfolding changed all
 vacated-all p f hs [] a = refl
 vacated-all p f hs (b ∷ bs) a =
     let e = and-left (p b) (all p bs) a in
@@ -84,7 +87,7 @@ vacated-whole hs bs w = vacated-all whole-size (λ b e. rw length-replicate e) h
 
 -- where every live block is held, nothing is vacated
 pub vacated-same : (hs : List Hold) (bs : List Block) → all (stays hs) bs ≡ true → vacate-unheld hs bs ≡ bs
-unfolding vacate-unheld all
+unfolding changed all
 vacated-same hs [] a = refl
 vacated-same hs (b ∷ bs) a =
     rw (vacated-stays hs b (and-left (stays hs b) (all (stays hs) bs) a), vacated-same hs bs (and-right (stays hs b) (all (stays hs) bs) a))
@@ -92,7 +95,7 @@ vacated-same hs (b ∷ bs) a =
 vacated-cons : (hs : List Hold) (at : ℕ) (b : Block) (bs : List Block)
     → objects-from (at + size b) (vacate-unheld hs bs) ≡ keep (object-held hs) (objects-from (at + size b) bs)
     → (x y : Bool) → live b ≡ x → held hs (b .serial) ≡ y → objects-from at (vacate-unheld hs (b ∷ bs)) ≡ keep (object-held hs) (objects-from at (b ∷ bs))
-unfolding vacate-unheld keep vacate
+unfolding changed keep vacate
 vacated-cons hs at b bs ih false y eb eh = rw (eb, objects-free at b (vacate-unheld hs bs) eb, objects-free at b bs eb) ih
 vacated-cons hs at b bs ih true true eb eh = rw (eb, eh, objects-live at b (vacate-unheld hs bs) eb, objects-live at b bs eb, eh, ih)
 vacated-cons hs at b bs ih true false eb eh =
@@ -100,7 +103,7 @@ vacated-cons hs at b bs ih true false eb eh =
 
 -- the objects left are exactly the held ones, in order
 pub vacated-objects : (hs : List Hold) (at : ℕ) (bs : List Block) → objects-from at (vacate-unheld hs bs) ≡ keep (object-held hs) (objects-from at bs)
-unfolding vacate-unheld objects-from keep
+unfolding changed objects-from keep
 vacated-objects hs at [] = refl
 vacated-objects hs at (b ∷ bs) = vacated-cons hs at b bs (vacated-objects hs (at + size b) bs) (live b) (held hs (b .serial)) refl refl
 
@@ -117,34 +120,34 @@ stays-objects hs at (b ∷ bs) = go (live b) refl (stays-objects hs (at + size b
 
 -- after settling, the objects are exactly the held ones, in order
 pub settle-objects : (hs : List Hold) (bs : List Block) → objects (settle hs bs) ≡ keep (object-held hs) (objects bs)
-unfolding settle objects
+unfolding settle reclaim objects
 settle-objects hs bs = join-objects 0 (vacate-unheld hs bs) ∙ vacated-objects hs 0 bs
 
 -- the sizes add up to the same
 pub settle-total : (hs : List Hold) (bs : List Block) → total size (settle hs bs) ≡ total size bs
-unfolding settle
+unfolding settle reclaim
 settle-total hs bs = join-total (vacate-unheld hs bs) ∙ vacated-total hs bs
 
 -- every size stays a multiple of 8
 pub settle-whole : (hs : List Hold) (bs : List Block) → Whole bs → Whole (settle hs bs)
-unfolding settle
+unfolding settle reclaim
 settle-whole hs bs w = join-whole (vacate-unheld hs bs) (vacated-whole hs bs w)
 
 -- rule 5.2: the blocks are well cut
 pub settle-cut : (hs : List Hold) (bs : List Block) → all long-enough bs ≡ true → well-cut (settle hs bs) ≡ true
-unfolding settle well-cut
+unfolding settle reclaim well-cut
 settle-cut hs bs a =
     and-both (all long-enough (join-free (vacate-unheld hs bs))) (free-apart (join-free (vacate-unheld hs bs))) (join-long (vacate-unheld hs bs) (vacated-long hs bs a))
     (join-apart-all (vacate-unheld hs bs))
 
 -- where every live block is held, and no two free ones stand side by side, the very blocks are left
 pub settle-same : (hs : List Hold) (bs : List Block) → all (stays hs) bs ≡ true → free-apart bs ≡ true → settle hs bs ≡ bs
-unfolding settle
+unfolding settle reclaim
 settle-same hs bs s a = rw (vacated-same hs bs s) (join-same bs a)
 
 -- vacating before joining, or after it too, gives the same
 join-vacated : (hs : List Hold) (bs : List Block) → join-free (vacate-unheld hs (join-free bs)) ≡ join-free (vacate-unheld hs bs)
-unfolding join-free vacate-unheld
+unfolding join-free changed
 join-vacated hs [] = refl
 join-vacated hs (b ∷ bs) = go (join-vacated hs bs)
   where
@@ -168,19 +171,19 @@ module _ (hs hs′ : List Hold) (fewer : (serial : ℕ) → held hs′ serial �
       go eb eh false e = rw (eb, e)
 
   vacated-twice : (bs : List Block) → vacate-unheld hs′ (vacate-unheld hs bs) ≡ vacate-unheld hs′ bs
-  unfolding vacate-unheld
+  unfolding changed
   vacated-twice [] = refl
   vacated-twice (b ∷ bs) = rw (vacated-once b, vacated-twice bs)
 
   -- settling, and settling again with fewer holds, is settling once
   pub settle-twice : (bs : List Block) → settle hs′ (settle hs bs) ≡ settle hs′ bs
-  unfolding settle
+  unfolding settle reclaim
   settle-twice bs = join-vacated hs′ (vacate-unheld hs bs) ∙ ap join-free (vacated-twice bs)
 
 -- vacating one block of a list where every other live block is held
 vacated-one : (hs : List Hold) (xs : List Block) (b : Block) (ys : List Block) → live b ≡ true → held hs (b .serial) ≡ false → all (stays hs) xs ≡ true
     → all (stays hs) ys ≡ true → vacate-unheld hs (xs ++ (b ∷ ys)) ≡ xs ++ (vacate b ∷ ys)
-unfolding vacate-unheld all
+unfolding changed all
 vacated-one hs [] b ys eb eh sx sy = rw (eb, eh, vacated-same hs ys sy)
 vacated-one hs (x ∷ xs) b ys eb eh sx sy =
     rw (vacated-stays hs x (and-left (stays hs x) (all (stays hs) xs) sx), vacated-one hs xs b ys eb eh (and-right (stays hs x) (all (stays hs) xs) sx) sy)
@@ -188,13 +191,13 @@ vacated-one hs (x ∷ xs) b ys eb eh sx sy =
 -- where one live block is no longer held, that block joins its free neighbours and nothing else changes
 pub settle-one : (hs : List Hold) (bs xs : List Block) (b : Block) (ys : List Block) → bs ≡ xs ++ (b ∷ ys) → free-apart bs ≡ true → live b ≡ true
     → held hs (b .serial) ≡ false → all (stays hs) xs ≡ true → all (stays hs) ys ≡ true → settle hs bs ≡ join-neighbours xs (vacate b) ys
-unfolding settle
+unfolding settle reclaim
 settle-one hs bs xs b ys e a eb eh sx sy = rw (e, vacated-one hs xs b ys eb eh sx sy) (join-replaced xs b (vacate b) ys (rw e at a))
 
 -- a block that no record holds may be vacated before the others
 vacated-first : (hs : List Hold) (xs : List Block) (b : Block) (ys : List Block) → live b ≡ true → held hs (b .serial) ≡ false
     → vacate-unheld hs (xs ++ (vacate b ∷ ys)) ≡ vacate-unheld hs (xs ++ (b ∷ ys))
-unfolding vacate-unheld vacate
+unfolding changed vacate
 vacated-first hs [] b ys eb eh = rw (eb, eh)
 vacated-first hs (x ∷ xs) b ys eb eh = rw (vacated-first hs xs b ys eb eh)
 
@@ -227,7 +230,7 @@ module _ (xs : List Block) (b : Block) (ys : List Block) (a : free-apart (xs ++ 
 
   -- and settling goes on as if it were not freed, where no record holds it
   pub freed-settles : (hs : List Hold) → live b ≡ true → held hs (b .serial) ≡ false → settle hs (join-neighbours xs (vacate b) ys) ≡ settle hs (xs ++ (b ∷ ys))
-  unfolding settle
+  unfolding settle reclaim
   freed-settles hs eb eh = rw (← freed-joined) (join-vacated hs (xs ++ (vacate b ∷ ys)) ∙ ap join-free (vacated-first hs xs b ys eb eh))
 
 -- where the quota has no record, dropping its records changes none

@@ -8,7 +8,7 @@ use Rattle.accounts.specs.declared.Quota.{Quota}
 use Rattle.accounts.specs.declared.Hold.{Hold}
 use Rattle.accounts.specs.declared.Accounts.{Accounts}
 use Rattle.accounts.specs.Accounts.{QUOTAS, used, is-for, permissible, permissions}
-use Rattle.layout.specs.Blocks.{Block, size, live, parse, greatest-heap}
+use Rattle.layout.specs.Blocks.{Block, size, occupied, parse, greatest-heap}
 use Rattle.model.specs.Lists.{all, any, total}
 use Rattle.model.specs.Objects.{objects, objects-of}
 use Rattle.model.specs.declared.Handle.{Handle}
@@ -19,16 +19,16 @@ allowed H = eqb (H % 8) 0 && (leb 64 H && leb H greatest-heap)
 
 -- rule 5.2, live blocks: 16 bytes or more
 unfoldable pub long-enough : Block → Bool
-long-enough b = not (live b) || leb 16 (size b)
+long-enough b = not (occupied b) || leb 16 (size b)
 
 -- rule 5.2, free blocks: no two neighbours
 unfoldable pub starts-free : List Block → Bool
 starts-free [] = false
-starts-free (b ∷ bs) = not (live b)
+starts-free (b ∷ bs) = not (occupied b)
 
 unfoldable pub free-apart : List Block → Bool
 free-apart [] = true
-free-apart (b ∷ bs) = (live b || not (starts-free bs)) && free-apart bs
+free-apart (b ∷ bs) = (occupied b || not (starts-free bs)) && free-apart bs
 
 -- rule 5.2; what 5.1 asks of sizes and back numbers is layout's `parse`
 unfoldable pub well-cut : List Block → Bool

@@ -14,7 +14,7 @@ use lib.ListN.{length, replicate, length-append, length-replicate}
 use lib.Dec.{ltb}
 use borrow.Author.Tests.{lt-ltb, le-ltb}
 use Rattle.layout.specs.Bytes.{overwrite, zero-part}
-use Rattle.layout.specs.Blocks.{Block, size, units, live, back-after, header-of, header-bytes, write-header, render-from, render}
+use Rattle.layout.specs.Blocks.{Block, size, units, occupied, back-after, header-of, header-bytes, write-header, render-from, render}
 use Rattle.layout.proofs.Overwrite.{overwrite-at}
 use Rattle.layout.proofs.Fields.{header-length}
 use Rattle.layout.proofs.Render.{length-render, render-append, render-cons}
@@ -30,7 +30,7 @@ use Rattle.writer.proofs.CarveBytes.{zero-written, object-written, next
 
 -- the bytes of a block if it is free, else 0; so of the first of some blocks, and of the last
 abbrev pub free-size : Block → ℕ
-free-size b = cond (live b) 0 (size b)
+free-size b = cond (occupied b) 0 (size b)
 
 unfoldable pub free-behind : List Block → ℕ
 free-behind [] = 0
@@ -48,10 +48,10 @@ back-before back (x ∷ []) = back
 back-before back (x ∷ (y ∷ xs)) = back-before (units x) (y ∷ xs)
 
 -- the bytes of a block that is live, and of one that is free
-pub size-live : (b : Block) → live b ≡ true → free-size b ≡ 0
+pub size-live : (b : Block) → occupied b ≡ true → free-size b ≡ 0
 size-live b e = rw e
 
-pub size-free : (b : Block) → live b ≡ false → free-size b ≡ size b
+pub size-free : (b : Block) → occupied b ≡ false → free-size b ≡ size b
 size-free b e = rw e
 
 -- some blocks are none, or blocks in front of a last one
@@ -170,16 +170,16 @@ join-writes xs c d ys =
     ∙ (simp append-assoc at third))))
 
 -- a free block joins the one behind it, if that is free
-pub behind-writes : (xs : List Block) (v : Block) (ys : List Block) → live v ≡ false
+pub behind-writes : (xs : List Block) (v : Block) (ys : List Block) → occupied v ≡ false
     → render (xs ++ join-front v ys)
     ≡ join-bytes (total size xs) (total size xs + size v) (total size xs + size v + free-behind ys) (back-after 0 xs) (render (xs ++ (v ∷ ys)))
 unfolding free-behind starts-free
 behind-writes xs v [] ev =
-    rw (join-apart v [] (or-true (live v)))
+    rw (join-apart v [] (or-true (occupied v)))
     (sym (join-none (total size xs) (total size xs + size v) (total size xs + size v + 0) (back-after 0 xs) (render (xs ++ (v ∷ []))) (inr (omega arith))))
-behind-writes xs v (d ∷ ds) ev = go (live d) refl
+behind-writes xs v (d ∷ ds) ev = go (occupied d) refl
   where
-    go : (x : Bool) → live d ≡ x → render (xs ++ join-front v (d ∷ ds))
+    go : (x : Bool) → occupied d ≡ x → render (xs ++ join-front v (d ∷ ds))
         ≡ join-bytes (total size xs) (total size xs + size v) (total size xs + size v + free-size d) (back-after 0 xs) (render (xs ++ (v ∷ d ∷ ds)))
     go true e =
         rw (e, join-apart v (d ∷ ds) (rw (e, or-true)))
@@ -187,24 +187,24 @@ behind-writes xs v (d ∷ ds) ev = go (live d) refl
     go false e = rw (e, join-both v d ds ev e) (join-writes xs v d ds)
 
 -- what the block becomes is a free block still, as long as both
-pub behind-joined : (v : Block) (ys : List Block) → live v ≡ false
-    → (c : Block) × (zs : List Block) × (join-front v ys ≡ c ∷ zs) × (live c ≡ false) × (size c ≡ size v + free-behind ys)
+pub behind-joined : (v : Block) (ys : List Block) → occupied v ≡ false
+    → (c : Block) × (zs : List Block) × (join-front v ys ≡ c ∷ zs) × (occupied c ≡ false) × (size c ≡ size v + free-behind ys)
 unfolding free-behind starts-free
-behind-joined v [] ev = (v, [], join-apart v [] (or-true (live v)), ev, omega arith)
-behind-joined v (d ∷ ds) ev = go (live d) refl
+behind-joined v [] ev = (v, [], join-apart v [] (or-true (occupied v)), ev, omega arith)
+behind-joined v (d ∷ ds) ev = go (occupied d) refl
   where
-    go : (x : Bool) → live d ≡ x → (c : Block) × (zs : List Block) × (join-front v (d ∷ ds) ≡ c ∷ zs) × (live c ≡ false) × (size c ≡ size v + free-size d)
+    go : (x : Bool) → occupied d ≡ x → (c : Block) × (zs : List Block) × (join-front v (d ∷ ds) ≡ c ∷ zs) × (occupied c ≡ false) × (size c ≡ size v + free-size d)
     go true e = (v, d ∷ ds, join-apart v (d ∷ ds) (rw (e, or-true)), ev, rw e (omega arith))
     go false e = (joined v d, ds, join-both v d ds ev e, refl, rw e (joined-size v d))
 
 -- a free block joins the last one in front of it, if that is free
-pub front-writes : (xs : List Block) (c : Block) (zs : List Block) → live c ≡ false
+pub front-writes : (xs : List Block) (c : Block) (zs : List Block) → occupied c ≡ false
     → render (append-joined xs (c ∷ zs))
     ≡ join-bytes (total size xs - free-in-front xs) (total size xs) (total size xs + size c) (back-before 0 xs) (render (xs ++ (c ∷ zs)))
 unfolding append-joined free-in-front total
 front-writes xs c zs ec = go (last-of xs)
   where
-    at-last : (ws : List Block) (f : Block) → xs ≡ ws ++ (f ∷ []) → (x : Bool) → live f ≡ x
+    at-last : (ws : List Block) (f : Block) → xs ≡ ws ++ (f ∷ []) → (x : Bool) → occupied f ≡ x
         → render (append-joined xs (c ∷ zs))
         ≡ join-bytes (total size xs - free-in-front xs) (total size xs) (total size xs + size c) (back-before 0 xs) (render (xs ++ (c ∷ zs)))
     at-last ws f e true ef =
@@ -220,7 +220,7 @@ front-writes xs c zs ec = go (last-of xs)
     go : (xs ≡ []) ⊎ ((ws : List Block) × (f : Block) × (xs ≡ ws ++ (f ∷ []))) → render (append-joined xs (c ∷ zs))
         ≡ join-bytes (total size xs - free-in-front xs) (total size xs) (total size xs + size c) (back-before 0 xs) (render (xs ++ (c ∷ zs)))
     go (inl e) = rw e (sym (join-none (total size [] - 0) (total size []) (total size [] + size c) (back-before 0 []) (render (c ∷ zs)) (inl (omega arith))))
-    go (inr r) = at-last (r .0) (r .1) (r .2) (live (r .1)) refl
+    go (inr r) = at-last (r .0) (r .1) (r .2) (occupied (r .1)) refl
 
 -- freeing a block: what is left of the object's block and its free neighbours goes from where the last block in front starts, if it is free, up to
 -- where the first one behind ends, if it is free

@@ -9,7 +9,7 @@ use mathlib.Core.Bool.{Bool, true, false, not, cond}
 use mathlib.Core.Logic.{_⊎_, inl, inr}
 use lib.ListN.{length}
 use lib.Dec.{eqb, lit<}
-use Rattle.layout.specs.Blocks.{Block, size, units, live, total-size, back-after, header-of, start-at, render, Writable, AllWritable}
+use Rattle.layout.specs.Blocks.{Block, size, units, occupied, total-size, back-after, header-of, start-at, render, Writable, AllWritable}
 use Rattle.layout.specs.declared.Header.{Header}
 use Rattle.layout.specs.declared.Start.{Start}
 use Rattle.layout.specs.declared.Start.the-variants.{Block as Starts, Nothing}
@@ -94,7 +94,7 @@ pub record InFront (xs : List Block) (b : Block) (ys : List Block) : Type 0 wher
   pub back-fits : 8 * back-after 0 xs ≤ total-size xs
   pub free-fits : free-in-front xs ≤ total-size xs
 
-pub in-front : (xs : List Block) (b : Block) (ys : List Block) → AllWritable (xs ++ (b ∷ ys)) → live b ≡ true → InFront xs b ys
+pub in-front : (xs : List Block) (b : Block) (ys : List Block) → AllWritable (xs ++ (b ∷ ys)) → occupied b ≡ true → InFront xs b ys
 unfolding total-size back-after free-in-front back-before
 in-front xs b ys w lv = go (last-of xs)
   where
@@ -113,10 +113,10 @@ in-front xs b ys w lv = go (last-of xs)
         record {
           room = rw (u, t, p, append-assoc ws (f ∷ []) (b ∷ ys), front-last ws f, before-last 0 ws f) (room-stands ws f (b ∷ ys) v′);
           back-fits = rw (u, t) (omega arith);
-          free-fits = rw (front-last ws f, t) (omega (arith, small f (live f) refl));
+          free-fits = rw (front-last ws f, t) (omega (arith, small f (occupied f) refl));
         }
       where
-        small : (f : Block) (x : Bool) → live f ≡ x → free-size f ≤ size f
+        small : (f : Block) (x : Bool) → occupied f ≡ x → free-size f ≤ size f
         small f true e = rw e (omega arith)
         small f false e = rw e (omega arith)
 
@@ -125,7 +125,7 @@ in-front xs b ys w lv = go (last-of xs)
     go (inr r) = rw (r .2) (later (r .0) (r .1) (rw (r .2) at w))
 
 -- a live block b behind the blocks xs and in front of ys, met by its place, size and back size
-module _ (xs : List Block) (b : Block) (ys : List Block) (w : AllWritable (xs ++ (b ∷ ys))) (lv : live b ≡ true) (m : Met) (place : m .at ≡ total-size xs) (sized : m .size ≡ size b)
+module _ (xs : List Block) (b : Block) (ys : List Block) (w : AllWritable (xs ++ (b ∷ ys))) (lv : occupied b ≡ true) (m : Met) (place : m .at ≡ total-size xs) (sized : m .size ≡ size b)
     (back : m .back ≡ back-after 0 xs) where
   -- freeing it in place is freeing it among the blocks
   pub freed-blocks : free-block m (render (xs ++ (b ∷ ys))) ≡ render (join-neighbours xs (vacate b) ys)
