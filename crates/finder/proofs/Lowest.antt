@@ -39,7 +39,8 @@ outside-before start end at (b ∷ bs) h =
     and-both _ _ (or-right (not (occupied b)) _ (or-left (leb end at) _ (le-leb end at h))) (outside-before start end (at + size b) bs (omega arith))
 
 -- a run in a free block is outside every live one
-outside-free : (start end at : ℕ) (xs : List Block) (f : Block) (ys : List Block) → occupied f ≡ false → at + total-size xs ≤ start → end ≤ at + total-size xs + size f
+outside-free : (start end at : ℕ) (xs : List Block) (f : Block) (ys : List Block) → occupied f ≡ false → at + total-size xs ≤ start
+    → end ≤ at + total-size xs + size f
     → outside-occupied start end at (xs ++ (f ∷ ys)) ≡ true
 unfolding outside-occupied total-size
 outside-free start end at [] f ys e low high = rw e (outside-before start end (at + size f) ys (omega arith))
@@ -80,7 +81,8 @@ pub record Fitting (a n : ℕ) (s : List ℕ) (bs : List Block) (m : Met) (b : �
 
 module _ (a n : ℕ) (positive : 0 < a) where
   -- where a free block holds a run at a multiple of a, the first block that has room has its base no higher
-  no-higher : (base at back : ℕ) (xs : List Block) (f : Block) (ys : List Block) → occupied f ≡ false → base % a ≡ 0 → at + total size xs + 8 ≤ base → base + n ≤ at + total size xs + size f
+  no-higher : (base at back : ℕ) (xs : List Block) (f : Block) (ys : List Block) → occupied f ≡ false → base % a ≡ 0 → at + total size xs + 8 ≤ base
+      → base + n ≤ at + total size xs + size f
       → (m : Met) × (first (has-room a n) (met-of at back (xs ++ (f ∷ ys))) ≡ some m) × (base-in a m ≤ base)
   unfolding met-of total first
   no-higher base at back [] f ys e multiple low high =
@@ -113,7 +115,8 @@ module _ (a n : ℕ) (positive : 0 < a) where
             omega (arith, r .2)
 
     -- the run at a base in a free block is suitable
-    run-suitable : (m : Met) (w : Stands bs m) → occupied (w .block) ≡ false → (b : ℕ) → m .at + 8 ≤ b → b + n ≤ m .at + m .size → suitable (length s) bs n b ≡ true
+    run-suitable : (m : Met) (w : Stands bs m) → occupied (w .block) ≡ false → (b : ℕ) → m .at + 8 ≤ b → b + n ≤ m .at + m .size → suitable (length s) bs n b
+        ≡ true
     unfolding suitable total-size
     run-suitable m w free b low high =
         let place = w .place in

@@ -6,7 +6,7 @@ use mathlib.Core.Bool.{Bool, not, cond, _&&_}
 use mathlib.Core.Option.{Option, none, some}
 use lib.ListN.{length}
 use lib.Dec.{leb, eqb}
-use Rattle.layout.specs.Blocks.{start-at}
+use Rattle.layout.specs.Blocks.{QUARANTINED, start-at}
 use Rattle.layout.specs.declared.Header.{Header}
 use Rattle.layout.specs.declared.Start.{Start}
 use Rattle.layout.specs.declared.Start.the-variants.{Block as Starts, Nothing}
@@ -56,7 +56,7 @@ abbrev pub occupied-met : Met → Bool
 occupied-met m = not (eqb (m .serial) 0)
 
 abbrev pub live-met : Met → Bool
-live-met m = occupied-met m
+live-met m = occupied-met m && not (eqb (m .serial) QUARANTINED)
 
 -- its object: what follows the header
 abbrev pub object-met : Met → Handle

@@ -11,7 +11,7 @@ use mathlib.Core.Bool.{Bool, true, false, not, cond, _||_, or-false}
 use mathlib.Core.Logic.{⊎-elim}
 use lib.Dec.{eqb}
 use borrow.Author.Tests.{eqb-true, eq-eqb}
-use Rattle.layout.specs.Blocks.{Block, size, live, total-size, AllWritable, occupied}
+use Rattle.layout.specs.Blocks.{Block, size, live, total-size, AllWritable, occupied, quarantined}
 use Rattle.model.specs.Lists.{all, total}
 use Rattle.model.specs.Objects.{object, objects-from}
 use Rattle.model.specs.Consistent.{starts-free, free-apart}
@@ -56,7 +56,7 @@ free-not-live b e = rw e
 
 -- and a live one is occupied
 pub live-occupied : (b : Block) → live b ≡ true → occupied b ≡ true
-live-occupied b e = e
+live-occupied b e = and-left (occupied b) (not (quarantined b)) e
 
 -- a block that is not live has no object
 pub objects-free : (at : ℕ) (b : Block) (bs : List Block) → live b ≡ false → objects-from at (b ∷ bs) ≡ objects-from (at + size b) bs

@@ -13,7 +13,7 @@ use mathlib.Core.Logic.{_⊎_, inl, inr}
 use lib.ListN.{length, take, drop, replicate, length-replicate, length-take, length-drop}
 use lib.Dec.{leb}
 use borrow.Author.Tests.{le-leb, lt-leb, leb-true, leb-false, eqb-true, eq-eqb, ne-eqb, not-true}
-use Rattle.layout.specs.Blocks.{Block, size, live, occupied}
+use Rattle.layout.specs.Blocks.{Block, size, live, occupied, QUARANTINED}
 use Rattle.model.specs.Lists.{all, total}
 use Rattle.model.specs.Objects.{objects-from, objects}
 use Rattle.model.specs.Consistent.{long-enough, starts-free, free-apart, well-cut}
@@ -21,7 +21,8 @@ use Rattle.model.specs.Space.{outside-occupied, suitable, left-over, cut
 use Rattle.model.specs.declared.Handle.{Handle}
 use Rattle.model.proofs.Bools.{and-left, and-right, and-both, and-no, or-right}
 use Rattle.model.proofs.Lists.{all-append, total-append}
-use Rattle.model.proofs.Blocks.{whole-size, Whole, whole-total, objects-live, objects-free, objects-append, apart-head, apart-tail, apart-cons, apart-replaced, apart-back, free-not-live}
+use Rattle.model.proofs.Blocks.{whole-size, Whole, whole-total, objects-live, objects-free, objects-append, apart-head, apart-tail, apart-cons}
+use Rattle.model.proofs.Blocks.{apart-replaced, apart-back, free-not-live}
 
 -- cs is bs with an object of n bytes cut out at base, in one free block that holds it and its header
 pub record Carved (base n serial at : ℕ) (bs cs : List Block) : Type 0 where
@@ -154,12 +155,12 @@ left-apart (suc k) body bs e a = apart-cons (record { serial = 0; body = body })
 abbrev pub new-block : ℕ → ℕ → Block
 new-block n serial = record { serial = serial; body = replicate n 0 }
 
--- it is occupied, since its serial is not 0; and live
+-- it is live, since its serial is not 0
 pub new-occupied : (n serial : ℕ) → 0 < serial → occupied (new-block n serial) ≡ true
 new-occupied n serial h = rw (ne-eqb serial 0 (λ e. omega arith))
 
-pub new-live : (n serial : ℕ) → 0 < serial → live (new-block n serial) ≡ true
-new-live n serial h = new-occupied n serial h
+pub new-live : (n serial : ℕ) → 0 < serial → serial < QUARANTINED → live (new-block n serial) ≡ true
+new-live n serial h l = rw (ne-eqb serial 0 (λ e. omega arith), ne-eqb serial QUARANTINED (λ e. omega arith))
 
 module _ (base n serial at : ℕ) (b : Block) where
   -- what is left of a block in front of the new object
@@ -222,9 +223,12 @@ module _ (base n serial at : ℕ) (b : Block) where
 
   cut-long : 8 ≤ n → all long-enough (cut-block base n serial at b) ≡ true
   unfolding long-enough
-  cut-long h = cut-all long-enough (or-right (not (occupied (new-block n serial))) _ (le-leb 16 (size (new-block n serial)) (rw length-replicate (omega arith)))) (λ p. refl) (λ p. refl)
+  cut-long h =
+      cut-all long-enough (or-right (not (occupied (new-block n serial))) _ (le-leb 16 (size (new-block n serial)) (rw length-replicate (omega arith))))
+      (λ p. refl) (λ p. refl)
 
-  cut-apart : (bs : List Block) → occupied b ≡ false → occupied (new-block n serial) ≡ true → free-apart (b ∷ bs) ≡ true → free-apart (cut-block base n serial at b ++ bs) ≡ true
+  cut-apart : (bs : List Block) → occupied b ≡ false → occupied (new-block n serial) ≡ true → free-apart (b ∷ bs) ≡ true → free-apart
+      (cut-block base n serial at b ++ bs) ≡ true
   unfolding cut-block starts-free
   cut-apart bs eb new a =
       let apart : starts-free bs ≡ false = not-true (starts-free bs) (rw eb at (apart-head b bs a)) in
@@ -315,12 +319,13 @@ module _ {base n serial at : ℕ} {bs cs : List Block} (c : Carved base n serial
         rw (c .now, c .split, total-append size (c .front) (cut ++ c .back), total-append size cut (c .back), total-append size (c .front) (c .block ∷ c .back), the-total)
 
     -- the objects are the old ones, in order, with the new one at one place
-    pub carved-objects : 0 < serial → Added (record { base = base; length = n; serial = serial }) (objects-from at bs) (objects-from at cs)
-    carved-objects new =
+    pub carved-objects : 0 < serial → serial < QUARANTINED → Added (record { base = base; length = n; serial = serial }) (objects-from at bs)
+        (objects-from at cs)
+    carved-objects new low =
         let cut = cut-block base n serial place (c .block) in
         let rest = objects-from (place + size (c .block)) (c .back) in
         let o : Handle = record { base = base; length = n; serial = serial } in
-        let the-cut = cut-objects base n serial place (c .block) place-whole block-whole aligned even (c .low) (c .high) (new-live n serial new) in
+        let the-cut = cut-objects base n serial place (c .block) place-whole block-whole aligned even (c .low) (c .high) (new-live n serial new low) in
         let between : objects-from place (cut ++ c .back) ≡ o ∷ rest = rw (objects-append place cut (c .back), the-cut, the-total) in
         record {
           front = objects-from at (c .front);
@@ -330,7 +335,8 @@ module _ {base n serial at : ℕ} {bs cs : List Block} (c : Carved base n serial
         }
 
 -- carving a suitable run out of a heap's blocks adds exactly the new object
-pub carve-objects : (base n serial : ℕ) (bs : List Block) → free-apart bs ≡ true → suitable (total size bs) bs n base ≡ true → Whole bs → base % 8 ≡ 0 → n % 8 ≡ 0 → 0 < serial
+pub carve-objects : (base n serial : ℕ) (bs : List Block) → free-apart bs ≡ true → suitable (total size bs) bs n base ≡ true → Whole bs → base % 8 ≡ 0
+    → n % 8 ≡ 0 → 0 < serial → serial < QUARANTINED
     → Added (record { base = base; length = n; serial = serial }) (objects bs) (objects (carve base n serial bs))
 unfolding objects
-carve-objects base n serial bs apart fits whole aligned even new = carved-objects (carved base n serial bs apart fits) refl whole aligned even new
+carve-objects base n serial bs apart fits whole aligned even new low = carved-objects (carved base n serial bs apart fits) refl whole aligned even new low

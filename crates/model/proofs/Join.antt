@@ -56,7 +56,8 @@ front-objects at b cs =
     (rw (e, objects-free at b (d ∷ ds) (free-not-live b eb), objects-free (at + size b) d ds (free-not-live d ed), objects-free at (joined b d) ds refl)
     (ap (λ (k : ℕ). objects-from k ds) (omega (arith, joined-size b d)))))
 
-objects-cong : (at : ℕ) (b : Block) (xs ys : List Block) → objects-from (at + size b) xs ≡ objects-from (at + size b) ys → objects-from at (b ∷ xs) ≡ objects-from at (b ∷ ys)
+pub objects-cong : (at : ℕ) (b : Block) (xs ys : List Block) → objects-from (at + size b) xs ≡ objects-from (at + size b) ys → objects-from at (b ∷ xs)
+    ≡ objects-from at (b ∷ ys)
 unfolding objects-from
 objects-cong at b xs ys e = rw e
 

@@ -25,7 +25,8 @@ use Rattle.model.proofs.Blocks.{apart-head, apart-tail, live-occupied}
 use Rattle.model.proofs.Join.{joined, join-apart, join-assoc}
 use Rattle.model.proofs.Same.{Same, same-refl, same-wider, same-any, same-append, header-backs}
 
-module _ (p : Block → Bool) (f : Block → Block) (was : (b : Block) → p b ≡ true → occupied b ≡ true) (long : (b : Block) → length (f b .body) ≡ length (b .body)) (freed : (b : Block) → occupied (f b) ≡ false) where
+module _ (p : Block → Bool) (f : Block → Block) (was : (b : Block) → p b ≡ true → occupied b ≡ true)
+    (long : (b : Block) → length (f b .body) ≡ length (b .body)) (freed : (b : Block) → occupied (f b) ≡ false) where
   -- what becomes of the first block: one that is vacated joins those behind it, and so does one that stays, unless it is live
   reclaim-gone : (b : Block) (bs : List Block) → p b ≡ true → reclaim p f (b ∷ bs) ≡ join-front (f b) (reclaim p f bs)
   unfolding reclaim join-free changed
@@ -94,7 +95,8 @@ module _ (p : Block → Bool) (f : Block → Block) (was : (b : Block) → p b �
 
   module _ (b : Block) (bs : List Block) (ih : Both bs) where
     -- a block that becomes the free block d and joins the changed block v in front of it
-    joins-free : (d v : Block) (u w : ℕ) → reclaim p f (b ∷ bs) ≡ join-front d (reclaim p f bs) → occupied d ≡ false → occupied v ≡ false → length (d .body) ≡ length (b .body)
+    joins-free : (d v : Block) (u w : ℕ) → reclaim p f (b ∷ bs) ≡ join-front d (reclaim p f bs) → occupied d ≡ false → occupied v ≡ false → length (d .body)
+        ≡ length (b .body)
         → cond (occupied b) (p b) true ≡ true → ((i : ℕ) → (p b || cond (occupied b) (within 2 4 i) true) ≡ true)
         → Same (λ i. p b) (d .body) (b .body) → Behind v u w (b ∷ bs)
     joins-free d v u w e ed ev l run flags same =
@@ -148,7 +150,8 @@ module _ (p : Block → Bool) (f : Block → Block) (was : (b : Block) → p b �
     stays-same : (u : ℕ) → reclaim p f (b ∷ bs) ≡ b ∷ reclaim p f bs → cond (occupied b) (p b) false ≡ false
         → Same (reclaim-touches p false (b ∷ bs)) (render-from u (reclaim p f (b ∷ bs))) (render-from u (b ∷ bs))
     stays-same u e r =
-        stays-put u false b (header-bytes (header-of u b)) (render-from (units b) (reclaim p f bs)) (rw e (render-cons u b (reclaim p f bs))) (header-length (header-of u b)) refl r
+        stays-put u false b (header-bytes (header-of u b)) (render-from (units b) (reclaim p f bs)) (rw e (render-cons u b (reclaim p f bs)))
+        (header-length (header-of u b)) refl r
         (same-refl _ (header-bytes (header-of u b))) (same-refl _ (b .body)) (ih .stays (units b))
 
     -- a free block, whether or not a vacated one stands behind it
@@ -186,7 +189,14 @@ module _ (p : Block → Bool) (f : Block → Block) (was : (b : Block) → p b �
         stays = λ u. same-refl (reclaim-touches p false []) [];
         joins =
             λ v u w ev.
-            record { header = header-bytes (header-of u v); tail = []; eight = header-length (header-of u v); now = refl; same = same-refl (reclaim-touches p true []) [] };
+            record {
+              header = header-bytes (header-of u v);
+              tail = [];
+              eight = header-length (header-of u v);
+              now = refl;
+              same = same-refl
+                  (reclaim-touches p true []) [];
+            };
       }
   both (b ∷ bs) a = both-cons b bs (both bs (apart-tail b bs a)) a (p b) (occupied b) refl refl
 
@@ -211,9 +221,10 @@ module _ (p : Block → Bool) (f : Block → Block) (was : (b : Block) → p b �
       → getD (render (reclaim p f bs)) (total size xs + i) 0 ≡ getD (render bs) (total size xs + i) 0
   body-stays bs xs b ys e a s i l h = reclaim-frame bs a .same (total size xs + i) (rw e (body-untouched false xs b ys i s l h))
 
--- so with settling
+-- so with settling a plain heap
 module _ (hs : List Hold) where
-  pub settle-frame : (bs : List Block) → free-apart bs ≡ true → Same (settle-touches hs bs) (render (settle hs bs)) (render bs)
+  pub settle-frame : (bs : List Block) → free-apart bs ≡ true → Same (settle-touches hs bs) (render (settle 0 hs bs)) (render bs)
   unfolding settle vacate
   settle-frame bs a =
-      reclaim-frame (vacates hs) vacate (λ b e. live-occupied b (and-left (live b) (not (held hs (b .serial))) e)) (λ b. length-replicate (length (b .body)) 0) (λ b. refl) bs a
+      reclaim-frame (vacates hs) (vacate 0) (λ b e. live-occupied b (and-left (live b) (not (held hs (b .serial))) e))
+      (λ b. length-replicate (length (b .body)) 0) (λ b. refl) bs a

@@ -4,7 +4,7 @@ use mathlib.Core.List.{List, [], _∷_}
 use mathlib.Core.Bool.{Bool, false, cond, _&&_, _||_}
 use lib.Dec.{leb, ltb}
 use Rattle.accounts.specs.declared.Hold.{Hold}
-use Rattle.layout.specs.Blocks.{Block, size, occupied}
+use Rattle.layout.specs.Blocks.{Block, size, occupied, quarantined}
 use Rattle.model.specs.Space.{vacates}
 
 -- i is a place from start up to end
@@ -31,6 +31,14 @@ reclaim-touches p run (b ∷ bs) i =
     (p b || (ltb i 8 && cond (occupied b) (run && within 2 4 i) (run || starts-changed p bs)))
     later
 
--- so with settling
+-- so with settling a plain heap, and with a sweep
 abbrev pub settle-touches : List Hold → List Block → ℕ → Bool
 settle-touches hs bs i = reclaim-touches (vacates hs) false bs i
+
+abbrev pub sweep-touches : List Block → ℕ → Bool
+sweep-touches bs i = reclaim-touches quarantined false bs i
+
+-- where blocks that pass a test become others as long, and none joins, a byte changes only of such a block
+unfoldable pub change-touches : (Block → Bool) → List Block → ℕ → Bool
+change-touches p [] i = false
+change-touches p (b ∷ bs) i = cond (ltb i (size b)) (p b) (change-touches p bs (i - size b))
