@@ -19,6 +19,7 @@
 
 static _Alignas(LOKHAZIM_ALIGNMENT) uint8_t heap[4096];
 static struct lokhazim_accounts accounts;
+static uint32_t kind = LOKHAZIM_PLAIN;
 static const struct lokhazim_grants grants = { { 4000, 4000 } };
 static struct lokhazim_handle objects[OBJECTS];
 static struct lokhazim_handle middle;
@@ -36,7 +37,7 @@ static enum lokhazim_refusal refusal;
         refusal = lokhazim_heap_##name(heap, sizeof heap, &accounts, __VA_ARGS__);  \
     }
 
-CALL(open, grants)
+CALL(open, grants, kind)
 CALL(allocate, 0, 40, &given)
 CALL(allocate_array, 0, 5, 8, &given)
 CALL(claim, 1, middle, &amount)
@@ -49,6 +50,7 @@ CALL(write, middle, 1, 2)
 CALL(remaining, 0, &amount)
 CALL(can_release, 0, middle)
 CALL(list_block, 0, &block)
+CALL(sweep, &amount)
 
 void call_check(void);
 __attribute__((noinline)) void call_check(void)
@@ -110,7 +112,7 @@ static void expect_accepted(const char *name)
     }
 }
 
-/* A heap with objects and gaps, in which the object in the middle has free blocks on both sides. */
+/* A heap with objects and gaps, in which the object in the middle has free or quarantined blocks on both sides. */
 static void prepare(void)
 {
     call_open();
@@ -127,8 +129,10 @@ static void prepare(void)
     middle = objects[OBJECTS / 2];
     call_save();
     expect_accepted("save");
-    call_move_down();
-    expect_accepted("move down");
+    if (kind == LOKHAZIM_PLAIN) {
+        call_move_down();
+        expect_accepted("move down");
+    }
     queue = lokhazim_queue_new(0, 1);
     queue.count = 1;
 }
@@ -196,5 +200,7 @@ int main(void)
     MEASURE(move_up);
     MEASURE(send);
     MEASURE(receive);
+    kind = LOKHAZIM_QUARANTINE;
+    MEASURE(sweep);
     return EXIT_SUCCESS;
 }

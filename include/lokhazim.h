@@ -53,8 +53,10 @@ extern "C" {
  *   2  a quota has permissions: struct lokhazim_quota has 12 bytes, and there is
  *      lokhazim_clear_permissions
  *   3  32 quotas and 512 hold records, where there were 8 and 128; images of form 2
+ *   4  a heap has a kind: struct lokhazim_accounts has 4488 bytes, lokhazim_open and
+ *      lokhazim_heap_open take the kind, and there is lokhazim_sweep
  */
-#define LOKHAZIM_INTERFACE 3
+#define LOKHAZIM_INTERFACE 4
 
 /* ---- Numbers ---- */
 
@@ -87,6 +89,20 @@ extern "C" {
 #define LOKHAZIM_MAY_FREE_ALL 4
 #define LOKHAZIM_MAY_ALL 7
 
+/*
+ * The kinds of a heap, chosen at the opening. In a plain heap the block of an object that nobody holds is free at once. In
+ * a heap with quarantine it waits: its object is cleared and its quotas have their charges back, but no new object gets
+ * its bytes before lokhazim_sweep.
+ */
+#define LOKHAZIM_PLAIN 0
+#define LOKHAZIM_QUARANTINE 1
+
+/* The serial of a quarantined block, which no object has. */
+#define LOKHAZIM_QUARANTINED UINT32_MAX
+
+/* The last serial that an object can get. */
+#define LOKHAZIM_SERIAL_MAX (UINT32_MAX - 1)
+
 /* Why a call is refused. Calls check in the order of the numbers, but 12 right after 3. */
 enum lokhazim_refusal {
     /* Not refused. */
@@ -95,7 +111,8 @@ enum lokhazim_refusal {
     LOKHAZIM_HEAP_LENGTH = 1,
     /* Heap and accounts don't agree: not opened, another heap's, or something else has written to them.
      * Also a heap of an earlier version in which a long object's base is no such multiple as above,
-     * and permissions above LOKHAZIM_MAY_ALL. */
+     * permissions above LOKHAZIM_MAY_ALL, a last serial above LOKHAZIM_SERIAL_MAX, a kind above
+     * LOKHAZIM_QUARANTINE, and a quarantined block in a plain heap. */
     LOKHAZIM_INCONSISTENT = 2,
     /* There is no quota of this number. */
     LOKHAZIM_QUOTA_NUMBER = 3,
@@ -111,9 +128,9 @@ enum lokhazim_refusal {
     LOKHAZIM_QUOTA_EXCEEDED = 8,
     /* All hold records are used. */
     LOKHAZIM_HOLDS_EXHAUSTED = 9,
-    /* Every serial was given: the heap has to be opened anew. */
+    /* The last serial is LOKHAZIM_SERIAL_MAX, so every serial was given: the heap has to be opened anew. */
     LOKHAZIM_SERIALS_EXHAUSTED = 10,
-    /* No free run of bytes is long enough. */
+    /* No free run of bytes is long enough. In a heap with quarantine a sweep may make one. */
     LOKHAZIM_NO_SPACE = 11,
     /* The quota lacks the permission that the call needs. */
     LOKHAZIM_NOT_PERMITTED = 12
@@ -137,13 +154,15 @@ struct lokhazim_hold {
 
 /*
  * The accounts of a heap: to be kept with it, and changed by the calls alone.
- * A quota has three bytes of padding and a hold two, so compare accounts field by
- * field.
+ * The kind is LOKHAZIM_PLAIN or LOKHAZIM_QUARANTINE, as it was opened.
+ * A quota has three bytes of padding, a hold two, and three stand behind the kind,
+ * so compare accounts field by field.
  */
 struct lokhazim_accounts {
     struct lokhazim_quota quotas[LOKHAZIM_QUOTAS];
     uint32_t last_serial;
     struct lokhazim_hold holds[LOKHAZIM_HOLDS];
+    uint8_t kind;
 };
 
 /*
@@ -184,7 +203,7 @@ struct lokhazim_handle_reply {
     struct lokhazim_handle handle;
 };
 
-/* The reply of claim, release, free_all and clear_permissions. */
+/* The reply of claim, release, free_all, clear_permissions and sweep. */
 struct lokhazim_amount_reply {
     struct lokhazim_accounts accounts;
     uint32_t refusal;
@@ -204,7 +223,7 @@ struct lokhazim_range_reply {
     size_t end;
 };
 
-/* The reply of list_block: found is 1 where a block is given; serial 0 is a free block. */
+/* The reply of list_block: found is 1 where a block is given; serial 0 is a free block, LOKHAZIM_QUARANTINED a quarantined one. */
 struct lokhazim_block_reply {
     uint32_t refusal;
     uint32_t found;
@@ -232,10 +251,11 @@ LOKHAZIM_OFFSET(lokhazim_hold, serial, 0);
 LOKHAZIM_OFFSET(lokhazim_hold, quota, 4);
 LOKHAZIM_OFFSET(lokhazim_hold, count, 5);
 
-LOKHAZIM_SIZE(lokhazim_accounts, 4484);
+LOKHAZIM_SIZE(lokhazim_accounts, 4488);
 LOKHAZIM_OFFSET(lokhazim_accounts, quotas, 0);
 LOKHAZIM_OFFSET(lokhazim_accounts, last_serial, 384);
 LOKHAZIM_OFFSET(lokhazim_accounts, holds, 388);
+LOKHAZIM_OFFSET(lokhazim_accounts, kind, 4484);
 
 LOKHAZIM_SIZE(lokhazim_handle, 12);
 LOKHAZIM_OFFSET(lokhazim_handle, base, 0);
@@ -245,19 +265,19 @@ LOKHAZIM_OFFSET(lokhazim_handle, serial, 8);
 LOKHAZIM_SIZE(lokhazim_grants, 128);
 LOKHAZIM_OFFSET(lokhazim_grants, values, 0);
 
-LOKHAZIM_SIZE(lokhazim_open_reply, 4488);
+LOKHAZIM_SIZE(lokhazim_open_reply, 4492);
 LOKHAZIM_OFFSET(lokhazim_open_reply, accounts, 0);
-LOKHAZIM_OFFSET(lokhazim_open_reply, refusal, 4484);
+LOKHAZIM_OFFSET(lokhazim_open_reply, refusal, 4488);
 
-LOKHAZIM_SIZE(lokhazim_handle_reply, 4500);
+LOKHAZIM_SIZE(lokhazim_handle_reply, 4504);
 LOKHAZIM_OFFSET(lokhazim_handle_reply, accounts, 0);
-LOKHAZIM_OFFSET(lokhazim_handle_reply, refusal, 4484);
-LOKHAZIM_OFFSET(lokhazim_handle_reply, handle, 4488);
+LOKHAZIM_OFFSET(lokhazim_handle_reply, refusal, 4488);
+LOKHAZIM_OFFSET(lokhazim_handle_reply, handle, 4492);
 
-LOKHAZIM_SIZE(lokhazim_amount_reply, 4492);
+LOKHAZIM_SIZE(lokhazim_amount_reply, 4496);
 LOKHAZIM_OFFSET(lokhazim_amount_reply, accounts, 0);
-LOKHAZIM_OFFSET(lokhazim_amount_reply, refusal, 4484);
-LOKHAZIM_OFFSET(lokhazim_amount_reply, amount, 4488);
+LOKHAZIM_OFFSET(lokhazim_amount_reply, refusal, 4488);
+LOKHAZIM_OFFSET(lokhazim_amount_reply, amount, 4492);
 
 LOKHAZIM_SIZE(lokhazim_amount, 8);
 LOKHAZIM_OFFSET(lokhazim_amount, refusal, 0);
@@ -280,9 +300,9 @@ LOKHAZIM_OFFSET(lokhazim_block_reply, serial, 24);
 
 /* ---- The library's functions: accounts by value ---- */
 
-/* Clears the heap and gives each quota its grant. */
+/* Clears the heap, gives each quota its grant and sets the kind: plain for LOKHAZIM_PLAIN, with quarantine for any other number. */
 struct lokhazim_open_reply lokhazim_open(
-    uint8_t *heap, size_t length, struct lokhazim_grants grants);
+    uint8_t *heap, size_t length, struct lokhazim_grants grants, uint32_t kind);
 
 /* Makes an object of at least `bytes` bytes, all zero, that the quota holds once. */
 struct lokhazim_handle_reply lokhazim_allocate(
@@ -315,6 +335,10 @@ struct lokhazim_amount_reply lokhazim_clear_permissions(
 struct lokhazim_handle_reply lokhazim_reallocate(
     uint8_t *heap, size_t length, struct lokhazim_accounts accounts, uint32_t quota,
     struct lokhazim_handle handle, uint32_t bytes);
+
+/* Makes every quarantined block free; the amount is the sum of their sizes in bytes, headers included. */
+struct lokhazim_amount_reply lokhazim_sweep(
+    uint8_t *heap, size_t length, struct lokhazim_accounts accounts);
 
 /* Tells where in the heap the handle's bytes lie. */
 struct lokhazim_range_reply lokhazim_lend(
@@ -367,11 +391,14 @@ static inline struct lokhazim_handle lokhazim_handle_narrowed(
  * order in which they are checked.
  */
 
-/* Clears the heap and gives each quota its grant; where that is refused, the accounts become all zero. */
+/*
+ * Clears the heap, gives each quota its grant and sets the kind, LOKHAZIM_PLAIN or LOKHAZIM_QUARANTINE; any other number
+ * opens a heap with quarantine too. Where it is refused, the accounts become all zero.
+ */
 static inline enum lokhazim_refusal lokhazim_heap_open(
-    uint8_t *heap, size_t length, struct lokhazim_accounts *accounts, struct lokhazim_grants grants)
+    uint8_t *heap, size_t length, struct lokhazim_accounts *accounts, struct lokhazim_grants grants, uint32_t kind)
 {
-    const struct lokhazim_open_reply reply = lokhazim_open(heap, length, grants);
+    const struct lokhazim_open_reply reply = lokhazim_open(heap, length, grants, kind);
     *accounts = reply.accounts;
     return (enum lokhazim_refusal)reply.refusal;
 }
@@ -417,7 +444,8 @@ static inline enum lokhazim_refusal lokhazim_heap_claim(
 
 /*
  * Drops one hold of the quota; *refund becomes what the quota gets back, 0 while it still holds the object.
- * A handle of a part drops the hold on the whole object. Refusals 3, 5, 6.
+ * A handle of a part drops the hold on the whole object. The object that nobody holds any more is cleared; its block is
+ * free, or waits for a sweep, by the heap's kind. Refusals 3, 5, 6.
  */
 static inline enum lokhazim_refusal lokhazim_heap_release(
     uint8_t *heap, size_t length, struct lokhazim_accounts *accounts, uint32_t quota,
@@ -475,6 +503,22 @@ static inline enum lokhazim_refusal lokhazim_heap_reallocate(
         lokhazim_reallocate(heap, length, *accounts, quota, handle, bytes);
     *accounts = reply.accounts;
     *moved = reply.handle;
+    return (enum lokhazim_refusal)reply.refusal;
+}
+
+/*
+ * Makes every quarantined block free and joins neighbours that are free; *swept becomes the sum of their sizes in bytes,
+ * headers included. Nothing is refunded: that was done when they were released. In a plain heap, and where no block
+ * waits, it is accepted, gives 0 and changes nothing. Refusals 1 and 2 only.
+ */
+static inline enum lokhazim_refusal lokhazim_heap_sweep(
+    uint8_t *heap, size_t length, struct lokhazim_accounts *accounts, uint32_t *swept)
+{
+    const struct lokhazim_amount_reply reply = lokhazim_sweep(heap, length, *accounts);
+    *accounts = reply.accounts;
+    if (swept) {
+        *swept = reply.amount;
+    }
     return (enum lokhazim_refusal)reply.refusal;
 }
 

@@ -71,9 +71,9 @@ static_assert(offsetof(struct lokhazim_queue, sender) == 0, "struct lokhazim_que
 static_assert(offsetof(struct lokhazim_queue, receiver) == 4, "struct lokhazim_queue: the offset of receiver is not 4");
 static_assert(offsetof(struct lokhazim_queue, count) == 8, "struct lokhazim_queue: the offset of count is not 8");
 static_assert(offsetof(struct lokhazim_queue, handles) == 12, "struct lokhazim_queue: the offset of handles is not 12");
-static_assert(sizeof(struct lokhazim_send_reply) == 4692, "the size of struct lokhazim_send_reply is not 4692");
-static_assert(offsetof(struct lokhazim_send_reply, queue) == 4484, "struct lokhazim_send_reply: the offset of queue is not 4484");
-static_assert(offsetof(struct lokhazim_send_reply, refusal) == 4688, "struct lokhazim_send_reply: the offset of refusal is not 4688");
+static_assert(sizeof(struct lokhazim_send_reply) == 4696, "the size of struct lokhazim_send_reply is not 4696");
+static_assert(offsetof(struct lokhazim_send_reply, queue) == 4488, "struct lokhazim_send_reply: the offset of queue is not 4488");
+static_assert(offsetof(struct lokhazim_send_reply, refusal) == 4692, "struct lokhazim_send_reply: the offset of refusal is not 4692");
 static_assert(sizeof(struct lokhazim_receive_reply) == 220, "the size of struct lokhazim_receive_reply is not 220");
 static_assert(offsetof(struct lokhazim_receive_reply, refusal) == 204, "struct lokhazim_receive_reply: the offset of refusal is not 204");
 static_assert(offsetof(struct lokhazim_receive_reply, handle) == 208, "struct lokhazim_receive_reply: the offset of handle is not 208");

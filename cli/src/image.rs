@@ -4,7 +4,8 @@ use std::fmt::Write;
 
 use lokhazim::{
     compare_images, examine_image, image_length, image_length_form_1, move_image_down,
-    move_image_up, Difference, Heap, Hold, ImageRefusal, Permissions, Quota, Which, IMAGE_MAX,
+    move_image_up, Block, Difference, Heap, Hold, ImageRefusal, Kind, Permissions, Quota, Which,
+    IMAGE_MAX,
 };
 
 use crate::failure::Failure;
@@ -57,6 +58,22 @@ pub fn save(form: Form, script: &str, out: &str) -> Result<(), Failure> {
     files::print(format!("ok {}\n", image.len()).as_bytes())
 }
 
+/// The word for a kind of heap.
+const fn kind_word(kind: Kind) -> &'static str {
+    match kind {
+        Kind::Plain => "plain",
+        Kind::Quarantine => "quarantine",
+    }
+}
+
+/// What is shown for the serial of a block: a word for one in quarantine, which has none.
+fn serial_word(block: &Block) -> String {
+    match block.is_quarantined() {
+        true => "quarantined".to_owned(),
+        false => block.serial.to_string(),
+    }
+}
+
 /// Prints what an image holds.
 pub fn show(name: &str) -> Result<(), Failure> {
     let image = files::read(name)?;
@@ -70,6 +87,7 @@ pub fn show(name: &str) -> Result<(), Failure> {
         "ok {} {} {}",
         facts.form, facts.heap_length, accounts.last_serial
     );
+    let _ = writeln!(text, "kind {}", kind_word(heap.kind()));
     for (number, quota) in accounts.quotas.iter().enumerate() {
         if *quota != UNGRANTED {
             let _ = writeln!(
@@ -93,7 +111,9 @@ pub fn show(name: &str) -> Result<(), Failure> {
         let _ = writeln!(
             text,
             "block {} {} {}",
-            block.offset, block.size, block.serial
+            block.offset,
+            block.size,
+            serial_word(&block)
         );
     }
     files::print(text.as_bytes())
@@ -114,6 +134,7 @@ pub fn compare(first: &str, second: &str) -> Result<(), Failure> {
     for difference in differences {
         let _ = match difference {
             Difference::LastSerial => writeln!(text, "serial"),
+            Difference::Kind => writeln!(text, "kind"),
             Difference::Quota(number) => writeln!(text, "quota {number}"),
             Difference::Record(place) => writeln!(text, "record {place}"),
             Difference::Bytes { offset, length } => writeln!(text, "bytes {offset} {length}"),

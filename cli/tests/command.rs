@@ -3,10 +3,11 @@
 mod support;
 
 use std::fs;
+use std::path::Path;
 
 use support::{expect, folder, lokhazim, names};
 
-use lokhazim::{FORM_1_QUOTAS, QUOTAS};
+use lokhazim::{grants, Heap, Kind, Settings, FORM_1_QUOTAS, QUOTAS};
 
 /// The line of an opening with these grants, and 0 for every other quota.
 fn open(length: u32, first: &[u32]) -> String {
@@ -63,7 +64,7 @@ fn an_image_is_saved_and_shown() {
     ] {
         expect(&lokhazim(&folder, words), 0, &format!("ok {length}\n"), "");
         assert_eq!(names(&folder), ["a", "a.image"]);
-        let shown = format!("ok {form} 128 1\n{blank}");
+        let shown = format!("ok {form} 128 1\nkind plain\n{blank}");
         let run = lokhazim(&folder, &["image", "show", "a.image"]);
         expect(&run, 0, &shown, "");
     }
@@ -137,7 +138,7 @@ fn what_is_not_moved_leaves_the_file() {
 fn permissions_are_shown() {
     let folder = folder("permissions");
     let mut memory = [0; 64];
-    let mut heap = lokhazim::Heap::open(&mut memory, lokhazim::grants([9])).unwrap();
+    let mut heap = Heap::open(&mut memory, grants([9])).unwrap();
     heap.clear_permissions(0, lokhazim::Permissions::CLAIM)
         .unwrap();
     heap.clear_permissions(31, lokhazim::Permissions::ALL)
@@ -149,9 +150,62 @@ fn permissions_are_shown() {
     expect(
         &run,
         0,
-        "ok 2 64 0\nquota 0 9 9 5\nquota 31 0 0 0\nblock 0 64 0\n",
+        "ok 2 64 0\nkind plain\nquota 0 9 9 5\nquota 31 0 0 0\nblock 0 64 0\n",
         "",
     );
+}
+
+/// Writes the image of a heap with quarantine in which one of two objects was released, and of the
+/// same heap swept, or opened plain.
+fn quarantined_images(folder: &Path) {
+    let kinds = [
+        ("plain", Kind::Plain),
+        ("waiting", Kind::Quarantine),
+        ("swept", Kind::Quarantine),
+    ];
+    for (name, kind) in kinds {
+        let mut memory = [0; 64];
+        let settings = Settings { kind };
+        let mut heap = Heap::open_with(&mut memory, grants([100]), settings).unwrap();
+        let first = heap.allocate(0, 16).unwrap();
+        heap.allocate(0, 8).unwrap();
+        heap.release(0, first).unwrap();
+        if name == "swept" {
+            assert_eq!(heap.sweep(), Ok(24));
+        }
+        let mut image = [0; 5_120];
+        heap.save(&mut image).unwrap();
+        fs::write(folder.join(name), image).unwrap();
+    }
+}
+
+#[test]
+fn quarantined_blocks_are_shown_and_compared() {
+    let folder = folder("quarantine");
+    quarantined_images(&folder);
+    let rest = "quota 0 100 84 7\nhold 1 2 0 1\n";
+    for (name, kind, first) in [
+        ("plain", "plain", "0"),
+        ("waiting", "quarantine", "quarantined"),
+        ("swept", "quarantine", "0"),
+    ] {
+        let blocks = format!("block 0 24 {first}\nblock 24 16 2\nblock 40 24 0\n");
+        let shown = format!("ok 2 64 2\nkind {kind}\n{rest}{blocks}");
+        expect(&lokhazim(&folder, &["image", "show", name]), 0, &shown, "");
+    }
+    let compare = |a: &str, b: &str, listed: &str| {
+        let run = lokhazim(&folder, &["image", "compare", a, b]);
+        assert_eq!(String::from_utf8_lossy(&run.stdout), listed);
+        assert_eq!((run.status.code(), run.stderr.len()), (Some(1), 0));
+    };
+    compare("plain", "swept", "kind\n");
+    compare("waiting", "plain", "kind\nbytes 4 4\n");
+    compare("waiting", "swept", "bytes 4 4\n");
+    for name in ["waiting", "swept"] {
+        let run = lokhazim(&folder, &["image", "move", "down", name, "out"]);
+        expect(&run, 1, "", &format!("{name}: refusal 28:"));
+    }
+    assert_eq!(names(&folder), ["plain", "swept", "waiting"]);
 }
 
 #[test]

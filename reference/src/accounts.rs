@@ -2,6 +2,8 @@
 //!
 //! Rules, section 3.
 
+use crate::layout::QUARANTINED_SERIAL;
+use crate::options::{Kind, Options};
 use crate::permissions::Permission;
 use crate::Refusal;
 
@@ -61,6 +63,10 @@ pub struct Accounts {
     pub quotas: [Quota; QUOTAS],
     /// The last serial given.
     pub last_serial: u32,
+    /// The number of the heap's kind.
+    // OPEN: that it is kept as a byte, and that another number than 0 or 1 is not sound, are
+    // choices.
+    pub kind: u8,
     /// The hold records.
     pub holds: [Hold; HOLDS],
 }
@@ -71,6 +77,7 @@ impl Default for Accounts {
         Accounts {
             quotas: [Quota::default(); QUOTAS],
             last_serial: 0,
+            kind: 0,
             holds: [Hold::UNUSED; HOLDS],
         }
     }
@@ -78,8 +85,9 @@ impl Default for Accounts {
 
 impl Accounts {
     /// Gives the accounts of a freshly opened heap.
-    pub(crate) fn opened(grants: [u32; QUOTAS]) -> Accounts {
+    pub(crate) fn opened(grants: [u32; QUOTAS], options: Options) -> Accounts {
         Accounts {
+            kind: options.kind.number(),
             quotas: grants.map(|grant| Quota {
                 grant,
                 remainder: grant,
@@ -87,6 +95,18 @@ impl Accounts {
             }),
             ..Accounts::default()
         }
+    }
+
+    /// Gives what was chosen at opening; none if a number names no choice.
+    pub(crate) fn options(&self) -> Option<Options> {
+        let kind = Kind::of(self.kind)?;
+        Some(Options { kind })
+    }
+
+    /// Gives the serial of the next object; none if every serial of objects was given.
+    pub(crate) fn next_serial(&self) -> Option<u32> {
+        let next = self.last_serial.checked_add(1)?;
+        (next != QUARANTINED_SERIAL).then_some(next)
     }
 
     /// Gives the remainder of a quota.

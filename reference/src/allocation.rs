@@ -5,24 +5,34 @@ use std::collections::BTreeMap;
 use crate::accounts::{Accounts, QuotaNumber, QUOTAS};
 use crate::claims::{held_object, release_once};
 use crate::layout::{store, write_headers, Block, Handle, Layout, HEADER_BYTES};
+use crate::options::Options;
 use crate::permissions::Permission;
 use crate::rounding::{round_request, Rounded};
 use crate::sound::{length_is_allowed, sound_layout};
 use crate::Refusal;
+
+/// Opens a plain heap.
+pub fn open(heap: &mut [u8], grants: [u32; QUOTAS]) -> (Accounts, Result<(), Refusal>) {
+    open_with(heap, grants, Options::default())
+}
 
 /// Clears the heap, makes it one free block and gives fresh accounts (rules 8.2 to 8.4).
 ///
 /// A refused open leaves the heap as it was and gives all-zero accounts.
 // OPEN: whether all-zero accounts have all permissions cleared is free; taken by
 // the letter, every bit is 0.
-pub fn open(heap: &mut [u8], grants: [u32; QUOTAS]) -> (Accounts, Result<(), Refusal>) {
+pub fn open_with(
+    heap: &mut [u8],
+    grants: [u32; QUOTAS],
+    options: Options,
+) -> (Accounts, Result<(), Refusal>) {
     if !length_is_allowed(heap.len()) {
         return (Accounts::default(), Err(Refusal::HeapLength));
     }
     heap.fill(0);
-    let one_free_block = Layout::new(heap.len() as u32, BTreeMap::new());
+    let one_free_block = Layout::new(heap.len() as u32, options, BTreeMap::new());
     write_headers(heap, &one_free_block);
-    (Accounts::opened(grants), Ok(()))
+    (Accounts::opened(grants, options), Ok(()))
 }
 
 /// Makes a zeroed object of at least this length, held once by the quota (rules 8.5 to 8.11).
@@ -98,8 +108,7 @@ impl Plan {
     ) -> Result<Plan, Refusal> {
         let size = rounded.length + HEADER_BYTES;
         let record = accounts.place_for_hold(quota, size)?;
-        let last = accounts.last_serial;
-        let serial = last.checked_add(1).ok_or(Refusal::SerialsSpent)?;
+        let serial = accounts.next_serial().ok_or(Refusal::SerialsSpent)?;
         let base = layout.lowest_base(rounded).ok_or(Refusal::NoSpace)?;
         let block = Block {
             offset: base - HEADER_BYTES,

@@ -1,4 +1,5 @@
-//! The calls on the holds of an object: claim, release, free-all and can release.
+//! The calls on the holds of an object: claim, release, free-all and can release; and the sweep of
+//! blocks that nobody holds.
 
 use crate::accounts::{Accounts, QuotaNumber};
 use crate::layout::{store, Block, Handle, Layout};
@@ -50,7 +51,7 @@ pub fn free_all(heap: &mut [u8], accounts: &mut Accounts, quota: u32) -> Result<
     let layout = sound_layout(heap, accounts)?;
     let quota = accounts.permitted(quota, Permission::FreeAll)?;
     let mut given_back = 0;
-    let mut freed = Vec::new();
+    let mut unheld = Vec::new();
     for object in layout.live() {
         let Some(record) = accounts.find_hold(quota, object.serial) else {
             continue;
@@ -58,11 +59,19 @@ pub fn free_all(heap: &mut [u8], accounts: &mut Accounts, quota: u32) -> Result<
         accounts.drop_hold(record, quota, object.charge());
         given_back += object.charge();
         if !accounts.is_held(object.serial) {
-            freed.push(object);
+            unheld.push(object);
         }
     }
-    store(heap, &layout, &layout.without(&freed));
+    store(heap, &layout, &layout.without(&unheld));
     Ok(given_back)
+}
+
+/// Frees all blocks in quarantine and gives the sum of their sizes.
+// OPEN: that bytes of such a block, should they not be zero, stay is a choice.
+pub fn sweep(heap: &mut [u8], accounts: &Accounts) -> Result<u32, Refusal> {
+    let layout = sound_layout(heap, accounts)?;
+    store(heap, &layout, &layout.swept());
+    Ok(layout.quarantined().map(|block| block.size).sum())
 }
 
 /// Gives the refusal that release would give, and changes nothing (rule 8.31).
@@ -89,7 +98,7 @@ pub(crate) fn held_object(
     Ok((object, record.ok_or(Refusal::NoRecord)?))
 }
 
-/// Takes one off the record's count, frees the object if no quota is left with
+/// Takes one off the record's count, lets go of the object if no quota is left with
 /// a record for it, and gives the quota given back.
 pub(crate) fn release_once(
     heap: &mut [u8],

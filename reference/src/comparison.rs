@@ -8,6 +8,8 @@ use crate::image::{decode_sound, ImageRefusal};
 pub enum Difference {
     /// The last serials.
     LastSerial,
+    /// The kinds.
+    Kind,
     /// The quotas of this number, in grant, remainder or permissions.
     Quota(usize),
     /// The hold records at this place.
@@ -43,13 +45,12 @@ pub fn differences(first: &[u8], second: &[u8]) -> Result<Vec<Difference>, (Imag
     }
     let (a, b) = (&first.accounts, &second.accounts);
     let serial = (a.last_serial != b.last_serial).then_some(Difference::LastSerial);
+    let kind = (a.kind != b.kind).then_some(Difference::Kind);
     let quotas = unequal(&a.quotas, &b.quotas).map(Difference::Quota);
     let records = unequal(&a.holds, &b.holds).map(Difference::Record);
-    let mut all: Vec<Difference> = serial.into_iter().chain(quotas).chain(records).collect();
-    all.extend(runs(
-        &unequal(&first.heap, &second.heap).collect::<Vec<_>>(),
-    ));
-    Ok(all)
+    let bytes = runs(&unequal(&first.heap, &second.heap).collect::<Vec<_>>());
+    let head = serial.into_iter().chain(kind);
+    Ok(head.chain(quotas).chain(records).chain(bytes).collect())
 }
 
 /// The places at which two lists of one length have different items.

@@ -4,6 +4,7 @@
 //! functions serves every form; a form is only the list of what it has room for.
 
 use crate::accounts::{Accounts, Hold, Quota, ALL_PERMISSIONS, HOLDS, QUOTAS};
+use crate::options::{Kind, Options};
 
 /// The stream bytes that carry the form's number and the two bytes behind it.
 pub(crate) const FORM_BYTES: usize = 4;
@@ -15,14 +16,16 @@ pub(crate) struct Form {
     quotas: usize,
     holds: usize,
     permissions: bool,
+    options: bool,
 }
 
-/// The first form: few quotas and records, and no permissions.
+/// The first form: few quotas and records, no permissions and no options.
 pub(crate) const FORM_1: Form = Form {
     number: 1,
     quotas: 8,
     holds: 128,
     permissions: false,
+    options: false,
 };
 
 /// The second form: all that the accounts have.
@@ -31,18 +34,29 @@ pub(crate) const FORM_2: Form = Form {
     quotas: QUOTAS,
     holds: HOLDS,
     permissions: true,
+    options: true,
 };
 
 impl Form {
-    /// Gives the one of these forms that a stream's first bytes name, if they name one.
-    pub(crate) fn named_by(front: &[u8], forms: &[Form]) -> Option<Form> {
-        forms.iter().copied().find(|form| form.front() == front)
+    /// Gives the one of these forms that a stream's first bytes name, and the options that
+    /// they carry; none if the form is another or has no room for such options.
+    pub(crate) fn named_by(front: &[u8], forms: &[Form]) -> Option<(Form, Options)> {
+        let [low, high, 0, kind] = *front else {
+            return None;
+        };
+        let number = u16::from_le_bytes([low, high]);
+        let form = forms.iter().copied().find(|form| form.number == number)?;
+        let kind = Kind::of(kind)?;
+        let options = Options { kind };
+        let carried = form.options || options == Options::default();
+        carried.then_some((form, options))
     }
 
-    /// Gives the bytes with which a stream of the form starts.
-    fn front(self) -> [u8; FORM_BYTES] {
+    /// Gives the bytes with which the stream of such accounts starts.
+    fn front(self, accounts: &Accounts) -> [u8; FORM_BYTES] {
         let [low, high] = self.number.to_le_bytes();
-        [low, high, 0, 0]
+        let kind = if self.options { accounts.kind } else { 0 };
+        [low, high, 0, kind]
     }
 
     /// Gives the length of the stream of a heap of so many bytes.
@@ -53,15 +67,18 @@ impl Form {
 
     /// Tells whether a reader would make the same accounts of what the form says about these.
     pub(crate) fn has_room_for(self, accounts: &Accounts) -> bool {
+        let Some((_, options)) = Form::named_by(&self.front(accounts), &[self]) else {
+            return false;
+        };
         let mut fields = Vec::new();
         self.append_accounts(&mut fields, accounts);
-        Fields(&fields).accounts(self).as_ref() == Some(accounts)
+        Fields(&fields).accounts(self, options).as_ref() == Some(accounts)
     }
 
     /// Gives the stream of a state, as far as the form has room for it.
     pub(crate) fn stream_of(self, heap: &[u8], accounts: &Accounts) -> Vec<u8> {
         let mut stream = Vec::with_capacity(self.stream_bytes(heap.len()));
-        stream.extend(self.front());
+        stream.extend(self.front(accounts));
         stream.extend((heap.len() as u32).to_le_bytes());
         self.append_accounts(&mut stream, accounts);
         stream.extend(heap);
@@ -102,11 +119,12 @@ impl<'stream> Fields<'stream> {
         Some(u32::from_le_bytes(bytes))
     }
 
-    /// Takes the accounts of a form; none where a byte has a value that the form rules out.
+    /// Takes the accounts of a form, of a heap that was opened with these options; none where a
+    /// byte has a value that the form rules out.
     ///
     /// Quotas and records that the form lacks are zero, permissions that it lacks are all set.
-    pub(crate) fn accounts(&mut self, form: Form) -> Option<Accounts> {
-        let mut accounts = Accounts::opened([0; QUOTAS]);
+    pub(crate) fn accounts(&mut self, form: Form, options: Options) -> Option<Accounts> {
+        let mut accounts = Accounts::opened([0; QUOTAS], options);
         accounts.last_serial = self.word()?;
         for quota in &mut accounts.quotas[..form.quotas] {
             *quota = self.quota(form)?;

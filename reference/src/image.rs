@@ -5,6 +5,7 @@
 use crate::accounts::Accounts;
 use crate::forms::{Fields, Form, FORM_1, FORM_2, FORM_BYTES};
 use crate::frames::{blocks_for, cut, join, BLOCK_BYTES};
+use crate::options::Options;
 use crate::sound::{check, length_is_allowed};
 use crate::Refusal;
 
@@ -17,7 +18,7 @@ pub enum ImageRefusal {
     ImageLength,
     /// 22: a block's check, number or number of blocks is wrong.
     BlockWrong,
-    /// 23: another form, or a byte behind its number that is not zero.
+    /// 23: another form, or a byte behind its number that the form rules out.
     Form,
     /// 24: a heap length that is not allowed, another number of blocks than it
     /// asks for, a spare byte that is not zero, or a permission that there is not.
@@ -145,18 +146,23 @@ fn decode(image: &[u8], forms: &[Form]) -> Result<Stored, ImageRefusal> {
     }
     let stream = join(image).ok_or(ImageRefusal::BlockWrong)?;
     let (front, behind) = stream.split_at(FORM_BYTES);
-    let form = Form::named_by(front, forms).ok_or(ImageRefusal::Form)?;
-    decode_contents(form, behind, image.len()).ok_or(ImageRefusal::Contents)
+    let (form, options) = Form::named_by(front, forms).ok_or(ImageRefusal::Form)?;
+    decode_contents(form, options, behind, image.len()).ok_or(ImageRefusal::Contents)
 }
 
 /// Gives what is in the stream behind the form; none where refusal 24 is due.
-fn decode_contents(form: Form, behind_form: &[u8], image_bytes: usize) -> Option<Stored> {
+fn decode_contents(
+    form: Form,
+    options: Options,
+    behind_form: &[u8],
+    image_bytes: usize,
+) -> Option<Stored> {
     let mut fields = Fields(behind_form);
     let heap_bytes = usize::try_from(fields.word()?).ok()?;
     if !length_is_allowed(heap_bytes) || image_bytes != length_in(form, heap_bytes) {
         return None;
     }
-    let accounts = fields.accounts(form)?;
+    let accounts = fields.accounts(form, options)?;
     let heap = fields.take(heap_bytes)?.to_vec();
     let padding_is_zero = fields.0.iter().all(|byte| *byte == 0);
     padding_is_zero.then_some(Stored {

@@ -1,8 +1,10 @@
-//! The heap as a map of live blocks, and the way back from the map to bytes (rules, section 2).
+//! The heap as a map of the blocks that are not free, and the way back from the map to bytes
+//! (rules, section 2).
 
 use std::collections::{BTreeMap, BTreeSet};
 use std::ops::Range;
 
+use crate::options::{Kind, Options};
 use crate::rounding::Rounded;
 
 /// The bytes of a block's header.
@@ -10,6 +12,9 @@ pub const HEADER_BYTES: u32 = 8;
 
 /// The unit, in bytes, in which a header states the two sizes.
 pub const SIZE_UNIT: u32 = 8;
+
+/// The serial of a block in quarantine, which no object has.
+pub const QUARANTINED_SERIAL: u32 = u32::MAX;
 
 /// What a caller has of an object, or of a part of it: it names the object if all three agree
 /// (rule 4.3), and finds it from any part with its serial.
@@ -44,7 +49,7 @@ pub struct Block {
     pub offset: u32,
     /// Size in bytes, header included.
     pub size: u32,
-    /// Serial of a live block, 0 for a free one.
+    /// Serial of a live block, 0 for a free one, the greatest number for one in quarantine.
     pub serial: u32,
 }
 
@@ -52,6 +57,24 @@ impl Block {
     /// Tells whether the block is free.
     pub fn is_free(self) -> bool {
         self.serial == 0
+    }
+
+    /// Tells whether the block is in quarantine.
+    pub fn is_quarantined(self) -> bool {
+        self.serial == QUARANTINED_SERIAL
+    }
+
+    /// Tells whether the block has an object.
+    pub fn is_live(self) -> bool {
+        !self.is_free() && !self.is_quarantined()
+    }
+
+    /// Gives the same block in quarantine.
+    fn quarantined(self) -> Block {
+        Block {
+            serial: QUARANTINED_SERIAL,
+            ..self
+        }
     }
 
     /// Gives the offset of the first byte behind the block.
@@ -134,49 +157,77 @@ pub(crate) fn walk(heap: &[u8]) -> Option<Vec<Found>> {
     (offset as usize == heap.len()).then_some(found)
 }
 
-/// The live blocks of a heap by offset, and the free blocks between them.
+/// The live and the quarantined blocks of a heap by offset, and the free blocks between them.
 #[derive(Clone, Debug)]
 pub(crate) struct Layout {
     heap_length: u32,
-    live: BTreeMap<u32, Block>,
+    options: Options,
+    taken: BTreeMap<u32, Block>,
     free: Vec<Block>,
 }
 
 impl Layout {
-    /// Makes the layout with these live blocks; the gaps are its free blocks.
-    pub(crate) fn new(heap_length: u32, live: BTreeMap<u32, Block>) -> Layout {
-        let free = gaps(heap_length, &live);
+    /// Makes the layout with these live and quarantined blocks; the gaps are its free blocks.
+    pub(crate) fn new(heap_length: u32, options: Options, taken: BTreeMap<u32, Block>) -> Layout {
+        let free = gaps(heap_length, &taken);
         Layout {
             heap_length,
-            live,
+            options,
+            taken,
             free,
         }
     }
 
-    /// Gives the same layout with one more live block.
-    pub(crate) fn with(&self, block: Block) -> Layout {
-        let mut live = self.live.clone();
-        live.insert(block.offset, block);
-        Layout::new(self.heap_length, live)
+    /// Gives the layout of the same heap with other live and quarantined blocks.
+    fn changed(&self, change: impl FnOnce(&mut BTreeMap<u32, Block>)) -> Layout {
+        let mut taken = self.taken.clone();
+        change(&mut taken);
+        Layout::new(self.heap_length, self.options, taken)
     }
 
-    /// Gives the same layout without these live blocks.
-    pub(crate) fn without(&self, freed: &[Block]) -> Layout {
-        let mut live = self.live.clone();
-        for block in freed {
-            live.remove(&block.offset);
-        }
-        Layout::new(self.heap_length, live)
+    /// Gives the same layout with one more live block.
+    pub(crate) fn with(&self, block: Block) -> Layout {
+        self.changed(|taken| {
+            taken.insert(block.offset, block);
+        })
+    }
+
+    /// Gives the same layout without these live blocks, which are free or, in a heap with
+    /// quarantine, wait there.
+    pub(crate) fn without(&self, unheld: &[Block]) -> Layout {
+        self.changed(|taken| {
+            for block in unheld {
+                match self.options.kind {
+                    Kind::Plain => taken.remove(&block.offset),
+                    Kind::Quarantine => taken.insert(block.offset, block.quarantined()),
+                };
+            }
+        })
+    }
+
+    /// Gives the same layout with nothing in quarantine.
+    pub(crate) fn swept(&self) -> Layout {
+        self.changed(|taken| taken.retain(|_, block| !block.is_quarantined()))
+    }
+
+    /// Gives the live and the quarantined blocks in order.
+    fn taken(&self) -> impl Iterator<Item = Block> + '_ {
+        self.taken.values().copied()
     }
 
     /// Gives the live blocks in order.
     pub(crate) fn live(&self) -> impl Iterator<Item = Block> + '_ {
-        self.live.values().copied()
+        self.taken().filter(|block| block.is_live())
+    }
+
+    /// Gives the quarantined blocks in order.
+    pub(crate) fn quarantined(&self) -> impl Iterator<Item = Block> + '_ {
+        self.taken().filter(|block| block.is_quarantined())
     }
 
     /// Gives all blocks in order.
     pub(crate) fn blocks(&self) -> Vec<Block> {
-        let mut blocks: Vec<Block> = self.live().chain(self.free.iter().copied()).collect();
+        let mut blocks: Vec<Block> = self.taken().chain(self.free.iter().copied()).collect();
         blocks.sort_by_key(|block| block.offset);
         blocks
     }
@@ -193,8 +244,8 @@ impl Layout {
     /// Finds the live block whose whole object the handle names.
     pub(crate) fn named(&self, handle: Handle) -> Option<Block> {
         let offset = handle.base.checked_sub(HEADER_BYTES)?;
-        let block = *self.live.get(&offset)?;
-        (block.handle() == handle).then_some(block)
+        let block = *self.taken.get(&offset)?;
+        (block.is_live() && block.handle() == handle).then_some(block)
     }
 
     /// Finds the base of rule 8.6: the lowest multiple of the unit with room for header
@@ -213,11 +264,11 @@ fn lowest_base_from(offset: u32, alignment: u32) -> u32 {
     (offset + HEADER_BYTES).next_multiple_of(alignment)
 }
 
-/// Gives the gaps between live blocks as free blocks.
-fn gaps(heap_length: u32, live: &BTreeMap<u32, Block>) -> Vec<Block> {
+/// Gives the gaps between these blocks as free blocks.
+fn gaps(heap_length: u32, taken: &BTreeMap<u32, Block>) -> Vec<Block> {
     let mut free = Vec::new();
     let mut covered = 0;
-    let starts_and_ends = live.values().map(|block| (block.offset, block.end()));
+    let starts_and_ends = taken.values().map(|block| (block.offset, block.end()));
     for (start, end) in starts_and_ends.chain([(heap_length, heap_length)]) {
         if start > covered {
             free.push(Block {
@@ -245,7 +296,7 @@ pub(crate) fn store(heap: &mut [u8], before: &Layout, after: &Layout) {
 /// Clears the objects of the first layout that the second does not have.
 fn clear_objects(heap: &mut [u8], first: &Layout, second: &Layout) {
     for block in first.live() {
-        if second.live.get(&block.offset) != Some(&block) {
+        if second.taken.get(&block.offset) != Some(&block) {
             heap[block.object_bytes()].fill(0);
         }
     }

@@ -2,7 +2,7 @@
 //!
 //! It is written from the rules alone, which are in `docs/RULES.md`, and serves as the second
 //! program against which another implementation is compared. Every call decodes the heap into a
-//! map of live objects, works on that map and writes the headers again from it.
+//! map of the blocks that are not free, works on that map and writes the headers again from it.
 //!
 //! Every call accepts any heap bytes of any length, any accounts and any
 //! numbers. A refused call leaves heap and accounts as they were.
@@ -19,6 +19,7 @@ mod frames;
 mod image;
 mod layout;
 mod moves;
+mod options;
 mod permissions;
 mod queries;
 mod queue;
@@ -30,14 +31,15 @@ mod settings;
 mod sound;
 
 pub use accounts::{Accounts, Hold, Quota, ALL_PERMISSIONS, HOLDS, QUOTAS};
-pub use allocation::{allocate, allocate_array, open, reallocate};
-pub use claims::{can_release, claim, free_all, release};
+pub use allocation::{allocate, allocate_array, open, open_with, reallocate};
+pub use claims::{can_release, claim, free_all, release, sweep};
 pub use comparison::{differences, Difference, Which};
 pub use image::{
     image_length, image_length_form_1, read_image, write_form_1, write_image, ImageRefusal,
 };
-pub use layout::{Block, Handle, HEADER_BYTES, SIZE_UNIT};
+pub use layout::{Block, Handle, HEADER_BYTES, QUARANTINED_SERIAL, SIZE_UNIT};
 pub use moves::{move_down, move_up};
+pub use options::{Kind, Options};
 pub use permissions::clear_permissions;
 pub use queries::{block_at, lend, lend_mut, remaining, Walker};
 pub use queue::{receive, send, Queue, QueueRefusal, QUEUE_PLACES};

@@ -25,7 +25,7 @@ pub enum Refusal {
     QuotaSpent,
     /// 9: there is no unused record.
     RecordsFull,
-    /// 10: the last serial is the greatest 32-bit number.
+    /// 10: the last serial is the greatest that an object can have.
     SerialsSpent,
     /// 11: the request has no base.
     NoSpace,

@@ -5,7 +5,8 @@
 use std::collections::BTreeSet;
 
 use crate::accounts::{Accounts, Hold, ALL_PERMISSIONS, QUOTAS};
-use crate::layout::{walk, Block, Found, Layout, HEADER_BYTES, SIZE_UNIT};
+use crate::layout::{walk, Block, Found, Layout, HEADER_BYTES, QUARANTINED_SERIAL, SIZE_UNIT};
+use crate::options::{Kind, Options};
 use crate::rounding::unit_of;
 use crate::Refusal;
 
@@ -15,8 +16,8 @@ pub const MIN_HEAP: usize = 64;
 /// The longest heap allowed, in bytes.
 pub const MAX_HEAP: usize = 32_768;
 
-/// The shortest live block: a header and one unit.
-const MIN_LIVE_BLOCK: u32 = HEADER_BYTES + SIZE_UNIT;
+/// The shortest block that is not free: a header and one unit.
+const MIN_TAKEN_BLOCK: u32 = HEADER_BYTES + SIZE_UNIT;
 
 /// Tells whether a heap may have this length.
 pub(crate) fn length_is_allowed(length: usize) -> bool {
@@ -33,9 +34,12 @@ pub(crate) fn sound_layout(heap: &[u8], accounts: &Accounts) -> Result<Layout, R
     if !length_is_allowed(heap.len()) {
         return Err(Refusal::HeapLength);
     }
+    let options = accounts.options().ok_or(Refusal::NotSound)?;
     let found = walk(heap).ok_or(Refusal::NotSound)?;
-    let live = live_blocks(&found);
+    let live = blocks_that(&found, Block::is_live);
     let sound = heap_is_cut_truly(&found)
+        && quarantine_is_allowed(&found, options)
+        && last_serial_is_of_an_object(accounts)
         && live_serials_differ_and_were_given(&live, accounts)
         && used_records_are_proper(&live, accounts)
         && no_two_used_records_agree(accounts)
@@ -46,14 +50,15 @@ pub(crate) fn sound_layout(heap: &[u8], accounts: &Accounts) -> Result<Layout, R
     if !sound {
         return Err(Refusal::NotSound);
     }
-    let by_offset = live.iter().map(|block| (block.offset, *block)).collect();
-    Ok(Layout::new(heap.len() as u32, by_offset))
+    let taken = blocks_that(&found, |block| !block.is_free());
+    let by_offset = taken.iter().map(|block| (block.offset, *block)).collect();
+    Ok(Layout::new(heap.len() as u32, options, by_offset))
 }
 
-/// Gives the live blocks among those that the walk found.
-fn live_blocks(found: &[Found]) -> Vec<Block> {
+/// Gives those blocks that the walk found and that are as asked for.
+fn blocks_that(found: &[Found], asked: fn(Block) -> bool) -> Vec<Block> {
     let blocks = found.iter().map(|found| found.block);
-    blocks.filter(|block| !block.is_free()).collect()
+    blocks.filter(|block| asked(*block)).collect()
 }
 
 /// Gives the used records of the accounts.
@@ -65,7 +70,7 @@ fn used_records(accounts: &Accounts) -> impl Iterator<Item = Hold> + '_ {
 ///
 /// The walk itself has shown that the sizes lead from offset 0 to the end.
 fn heap_is_cut_truly(found: &[Found]) -> bool {
-    back_sizes_are_true(found) && live_blocks_are_long_enough(found) && no_two_free_touch(found)
+    back_sizes_are_true(found) && taken_blocks_are_long_enough(found) && no_two_free_touch(found)
 }
 
 /// Rule 5.1, back sizes: 0 for the first block, else the size of the block before.
@@ -79,11 +84,11 @@ fn back_sizes_are_true(found: &[Found]) -> bool {
         .all(|(found, size_before)| found.back_size == size_before)
 }
 
-/// Rule 5.2, live blocks: 16 bytes or more.
-fn live_blocks_are_long_enough(found: &[Found]) -> bool {
+/// Rule 5.2, live blocks, and quarantined ones: 16 bytes or more.
+fn taken_blocks_are_long_enough(found: &[Found]) -> bool {
     found
         .iter()
-        .all(|found| found.block.is_free() || found.block.size >= MIN_LIVE_BLOCK)
+        .all(|found| found.block.is_free() || found.block.size >= MIN_TAKEN_BLOCK)
 }
 
 /// Rule 5.2, free blocks: no two are neighbours.
@@ -91,6 +96,16 @@ fn no_two_free_touch(found: &[Found]) -> bool {
     found
         .windows(2)
         .all(|pair| !(pair[0].block.is_free() && pair[1].block.is_free()))
+}
+
+/// A plain heap has no block in quarantine.
+fn quarantine_is_allowed(found: &[Found], options: Options) -> bool {
+    options.kind == Kind::Quarantine || blocks_that(found, Block::is_quarantined).is_empty()
+}
+
+/// The serial of quarantined blocks was not given to an object.
+fn last_serial_is_of_an_object(accounts: &Accounts) -> bool {
+    accounts.last_serial < QUARANTINED_SERIAL
 }
 
 /// Rules 5.3 and 5.4: live serials differ, and none is above the last serial.
@@ -138,6 +153,7 @@ fn every_grant_is_accounted_for(live: &[Block], accounts: &Accounts) -> bool {
 }
 
 /// Rule 5.10: base and length of an object are multiples of the unit of that length.
+// OPEN: that blocks in quarantine need not fit a unit is a choice.
 fn every_object_fits_its_unit(live: &[Block]) -> bool {
     live.iter().all(|block| {
         let object = block.handle();

@@ -15,6 +15,7 @@ pub fn write_case(state: &State, call: Call) -> String {
     let accounts = &state.accounts;
     // Writing to a string does not fail.
     let _ = writeln!(text, "last-serial {}", accounts.last_serial);
+    let _ = writeln!(text, "kind {}", accounts.kind);
     for (number, quota) in accounts.quotas.iter().enumerate() {
         let Quota {
             grant,
@@ -80,6 +81,7 @@ fn read_bytes(text: &str) -> Option<Vec<u8>> {
 fn read_number_line(accounts: &mut Accounts, word: &str, numbers: &[u64]) -> Option<()> {
     match (word, numbers) {
         ("last-serial", [serial]) => accounts.last_serial = *serial as u32,
+        ("kind", [kind]) => accounts.kind = *kind as u8,
         ("quota", [number, grant, remainder, permissions]) if (*number as usize) < QUOTAS => {
             accounts.quotas[*number as usize] = Quota {
                 grant: *grant as u32,
@@ -113,7 +115,7 @@ fn read_call(text: &str) -> Option<Call> {
         serial: s,
     };
     Some(match (name, small.as_slice()) {
-        ("open", grants) => Call::Open(grants.try_into().ok()?),
+        ("open", [grants @ .., kind]) => Call::Open(grants.try_into().ok()?, *kind),
         ("allocate", &[q, n]) => Call::Allocate(q, n),
         ("array", &[q, n, s]) => Call::Array(q, n, s),
         ("claim", &[q, b, l, s]) => Call::Claim(q, handle(b, l, s)),
@@ -126,6 +128,7 @@ fn read_call(text: &str) -> Option<Call> {
         ("can-release", &[q, b, l, s]) => Call::CanRelease(q, handle(b, l, s)),
         ("check", &[]) => Call::Check,
         ("clear-permissions", &[q, n]) => Call::ClearPermissions(q, n),
+        ("sweep", &[]) => Call::Sweep,
         _ => return None,
     })
 }

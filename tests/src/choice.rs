@@ -6,25 +6,25 @@ use crate::forged::{forged_handle, live_handle, View};
 use crate::forms::FORM_1;
 use crate::narrowing::sometimes_narrowed;
 use crate::seed::Seed;
-use crate::state::Call;
+use crate::state::{Call, PLAIN, QUARANTINE};
 
 /// What kinds of calls are made, by the places of `Call::NAMES`.
 pub type Weights = [u32; Call::NAMES.len()];
 
 /// Makes objects more often than it drops them.
-pub const GROWING: Weights = [0, 30, 8, 8, 6, 0, 8, 3, 4, 2, 3, 2, 1, 1];
+pub const GROWING: Weights = [0, 30, 8, 8, 6, 0, 8, 3, 4, 2, 3, 2, 1, 1, 1];
 
 /// Drops objects more often than it makes them.
-pub const SHRINKING: Weights = [0, 7, 3, 5, 38, 3, 7, 3, 4, 2, 4, 2, 1, 1];
+pub const SHRINKING: Weights = [0, 7, 3, 5, 38, 3, 7, 3, 4, 2, 4, 2, 1, 1, 2];
 
 /// Claims and releases.
-pub const SHARING: Weights = [0, 6, 2, 36, 16, 2, 4, 3, 4, 2, 4, 2, 1, 1];
+pub const SHARING: Weights = [0, 6, 2, 36, 16, 2, 4, 3, 4, 2, 4, 2, 1, 1, 1];
 
 /// Every call.
-pub const MIXED: Weights = [1, 12, 6, 12, 14, 3, 12, 6, 6, 5, 8, 6, 3, 3];
+pub const MIXED: Weights = [1, 12, 6, 12, 14, 3, 12, 6, 6, 5, 8, 6, 3, 3, 3];
 
 /// The calls that the replay program knows, making as many objects as they drop.
-pub const REPLAYED: Weights = [0, 26, 8, 14, 26, 2, 14, 0, 0, 0, 0, 0, 0, 0];
+pub const REPLAYED: Weights = [0, 26, 8, 14, 26, 2, 14, 0, 0, 0, 0, 0, 0, 0, 0];
 
 /// Lengths on both sides of each row of the rounding table and of refusal 4.
 pub const EDGES: [u32; 28] = [
@@ -51,7 +51,7 @@ pub struct Habits {
 pub fn choose(seed: &mut Seed, habits: &Habits, view: &View, accounts: &Accounts) -> Call {
     let quota = quota(seed, habits);
     match seed.weighted(&habits.weights) {
-        0 => Call::Open(std::array::from_fn(|_| seed.odd_word())),
+        0 => Call::Open(std::array::from_fn(|_| seed.odd_word()), kind(seed)),
         1 => Call::Allocate(quota, length(seed, habits, view)),
         2 => array(seed, habits, view, quota),
         3 => Call::Claim(quota, handle(seed, habits, view)),
@@ -75,7 +75,8 @@ pub fn choose(seed: &mut Seed, habits: &Habits, view: &View, accounts: &Accounts
         10 => held(seed, habits, view, accounts, Call::CanRelease),
         11 => Call::List(place(seed, habits, view)),
         12 => Call::Check,
-        _ => Call::ClearPermissions(quota, permission_bits(seed)),
+        13 => Call::ClearPermissions(quota, permission_bits(seed)),
+        _ => Call::Sweep,
     }
 }
 
@@ -235,6 +236,13 @@ fn place(seed: &mut Seed, habits: &Habits, view: &View) -> usize {
         ]);
     }
     view.blocks[seed.place(view.blocks.len())].offset as usize
+}
+
+/// Gives the number of a kind for an opening: plain as often as with quarantine, and that also by a
+/// number that no accounts have.
+pub fn kind(seed: &mut Seed) -> u32 {
+    let any = seed.odd_word().max(2);
+    seed.pick(&[PLAIN, PLAIN, PLAIN, QUARANTINE, QUARANTINE, any])
 }
 
 /// Gives grants: ample, middling, small, none, or any; now and then to no more quotas than form 1 has.

@@ -4,6 +4,7 @@
 use lokhazim_reference::{Accounts, Handle, QUOTAS};
 
 use crate::calls::Pair;
+use crate::choice::kind;
 use crate::compare::Failure;
 use crate::cut::live_handles;
 use crate::ledger::{Ledger, Object};
@@ -77,7 +78,7 @@ fn grown(pair: &mut Pair, seed: &mut Seed) -> Result<State, Failure> {
         accounts: Accounts::default(),
     };
     state.heap.fill_with(|| seed.byte());
-    pair.call(&mut state, Call::Open([100_000; QUOTAS]))?;
+    pair.call(&mut state, Call::Open([100_000; QUOTAS], kind(seed)))?;
     let longest = seed.pick(&[8, 40, 200]);
     for _ in 0..seed.between(2, 40) {
         let length = seed.between(1, longest);
@@ -205,7 +206,11 @@ fn in_two_orders(
     if first.sorted() != second.sorted() {
         return Err(wrong(pair, "a quota gets other answers", &one, &other));
     }
-    pair.tally.count_case("a list in two orders");
+    pair.tally.count_case(match state.accounts.kind {
+        0 => "a list in two orders",
+        _ => "a list in two orders, with quarantine",
+    });
+    pair.call(&mut first.state.clone(), Call::Sweep)?;
     if first.answers != second.answers {
         pair.tally.count_case("answers in another order");
     }

@@ -85,6 +85,9 @@ fn account_differences(proved: &State, reference: &State, lines: &mut Vec<String
             p.last_serial, r.last_serial
         ));
     }
+    if p.kind != r.kind {
+        lines.push(format!("kind: proved {}, reference {}", p.kind, r.kind));
+    }
     for (number, (p, r)) in p.quotas.iter().zip(&r.quotas).enumerate() {
         if p != r {
             lines.push(format!("quota {number}: proved {p:?}, reference {r:?}"));

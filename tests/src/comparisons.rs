@@ -5,6 +5,7 @@ use lokhazim_reference::{differences, Accounts, Difference, Which};
 use crate::boundary::images as proved;
 use crate::calls::Pair;
 use crate::compare::{file_stem, save, Failure};
+use crate::cut::{blocks, quarantined, GREATEST_SERIAL};
 use crate::forms::{Form, FORMS, FORM_2};
 use crate::harms::HARMS;
 use crate::image_cases::image_of;
@@ -84,12 +85,16 @@ fn changed(seed: &mut Seed, form: Form, state: &State) -> State {
     for _ in 0..seed.below(4) {
         change_accounts(seed, form, &mut other.accounts);
     }
-    let live: Vec<_> = crate::cut::blocks(&state.heap)
+    let plain = quarantined(&state.heap).is_empty();
+    if form == FORM_2 && plain && seed.percent(30) {
+        other.accounts.kind ^= 1;
+    }
+    let filled: Vec<_> = blocks(&state.heap)
         .into_iter()
         .filter(|block| block.serial != 0)
         .collect();
     for _ in 0..seed.below(6) {
-        let Some(block) = seed.any_of(&live) else {
+        let Some(block) = seed.any_of(&filled) else {
             break;
         };
         let (start, end) = (
@@ -109,7 +114,7 @@ fn change_accounts(seed: &mut Seed, form: Form, accounts: &mut Accounts) {
     let quota = &mut accounts.quotas[seed.place(form.quotas)];
     let (place, other) = (seed.place(form.records), seed.place(form.records));
     match seed.below(5) {
-        0 => accounts.last_serial = accounts.last_serial.saturating_add(1),
+        0 => accounts.last_serial = GREATEST_SERIAL.min(accounts.last_serial + 1),
         1 => {
             if let Some(more) = quota.grant.checked_add(5) {
                 quota.grant = more;

@@ -1,8 +1,16 @@
 //! A heap's bytes read as blocks and blocks written as bytes, by the harness's own code.
 
+use std::ops::Range;
+
 use lokhazim_reference::{Block, Handle};
 
 use crate::state::State;
+
+/// The serial of a quarantined block (rule 22.3).
+pub const QUARANTINED: u32 = 4_294_967_295;
+
+/// The greatest serial that an object can have (rule 22.9).
+pub const GREATEST_SERIAL: u32 = 4_294_967_294;
 
 /// A block as its header states it, and the size that it states for the block before.
 #[derive(Clone, Copy, Debug, PartialEq, Eq)]
@@ -64,10 +72,29 @@ pub fn handle_of(block: Block) -> Handle {
     }
 }
 
+/// Tells whether a block with this serial is live: neither free nor quarantined.
+pub fn is_live(serial: u32) -> bool {
+    (1..=GREATEST_SERIAL).contains(&serial)
+}
+
+/// Gives the live blocks that a walk meets.
+pub fn live_blocks(heap: &[u8]) -> Vec<Block> {
+    let mut live = blocks(heap);
+    live.retain(|block| is_live(block.serial));
+    live
+}
+
 /// Gives the handles of the live blocks that a walk meets.
 pub fn live_handles(heap: &[u8]) -> Vec<Handle> {
-    let live = blocks(heap).into_iter().filter(|block| block.serial != 0);
-    live.map(handle_of).collect()
+    live_blocks(heap).into_iter().map(handle_of).collect()
+}
+
+/// Gives the places of the quarantined blocks that a walk meets.
+pub fn quarantined(heap: &[u8]) -> Vec<Range<usize>> {
+    let mut waiting = blocks(heap);
+    waiting.retain(|block| block.serial == QUARANTINED);
+    let place = |block: Block| block.offset as usize..(block.offset + block.size) as usize;
+    waiting.into_iter().map(place).collect()
 }
 
 /// Gives the eight bytes of a header; the sizes are in bytes.
@@ -119,25 +146,23 @@ pub struct Joins {
     pub behind: u64,
     /// A freed block joined free blocks on both sides.
     pub both: u64,
-    /// A freed block had live neighbours, or none.
+    /// A freed block has no free neighbour.
     pub neither: u64,
 }
 
-/// Gives the joins of a call that took the first state to the second.
+/// Gives the joins of a call that took the first state to the second and made no object where one
+/// was: a block was joined on a side where no block starts any more.
 pub fn joins(before: &State, after: &State) -> Joins {
-    let live = live_handles(&after.heap);
-    let old = blocks(&before.heap);
-    let free = |place: Option<usize>| {
-        place
-            .and_then(|p| old.get(p))
-            .is_some_and(|b| b.serial == 0)
-    };
+    let (old, new) = (blocks(&before.heap), blocks(&after.heap));
+    let now_at = |offset: u32| new.iter().find(|block| block.offset == offset);
     let mut joins = Joins::default();
-    for (place, block) in old.iter().enumerate() {
-        if block.serial == 0 || live.contains(&handle_of(*block)) {
+    for block in old.iter().filter(|block| block.serial != 0) {
+        let (now, end) = (now_at(block.offset), block.offset + block.size);
+        if now.is_some_and(|now| now.serial != 0) {
             continue;
         }
-        match (free(place.checked_sub(1)), free(Some(place + 1))) {
+        let joined_behind = end < after.heap.len() as u32 && now_at(end).is_none();
+        match (now.is_none(), joined_behind) {
             (true, true) => joins.both += 1,
             (true, false) => joins.front += 1,
             (false, true) => joins.behind += 1,

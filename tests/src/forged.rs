@@ -2,8 +2,8 @@
 
 use lokhazim_reference::{Block, Handle};
 
-use crate::cut::{blocks, handle_of};
-use crate::narrowing::beside_handle;
+use crate::cut::{blocks, handle_of, is_live};
+use crate::narrowing::{beside_handle, sometimes_narrowed};
 use crate::seed::Seed;
 
 /// What the choice of arguments knows of a heap.
@@ -22,7 +22,7 @@ impl<'heap> View<'heap> {
     /// Looks at a heap.
     pub fn new(heap: &'heap [u8], old: &'heap [Handle]) -> View<'heap> {
         let blocks = blocks(heap);
-        let live = blocks.iter().copied().filter(|block| block.serial != 0);
+        let live = blocks.iter().copied().filter(|b| is_live(b.serial));
         let live = live.map(handle_of).collect();
         View {
             heap,
@@ -51,7 +51,7 @@ pub fn live_handle(seed: &mut Seed, view: &View) -> Handle {
 pub fn forged_handle(seed: &mut Seed, view: &View) -> Handle {
     match seed.below(12) {
         0 => seed.any_of(view.old).unwrap_or_default(),
-        1 => handle_of_free_block(seed, view),
+        1 => handle_of_no_object(seed, view),
         2..=6 => handle_to_look_alike(seed, view),
         7 => Handle {
             base: seed.odd_word(),
@@ -66,11 +66,13 @@ pub fn forged_handle(seed: &mut Seed, view: &View) -> Handle {
     }
 }
 
-/// Gives the handle that a free block's object would have.
-fn handle_of_free_block(seed: &mut Seed, view: &View) -> Handle {
-    let mut free = view.blocks.clone();
-    free.retain(|block| block.serial == 0);
-    seed.any_of(&free).map(handle_of).unwrap_or_default()
+/// Gives the handle that the object of a free or quarantined block would have, now and then a part
+/// of it.
+fn handle_of_no_object(seed: &mut Seed, view: &View) -> Handle {
+    let mut others = view.blocks.clone();
+    others.retain(|block| !is_live(block.serial));
+    let whole = seed.any_of(&others).map(handle_of).unwrap_or_default();
+    sometimes_narrowed(seed, 30, whole)
 }
 
 /// Reads eight bytes inside an object as a header and gives the handle that it would have. A few

@@ -16,6 +16,9 @@ pub const PIECE: usize = CHECK - CARRIED;
 /// The stream bytes in front of the quotas.
 pub const FRONT: usize = 12;
 
+/// The stream byte that holds the kind in form 2.
+pub const KIND: usize = 3;
+
 /// The stream bytes of a record.
 pub const RECORD: usize = 8;
 
@@ -88,14 +91,14 @@ impl Form {
         FRAME * (self.head() + heap_length).div_ceil(PIECE)
     }
 
-    /// Tells whether the form can carry a state (rule 16.6): a form without permissions those alone in
-    /// which all are set, and no form a grant or a used record behind its own.
+    /// Tells whether the form can carry a state (rule 16.6): a form without permissions plain ones
+    /// alone in which all are set, and no form a grant or a used record behind its own.
     pub fn carries(self, state: &State) -> bool {
         let accounts = &state.accounts;
-        let permissions = self.entry == 12 || !lacks_permission(state);
+        let marks = self.entry == 12 || !lacks_permission(state) && accounts.kind == 0;
         let quotas = accounts.quotas[self.quotas..].iter();
         let records = accounts.holds[self.records..].iter();
-        permissions
+        marks
             && quotas.map(|quota| quota.grant).all(|grant| grant == 0)
             && records.copied().all(|hold| !hold.is_used())
     }
@@ -149,11 +152,17 @@ pub fn put_word(image: &mut [u8], place: usize, word: u32) {
     seal(image);
 }
 
-/// Frames around the stream of a state, sound or not, as far as the form has room for it.
+/// Frames around the stream of a state, sound or not, as far as the form has room for it. The kind is
+/// byte 3 of form 2.
 pub fn carry(form: Form, state: &State) -> Vec<u8> {
     let accounts = &state.accounts;
     let mut stream = Vec::with_capacity(form.head() + state.heap.len());
-    for word in [form.number, state.heap.len() as u32, accounts.last_serial] {
+    let kind = match form.number {
+        1 => 0,
+        _ => accounts.kind,
+    };
+    let front = form.number | u32::from(kind) << 24;
+    for word in [front, state.heap.len() as u32, accounts.last_serial] {
         stream.extend(word.to_le_bytes());
     }
     for quota in &accounts.quotas[..form.quotas] {

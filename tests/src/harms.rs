@@ -1,7 +1,7 @@
 //! What can be wrong with an image, or with the heap that is lent for it.
 
 use crate::forms::{
-    place_of, put_byte, put_word, renumber, seal, Form, FORMS, FORM_2, FRAME, PIECE, RECORD,
+    place_of, put_byte, put_word, renumber, seal, Form, FORMS, FORM_2, FRAME, KIND, PIECE, RECORD,
 };
 use crate::seed::Seed;
 
@@ -31,7 +31,7 @@ const fn of_form_2(name: &'static str, way: Way) -> Harm {
 }
 
 /// Every kind of harm.
-pub const HARMS: [Harm; 21] = [
+pub const HARMS: [Harm; 23] = [
     harm("a byte", |seed, _, image, _| flip(seed, image)),
     harm("a byte, sealed", |seed, _, image, _| {
         flip(seed, image);
@@ -44,6 +44,14 @@ pub const HARMS: [Harm; 21] = [
         flip_front(seed, image, 2)
     }),
     harm("the form", |seed, _, image, _| stream_word(seed, image, 0)),
+    harm("the byte of the kind", |seed, _, image, _| {
+        let any = seed.byte();
+        put_byte(image, KIND, seed.pick(&[0, 0, 1, 1, 2, 255, any]));
+    }),
+    harm("the byte in front of the kind", |seed, _, image, _| {
+        let any = seed.byte();
+        put_byte(image, KIND - 1, seed.pick(&[1, 2, 255, any]));
+    }),
     harm("the other form's number", |seed, form, image, heap| {
         let length = form.other().length(heap.len());
         put_word(image, 0, form.other().number);

@@ -4,7 +4,7 @@
 use lokhazim_reference::{Accounts, Handle, HOLDS, QUOTAS};
 
 use crate::calls::Pair;
-use crate::choice::{choose, grants, Habits, Weights, GROWING, MIXED, SHARING, SHRINKING};
+use crate::choice::{choose, grants, kind, Habits, Weights, GROWING, MIXED, SHARING, SHRINKING};
 use crate::compare::{call_failure, Failure};
 use crate::cut::blocks;
 use crate::forged::View;
@@ -70,6 +70,9 @@ pub fn run(
     for _ in 0..calls {
         let answer = history.step(&mut numbers, &habits)?;
         match answer.refusal {
+            11 if history.ledger.waiting() > 0 && numbers.percent(30) => {
+                history.call(Call::Sweep)?;
+            }
             8 | 9 | 11 if numbers.percent(40) => habits.weights = SHRINKING,
             _ if history.ledger.objects.is_empty() => habits.weights = GROWING,
             _ if numbers.percent(6) => habits.weights = mood(&mut numbers),
@@ -114,7 +117,9 @@ fn begin<'a>(
     state.heap.fill_with(|| seed.byte());
     match beginning {
         Beginning::SoundState => state = sound(seed),
-        _ => pair.call(&mut state, Call::Open(grants)).map(|_| ())?,
+        _ => pair
+            .call(&mut state, Call::Open(grants, kind(seed)))
+            .map(|_| ())?,
     }
     let ledger = Ledger::read_off(&state);
     Ok(History {
@@ -233,7 +238,7 @@ impl History<'_> {
         }
         match seed.percent(50) {
             true => self.go_back(seed),
-            false => self.call(Call::Open(grants(seed))).map(|_| ()),
+            false => self.call(Call::Open(grants(seed), kind(seed))).map(|_| ()),
         }
     }
 

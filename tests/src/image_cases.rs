@@ -4,6 +4,7 @@ use lokhazim_reference::{Hold, QUOTAS};
 
 use crate::calls::Pair;
 use crate::compare::Failure;
+use crate::cut::{blocks, QUARANTINED};
 use crate::damage::{damaged_alone, damaged_together, DAMAGES};
 use crate::forms::{carry, renumber, seal, Form, FORMS, FORM_1, FRAME};
 use crate::harms::{Harm, HARMS};
@@ -80,7 +81,7 @@ pub fn states(pair: &mut Pair, seed: u64, n: u64) -> Result<(), Failure> {
 type Change = (&'static str, fn(&mut Seed, &mut State));
 
 /// Why form 1 can't carry a state (rule 16.6), one reason at a time.
-pub const OVERFULL: [Change; 3] = [
+pub const OVERFULL: [Change; 4] = [
     ("a grant behind the form's quotas", |seed, state| {
         let number = seed.between(FORM_1.quotas as u32, QUOTAS as u32 - 1);
         let quota = &mut state.accounts.quotas[number as usize];
@@ -103,6 +104,15 @@ pub const OVERFULL: [Change; 3] = [
     ("a permission cleared", |seed, state| {
         let quota = &mut state.accounts.quotas[seed.place(QUOTAS)];
         quota.permissions = seed.pick(&[3, 5, 6, seed.clone().below(7) as u8]);
+    }),
+    ("the kind with quarantine", |seed, state| {
+        state.accounts.kind = 1;
+        let mut long = blocks(&state.heap);
+        long.retain(|block| block.serial == 0 && block.size >= 16);
+        if let Some(block) = seed.any_of(&long).filter(|_| seed.clone().percent(50)) {
+            let place = block.offset as usize + 4;
+            state.heap[place..place + 4].copy_from_slice(&QUARANTINED.to_le_bytes());
+        }
     }),
 ];
 

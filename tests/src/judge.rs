@@ -1,8 +1,8 @@
-//! Rules 5.1 to 5.8, 5.10 and 15.2, judged one by one with plain loops.
+//! Rules 5.1 to 5.8, 5.10, 5.12 and 15.2, judged one by one with plain loops.
 
 use lokhazim_reference::{Block, Hold, MAX_HEAP, MIN_HEAP, QUOTAS};
 
-use crate::cut::{walk, Stated};
+use crate::cut::{is_live, walk, Stated, GREATEST_SERIAL, QUARANTINED};
 use crate::ledger::unit;
 use crate::state::State;
 
@@ -25,10 +25,14 @@ pub enum Sentence {
     Units,
     /// 15.2: no quota has a permission that there is not.
     Permissions,
+    /// 5.12: the kind is one that there is, and only the second has quarantined blocks.
+    Kind,
+    /// 5.12: the last serial is one that an object can have.
+    LastSerial,
 }
 
 /// All of them.
-pub const SENTENCES: [Sentence; 8] = [
+pub const SENTENCES: [Sentence; 10] = [
     Sentence::Cut,
     Sentence::Serials,
     Sentence::Records,
@@ -37,6 +41,8 @@ pub const SENTENCES: [Sentence; 8] = [
     Sentence::Sums,
     Sentence::Units,
     Sentence::Permissions,
+    Sentence::Kind,
+    Sentence::LastSerial,
 ];
 
 /// Gives the rules that a state of an allowed heap length breaks. Where the sizes do not lead
@@ -46,8 +52,9 @@ pub fn broken(state: &State) -> Vec<Sentence> {
     if !walk.complete {
         return vec![Sentence::Cut];
     }
-    let live: Vec<Block> = walk.blocks.iter().map(|stated| stated.block).collect();
-    let live: Vec<Block> = live.into_iter().filter(|block| block.serial != 0).collect();
+    let blocks: Vec<Block> = walk.blocks.iter().map(|stated| stated.block).collect();
+    let mut live = blocks.clone();
+    live.retain(|block| is_live(block.serial));
     let used = used_records(state);
     let holds = |sentence: &Sentence| match sentence {
         Sentence::Cut => is_cut(&walk.blocks),
@@ -60,6 +67,11 @@ pub fn broken(state: &State) -> Vec<Sentence> {
         Sentence::Sums => sums_hold(state, &live, &used),
         Sentence::Units => live.iter().all(fits_its_unit),
         Sentence::Permissions => state.accounts.quotas.iter().all(|q| q.permissions <= 7),
+        Sentence::Kind => match state.accounts.kind {
+            0 => blocks.iter().all(|block| block.serial != QUARANTINED),
+            kind => kind == 1,
+        },
+        Sentence::LastSerial => state.accounts.last_serial <= GREATEST_SERIAL,
     };
     let broken = SENTENCES.into_iter().filter(|sentence| !holds(sentence));
     broken.collect()

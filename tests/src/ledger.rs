@@ -1,9 +1,12 @@
-//! The ledger (rules, section 9), made from the arguments and the answers of calls alone.
+//! The ledger (rules, section 9 and rule 22.10), made from the arguments and the answers of calls
+//! alone.
+
+use std::ops::Range;
 
 use lokhazim_reference::{Handle, HOLDS, QUOTAS};
 
-use crate::cut::live_handles;
-use crate::state::{Answer, Call, State};
+use crate::cut::{live_handles, quarantined, GREATEST_SERIAL};
+use crate::state::{Answer, Call, State, PLAIN};
 
 /// An object of the ledger with each quota's holds on it.
 #[derive(Clone, Debug, PartialEq, Eq)]
@@ -16,7 +19,7 @@ pub struct Object {
 
 impl Object {
     /// The place of the object's block in the heap.
-    pub fn block(&self) -> std::ops::Range<usize> {
+    pub fn block(&self) -> Range<usize> {
         let end = self.handle.base + self.handle.length;
         self.handle.base as usize - 8..end as usize
     }
@@ -27,8 +30,8 @@ impl Object {
     }
 }
 
-/// The ledger: the grants as opened and the objects. Heap length, permissions and last serial belong
-/// to what the caller handed in and was answered.
+/// The ledger: the grants as opened, the objects and the blocks in quarantine. Heap length, kind,
+/// permissions and last serial belong to what the caller handed in and was answered.
 #[derive(Clone, Debug)]
 pub struct Ledger {
     /// The length of the heap.
@@ -41,6 +44,10 @@ pub struct Ledger {
     pub last_serial: u32,
     /// The objects.
     pub objects: Vec<Object>,
+    /// Whether the heap was opened with quarantine.
+    pub quarantines: bool,
+    /// The places of the blocks in quarantine, in the order in which they came there.
+    pub quarantined: Vec<Range<usize>>,
 }
 
 /// A request as rounded: the object's length, and what its base is a multiple of.
@@ -75,18 +82,21 @@ pub fn request(bytes: u64) -> Option<Request> {
 
 impl Ledger {
     /// The ledger after an accepted opening.
-    pub fn opened(heap_length: u32, grants: [u32; QUOTAS]) -> Ledger {
+    pub fn opened(heap_length: u32, grants: [u32; QUOTAS], kind: u32) -> Ledger {
         Ledger {
             heap_length,
             grants,
             permissions: [7; QUOTAS],
             last_serial: 0,
             objects: Vec::new(),
+            quarantines: kind != PLAIN,
+            quarantined: Vec::new(),
         }
     }
 
     /// The ledger of a consistent state that no list of calls led to: an entry for each live
-    /// object, with the counts of its records as holds, and the accounts' grants.
+    /// object, with the counts of its records as holds, the accounts' grants, and the quarantined
+    /// blocks.
     pub fn read_off(state: &State) -> Ledger {
         let accounts = &state.accounts;
         let objects = live_handles(&state.heap).into_iter().map(|handle| {
@@ -102,6 +112,8 @@ impl Ledger {
             permissions: accounts.quotas.map(|quota| quota.permissions),
             last_serial: accounts.last_serial,
             objects: objects.collect(),
+            quarantines: accounts.kind == 1,
+            quarantined: quarantined(&state.heap),
         }
     }
 
@@ -111,7 +123,7 @@ impl Ledger {
             return;
         }
         match call {
-            Call::Open(grants) => *self = Ledger::opened(self.heap_length, grants),
+            Call::Open(grants, kind) => *self = Ledger::opened(self.heap_length, grants, kind),
             Call::Allocate(q, _) | Call::Array(q, ..) => self.add(q, answer.handle()),
             Call::Claim(q, h) => self.change(h.serial, q, |holds| holds + 1),
             Call::Release(q, h) => self.change(h.serial, q, |holds| holds - 1),
@@ -124,10 +136,21 @@ impl Ledger {
                 self.change(old.serial, q, |holds| holds - 1);
             }
             Call::ClearPermissions(q, n) => self.permissions[q as usize] &= !(n as u8),
+            Call::Sweep => self.quarantined.clear(),
             _ => {}
         }
         let held = |object: &Object| object.holds.iter().any(|holds| *holds > 0);
+        if self.quarantines {
+            let left = self.objects.iter().filter(|object| !held(object));
+            self.quarantined.extend(left.map(Object::block));
+        }
         self.objects.retain(held);
+    }
+
+    /// Gives the sum of the sizes of the blocks in quarantine.
+    pub fn waiting(&self) -> u64 {
+        let sizes = self.quarantined.iter().map(|block| block.len() as u64);
+        sizes.sum()
     }
 
     /// Adds the answered handle with one hold of the quota.
@@ -188,11 +211,14 @@ impl Ledger {
     }
 
     /// Gives the base of the lowest suitable run of a request: every multiple of the alignment is
-    /// tried, and the bytes of live blocks in its run are counted.
+    /// tried, and the bytes of live and quarantined blocks in its run are counted (rule 22.5).
     pub fn lowest_run(&self, request: Request) -> Option<u32> {
         let mut taken = vec![0; self.heap_length as usize];
         for object in &self.objects {
             taken[object.block()].fill(1);
+        }
+        for block in &self.quarantined {
+            taken[block.clone()].fill(1);
         }
         let mut taken_before = vec![0];
         for byte in taken {
@@ -244,7 +270,7 @@ impl Ledger {
             return old_refusal;
         }
         match self.charge_refusal(quota, request.length + 8) {
-            0 if self.last_serial == u32::MAX => 10,
+            0 if self.last_serial == GREATEST_SERIAL => 10,
             refusal => refusal,
         }
     }

@@ -34,6 +34,7 @@ pub mod lent;
 pub mod malformed;
 pub mod moves;
 pub mod narrowing;
+pub mod pieces;
 pub mod programs;
 pub mod queues;
 pub mod reports;

@@ -7,7 +7,7 @@ use crate::choice::{choose, Habits};
 use crate::cut::live_handles;
 use crate::forged::View;
 use crate::seed::Seed;
-use crate::state::{Answer, Call, State};
+use crate::state::{Answer, Call, State, PLAIN};
 
 /// A script and the state that it has led to.
 pub struct Script {
@@ -60,7 +60,7 @@ impl Script {
             heap: vec![0; length as usize],
             accounts: Accounts::default(),
         };
-        state.perform(Call::Open(grants));
+        state.perform(Call::Open(grants, PLAIN));
         Script {
             text: open_line(length, grants).into_bytes(),
             state,

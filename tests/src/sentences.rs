@@ -1,9 +1,11 @@
-//! What section 10 of the rules says of the ledger, each rule checked after a call of an
-//! undamaged history.
+//! What section 10 of the rules and rule 22.11 say of the ledger, each rule checked after a call of
+//! an undamaged history.
+
+use std::ops::Range;
 
 use lokhazim_reference::{Handle, QUOTAS};
 
-use crate::cut::{blocks, live_handles};
+use crate::cut::{blocks, live_handles, quarantined};
 use crate::judge::broken;
 use crate::ledger::{request, Ledger, Object};
 use crate::state::{Answer, Call, State};
@@ -26,7 +28,7 @@ pub struct Step<'a> {
 
 /// Gives what is wrong with a call and the state that it left; nothing if every rule holds.
 pub fn wrong(step: &Step) -> Vec<String> {
-    let checks: [(&str, bool); 13] = [
+    let checks: [(&str, bool); 16] = [
         ("heap and accounts are sound", broken(step.after).is_empty()),
         (
             "live objects are the ledger's",
@@ -36,6 +38,11 @@ pub fn wrong(step: &Step) -> Vec<String> {
             "used records are the ledger's holds",
             records_are_the_holds(step),
         ),
+        (
+            "quarantined blocks are the ledger's",
+            quarantine_is_the_ledgers(step),
+        ),
+        ("the kind is that of the opening", kind_holds(step)),
         ("grants are the ledger's", grants_are_the_ledgers(step)),
         ("remainders are grants less charges", remainders_hold(step)),
         ("permissions are those not cleared", permissions_hold(step)),
@@ -57,6 +64,10 @@ pub fn wrong(step: &Step) -> Vec<String> {
         (
             "objects keep their bytes, new ones are zero or copied",
             contents_hold(step),
+        ),
+        (
+            "quarantined blocks keep their bytes, new ones are cleared",
+            quarantined_bytes_hold(step),
         ),
     ];
     let broken = checks.into_iter().filter(|(_, holds)| !holds);
@@ -85,6 +96,23 @@ fn records_are_the_holds(step: &Step) -> bool {
     records == step.ledger.records()
 }
 
+/// Gives the places of a ledger's quarantined blocks in order.
+fn ledger_quarantine(ledger: &Ledger) -> Vec<Range<usize>> {
+    let mut places = ledger.quarantined.clone();
+    places.sort_unstable_by_key(|block| block.start);
+    places
+}
+
+/// Rule 22.11: quarantined blocks and the ledger's are the same.
+fn quarantine_is_the_ledgers(step: &Step) -> bool {
+    quarantined(&step.after.heap) == ledger_quarantine(step.ledger)
+}
+
+/// Rules 22.1 and 22.2: the kind is that of the opening.
+fn kind_holds(step: &Step) -> bool {
+    step.after.accounts.kind == u8::from(step.ledger.quarantines)
+}
+
 /// Rule 10.8: the accounts' grants are the ledger's, and the last serial is the last one answered.
 fn grants_are_the_ledgers(step: &Step) -> bool {
     let accounts = &step.after.accounts;
@@ -107,7 +135,7 @@ fn permissions_hold(step: &Step) -> bool {
 
 /// Rule 15.7: no call but an opening sets a permission, and none but the clearing one clears one.
 fn no_permission_comes_back(step: &Step) -> bool {
-    let opens = matches!(step.call, Call::Open(_)) && step.answer.is_accepted();
+    let opens = matches!(step.call, Call::Open(..)) && step.answer.is_accepted();
     let mut quotas = step.before.accounts.quotas.iter();
     let mut quotas = quotas.by_ref().zip(&step.after.accounts.quotas).enumerate();
     quotas.all(|(number, (before, after))| {
@@ -117,15 +145,17 @@ fn no_permission_comes_back(step: &Step) -> bool {
     })
 }
 
-/// Rule 10.6: every object lies in the heap and shares no byte with another object or with a
-/// header.
+/// Rules 10.6 and 22.11: every object, and what stands behind the header of every quarantined block,
+/// lies in the heap and shares no byte with another or with a header.
 fn bytes_have_one_owner(step: &Step) -> bool {
     let mut owners = vec![0_u32; step.after.heap.len()];
     let headers = blocks(&step.after.heap).into_iter();
     let headers = headers.map(|block| (block.offset as usize, 8));
     let objects = step.ledger.objects.iter().map(|object| object.handle);
     let objects = objects.map(|h| (h.base as usize, h.length as usize));
-    for (start, length) in headers.chain(objects) {
+    let waiting = step.ledger.quarantined.iter();
+    let waiting = waiting.map(|block| (block.start + 8, block.len() - 8));
+    for (start, length) in headers.chain(objects).chain(waiting) {
         match owners.get_mut(start..start + length) {
             Some(bytes) => bytes.iter_mut().for_each(|owner| *owner += 1),
             None => return false,
@@ -137,7 +167,7 @@ fn bytes_have_one_owner(step: &Step) -> bool {
 /// Rule 10.5: an object that the ledger had before and still has is at the same base with the
 /// same length.
 fn objects_stay(step: &Step) -> bool {
-    if matches!(step.call, Call::Open(_)) {
+    if matches!(step.call, Call::Open(..)) {
         return true;
     }
     let old = &step.ledger_before.objects;
@@ -202,6 +232,7 @@ fn answer_holds(step: &Step) -> bool {
         Call::Release(q, _) | Call::FreeAll(q) => first == given_back(q),
         Call::Remaining(q) => first == step.ledger.remainder(q as usize),
         Call::ClearPermissions(q, _) => first == i64::from(step.ledger.permissions[q as usize]),
+        Call::Sweep => step.answer.numbers[0] == step.ledger_before.waiting(),
         Call::Lend(h) => {
             let end = u64::from(h.base) + u64::from(h.length);
             step.answer.numbers == [u64::from(h.base), end, 0, 0]
@@ -253,4 +284,18 @@ fn contents_hold(step: &Step) -> bool {
         .objects
         .iter()
         .all(|object| bytes_of(&step.after.heap, object.handle) == wanted_bytes(step, object))
+}
+
+/// Rule 22.3: what stands behind the header of a block that comes into quarantine is zero, and stays
+/// as it was while the block waits.
+fn quarantined_bytes_hold(step: &Step) -> bool {
+    let old = &step.ledger_before.quarantined;
+    step.ledger.quarantined.iter().all(|block| {
+        let body = block.start + 8..block.end;
+        match (old.contains(block), step.after.heap.get(body.clone())) {
+            (_, None) => false,
+            (true, Some(bytes)) => step.before.heap.get(body) == Some(bytes),
+            (false, Some(bytes)) => bytes.iter().all(|byte| *byte == 0),
+        }
+    })
 }

@@ -4,8 +4,18 @@ use std::fmt;
 
 use lokhazim_reference::{
     allocate, allocate_array, block_at, can_release, check, claim, clear_permissions, free_all,
-    lend, lend_mut, open, reallocate, release, remaining, Accounts, Block, Handle, Refusal, QUOTAS,
+    lend, lend_mut, open_with, reallocate, release, remaining, sweep, Accounts, Block, Handle,
+    Kind, Options, Refusal, QUOTAS,
 };
+
+/// The number of a plain heap's kind.
+pub const PLAIN: u32 = 0;
+
+/// The number of the kind with quarantine; an opening takes any other number but 0 as well.
+pub const QUARANTINE: u32 = 1;
+
+/// Both kinds.
+pub const KINDS: [u32; 2] = [PLAIN, QUARANTINE];
 
 /// A heap with its accounts.
 #[derive(Clone, Debug, PartialEq, Eq)]
@@ -19,8 +29,8 @@ pub struct State {
 /// A call with its arguments (rules, section 8).
 #[derive(Clone, Copy, Debug, PartialEq, Eq)]
 pub enum Call {
-    /// Open with the grants.
-    Open([u32; QUOTAS]),
+    /// Open with the grants and the number of the kind.
+    Open([u32; QUOTAS], u32),
     /// Allocate: quota, length.
     Allocate(u32, u32),
     /// Allocate array: quota, count, size.
@@ -47,6 +57,8 @@ pub enum Call {
     Check,
     /// Clear permissions: quota, a number whose bits name them.
     ClearPermissions(u32, u32),
+    /// Sweep.
+    Sweep,
 }
 
 /// What a call answers: the refusal's number or 0, and the numbers of the answer.
@@ -62,7 +74,7 @@ pub struct Answer {
 
 impl Call {
     /// The names of the calls, as the saved cases and the tallies write them.
-    pub const NAMES: [&'static str; 14] = [
+    pub const NAMES: [&'static str; 15] = [
         "open",
         "allocate",
         "array",
@@ -77,12 +89,13 @@ impl Call {
         "list",
         "check",
         "clear-permissions",
+        "sweep",
     ];
 
     /// Gives the place of the call's name in the list of names.
     pub fn kind(self) -> usize {
         match self {
-            Call::Open(_) => 0,
+            Call::Open(..) => 0,
             Call::Allocate(..) => 1,
             Call::Array(..) => 2,
             Call::Claim(..) => 3,
@@ -96,6 +109,7 @@ impl Call {
             Call::List(_) => 11,
             Call::Check => 12,
             Call::ClearPermissions(..) => 13,
+            Call::Sweep => 14,
         }
     }
 
@@ -127,7 +141,7 @@ impl Call {
         };
         let plain = |numbers: &[u32]| numbers.iter().map(|n| u64::from(*n)).collect();
         match self {
-            Call::Open(grants) => plain(&grants),
+            Call::Open(grants, kind) => plain(&[&grants[..], &[kind]].concat()),
             Call::Allocate(q, n) | Call::ClearPermissions(q, n) => plain(&[q, n]),
             Call::Array(q, n, s) => plain(&[q, n, s]),
             Call::Claim(q, h) | Call::Release(q, h) | Call::CanRelease(q, h) => with(&[q], h, &[]),
@@ -136,7 +150,7 @@ impl Call {
             Call::Lend(h) => with(&[], h, &[]),
             Call::Write(h, at, byte) => with(&[], h, &[at, u32::from(byte)]),
             Call::List(at) => vec![at as u64],
-            Call::Check => Vec::new(),
+            Call::Check | Call::Sweep => Vec::new(),
         }
     }
 }
@@ -213,13 +227,23 @@ fn amount(amount: u32) -> Vec<u64> {
     vec![u64::from(amount)]
 }
 
+/// Gives the options of an opening with a number for the kind.
+fn options(kind: u32) -> Options {
+    Options {
+        kind: match kind {
+            PLAIN => Kind::Plain,
+            _ => Kind::Quarantine,
+        },
+    }
+}
+
 impl State {
     /// Makes a call by the reference.
     pub fn perform(&mut self, call: Call) -> Answer {
         let State { heap, accounts } = self;
         match call {
-            Call::Open(grants) => {
-                let (opened, result) = open(heap, grants);
+            Call::Open(grants, kind) => {
+                let (opened, result) = open_with(heap, grants, options(kind));
                 *accounts = opened;
                 answer(result, |()| Vec::new())
             }
@@ -240,6 +264,7 @@ impl State {
             Call::List(at) => answer(block_at(heap, accounts, at), block_numbers),
             Call::Check => answer(check(heap, accounts), |()| Vec::new()),
             Call::ClearPermissions(q, n) => answer(clear_permissions(heap, accounts, q, n), amount),
+            Call::Sweep => answer(sweep(heap, accounts), amount),
         }
     }
 

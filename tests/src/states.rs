@@ -1,24 +1,15 @@
 //! Consistent states that are made directly, most of which no list of calls reaches: any cut, serials
-//! in any order, records at any place, any bytes in free blocks and objects.
+//! in any order, records at any place, any bytes in free and quarantined blocks and objects.
 
 use std::collections::BTreeSet;
 
 use lokhazim_reference::{Accounts, Hold, Quota, ALL_PERMISSIONS, HOLDS, QUOTAS};
 
-use crate::cut::{header, put};
+use crate::cut::{header, is_live, put, GREATEST_SERIAL};
 use crate::forms::{Form, FORM_1, FORM_2};
-use crate::ledger::unit;
+use crate::pieces::{cut, quarantine_some, Piece};
 use crate::seed::Seed;
 use crate::state::State;
-
-/// A block of a plan: its size in bytes, and its serial or 0.
-#[derive(Clone, Copy, Debug, PartialEq, Eq)]
-pub struct Piece {
-    /// The size in bytes, header included.
-    pub size: u32,
-    /// The serial, 0 for a free block.
-    pub serial: u32,
-}
 
 /// A state before it is written as bytes. Its grants follow from what it has.
 #[derive(Clone, Debug)]
@@ -33,6 +24,8 @@ pub struct Plan {
     pub permissions: [u8; QUOTAS],
     /// The last serial.
     pub last_serial: u32,
+    /// The number of the kind.
+    pub kind: u8,
 }
 
 /// Gives an allowed heap length, most often a short one.
@@ -56,17 +49,25 @@ impl Plan {
 
     /// Makes a consistent plan for a heap of this length that a form can carry.
     pub fn in_form(form: Form, seed: &mut Seed, length: u32) -> Plan {
+        let kind = match form.number {
+            1 => 0,
+            _ => seed.below(2) as u8,
+        };
         let mut pieces = cut(seed, length, form.records);
-        let live = pieces.iter().filter(|piece| piece.serial != 0).count();
+        if kind == 1 {
+            pieces = quarantine_some(seed, pieces);
+        }
+        let live = pieces.iter().filter(|p| is_live(p.serial)).count();
         let mut serials = serials(seed, live).into_iter();
-        for piece in pieces.iter_mut().filter(|piece| piece.serial != 0) {
+        for piece in pieces.iter_mut().filter(|p| is_live(p.serial)) {
             piece.serial = serials.next().unwrap_or(1);
         }
         let records = records(seed, &pieces, form);
-        let highest = pieces.iter().map(|piece| piece.serial).max().unwrap_or(0);
+        let given = pieces.iter().map(|piece| piece.serial);
+        let highest = given.filter(|serial| is_live(*serial)).max().unwrap_or(0);
         let last_serial = match seed.below(12) {
-            0 => u32::MAX,
-            1 => highest.max(u32::MAX - seed.below(4)),
+            0 => GREATEST_SERIAL,
+            1 => highest.max(GREATEST_SERIAL - seed.below(4)),
             2 => highest.saturating_add(seed.below(1_000)),
             3 => highest.max(seed.word()),
             _ => highest,
@@ -76,7 +77,8 @@ impl Plan {
             records,
             remainders: remainders(seed, form),
             permissions: permissions(seed, form),
-            last_serial,
+            last_serial: last_serial.min(GREATEST_SERIAL),
+            kind,
         }
     }
 
@@ -100,6 +102,7 @@ impl Plan {
             remainders: [100_000; QUOTAS],
             permissions: [ALL_PERMISSIONS; QUOTAS],
             last_serial: 1,
+            kind: 0,
         }
     }
 
@@ -110,14 +113,14 @@ impl Plan {
             .iter()
             .filter(|h| usize::from(h.quota) == quota);
         let its: Vec<u32> = its.map(|h| h.serial).collect();
-        let has = |piece: &&Piece| piece.serial != 0 && its.contains(&piece.serial);
+        let has = |piece: &&Piece| is_live(piece.serial) && its.contains(&piece.serial);
         self.pieces.iter().filter(has).map(|piece| piece.size).sum()
     }
 
     /// Gives the places of the live pieces.
     pub fn live(&self) -> Vec<usize> {
         let places = 0..self.pieces.len();
-        places.filter(|p| self.pieces[*p].serial != 0).collect()
+        places.filter(|p| is_live(self.pieces[*p].serial)).collect()
     }
 
     /// Gives the places of the used records, or of the unused ones.
@@ -154,6 +157,7 @@ impl Plan {
             quotas,
             last_serial: self.last_serial,
             holds: self.records,
+            kind: self.kind,
         };
         State { heap, accounts }
     }
@@ -180,75 +184,25 @@ pub fn permitted(state: &State) -> State {
     all
 }
 
-/// Sizes of blocks whose objects stand at the bounds of the rounding table's rows.
-const ROW_SIZES: [u32; 8] = [8_184, 8_192, 8_200, 8_216, 16_376, 16_392, 16_424, 32_744];
-
-/// Cuts a heap into pieces, at most so many of them live; a live one has serial 1 until serials are
-/// given out.
-fn cut(seed: &mut Seed, length: u32, most: usize) -> Vec<Piece> {
-    let crowd = seed.pick(&[3, 12, 40, most, most]);
-    let longest = seed.pick(&[2, 4, 12, 60, 600, 2_400]);
-    let share = seed.pick(&[30, 60, 90, 100]);
-    let long = length >= 8_192;
-    let mut pieces: Vec<Piece> = Vec::new();
-    let (mut left, mut live) = (length, 0);
-    while left > 0 {
-        let after_free = pieces.last().is_some_and(|piece| piece.serial == 0);
-        let wanted = live < crowd && left >= 16 && (after_free || seed.percent(share));
-        let size = match wanted {
-            true if long && seed.percent(30) => left.min(seed.pick(&ROW_SIZES)),
-            true => left.min(8 * (2 + seed.below(longest))),
-            false if live >= crowd => left,
-            false => left.min(8 * (1 + seed.below(longest))),
-        };
-        let (front, size) = match wanted {
-            true => fitted(length - left, size, left),
-            false => (size, 0),
-        };
-        add_free(&mut pieces, front);
-        if wanted {
-            pieces.push(Piece { size, serial: 1 });
-        }
-        live += usize::from(wanted);
-        left -= front + size;
-    }
-    pieces
-}
-
-/// Gives the free bytes that a live block needs in front of it, and the size that it has then, so
-/// that its object fits its unit. The block is to start at the offset or behind it.
-fn fitted(offset: u32, size: u32, left: u32) -> (u32, u32) {
-    let unit = unit(size - 8);
-    let front = (offset + 8).next_multiple_of(unit) - (offset + 8);
-    let length = (size.min(left - front) - 8) / unit * unit;
-    (front, 8 + length)
-}
-
-/// Adds free bytes behind the pieces; a free piece in front of them takes them in.
-fn add_free(pieces: &mut Vec<Piece>, size: u32) {
-    match pieces.last_mut() {
-        _ if size == 0 => {}
-        Some(before) if before.serial == 0 => before.size += size,
-        _ => pieces.push(Piece { size, serial: 0 }),
-    }
-}
-
 /// Gives so many serials that differ: in a row, a power of two apart, near the top, or any.
 fn serials(seed: &mut Seed, count: usize) -> Vec<u32> {
-    let shift = seed.below(25);
+    let shift = seed.below(23);
     let base = seed.word() >> seed.below(32);
     let way = seed.below(5);
     let mut given = BTreeSet::new();
     let mut next = 0_u32;
     while given.len() < count {
         next += 1;
-        given.insert(match way {
+        let serial = match way {
             0 => next,
             1 => next << shift,
-            2 => u32::MAX - next - shift % 8,
-            3 => base.wrapping_add(next).max(1),
-            _ => seed.word().max(1),
-        });
+            2 => GREATEST_SERIAL + 1 - next - shift % 8,
+            3 => base.wrapping_add(next),
+            _ => seed.word(),
+        };
+        if is_live(serial) {
+            given.insert(serial);
+        }
     }
     let mut given: Vec<u32> = given.into_iter().collect();
     if seed.percent(70) {
@@ -260,7 +214,7 @@ fn serials(seed: &mut Seed, count: usize) -> Vec<u32> {
 /// Gives each object at least one record, some of them many, at any places of a form's table.
 fn records(seed: &mut Seed, pieces: &[Piece], form: Form) -> [Hold; HOLDS] {
     let live: Vec<u32> = pieces.iter().map(|piece| piece.serial).collect();
-    let live: Vec<u32> = live.into_iter().filter(|serial| *serial != 0).collect();
+    let live: Vec<u32> = live.into_iter().filter(|serial| is_live(*serial)).collect();
     let mut pairs: Vec<(u32, u8)> = Vec::new();
     let mut further: Vec<(u32, u8)> = Vec::new();
     for serial in &live {

@@ -3,7 +3,7 @@
 use std::collections::BTreeMap;
 use std::fmt;
 
-use crate::cut::{is_narrowed, joins, looks_alive};
+use crate::cut::{is_narrowed, joins, looks_alive, quarantined};
 use crate::forms::FORM_1;
 use crate::state::{Answer, Call, State};
 
@@ -32,6 +32,12 @@ pub struct Tally {
     pub wide_tables: u64,
     /// Accepted calls of a quota behind those of form 1.
     pub high_quotas: u64,
+    /// Calls on a heap with quarantined blocks.
+    pub waited: u64,
+    /// The most quarantined blocks that a heap had.
+    pub most_waiting: usize,
+    /// Accepted sweeps that made blocks free.
+    pub swept: u64,
     /// Calls whose handle names no object although the bytes before its base look like its header.
     pub look_alikes: u64,
     /// Calls whose handle names an object and has a part of it, by kind and by refusal.
@@ -58,9 +64,14 @@ impl Tally {
         self.look_alikes += u64::from(forged);
         let narrowed = call.handle().is_some_and(|h| is_narrowed(&before.heap, h));
         self.narrowed[call.kind()][refusal] += u64::from(narrowed);
+        let waiting = quarantined(&before.heap).len();
+        self.waited += u64::from(waiting > 0);
+        self.most_waiting = self.most_waiting.max(waiting);
+        let sweeps = call == Call::Sweep && answer.is_accepted();
+        self.swept += u64::from(sweeps && waiting > 0);
         let frees = matches!(
             call,
-            Call::Release(..) | Call::FreeAll(_) | Call::Reallocate(..)
+            Call::Release(..) | Call::FreeAll(_) | Call::Reallocate(..) | Call::Sweep
         );
         if frees && answer.is_accepted() {
             let joins = joins(before, after);
@@ -193,6 +204,11 @@ impl fmt::Display for Tally {
             f,
             "  calls with a count of 255: {}, with a full hold table: {}, with a handle to bytes that look like a header: {}",
             self.full_counts, self.full_tables, self.look_alikes
+        )?;
+        writeln!(
+            f,
+            "  calls with quarantined blocks: {}, the most of them {}, sweeps that freed some: {}",
+            self.waited, self.most_waiting, self.swept
         )?;
         write!(
             f,

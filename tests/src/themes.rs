@@ -348,7 +348,7 @@ fn reallocations(seed: &mut Seed) -> Vec<u8> {
     let length = heap_length(seed);
     let mut script = Script::open_with(length, seed.pick(&[AMPLE, length, length / 2]));
     let mut habits = habits(seed, length);
-    habits.weights = [0, 14, 2, 12, 6, 1, 50, 0, 0, 0, 0, 0, 0, 0];
+    habits.weights = [0, 14, 2, 12, 6, 1, 50, 0, 0, 0, 0, 0, 0, 0, 0];
     for _ in 0..seed.between(20, 80) {
         script.choose(seed, &habits);
     }
@@ -361,7 +361,7 @@ fn free_alls(seed: &mut Seed) -> Vec<u8> {
     let mut script = Script::open_with(length, AMPLE);
     let mut habits = habits(seed, (length / 4).max(64));
     habits.quotas = seed.pick(&[2, 3, QUOTAS as u32]);
-    habits.weights = [0, 40, 4, 30, 4, 0, 2, 0, 0, 0, 0, 0, 0, 0];
+    habits.weights = [0, 40, 4, 30, 4, 0, 2, 0, 0, 0, 0, 0, 0, 0, 0];
     for _ in 0..seed.between(2, 8) {
         for _ in 0..seed.between(4, 16) {
             script.choose(seed, &habits);

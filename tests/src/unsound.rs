@@ -5,7 +5,7 @@ use lokhazim_reference::{Accounts, Hold, Quota, ALL_PERMISSIONS, HOLDS, QUOTAS};
 use crate::calls::Pair;
 use crate::choice::{choose, one_of_each, Habits, MIXED};
 use crate::compare::{call_failure, Failure};
-use crate::cut::{header, put};
+use crate::cut::{blocks, header, put, QUARANTINED};
 use crate::damage::{damaged_alone, damaged_together, Damage};
 use crate::forged::View;
 use crate::judge::check_refusal;
@@ -14,7 +14,7 @@ use crate::state::{Call, State};
 use crate::states::sound;
 
 /// How often a state is made anew where there was no place for a kind of damage.
-const TRIES: u64 = 40;
+const TRIES: u64 = 80;
 
 /// The habits of calls on damaged states: such that most would be accepted on a consistent one.
 const HABITS: Habits = Habits {
@@ -127,6 +127,7 @@ fn one_free_block(seed: &mut Seed, length: u32) -> State {
     let accounts = Accounts {
         quotas: std::array::from_fn(|_| quota(seed.odd_word())),
         last_serial: seed.odd_word(),
+        kind: seed.below(2) as u8,
         ..Accounts::default()
     };
     State { heap, accounts }
@@ -141,6 +142,7 @@ fn any_accounts(seed: &mut Seed) -> Accounts {
         quota.permissions = seed.pick(&[ALL_PERMISSIONS, ALL_PERMISSIONS, 0, seed.clone().byte()]);
     }
     accounts.last_serial = seed.odd_word();
+    accounts.kind = seed.pick(&[0, 0, 1, 1, seed.clone().byte()]);
     for _ in 0..seed.below(4) {
         accounts.holds[seed.place(HOLDS)] = Hold {
             serial: seed.odd_word(),
@@ -159,9 +161,9 @@ fn change_anything(seed: &mut Seed, state: &mut State) {
         seed.place(QUOTAS),
         seed.place(HOLDS),
     );
-    let block = seed.any_of(&crate::cut::blocks(heap));
+    let block = seed.any_of(&blocks(heap));
     let in_header = block.map_or(at, |b| b.offset as usize + at % 8);
-    match seed.below(10) {
+    match seed.below(12) {
         0 => heap[at] = seed.byte(),
         1 => heap[at] ^= 1 << seed.below(8),
         2 | 3 => heap[in_header] ^= 1 << seed.below(8),
@@ -170,6 +172,12 @@ fn change_anything(seed: &mut Seed, state: &mut State) {
         6 => accounts.last_serial = seed.odd_word(),
         7 => accounts.holds.swap(record, 0),
         8 => accounts.quotas[quota].permissions ^= 1 << seed.below(8),
+        9 => accounts.kind ^= 1 << seed.below(8),
+        10 => {
+            let serial = seed.pick(&[0, QUARANTINED]);
+            let place = block.map_or(0, |b| b.offset as usize + 4);
+            heap[place..place + 4].copy_from_slice(&serial.to_le_bytes());
+        }
         _ => {
             let hold = &mut accounts.holds[record];
             match seed.below(3) {

@@ -4,6 +4,7 @@
 
 use std::sync::OnceLock;
 
+use lokhazim_reference::HOLDS;
 use lokhazim_tests::calls::Pair;
 use lokhazim_tests::compare::Failure;
 use lokhazim_tests::damage::DAMAGES;
@@ -64,15 +65,15 @@ impl Part {
 
 static HISTORIES: Part = Part::new(60_000, 0, history);
 static MORE_HISTORIES: Part = Part::new(60_000, 1_000_000, history);
-static SOUND_STATES: Part = Part::new(80_000, 0, |pair, n| {
+static SOUND_STATES: Part = Part::new(100_000, 0, |pair, n| {
     histories::run(pair, Beginning::SoundState, SEED, n, 40)
 });
-static ALONE: Part = Part::new(60_000, 0, |pair, n| {
+static ALONE: Part = Part::new(70_000, 0, |pair, n| {
     let kind = (n % DAMAGES.len() as u64) as usize;
     unsound::alone(pair, &DAMAGES[kind], SEED, n)
 });
 static TOGETHER: Part = Part::new(20_000, 0, |pair, n| unsound::together(pair, SEED, n));
-static NOISE: Part = Part::new(30_000, 0, |pair, n| unsound::noise(pair, SEED, n));
+static NOISE: Part = Part::new(40_000, 0, |pair, n| unsound::noise(pair, SEED, n));
 static LENGTHS: Part = Part::new(10_000, 0, |pair, n| unsound::lengths(pair, SEED, n));
 
 /// Every part.
@@ -172,6 +173,7 @@ fn histories_reach(tally: &Tally) {
             >= 200
     );
     assert!(tally.full_counts >= 500 && tally.full_tables >= 100 && tally.look_alikes >= 50);
+    assert!(tally.waited >= 8_000 && tally.swept >= 300);
 }
 
 #[test]
@@ -205,6 +207,8 @@ fn sound_states_that_no_replay_reaches_and_the_ledger() {
             >= 200
     );
     assert!(tally.full_counts >= 5_000 && tally.full_tables >= 1_000 && tally.look_alikes >= 500);
+    assert!(tally.waited >= 8_000 && tally.swept >= 200);
+    assert!(tally.most_waiting > HOLDS, "{}", tally.most_waiting);
 }
 
 #[test]

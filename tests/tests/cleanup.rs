@@ -19,7 +19,13 @@ fn every_order_leaves_the_same() {
     }
     println!("{}", pair.tally);
     let cases = |name| pair.tally.cases.get(name).copied().unwrap_or(0);
-    assert!(cases("a list in two orders") >= STATES);
+    for kind in [
+        "a list in two orders",
+        "a list in two orders, with quarantine",
+    ] {
+        assert!(cases(kind) >= STATES / 2, "{kind}");
+    }
+    assert!(pair.tally.swept >= STATES / 4);
     assert!(cases("answers in another order") >= STATES / 2);
     assert_eq!(cases("a list with a refused release"), STATES);
     assert!(cases("a quota's releases and its free-all") >= STATES / 2);

@@ -7,7 +7,7 @@ use lokhazim_tests::comparisons::pairs;
 use lokhazim_tests::forms::{Form, FORMS, FORM_1, FORM_2};
 use lokhazim_tests::image_cases::image_of;
 use lokhazim_tests::seed::Seed;
-use lokhazim_tests::state::{Call, State};
+use lokhazim_tests::state::{Call, State, PLAIN};
 use lokhazim_tests::states::Plan;
 
 /// The seed of every case.
@@ -39,7 +39,7 @@ fn changed(
     };
     let mut grants = [0; QUOTAS];
     grants[..form.quotas].fill(500);
-    for call in [Call::Open(grants), Call::Allocate(0, length)] {
+    for call in [Call::Open(grants, PLAIN), Call::Allocate(0, length)] {
         pair.call(&mut state, call).expect("no difference");
     }
     let first = image_of(pair, form, &state).expect("no difference");
@@ -49,7 +49,7 @@ fn changed(
 
 #[test]
 fn each_kind_of_difference_by_itself() {
-    use Difference::{Bytes, LastSerial, Quota, Record};
+    use Difference::{Bytes, Kind, LastSerial, Quota, Record};
     let mut pair = Pair::new();
     let mut expect_in = |form: Form, change: &dyn Fn(&mut State), expected: &[Difference]| {
         let (first, second) = changed(&mut pair, form, 120, change);
@@ -70,6 +70,17 @@ fn each_kind_of_difference_by_itself() {
         };
         expect_in(form, &more, &[Quota(quota)]);
     }
+    let quarantines = |state: &mut State| state.accounts.kind = 1;
+    expect_in(FORM_2, &quarantines, &[Kind]);
+    let all = |state: &mut State| {
+        state.accounts.kind = 1;
+        state.accounts.last_serial = 9;
+        state.accounts.quotas[0].permissions = 6;
+        state.accounts.holds[0].count = 2;
+        state.heap[50] = 1;
+    };
+    let listed = [LastSerial, Kind, Quota(0), Record(0), Bytes(50, 1)];
+    expect_in(FORM_2, &all, &listed);
     for number in 0..QUOTAS {
         let cleared = |state: &mut State| state.accounts.quotas[number].permissions = 6;
         expect_in(FORM_2, &cleared, &[Quota(number)]);

@@ -3,14 +3,15 @@
 use lokhazim_reference::{Accounts, HOLDS, MAX_HEAP, MIN_HEAP, QUOTAS};
 use lokhazim_tests::calls::Pair;
 use lokhazim_tests::compare::Failure;
-use lokhazim_tests::forms::{place_of, put_byte, Form, FORMS, FORM_1, FORM_2};
+use lokhazim_tests::cut::{header, put, quarantined, GREATEST_SERIAL, QUARANTINED};
+use lokhazim_tests::forms::{place_of, put_byte, put_word, Form, FORMS, FORM_1, FORM_2, KIND};
 use lokhazim_tests::harms::HARMS;
 use lokhazim_tests::image_cases::{
     every_byte, forged, harmed, image_of, narrow, round_trip, states, OVERFULL,
 };
 use lokhazim_tests::images::lengths_agree;
 use lokhazim_tests::seed::Seed;
-use lokhazim_tests::state::{Call, State};
+use lokhazim_tests::state::{Call, State, PLAIN};
 use lokhazim_tests::states::{sound_in, Plan};
 use lokhazim_tests::tally::Tally;
 
@@ -149,12 +150,12 @@ fn the_form_decides_how_the_rest_is_read() {
     let mut pair = Pair::new();
     let mut seed = Seed::new(SEED);
     for form in FORMS {
-        let state = Plan::in_form(form, &mut seed, 64).render(&mut seed);
+        let state = Plan::in_form(FORM_1, &mut seed, 64).render(&mut seed);
         let image = image_of(&mut pair, form, &state).expect("no difference");
         let mut other = image.clone();
         put_byte(&mut other, 0, form.other().number as u8);
         assert_eq!(read(&mut pair, &other, &state.heap).0, 24);
-        for (place, byte) in [(0, 0), (0, 3), (1, 1), (2, 1), (3, 1), (3, 255)] {
+        for (place, byte) in [(0, 0), (0, 3), (1, 1), (2, 1), (2, 255), (3, 2), (3, 255)] {
             let mut changed = image.clone();
             put_byte(&mut changed, place, byte);
             assert_eq!(
@@ -162,6 +163,73 @@ fn the_form_decides_how_the_rest_is_read() {
                 23,
                 "{place} {byte}"
             );
+        }
+    }
+}
+
+/// Every number for the kind in both forms: of a plain heap, of one with quarantine and nothing in it,
+/// and of one with quarantined blocks.
+#[test]
+fn every_byte_of_the_kind() {
+    let mut pair = Pair::new();
+    let mut plain = example(&mut pair);
+    let mut empty = plain.clone();
+    empty.accounts.kind = 1;
+    let mut waiting = empty.clone();
+    put(&mut waiting.heap, 0, header(24, 0, QUARANTINED));
+    put(&mut waiting.heap, 24, header(16, 24, QUARANTINED));
+    put(&mut waiting.heap, 40, header(24, 16, 0));
+    for (form, state) in [
+        (FORM_1, &mut plain.clone()),
+        (FORM_2, &mut plain),
+        (FORM_2, &mut empty),
+        (FORM_2, &mut waiting),
+    ] {
+        let image = image_of(&mut pair, form, state).expect("no difference");
+        assert_eq!(image[place_of(KIND)], state.accounts.kind);
+        for kind in 0..=255 {
+            let mut changed = image.clone();
+            put_byte(&mut changed, KIND, kind);
+            let wanted = match kind {
+                0 if quarantined(&state.heap).is_empty() => 0,
+                0 => 26,
+                1 if form == FORM_2 => 0,
+                _ => 23,
+            };
+            let (refusal, read) = read(&mut pair, &changed, &state.heap);
+            assert_eq!(refusal, wanted, "{kind}");
+            state.accounts.kind = kind;
+            if refusal == 0 {
+                assert_eq!(&read, state);
+            }
+        }
+    }
+}
+
+/// Form 1 carries no heap with quarantine, whatever is in it, and 28 comes before 25.
+#[test]
+fn form_1_has_plain_heaps_alone() {
+    let mut pair = Pair::new();
+    let mut state = example(&mut pair);
+    state.accounts.kind = 1;
+    let needed = FORM_1.length(state.heap.len());
+    for lent in [0, needed - 1, needed] {
+        let written = pair.write_image(FORM_1, &state, &vec![5; lent]);
+        assert_eq!(written.unwrap_or_else(|f| panic!("{f}")).0, 28, "{lent}");
+    }
+}
+
+/// The greatest last serial is read, and the one above it is not sound.
+#[test]
+fn the_last_serial_of_an_image() {
+    let mut pair = Pair::new();
+    let state = example(&mut pair);
+    for form in FORMS {
+        let image = image_of(&mut pair, form, &state).expect("no difference");
+        for (serial, refusal) in [(GREATEST_SERIAL, 0), (QUARANTINED, 26)] {
+            let mut changed = image.clone();
+            put_word(&mut changed, 8, serial);
+            assert_eq!(read(&mut pair, &changed, &state.heap).0, refusal);
         }
     }
 }
@@ -178,6 +246,7 @@ fn what_form_1_lacks_is_zero_and_permitted() {
         assert_eq!((refusal, &restored), (0, &state));
         let accounts = &restored.accounts;
         assert!(accounts.quotas.iter().all(|quota| quota.permissions == 7));
+        assert_eq!(accounts.kind, 0);
         let quotas = &accounts.quotas[FORM_1.quotas..QUOTAS];
         assert!(quotas.iter().all(|q| (q.grant, q.remainder) == (0, 0)));
         assert!(accounts.holds[FORM_1.records..HOLDS]
@@ -194,7 +263,7 @@ fn example(pair: &mut Pair) -> State {
     };
     let mut grants = [0; QUOTAS];
     grants[..2].copy_from_slice(&[100, 1_000]);
-    let opened = pair.call(&mut state, Call::Open(grants));
+    let opened = pair.call(&mut state, Call::Open(grants, PLAIN));
     assert!(opened.is_ok_and(|answer| answer.is_accepted()));
     state
 }

@@ -4,7 +4,7 @@
 use lokhazim_reference::{Accounts, Handle, QUOTAS};
 use lokhazim_tests::calls::Pair;
 use lokhazim_tests::cut::{header, live_handles, put};
-use lokhazim_tests::state::{Answer, Call, State};
+use lokhazim_tests::state::{Answer, Call, State, PLAIN};
 
 /// The length of the heap of most states here.
 const HEAP: u32 = 96;
@@ -33,7 +33,7 @@ fn opened(pair: &mut Pair, length: u32, calls: &[Call]) -> State {
         heap: vec![0; length as usize],
         accounts: Accounts::default(),
     };
-    let open = [Call::Open([1_000; QUOTAS])];
+    let open = [Call::Open([1_000; QUOTAS], PLAIN)];
     for made in open.iter().chain(calls) {
         assert!(call(pair, &mut state, *made).is_accepted(), "{made}");
     }

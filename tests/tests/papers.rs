@@ -4,7 +4,7 @@ use lokhazim_reference::{Accounts, Handle, QUOTAS};
 use lokhazim_tests::calls::Pair;
 use lokhazim_tests::programs::{Feed, Programs};
 use lokhazim_tests::script::open_line;
-use lokhazim_tests::state::{Answer, Call, State};
+use lokhazim_tests::state::{Answer, Call, State, PLAIN};
 
 /// Runs both programs on lines and checks that they print these lines.
 fn prints(name: &str, input: &str, output: &str) {
@@ -53,7 +53,7 @@ impl Run {
             state,
         };
         run.pair.begin("papers", 0, length as u64);
-        let answer = run.call(Call::Open(grants(first_grants)));
+        let answer = run.call(Call::Open(grants(first_grants), PLAIN));
         (run, answer)
     }
 

@@ -6,7 +6,7 @@ use lokhazim_tests::calls::Pair;
 use lokhazim_tests::forms::{FORM_1, FORM_2};
 use lokhazim_tests::image_cases::image_of;
 use lokhazim_tests::judge::{broken, Sentence};
-use lokhazim_tests::state::{Answer, Call, State};
+use lokhazim_tests::state::{Answer, Call, State, PLAIN};
 use lokhazim_tests::states::permitted;
 use lokhazim_tests::unsound::check_is_the_judges;
 
@@ -38,7 +38,7 @@ fn begin(pair: &mut Pair) -> State {
     };
     let last = QUOTAS as u32 - 1;
     let calls = [
-        Call::Open([1_000; QUOTAS]),
+        Call::Open([1_000; QUOTAS], PLAIN),
         Call::Allocate(0, 16),
         Call::Claim(last, OBJECT),
     ];
@@ -161,17 +161,17 @@ fn an_opening_sets_all_and_a_refused_one_none() {
     let mut pair = Pair::new();
     let mut state = begin(&mut pair);
     call(&mut pair, &mut state, Call::ClearPermissions(0, 7));
-    call(&mut pair, &mut state, Call::Open([9; QUOTAS]));
+    call(&mut pair, &mut state, Call::Open([9; QUOTAS], PLAIN));
     assert_eq!(state, permitted(&state));
     state.heap.truncate(65);
     assert_eq!(
-        call(&mut pair, &mut state, Call::Open([9; QUOTAS])),
+        call(&mut pair, &mut state, Call::Open([9; QUOTAS], PLAIN)),
         Answer::refused(1)
     );
     assert_eq!(state.accounts, Accounts::default());
     // Zero accounts agree with a heap that is all free, and permit nothing.
     let mut other = begin(&mut pair);
-    call(&mut pair, &mut other, Call::Open([0; QUOTAS]));
+    call(&mut pair, &mut other, Call::Open([0; QUOTAS], PLAIN));
     other.accounts = Accounts::default();
     assert!(call(&mut pair, &mut other, Call::Check).is_accepted());
     assert_eq!(
@@ -219,7 +219,7 @@ fn the_run_of_the_rule_book() {
         ..OBJECT
     };
     let steps = [
-        (Call::Open(grants), Answer::accepted(&[])),
+        (Call::Open(grants, PLAIN), Answer::accepted(&[])),
         (Call::ClearPermissions(0, 0), Answer::accepted(&[7])),
         (
             Call::ClearPermissions(0, 4_294_967_288),

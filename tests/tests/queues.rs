@@ -8,7 +8,7 @@ use lokhazim_tests::cut::live_handles;
 use lokhazim_tests::damage::damaged_together;
 use lokhazim_tests::queues::{any_handle, any_queue, history, Queues};
 use lokhazim_tests::seed::Seed;
-use lokhazim_tests::state::{Call, State};
+use lokhazim_tests::state::{Call, State, PLAIN};
 use lokhazim_tests::states::{sound, Plan};
 
 /// The seed of every case.
@@ -118,7 +118,7 @@ fn a_full_table_is_refused_though_a_record_would_come_free() {
         heap: vec![0; 512],
         accounts: Accounts::default(),
     };
-    state.perform(Call::Open([10_000; QUOTAS]));
+    state.perform(Call::Open([10_000; QUOTAS], PLAIN));
     for _ in 0..HOLDS / QUOTAS + 1 {
         state.perform(Call::Allocate(0, 8));
     }

@@ -3,7 +3,7 @@
 
 use lokhazim_reference::{Accounts, QUOTAS};
 use lokhazim_tests::calls::Pair;
-use lokhazim_tests::state::{Answer, Call, State};
+use lokhazim_tests::state::{Answer, Call, State, PLAIN};
 
 /// The heap of every request here.
 const LENGTH: u32 = 32_768;
@@ -20,7 +20,7 @@ fn fresh(pair: &mut Pair) -> State {
         heap: vec![0; LENGTH as usize],
         accounts: Accounts::default(),
     };
-    made(pair, &mut state, Call::Open([2 * LENGTH; QUOTAS]));
+    made(pair, &mut state, Call::Open([2 * LENGTH; QUOTAS], PLAIN));
     state
 }
 

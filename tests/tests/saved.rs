@@ -1,9 +1,9 @@
 //! What the harness makes and saves: states are as they claim, and a saved call is read as it was.
 
-use lokhazim_reference::QUOTAS;
+use lokhazim_reference::{HOLDS, QUOTAS};
 use lokhazim_tests::case::{read_case, write_case};
 use lokhazim_tests::choice::{one_of_each, Habits, MIXED};
-use lokhazim_tests::cut::blocks;
+use lokhazim_tests::cut::{blocks, quarantined, GREATEST_SERIAL};
 use lokhazim_tests::forged::View;
 use lokhazim_tests::forms::{lacks_permission, FORM_1};
 use lokhazim_tests::judge::broken;
@@ -30,7 +30,10 @@ fn states_that_are_made_sound_differ_widely() {
         |of: fn(&lokhazim_tests::state::State) -> bool| states.iter().filter(|s| of(s)).count();
     assert!(count(|s| s.heap.len() == 64) >= 5);
     assert!(count(|s| s.heap.len() >= 16_384) >= 10);
-    assert!(count(|s| s.accounts.last_serial == u32::MAX) >= 20);
+    assert!(count(|s| s.accounts.last_serial == GREATEST_SERIAL) >= 20);
+    assert!(count(|s| s.accounts.kind == 0) >= 200 && count(|s| s.accounts.kind == 1) >= 100);
+    assert!(count(|s| quarantined(&s.heap).len() > 1) >= 50);
+    assert!(count(|s| quarantined(&s.heap).len() > HOLDS) >= 1);
     assert!(count(|s| s.accounts.holds.iter().all(|hold| hold.is_used())) >= 5);
     assert!(count(|s| blocks(&s.heap).iter().all(|block| block.serial != 0)) >= 20);
     assert!(count(|s| blocks(&s.heap).len() >= 40) >= 20);

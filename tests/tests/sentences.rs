@@ -3,7 +3,7 @@
 use lokhazim_reference::{Accounts, Handle, QUOTAS};
 use lokhazim_tests::ledger::Ledger;
 use lokhazim_tests::sentences::{wrong, Step};
-use lokhazim_tests::state::{Answer, Call, State};
+use lokhazim_tests::state::{Answer, Call, State, PLAIN, QUARANTINE};
 
 /// A call with everything before and after it, to be changed.
 #[derive(Clone)]
@@ -62,7 +62,7 @@ fn begin() -> State {
         accounts: Accounts::default(),
     };
     let calls = [
-        Call::Open([1_000; QUOTAS]),
+        Call::Open([1_000; QUOTAS], PLAIN),
         Call::Allocate(0, 16),
         Call::Allocate(1, 24),
         Call::Allocate(2, 40),
@@ -98,7 +98,7 @@ fn part() -> Handle {
 #[test]
 fn right_steps_break_nothing() {
     let calls = [
-        Call::Open([5; QUOTAS]),
+        Call::Open([5; QUOTAS], PLAIN),
         Call::Allocate(3, 20),
         Call::Array(3, 5, 5),
         Call::Allocate(3, 200),
@@ -167,6 +167,72 @@ fn a_wrong_permission_is_noticed() {
     });
     let release = Recorded::new(&state, Call::Release(0, first()));
     release.breaks("as the table says", |s| s.answer = Answer::refused(12));
+}
+
+/// The same heap with quarantine, in which the gap is a quarantined block.
+fn begin_with_quarantine() -> State {
+    let mut state = State {
+        heap: vec![0; 256],
+        accounts: Accounts::default(),
+    };
+    let calls = [
+        Call::Open([1_000; QUOTAS], QUARANTINE),
+        Call::Allocate(0, 16),
+        Call::Allocate(1, 24),
+        Call::Allocate(2, 40),
+        Call::FreeAll(1),
+    ];
+    for call in calls {
+        assert!(state.perform(call).is_accepted(), "{call}");
+    }
+    state
+}
+
+#[test]
+fn right_steps_with_quarantine_break_nothing() {
+    let calls = [
+        Call::Sweep,
+        Call::Release(0, first()),
+        Call::FreeAll(2),
+        Call::Allocate(3, 24),
+        Call::Allocate(3, 200),
+        Call::Reallocate(0, first(), 48),
+        Call::Open([5; QUOTAS], PLAIN),
+    ];
+    for call in calls {
+        let step = Recorded::new(&begin_with_quarantine(), call);
+        assert_eq!(step.wrong(), Vec::<String>::new(), "{call}");
+    }
+}
+
+#[test]
+fn a_wrong_quarantine_is_noticed() {
+    let state = begin_with_quarantine();
+    let release = Recorded::new(&state, Call::Release(0, first()));
+    let blocks = "quarantined blocks are the ledger's";
+    let bytes = "quarantined blocks keep their bytes";
+    // Freed at once, joined with the block behind, not cleared.
+    release.breaks(blocks, |s| s.after.heap[4..8].fill(0));
+    release.breaks(blocks, |s| s.ledger.quarantined.truncate(1));
+    release.breaks(bytes, |s| s.after.heap[8] = 1);
+    release.breaks(bytes, |s| s.after.heap[32] = 1);
+    release.breaks("the kind", |s| s.after.accounts.kind = 0);
+    release.breaks("are sound", |s| s.after.accounts.kind = 0);
+    release.breaks("are sound", |s| s.after.accounts.kind = 2);
+    let sweep = Recorded::new(&state, Call::Sweep);
+    sweep.breaks(blocks, |s| s.after = s.before.clone());
+    sweep.breaks("answers follow", |s| s.answer.numbers[0] -= 8);
+    sweep.breaks("answers follow", |s| s.answer.numbers[0] = 0);
+    sweep.breaks("as the table says", |s| s.answer = Answer::refused(3));
+    // The gap of 32 bytes is no space while it waits.
+    let waits = Recorded::new(&state, Call::Allocate(3, 24));
+    assert_eq!(waits.answer.handle().base, 112);
+    waits.breaks("suitable run", |s| {
+        s.answer = Answer::accepted(&[32, 24, 4])
+    });
+    waits.breaks("shares a byte", |s| s.ledger.objects[2].handle.base = 32);
+    let full = Recorded::new(&state, Call::Allocate(3, 152));
+    assert_eq!(full.answer, Answer::refused(11));
 }
 
 #[test]

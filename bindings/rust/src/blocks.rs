@@ -5,6 +5,9 @@ use core::iter::FusedIterator;
 use crate::heap::Heap;
 use crate::refusal::Refusal;
 
+/// The serial of a quarantined block, which no object has.
+pub const QUARANTINED: u32 = u32::MAX;
+
 /// A block of the heap: a header of 8 bytes and what stands behind it.
 #[derive(Clone, Copy, Debug, PartialEq, Eq, Hash)]
 pub struct Block {
@@ -12,7 +15,8 @@ pub struct Block {
     pub offset: usize,
     /// The size in bytes, with the header.
     pub size: usize,
-    /// The serial of the object in it, 0 if the block is free.
+    /// The serial of the object in it, 0 if the block is free, [`QUARANTINED`] if it waits for a
+    /// sweep.
     pub serial: u32,
 }
 
@@ -27,6 +31,37 @@ impl Block {
     /// ```
     pub const fn is_free(&self) -> bool {
         self.serial == 0
+    }
+
+    /// Whether the block waits for a sweep.
+    ///
+    /// ```
+    /// use lokhazim::{Heap, Kind, Settings, QUOTAS};
+    ///
+    /// # let mut memory = [0; 128];
+    /// let settings = Settings { kind: Kind::Quarantine };
+    /// let mut heap = Heap::open_with(&mut memory, [100; QUOTAS], settings)?;
+    /// let handle = heap.allocate(0, 10)?;
+    /// heap.release(0, handle)?;
+    /// assert!(heap.block_at(0)?.unwrap().is_quarantined());
+    /// # Ok::<(), lokhazim::Refusal>(())
+    /// ```
+    pub const fn is_quarantined(&self) -> bool {
+        self.serial == QUARANTINED
+    }
+
+    /// Whether the block has an object: it is neither free nor quarantined.
+    ///
+    /// ```
+    /// # let mut memory = [0; 128];
+    /// let mut heap = lokhazim::Heap::open(&mut memory, [100; lokhazim::QUOTAS])?;
+    /// heap.allocate(0, 10)?;
+    /// assert!(heap.block_at(0)?.unwrap().is_live());
+    /// assert!(!heap.block_at(24)?.unwrap().is_live());
+    /// # Ok::<(), lokhazim::Refusal>(())
+    /// ```
+    pub const fn is_live(&self) -> bool {
+        !self.is_free() && !self.is_quarantined()
     }
 }
 

@@ -12,6 +12,8 @@ use crate::raw;
 pub enum Difference {
     /// The last serial.
     LastSerial,
+    /// The kind of the heap.
+    Kind,
     /// The quota of this number: its grant, its remainder or its permissions.
     Quota(usize),
     /// The hold record at this place.
@@ -58,8 +60,8 @@ impl fmt::Display for CompareRefusal {
 
 impl Error for CompareRefusal {}
 
-/// Lists everything that differs between two images of one form and nothing else: the last serial,
-/// quotas, records, runs of heap bytes, each in rising order. There is nothing exactly if the two images
+/// Lists everything that differs between two images of one form and nothing else: the last serial, the
+/// kind, quotas, records, runs of heap bytes, each in rising order. There is nothing exactly if the two images
 /// hold equal states, which is exactly if their bytes are equal.
 ///
 /// # Errors
@@ -123,6 +125,7 @@ impl Iterator for Differences<'_> {
                 offset: reply.place,
                 length: reply.length,
             },
+            5 => Difference::Kind,
             _ => return None,
         };
         (self.part, self.at) = (reply.part, reply.at);

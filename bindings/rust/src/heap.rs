@@ -3,6 +3,7 @@
 use core::fmt;
 
 use crate::layout::{Accounts, AmountReply, Grants, Handle, HandleReply, QUOTAS};
+use crate::opening::Settings;
 use crate::permissions::Permissions;
 use crate::raw;
 use crate::refusal::{verdict, Refusal};
@@ -29,7 +30,8 @@ pub struct Heap<'a> {
 }
 
 impl<'a> Heap<'a> {
-    /// Clears the bytes and gives each quota its grant and all permissions.
+    /// Clears the bytes and gives each quota its grant and all permissions. The heap is plain; for
+    /// another kind see [`open_with`](Heap::open_with).
     ///
     /// The bytes are a multiple of 8 from 64 to 32,768. Put them into [`Aligned`](crate::Aligned)
     /// where the addresses of objects have to be aligned.
@@ -46,7 +48,31 @@ impl<'a> Heap<'a> {
     /// assert_eq!(Heap::open(&mut memory, [100; QUOTAS]).unwrap_err(), Refusal::HeapLength);
     /// ```
     pub fn open(bytes: &'a mut [u8], grants: [u32; QUOTAS]) -> Result<Heap<'a>, Refusal> {
-        let reply = raw::open(bytes, Grants { values: grants });
+        Heap::open_with(bytes, grants, Settings::default())
+    }
+
+    /// Clears the bytes and gives each quota its grant and all permissions, with these settings.
+    ///
+    /// # Errors
+    ///
+    /// [`Refusal::HeapLength`]; the bytes are as they were.
+    ///
+    /// ```
+    /// use lokhazim::{Heap, Kind, Settings, QUOTAS};
+    ///
+    /// let mut memory = [7; 128];
+    /// let settings = Settings { kind: Kind::Quarantine };
+    /// let heap = Heap::open_with(&mut memory, [100; QUOTAS], settings)?;
+    /// assert_eq!(heap.kind(), Kind::Quarantine);
+    /// # Ok::<(), lokhazim::Refusal>(())
+    /// ```
+    pub fn open_with(
+        bytes: &'a mut [u8],
+        grants: [u32; QUOTAS],
+        settings: Settings,
+    ) -> Result<Heap<'a>, Refusal> {
+        let kind = u32::from(settings.kind.number());
+        let reply = raw::open(bytes, Grants { values: grants }, kind);
         verdict(reply.refusal)?;
         Ok(Heap {
             bytes,
@@ -91,8 +117,8 @@ impl<'a> Heap<'a> {
         (self.bytes, self.accounts)
     }
 
-    /// The accounts: each quota's grant, remainder and permissions, the last serial and the hold
-    /// records.
+    /// The accounts: each quota's grant, remainder and permissions, the last serial, the hold
+    /// records and the kind.
     ///
     /// ```
     /// # let mut memory = [0; 128];
@@ -183,8 +209,9 @@ impl<'a> Heap<'a> {
     /// Drops one hold of the quota; gives what the quota gets back, 0 while it still holds the
     /// object.
     ///
-    /// An object that nobody holds any more is cleared and its bytes are free. A handle of a part
-    /// drops the hold on the whole object.
+    /// An object that nobody holds any more is cleared; its bytes are free, or wait for a
+    /// [`sweep`](Heap::sweep) in a heap with quarantine. A handle of a part drops the hold on the
+    /// whole object.
     ///
     /// # Errors
     ///
@@ -288,6 +315,36 @@ impl<'a> Heap<'a> {
     ) -> Result<Handle, Refusal> {
         let reply = raw::reallocate(self.bytes, &self.accounts, quota, handle, length);
         self.take_handle(reply)
+    }
+
+    /// Makes every quarantined block free and joins neighbours that are free; gives the sum of their
+    /// sizes in bytes, headers included.
+    ///
+    /// Quotas get nothing back, as they did when the objects were released. In a plain heap, and
+    /// where no block waits, it gives 0 and changes nothing.
+    ///
+    /// # Errors
+    ///
+    /// None but [`Refusal::Inconsistent`].
+    ///
+    /// ```
+    /// use lokhazim::{grants, Heap, Kind, Refusal, Settings};
+    ///
+    /// # let mut memory = [0; 128];
+    /// let settings = Settings { kind: Kind::Quarantine };
+    /// let mut heap = Heap::open_with(&mut memory, grants([200]), settings)?;
+    /// heap.allocate(0, 40)?;
+    /// heap.allocate(0, 72)?;
+    /// assert_eq!(heap.free_all(0)?, 128);
+    /// assert_eq!(heap.allocate(0, 8), Err(Refusal::NoSpace));
+    /// assert_eq!(heap.sweep()?, 128);
+    /// assert_eq!(heap.sweep()?, 0);
+    /// assert_eq!(heap.allocate(0, 120)?.base, 8);
+    /// # Ok::<(), Refusal>(())
+    /// ```
+    pub fn sweep(&mut self) -> Result<u32, Refusal> {
+        let reply = raw::sweep(self.bytes, &self.accounts);
+        self.take_amount(reply)
     }
 
     /// Takes over the accounts of a reply, which are those from before where it is a refusal.

@@ -37,7 +37,7 @@ pub struct Hold {
     pub count: u8,
 }
 
-/// The accounts of a heap: its quotas, the last serial given and the hold records.
+/// The accounts of a heap: its quotas, the last serial given, the hold records and its kind.
 #[derive(Clone, Debug, PartialEq, Eq, Hash)]
 #[repr(C)]
 pub struct Accounts {
@@ -47,6 +47,8 @@ pub struct Accounts {
     pub last_serial: u32,
     /// The hold records.
     pub holds: [Hold; HOLDS],
+    /// The number of the heap's [`Kind`](crate::Kind), 0 or 1.
+    pub kind: u8,
 }
 
 /// Names an object by its serial and by the range of bytes that the handle has of it.
@@ -112,7 +114,7 @@ pub struct HandleReply {
     pub handle: Handle,
 }
 
-/// The reply of claim, release, free-all and clear permissions.
+/// The reply of claim, release, free-all, clear permissions and sweep.
 #[repr(C)]
 pub struct AmountReply {
     /// The accounts after the call.
@@ -154,7 +156,7 @@ pub struct BlockReply {
     pub offset: usize,
     /// Its size in bytes.
     pub size: usize,
-    /// Its serial, 0 for a free block.
+    /// Its serial, 0 for a free block, [`u32::MAX`] for a quarantined one.
     pub serial: u32,
 }
 
@@ -194,7 +196,7 @@ pub struct CompareReply {
     pub refusal: u32,
     /// The image that a refusal is about: 1 the first, 2 the second, 0 neither.
     pub which: u32,
-    /// 0 nothing, 1 the last serial, 2 a quota, 3 a record, 4 heap bytes.
+    /// 0 nothing, 1 the last serial, 2 a quota, 3 a record, 4 heap bytes, 5 the heap's kind.
     pub kind: u32,
     /// The quota's number, the record's place, the bytes' offset.
     pub place: usize,
@@ -211,7 +213,7 @@ pub struct NextReply {
     pub place: usize,
     /// As in [`CompareReply`].
     pub length: usize,
-    /// The part of the position behind it: 0 start, 1 quotas, 2 records, 3 bytes.
+    /// The part of the position behind it: 0 start, 1 quotas, 2 records, 3 bytes, 4 kind.
     pub part: u32,
     /// The place in that part.
     pub at: usize,
@@ -310,17 +312,17 @@ macro_rules! lies {
 
 lies!(Quota, 12: grant at 0, remainder at 4, permissions at 8);
 lies!(Hold, 8: serial at 0, quota at 4, count at 5);
-lies!(Accounts, 4484: quotas at 0, last_serial at 384, holds at 388);
+lies!(Accounts, 4488: quotas at 0, last_serial at 384, holds at 388, kind at 4484);
 lies!(Handle, 12: base at 0, length at 4, serial at 8);
 lies!(Grants, 128: values at 0);
-lies!(OpenReply, 4488: accounts at 0, refusal at 4484);
-lies!(HandleReply, 4500: accounts at 0, refusal at 4484, handle at 4488);
-lies!(AmountReply, 4492: accounts at 0, refusal at 4484, amount at 4488);
+lies!(OpenReply, 4492: accounts at 0, refusal at 4488);
+lies!(HandleReply, 4504: accounts at 0, refusal at 4488, handle at 4492);
+lies!(AmountReply, 4496: accounts at 0, refusal at 4488, amount at 4492);
 lies!(Amount, 8: refusal at 0, amount at 4);
 lies!(RangeReply, 24: refusal at 0, start at 8, end at 16);
 lies!(BlockReply, 32: refusal at 0, found at 4, offset at 8, size at 16, serial at 24);
 lies!(ImageReply, 16: refusal at 0, length at 8);
-lies!(RestoreReply, 4488: accounts at 0, refusal at 4484);
+lies!(RestoreReply, 4492: accounts at 0, refusal at 4488);
 lies!(ExamineReply, 16: refusal at 0, form at 4, heap_length at 8);
 lies!(CompareReply, 32: refusal at 0, which at 4, kind at 8, place at 16, length at 24);
 lies!(NextReply, 40: kind at 0, place at 8, length at 16, part at 24, at at 32);
@@ -330,5 +332,5 @@ lies!(FindReply, 24: refusal at 0, store at 4, start at 8, end at 16);
 lies!(AddReply, 16: refusal at 0, used at 8);
 lies!(EntryReply, 32: refusal at 0, there at 4, version at 8, name at 10, start at 16, end at 24);
 lies!(Queue, 204: sender at 0, receiver at 4, count at 8, handles at 12);
-lies!(SendReply, 4692: accounts at 0, queue at 4484, refusal at 4688);
+lies!(SendReply, 4696: accounts at 0, queue at 4488, refusal at 4692);
 lies!(ReceiveReply, 220: queue at 0, refusal at 204, handle at 208);

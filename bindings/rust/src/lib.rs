@@ -2,7 +2,8 @@
 //! `liblokhazim.a`.
 //!
 //! Each part has a quota, each object costs its rounded length plus 8, and a part may hold an object
-//! that another made. Every call but the opening checks the whole heap and its accounts; a call
+//! that another made. A heap may keep the blocks of released objects in quarantine until a sweep
+//! (see [`Kind`]). Every call but the opening checks the whole heap and its accounts; a call
 //! answers, or gives one of twelve refusals and changes nothing. That is proved of the library on
 //! any bytes and any numbers; this crate adds types that keep the bytes and their accounts together,
 //! and no rule of its own. A quota's number is an argument: keep the [`Heap`] in one trusted place
@@ -66,6 +67,7 @@ mod heap;
 mod image;
 mod layout;
 mod moves;
+mod opening;
 mod permissions;
 mod queries;
 mod queue;
@@ -75,7 +77,7 @@ mod refusal;
 mod report;
 mod settings;
 
-pub use blocks::{Block, Blocks};
+pub use blocks::{Block, Blocks, QUARANTINED};
 pub use comparison::{compare_images, CompareRefusal, Difference, Differences, Which};
 pub use heap::Heap;
 pub use image::{
@@ -84,6 +86,7 @@ pub use image::{
 };
 pub use layout::{Accounts, Handle, Hold, Queue, Quota, HOLDS, QUEUE_PLACES, QUOTAS};
 pub use moves::{move_image_down, move_image_up};
+pub use opening::{Kind, Settings};
 pub use permissions::Permissions;
 pub use queue::QueueRefusal;
 pub use refusal::Refusal;
@@ -102,6 +105,9 @@ pub const HEAP_MAX: usize = 32_768;
 
 /// The most bytes that can be asked for.
 pub const REQUEST_MAX: u32 = 32_760;
+
+/// The last serial that an object can get.
+pub const SERIAL_MAX: u32 = u32::MAX - 1;
 
 /// The grants of the first quotas, and 0 for the others.
 ///

@@ -3,6 +3,7 @@
 use crate::blocks::{Block, Blocks};
 use crate::heap::Heap;
 use crate::layout::Handle;
+use crate::opening::Kind;
 use crate::permissions::Permissions;
 use crate::raw;
 use crate::refusal::{verdict, Refusal};
@@ -117,6 +118,24 @@ impl Heap<'_> {
         verdict(reply.refusal).map(|()| Permissions::left(reply.amount))
     }
 
+    /// What becomes of a block that nobody holds any more, as it was chosen at the opening.
+    ///
+    /// ```
+    /// use lokhazim::{Heap, Kind, QUOTAS};
+    ///
+    /// # let mut memory = [0; 128];
+    /// let heap = Heap::open(&mut memory, [100; QUOTAS])?;
+    /// assert_eq!(heap.kind(), Kind::Plain);
+    /// # Ok::<(), lokhazim::Refusal>(())
+    /// ```
+    pub fn kind(&self) -> Kind {
+        // The library gives no other number than 0 and 1.
+        match self.accounts.kind {
+            0 => Kind::Plain,
+            _ => Kind::Quarantine,
+        }
+    }
+
     /// Whether release would be accepted.
     ///
     /// # Errors
@@ -160,7 +179,7 @@ impl Heap<'_> {
         }))
     }
 
-    /// The blocks from the heap's first byte to its last, live and free.
+    /// The blocks from the heap's first byte to its last: live, free and quarantined ones.
     ///
     /// ```
     /// # let mut memory = [0; 128];

@@ -12,7 +12,7 @@ use crate::layout::{
 };
 
 extern "C" {
-    fn lokhazim_open(heap: *mut u8, length: usize, grants: Grants) -> OpenReply;
+    fn lokhazim_open(heap: *mut u8, length: usize, grants: Grants, kind: u32) -> OpenReply;
     fn lokhazim_allocate(
         heap: *mut u8,
         length: usize,
@@ -63,6 +63,7 @@ extern "C" {
         handle: Handle,
         bytes: u32,
     ) -> HandleReply;
+    fn lokhazim_sweep(heap: *mut u8, length: usize, accounts: Accounts) -> AmountReply;
     fn lokhazim_lend(
         heap: *const u8,
         length: usize,
@@ -199,9 +200,9 @@ macro_rules! safe {
     };
 }
 
-pub fn open(heap: &mut [u8], grants: Grants) -> OpenReply {
+pub fn open(heap: &mut [u8], grants: Grants, kind: u32) -> OpenReply {
     // SAFETY: pointer and length are those of a slice that is borrowed for the call.
-    unsafe { lokhazim_open(heap.as_mut_ptr(), heap.len(), grants) }
+    unsafe { lokhazim_open(heap.as_mut_ptr(), heap.len(), grants, kind) }
 }
 
 safe!(mut allocate = lokhazim_allocate(quota: u32, bytes: u32) -> HandleReply);
@@ -211,6 +212,7 @@ safe!(mut release = lokhazim_release(quota: u32, handle: Handle) -> AmountReply)
 safe!(mut free_all = lokhazim_free_all(quota: u32) -> AmountReply);
 safe!(ref clear_permissions = lokhazim_clear_permissions(quota: u32, bits: u32) -> AmountReply);
 safe!(mut reallocate = lokhazim_reallocate(quota: u32, handle: Handle, bytes: u32) -> HandleReply);
+safe!(mut sweep = lokhazim_sweep() -> AmountReply);
 safe!(ref lend = lokhazim_lend(handle: Handle) -> RangeReply);
 safe!(mut write = lokhazim_write(handle: Handle, at: u32, byte: u8) -> u32);
 safe!(ref remaining = lokhazim_remaining(quota: u32) -> Amount);

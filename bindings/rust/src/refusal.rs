@@ -23,8 +23,10 @@ use crate::layout::{HOLDS, QUOTAS};
 pub enum Refusal {
     /// 1: the heap's length is not allowed.
     HeapLength = 1,
-    /// 2: the heap's bytes and its accounts don't agree, a long object's base is not aligned, or a
-    /// quota has permissions that don't exist.
+    /// 2: the heap's bytes and its accounts don't agree, a long object's base is not aligned, a
+    /// quota has permissions that don't exist, the last serial is above
+    /// [`SERIAL_MAX`](crate::SERIAL_MAX), the kind doesn't exist, or a plain heap has a quarantined
+    /// block.
     Inconsistent = 2,
     /// 3: there is no quota of this number.
     QuotaNumber = 3,
@@ -41,9 +43,9 @@ pub enum Refusal {
     QuotaExceeded = 8,
     /// 9: all hold records are used.
     HoldsExhausted = 9,
-    /// 10: every serial was given.
+    /// 10: the last serial is [`SERIAL_MAX`](crate::SERIAL_MAX), so every serial was given.
     SerialsExhausted = 10,
-    /// 11: no free run of bytes is long enough.
+    /// 11: no free run of bytes is long enough; in a heap with quarantine a sweep may make one.
     NoSpace = 11,
     /// 12: the quota lacks the permission that the call needs.
     NotPermitted = 12,
@@ -115,7 +117,9 @@ impl Refusal {
                 "the object costs its length plus 8, and less remains of the quota; release something or ask for less"
             }
             Refusal::SerialsExhausted => "every serial was given; open the heap anew",
-            Refusal::NoSpace => "no free run of bytes is long enough; release something or ask for less",
+            Refusal::NoSpace => {
+                "no free run of bytes is long enough; release something, sweep a heap with quarantine, or ask for less"
+            }
             Refusal::NotPermitted => {
                 "the quota lacks the permission for this call; it was cleared, and only an opening or an image that is read sets it again"
             }

@@ -58,6 +58,14 @@ fn settings_go_from_c_and_back() {
 }
 
 #[test]
+fn released_blocks_wait_for_a_sweep_from_c() {
+    for level in ["-O0", "-O2"] {
+        let program = compile("bindings/rust/tests/c/quarantine.c", level);
+        run(&program, &[], b"");
+    }
+}
+
+#[test]
 fn every_field_goes_through_the_library_from_c() {
     for level in ["-O0", "-O2"] {
         run(&compile("bindings/rust/tests/c/library.c", level), &[], b"");

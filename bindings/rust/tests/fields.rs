@@ -89,6 +89,7 @@ impl Fields for Accounts {
             .for_each(|quota| quota.visit(visitor));
         visitor.visit32(&mut self.last_serial);
         self.holds.iter_mut().for_each(|hold| hold.visit(visitor));
+        visitor.visit8(&mut self.kind);
     }
 }
 

@@ -4,8 +4,8 @@ use std::error::Error;
 
 use lokhazim::{
     compare_images, examine_image, grants, image_length, image_length_form_1, move_image_down,
-    move_image_up, Accounts, Difference, Heap, Hold, ImageRefusal, Permissions, Which,
-    FORM_1_HOLDS, FORM_1_QUOTAS, HOLDS, QUOTAS,
+    move_image_up, Accounts, Difference, Heap, Hold, ImageRefusal, Kind, Permissions, Settings,
+    Which, FORM_1_HOLDS, FORM_1_QUOTAS, HOLDS, QUOTAS,
 };
 
 /// The images of a heap in form 2 and in form 1.
@@ -117,6 +117,7 @@ fn is_carried(carried: bool, change: impl FnOnce(&mut Accounts)) -> Result<(), B
 #[test]
 fn form_1_is_refused_exactly_for_what_it_can_not_carry() -> Result<(), Box<dyn Error>> {
     is_carried(true, |_| {})?;
+    is_carried(false, |a| a.kind = 1)?;
     for number in 0..QUOTAS {
         is_carried(number < FORM_1_QUOTAS, |a| {
             let more = a.quotas[number].grant - a.quotas[number].remainder;
@@ -171,5 +172,76 @@ fn a_quota_differs_by_its_permissions_alone() -> Result<(), Box<dyn Error>> {
     heap.save(&mut after)?;
     let differences: Vec<Difference> = compare_images(&before, &after)?.collect();
     assert_eq!(differences, [Difference::Quota(31)]);
+    Ok(())
+}
+
+/// A heap of 128 bytes of a kind in which one of two objects was released.
+fn released(bytes: &mut [u8], kind: Kind) -> Result<Heap<'_>, Box<dyn Error>> {
+    let mut heap = Heap::open_with(bytes, grants([100]), Settings { kind })?;
+    let first = heap.allocate(0, 8)?;
+    heap.allocate(0, 8)?;
+    heap.release(0, first)?;
+    Ok(heap)
+}
+
+#[test]
+fn quarantined_blocks_come_back_as_they_were_saved() -> Result<(), Box<dyn Error>> {
+    let mut memory = [0; 128];
+    let mut heap = released(&mut memory, Kind::Quarantine)?;
+    let mut image = [0; 5_120];
+    heap.save(&mut image)?;
+    let mut elsewhere = [7; 128];
+    let mut again = Heap::restore(&mut elsewhere, &image)?;
+    assert_eq!((again.kind(), again.sweep()?), (Kind::Quarantine, 16));
+    heap.sweep()?;
+    assert_eq!(again.parts(), heap.parts());
+
+    // A plain heap goes back to a heap with quarantine, and the other way round.
+    let mut memory = [0; 128];
+    let mut plain = released(&mut memory, Kind::Plain)?;
+    let mut plain_image = [0; 5_120];
+    plain.save(&mut plain_image)?;
+    plain.go_back(&image)?;
+    assert_eq!((plain.kind(), plain.sweep()?), (Kind::Quarantine, 16));
+    plain.go_back(&plain_image)?;
+    assert_eq!((plain.kind(), plain.sweep()?), (Kind::Plain, 0));
+    Ok(())
+}
+
+#[test]
+fn kinds_are_compared_and_not_moved_down() -> Result<(), Box<dyn Error>> {
+    let mut images = [[0; 5_120]; 2];
+    for (kind, image) in [Kind::Plain, Kind::Quarantine].into_iter().zip(&mut images) {
+        released(&mut [0; 128], kind)?.save(image)?;
+    }
+    let differences: Vec<Difference> = compare_images(&images[0], &images[1])?.collect();
+    let serial_bytes = Difference::Bytes {
+        offset: 4,
+        length: 4,
+    };
+    assert_eq!(differences, [Difference::Kind, serial_bytes]);
+    let mut out = [3; 1_536];
+    let refused = move_image_down(&images[1], &mut out);
+    assert_eq!((refused, out), (Err(ImageRefusal::NotCarried), [3; 1_536]));
+    assert_eq!(move_image_down(&images[0], &mut out)?, 1_536);
+    Ok(())
+}
+
+#[test]
+fn another_kind_is_no_image_of_this_version() -> Result<(), Box<dyn Error>> {
+    let mut memory = [0; 128];
+    let heap = Heap::open(&mut memory, grants([100]))?;
+    for (form, mut image) in [2, 1].into_iter().zip(images(&heap)?) {
+        for kind in 1..=255 {
+            // The check is a sum of words, and the kind the highest byte of one.
+            image[7] += 1;
+            image[511] = image[511].wrapping_add(1);
+            let read = Heap::restore(&mut [0; 128], &image).map(|heap| heap.kind());
+            match (form, kind) {
+                (2, 1) => assert_eq!(read, Ok(Kind::Quarantine)),
+                _ => assert_eq!(read, Err(ImageRefusal::FormNumber), "{form} {kind}"),
+            }
+        }
+    }
     Ok(())
 }

@@ -25,6 +25,7 @@ accounts left = record {
   quotas = record { grant = 100; remainder = left; permissions = 7 } ∷ replicate (QUOTAS - 1) record { grant = 0; remainder = 0; permissions = 7 };
   «last_serial» = 1;
   holds = record { serial = 1; quota = 0; count = 1 } ∷ replicate (HOLDS - 1) record { serial = 0; quota = 0; count = 0 };
+  kind = 0;
 }
 
 pub object : ListedBlock

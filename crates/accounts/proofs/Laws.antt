@@ -15,6 +15,7 @@ use borrow.Author.Tests.{lt-ltb, le-ltb, le-leb, ne-eqb}
 use Rattle.accounts.specs.declared.Quota.{Quota}
 use Rattle.accounts.specs.declared.Hold.{Hold}
 use Rattle.accounts.specs.declared.Accounts.{Accounts}
+use Rattle.accounts.specs.declared.Settings.{Settings}
 use Rattle.accounts.specs.declared.Place.the-variants.{At, Nothing}
 use Rattle.accounts.specs.Accounts.{QUOTAS, HOLDS, zero-quota, zero-hold, zero-accounts, with-remainder, with-quotas, with-holds, with-last-serial, grants, granted, opened}
 use Rattle.accounts.specs.Accounts.{quota-at, remaining, spent, set-remaining, less-paid, paid-back, charged, refunded, charge, refund, used, is-for, first-from, hold-at, put-hold}
@@ -117,6 +118,7 @@ pub record Kept (q : ℕ) (k r : Accounts) : Type 0 where
   pub same-grants : grants r ≡ grants k
   pub same-count : length (r .quotas) ≡ length (k .quotas)
   pub same-others : (o : ℕ) → o ≢ q → remaining o r ≡ remaining o k
+  pub same-kind : r .kind ≡ k .kind
 
 -- what remains of a quota, and setting it
 module _ (q : ℕ) (k : Accounts) where
@@ -137,7 +139,7 @@ module _ (q : ℕ) (k : Accounts) where
   set-same = rw (set-getD (k .quotas) q zero-quota) refl
 
   pub kept : Kept q k k
-  kept = record { same-holds = refl; same-last = refl; same-grants = refl; same-count = refl; same-others = λ o d. refl }
+  kept = record { same-holds = refl; same-last = refl; same-grants = refl; same-count = refl; same-others = λ o d. refl; same-kind = refl }
 
   pub set-kept : (n : ℕ) → Kept q k (set-remaining q n k)
   unfolding remaining set-remaining
@@ -148,6 +150,7 @@ module _ (q : ℕ) (k : Accounts) where
         same-grants = map-set-same (λ (x : Quota). x .grant) (k .quotas) q (with-remainder n (quota-at q k)) zero-quota refl;
         same-count = length-set (k .quotas) q (with-remainder n (quota-at q k));
         same-others = λ o d. ap (λ (x : Quota). x .remainder) (getD-set-other (k .quotas) q o (with-remainder n (quota-at q k)) zero-quota d);
+        same-kind = refl;
       }
 
 -- what a quota has spent
@@ -238,9 +241,9 @@ sized-zero = record { quotas-long = length-replicate QUOTAS zero-quota; holds-lo
 pub sized-last-serial : (n : ℕ) (k : Accounts) → Sized k → Sized (with-last-serial n k)
 sized-last-serial n k s = record { quotas-long = s .quotas-long; holds-long = s .holds-long }
 
-pub sized-opened : (gs : List ℕ) → length gs ≡ QUOTAS → Sized (opened gs)
+pub sized-opened : (g : Settings) (gs : List ℕ) → length gs ≡ QUOTAS → Sized (opened g gs)
 unfolding opened
-sized-opened gs e = record { quotas-long = length-map gs granted ∙ e; holds-long = length-replicate HOLDS zero-hold }
+sized-opened g gs e = record { quotas-long = length-map gs granted ∙ e; holds-long = length-replicate HOLDS zero-hold }
 
 -- the places before i of a table hold what f gives for those of another: one more of them, and all
 module _ {A B : Type 0} (f : A → B) (d : A) (e : B) (same : f d ≡ e) (xs : List A) (ys : List B) (i : ℕ) (done : (j : ℕ) → j < i → getD ys j e ≡ f (getD xs j d)) where
@@ -297,8 +300,8 @@ pub same-quota : (x y : Quota) → with-remainder 0 x ≡ with-remainder 0 y →
 same-quota x y e r = λ i. with-remainder (r i) (e i)
 
 -- accounts with equal fields are equal
-pub same-accounts : (k l : Accounts) → k .quotas ≡ l .quotas → k .«last_serial» ≡ l .«last_serial» → k .holds ≡ l .holds → k ≡ l
-same-accounts k l q s h = λ i. record { quotas = q i; «last_serial» = s i; holds = h i }
+pub same-accounts : (k l : Accounts) → k .quotas ≡ l .quotas → k .«last_serial» ≡ l .«last_serial» → k .holds ≡ l .holds → k .kind ≡ l .kind → k ≡ l
+same-accounts k l q s h e = λ i. record { quotas = q i; «last_serial» = s i; holds = h i; kind = e i }
 
 -- a refund changes nothing of any quota but what remains
 pub refund-but : (q n : ℕ) (k : Accounts) → map (with-remainder 0) (refund q n k .quotas) ≡ map (with-remainder 0) (k .quotas)

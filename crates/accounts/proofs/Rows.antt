@@ -9,14 +9,15 @@ use Rattle.accounts.specs.declared.Quota.{Quota}
 use Rattle.accounts.specs.declared.Hold.{Hold}
 use Rattle.accounts.specs.declared.Accounts.{Accounts}
 use Rattle.accounts.specs.declared.Place.the-variants.{At, Nothing}
-use Rattle.accounts.specs.Accounts.{QUOTAS, HOLDS, zero-hold, zero-accounts, with-quotas, with-last-serial, granted, opened}
+use Rattle.accounts.specs.declared.Kind.the-variants.{Quarantine}
+use Rattle.accounts.specs.Accounts.{QUOTAS, HOLDS, zero-hold, zero-accounts, with-quotas, with-last-serial, with-kind, granted, plain, opened}
 use Rattle.accounts.specs.Accounts.{ALLOCATE, CLAIM, FREE-ALL, permissible, permissions, permits, cleared, left-permissions, clear-permissions}
 use Rattle.accounts.specs.Accounts.{remaining, spent, set-remaining, less-paid, paid-back, charged, refunded, charge, refund}
 use Rattle.accounts.specs.Accounts.{used, unused, is-for, first-from, find-hold, lowest-unused, hold-at, put-hold, drop-hold, record-of, drop-records}
 
 -- every quota has 5
 unfoldable pub five : Accounts
-five = opened (replicate QUOTAS 5)
+five = opened plain (replicate QUOTAS 5)
 
 -- one hold record, at place 2
 unfoldable pub holder : Hold
@@ -31,16 +32,19 @@ pub opening-rows : (zero-accounts
       quotas = replicate 32 (record { grant = 0; remainder = 0; permissions = 0 });
       «last_serial» = 0;
       holds = replicate 512 (record { serial = 0; quota = 0; count = 0 });
+      kind = 0;
     })
-    × (opened (5 ∷ 6 ∷ [])
+    × (opened plain (5 ∷ 6 ∷ [])
     ≡ record {
       quotas = record { grant = 5; remainder = 5; permissions = 7 } ∷ record { grant = 6; remainder = 6; permissions = 7 } ∷ [];
       «last_serial» = 0;
       holds = zero-accounts .holds;
+      kind = 0;
     })
-    × (with-last-serial 9 five ≡ record { quotas = five .quotas; «last_serial» = 9; holds = five .holds })
+    × (opened (record { kind = Quarantine }) (5 ∷ 6 ∷ []) ≡ with-kind 1 (opened plain (5 ∷ 6 ∷ [])))
+    × (with-last-serial 9 five ≡ record { quotas = five .quotas; «last_serial» = 9; holds = five .holds; kind = 0 })
 unfolding five opened
-opening-rows = (refl, refl, refl)
+opening-rows = (refl, refl, refl, refl)
 
 -- 5 remain of 9, and the permission to allocate is cleared
 unfoldable pub nine : Quota
@@ -55,7 +59,7 @@ quota-rows = (refl, refl, refl, refl, refl, refl)
 
 -- one quota more than there are
 unfoldable pub too-many : Accounts
-too-many = opened (replicate (QUOTAS + 1) 5)
+too-many = opened plain (replicate (QUOTAS + 1) 5)
 
 -- a charge up to what remains is paid, one more is not, and a quota that is not there pays nothing
 pub charge-rows : (map (λ n. remaining 1 (charge 1 n five)) (0 ∷ 4 ∷ 5 ∷ 6 ∷ []) ≡ 5 ∷ 1 ∷ 0 ∷ 5 ∷ [])

@@ -7,6 +7,9 @@ use lib.Dec.{leb, ltb, eqb}
 use Rattle.accounts.specs.declared.Quota.{Quota}
 use Rattle.accounts.specs.declared.Hold.{Hold}
 use Rattle.accounts.specs.declared.Accounts.{Accounts}
+use Rattle.accounts.specs.declared.Kind.{Kind}
+use Rattle.accounts.specs.declared.Kind.the-variants.{Plain, Quarantine}
+use Rattle.accounts.specs.declared.Settings.{Settings}
 use Rattle.accounts.specs.declared.Place.{Place}
 use Rattle.accounts.specs.declared.Place.the-variants.{At, Nothing}
 
@@ -41,7 +44,7 @@ abbrev pub zero-hold : Hold
 zero-hold = record { serial = 0; quota = 0; count = 0 }
 
 abbrev pub zero-accounts : Accounts
-zero-accounts = record { quotas = replicate QUOTAS zero-quota; «last_serial» = 0; holds = replicate HOLDS zero-hold }
+zero-accounts = record { quotas = replicate QUOTAS zero-quota; «last_serial» = 0; holds = replicate HOLDS zero-hold; kind = 0 }
 
 -- one function for each field that changes
 abbrev pub with-remainder : ℕ → Quota → Quota
@@ -51,13 +54,16 @@ abbrev pub with-permissions : ℕ → Quota → Quota
 with-permissions n q = record { grant = q .grant; remainder = q .remainder; permissions = n }
 
 abbrev pub with-quotas : List Quota → Accounts → Accounts
-with-quotas qs k = record { quotas = qs; «last_serial» = k .«last_serial»; holds = k .holds }
+with-quotas qs k = record { quotas = qs; «last_serial» = k .«last_serial»; holds = k .holds; kind = k .kind }
 
 abbrev pub with-last-serial : ℕ → Accounts → Accounts
-with-last-serial n k = record { quotas = k .quotas; «last_serial» = n; holds = k .holds }
+with-last-serial n k = record { quotas = k .quotas; «last_serial» = n; holds = k .holds; kind = k .kind }
 
 abbrev pub with-holds : List Hold → Accounts → Accounts
-with-holds hs k = record { quotas = k .quotas; «last_serial» = k .«last_serial»; holds = hs }
+with-holds hs k = record { quotas = k .quotas; «last_serial» = k .«last_serial»; holds = hs; kind = k .kind }
+
+abbrev pub with-kind : ℕ → Accounts → Accounts
+with-kind n k = record { quotas = k .quotas; «last_serial» = k .«last_serial»; holds = k .holds; kind = n }
 
 -- what the quotas were granted
 abbrev pub grants : Accounts → List ℕ
@@ -71,8 +77,19 @@ permissions k = map (λ x. x .permissions) (k .quotas)
 abbrev pub granted : ℕ → Quota
 granted g = record { grant = g; remainder = g; permissions = ALL-PERMISSIONS }
 
-unfoldable pub opened : List ℕ → Accounts
-opened grants = record { quotas = map granted grants; «last_serial» = 0; holds = replicate HOLDS zero-hold }
+abbrev pub begun : List ℕ → Accounts
+begun grants = record { quotas = map granted grants; «last_serial» = 0; holds = replicate HOLDS zero-hold; kind = 0 }
+
+-- rule 22.1: the kind of a heap as a number of the accounts, the settings of a plain heap, and the accounts at an opening with settings
+abbrev pub kind-number : Kind → ℕ
+kind-number Plain = 0
+kind-number Quarantine = 1
+
+abbrev pub plain : Settings
+plain = record { kind = Plain }
+
+unfoldable pub opened : Settings → List ℕ → Accounts
+opened g grants = with-kind (kind-number (g .kind)) (begun grants)
 
 -- the quota with a number, of zeros where there is none; and what remains of it
 abbrev pub quota-at : ℕ → Accounts → Quota

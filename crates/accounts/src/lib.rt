@@ -1,7 +1,8 @@
 // The accounts of a shared heap: quotas, the last serial and hold records, taken by value and given back by value (rules, section 3).
 ghost use Prim.Native.Nat.{_<_};
 ghost use mathlib.Core.Path.{_≡_};
-ghost use Rattle.accounts.specs.Accounts.{zero-hold, zero-accounts, charged, refunded, used, is-for, dropped, opened, remaining, spent, charge, refund, with-holds, with-last-serial};
+ghost use Rattle.accounts.specs.Accounts.{zero-hold, zero-accounts, kind-number, begun, charged, refunded, used, is-for, dropped, opened};
+ghost use Rattle.accounts.specs.Accounts.{remaining, spent, charge, refund, with-holds, with-last-serial};
 ghost use Rattle.accounts.specs.Accounts.{with-permissions, bit-left, cleared, left-permissions, clear-permissions};
 ghost use Rattle.accounts.specs.Accounts.{find-hold, lowest-unused, hold-at, put-hold, drop-hold, drop-records};
 
@@ -39,12 +40,24 @@ pub struct Hold {
     pub count: u8,
 }
 
-// The accounting state.
+// The accounting state. The kind is 0 for a plain heap and 1 for one with quarantine.
 #[repr(C)]
 pub struct Accounts {
     pub quotas: [Quota; QUOTAS],
     pub last_serial: u32,
     pub holds: [Hold; HOLDS],
+    pub kind: u8,
+}
+
+// What becomes of a block that nobody holds: it is free at once, or waits for a sweep.
+pub enum Kind {
+    Plain,
+    Quarantine,
+}
+
+// What an opening chooses beside the grants.
+pub struct Settings {
+    pub kind: Kind,
 }
 
 // The place of a hold record, if there is one.
@@ -71,6 +84,18 @@ fn cleared(bits: u32, permissions: u8) -> u8
     let claim = bit_left(bits / 2, permissions / 2);
     let free_all = bit_left(bits / 4, permissions / 4);
     allocate + (2 * claim + 4 * free_all)
+}
+
+impl Kind {
+    // The kind as a number of the accounts.
+    pub fn number(self) -> u8
+        ensures { λ r. ⌜ r ≡ kind-number self ⌝ }
+    {
+        match self {
+            Kind::Plain => 0,
+            Kind::Quarantine => 1,
+        }
+    }
 }
 
 impl Quota {
@@ -180,12 +205,13 @@ impl Accounts {
             quotas: [quota; QUOTAS],
             last_serial: 0,
             holds: [hold; HOLDS],
+            kind: 0,
         }
     }
 
-    // The accounts at opening: every grant is there whole, with all permissions.
-    pub fn open(grants: [u32; QUOTAS]) -> Accounts
-        ensures { λ r. ⌜ r ≡ opened grants ⌝ }
+    // The accounts of a plain heap at opening: every grant is there whole, with all permissions.
+    fn begin(grants: [u32; QUOTAS]) -> Accounts
+        ensures { λ r. ⌜ r ≡ begun grants ⌝ }
     {
         let mut accounts = Accounts::zero();
         let mut quotas = accounts.quotas;
@@ -200,6 +226,16 @@ impl Accounts {
             i += 1;
         }
         accounts.quotas = quotas;
+        accounts
+    }
+
+    // The accounts at opening: every grant is there whole, and the heap is as it was chosen.
+    pub fn open(grants: [u32; QUOTAS], settings: Settings) -> Accounts
+        ensures { λ r. ⌜ r ≡ opened settings grants ⌝ }
+    {
+        let kind = settings.kind;
+        let mut accounts = Accounts::begin(grants);
+        accounts.kind = kind.number();
         accounts
     }
 

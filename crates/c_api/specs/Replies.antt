@@ -3,6 +3,11 @@ use Prim.Native.Nat.{ℕ, zero, suc}
 use mathlib.Core.Path.{_≡_}
 use mathlib.Core.List.{List}
 use mathlib.Core.Option.{Option, none, some}
+use mathlib.Core.Bool.{cond}
+use lib.Dec.{eqb}
+use Rattle.accounts.specs.declared.Kind.{Kind}
+use Rattle.accounts.specs.declared.Kind.the-variants.{Plain, Quarantine}
+use Rattle.accounts.specs.declared.Settings.{Settings}
 use Rattle.model.specs.declared.ListedBlock.{ListedBlock}
 use Rattle.model.specs.Answers.{Values, zero-handle, zero-range, refused}
 use Rattle.model.specs.Calls.{Outcome}
@@ -13,6 +18,13 @@ use Rattle.c_api.specs.declared.AmountReply.{AmountReply}
 use Rattle.c_api.specs.declared.Amount.{Amount}
 use Rattle.c_api.specs.declared.RangeReply.{RangeReply}
 use Rattle.c_api.specs.declared.BlockReply.{BlockReply}
+
+-- the settings of an opening as a number: 0 is plain, and any other number the second kind
+unfoldable pub kind-of : ℕ → Kind
+kind-of n = cond (eqb n 0) Plain Quarantine
+
+abbrev pub settings-of : ℕ → Settings
+settings-of kind = record { kind = kind-of kind }
 
 -- open: the accounts, and the refusal's number
 abbrev pub open-reply : List ℕ → OpenReply → Outcome

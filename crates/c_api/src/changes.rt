@@ -7,19 +7,41 @@ use crate::replies::reply_of_amount;
 use crate::replies::reply_of_handle;
 use crate::replies::reply_of_opened;
 use accounts::Accounts;
+use accounts::Kind;
+use accounts::Settings;
 use model::Handle;
 ghost use mathlib.Core.Path.{_≡_};
 ghost use Rattle.rounding.specs.Rounding.{unit};
-ghost use Rattle.model.specs.Calls.{open-heap, allocate, allocate-array, claim, release, free-all, reallocate, clear};
-ghost use Rattle.c_api.specs.Replies.{open-reply, handle-reply, amount-reply};
+ghost use Rattle.model.specs.Calls.{open-heap, allocate, allocate-array, claim, release, free-all, reallocate, clear, sweep};
+ghost use Rattle.c_api.specs.Replies.{kind-of, settings-of, open-reply, handle-reply, amount-reply};
+
+// The kind of a number.
+fn kind_of(number: u32) -> Kind
+    ensures { λ r. ⌜ r ≡ kind-of number ⌝ }
+{
+    if number == 0 {
+        return Kind::Plain;
+    }
+    Kind::Quarantine
+}
+
+// The settings of a number.
+fn settings_of(kind: u32) -> Settings
+    ensures { λ r. ⌜ r ≡ settings-of kind ⌝ }
+{
+    Settings {
+        kind: kind_of(kind),
+    }
+}
 
 // One free block covers the heap, and every quota has its grant.
 #[no_mangle]
-pub extern "C" fn lokhazim_open(heap: &mut [u8], grants: Grants) -> OpenReply
-    ensures { λ r. ⌜ open-reply (now (heap .exit)) r ≡ open-heap (now (heap .entry)) (grants .values) ⌝ }
+pub extern "C" fn lokhazim_open(heap: &mut [u8], grants: Grants, kind: u32) -> OpenReply
+    ensures { λ r. ⌜ open-reply (now (heap .exit)) r ≡ open-heap (settings-of kind) (now (heap .entry)) (grants .values) ⌝ }
 {
     let values = grants.values;
-    reply_of_opened(heap::open(heap, values))
+    let settings = settings_of(kind);
+    reply_of_opened(heap::open(heap, values, settings))
 }
 
 // A new object of at least `length` bytes.
@@ -108,4 +130,12 @@ pub extern "C" fn lokhazim_reallocate(
     ensures { λ r. ⌜ handle-reply (now (heap .exit)) r ≡ reallocate unit (now (heap .entry)) accounts quota handle length ⌝ }
 {
     reply_of_handle(heap::reallocate(heap, accounts, quota, handle, length))
+}
+
+// Every quarantined block becomes free, and the sum of their sizes is answered.
+#[no_mangle]
+pub extern "C" fn lokhazim_sweep(heap: &mut [u8], accounts: Accounts) -> AmountReply
+    ensures { λ r. ⌜ amount-reply (now (heap .exit)) r ≡ sweep unit (now (heap .entry)) accounts ⌝ }
+{
+    reply_of_amount(heap::sweep(heap, accounts))
 }

@@ -17,6 +17,7 @@ pub use changes::lokhazim_free_all;
 pub use changes::lokhazim_open;
 pub use changes::lokhazim_reallocate;
 pub use changes::lokhazim_release;
+pub use changes::lokhazim_sweep;
 pub use queries::lokhazim_can_release;
 pub use queries::lokhazim_check;
 pub use queries::lokhazim_lend;

@@ -13,13 +13,13 @@ use lib.Dec.{leb}
 use borrow.Author.Tests.{le-leb, lt-leb}
 use Rattle.accounts.specs.declared.Accounts.{Accounts}
 use Rattle.layout.specs.Bytes.{Octets}
-use Rattle.layout.specs.Blocks.{Block, size, live, total-size, back-after, render}
+use Rattle.layout.specs.Blocks.{Block, size, total-size, back-after, render, occupied}
 use Rattle.layout.proofs.Parse.{parse-is}
 use Rattle.layout.proofs.Render.{size-append}
 use Rattle.model.specs.Lists.{all, total}
 use Rattle.model.specs.Objects.{blocks-of}
 use Rattle.model.specs.Consistent.{allowed, long-enough, free-apart, well-cut, consistent}
-use Rattle.model.specs.Space.{occupied, cut-block, carve-from, carve}
+use Rattle.model.specs.Space.{cut-block, carve-from, carve}
 use Rattle.model.specs.Refusals.{base-for}
 use Rattle.model.proofs.Bools.{and-right, and-no}
 use Rattle.model.proofs.Blocks.{total-is, writable-whole}
@@ -39,7 +39,8 @@ use Rattle.writer.specs.Carving.{Room}
 use Rattle.quotas.proofs.Cleared.{allowed-long}
 
 -- carving cuts the free block that holds the object, wherever it stands
-carved-at : (base n serial at : ℕ) (xs : List Block) (b : Block) (ys : List Block) → live b ≡ false → at + total size xs + 8 ≤ base → base + n ≤ at + total size xs + size b
+carved-at : (base n serial at : ℕ) (xs : List Block) (b : Block) (ys : List Block) → occupied b ≡ false → at + total size xs + 8 ≤ base
+    → base + n ≤ at + total size xs + size b
     → carve-from base n serial at (xs ++ (b ∷ ys)) ≡ xs ++ (cut-block base n serial (at + total size xs) b ++ ys)
 unfolding carve-from total
 carved-at base n serial at [] b ys e low high =

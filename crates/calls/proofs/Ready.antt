@@ -10,6 +10,7 @@ use lib.Dec.{ltb, eqb}
 use borrow.Author.Tests.{lt-ltb, le-ltb, eq-eqb, ne-eqb}
 use Rattle.accounts.specs.declared.Accounts.{Accounts}
 use Rattle.accounts.specs.Accounts.{QUOTAS, ALLOCATE}
+use Rattle.layout.specs.Blocks.{QUARANTINED}
 use Rattle.model.specs.Answers.{verdict-values}
 use Rattle.model.specs.Consistent.{allowed, sound}
 use Rattle.model.specs.Refusals.{Line, first-refusal, line-1, line-2, line-3, line-4, line-12, greatest-length, check-lines}
@@ -18,6 +19,7 @@ use Rattle.model.specs.declared.Verdict.{Verdict}
 use Rattle.model.specs.declared.Verdict.the-variants.{Accepted}
 use Rattle.model.proofs.Bools.{or-right}
 use Rattle.access.proofs.Lines.{line-refuses, line-passes, line-3-passes, line-12-passes, check-consistent}
+use Rattle.model.proofs.Consistent.{sound-range, range-serial}
 use Rattle.calls.specs.Ready.{Checked, Ready}
 
 -- lines 1 to 3 do not hold of a quota that exists, where the check accepts
@@ -30,6 +32,10 @@ checked-passes unit s k q rest c =
     line-passes 1 (not (allowed (length s))) (line-2 unit s k ∷ line-3 q ∷ rest) (rw (c .extent))
     ∙ line-passes 2 (not (sound unit s k)) (line-3 q ∷ rest) (rw (c .sound))
     ∙ line-3-passes q rest (c .exists)
+
+-- the last serial is below that of a quarantined block
+pub checked-serial : (unit : ℕ → ℕ) (s : List ℕ) (k : Accounts) (q : ℕ) → Checked unit s k q → k .«last_serial» < QUARANTINED
+checked-serial unit s k q c = range-serial k (sound-range unit s k (c .sound))
 
 -- the check accepts it
 pub accepted-check : (unit : ℕ → ℕ) (s : List ℕ) (k : Accounts) (q : ℕ) → Checked unit s k q → verdict-values Accepted ≡ check unit s k .values

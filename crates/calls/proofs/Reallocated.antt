@@ -31,7 +31,7 @@ use Rattle.model.specs.declared.HandleAnswer.{HandleAnswer}
 use Rattle.model.specs.declared.HandleAnswer.the-variants.{Given, Refused}
 use Rattle.model.specs.declared.Call.the-variants.{Allocate}
 use Rattle.model.proofs.Bools.{fails, and-right, and-both}
-use Rattle.model.proofs.Consistent.{sound-fits, sound-permissible}
+use Rattle.model.proofs.Consistent.{sound-fits, sound-permissible, sound-kinds, sound-range}
 use Rattle.model.proofs.Permissions.{allocated-permissions}
 use Rattle.model.proofs.Lookup.{lookup-named, lookup-exactly, lookup-whole-exactly}
 use Rattle.model.proofs.Refusals.{by-lines, refusal-of-lines, accepted-exactly, unless-refused}
@@ -43,6 +43,7 @@ use Rattle.invariant.proofs.Heaps.{heap-good, heap-again, Written-out, good-hea
 use Rattle.invariant.proofs.Transitions.{Room, allocated-good, allocated-objects, copied-good, copied-objects}
 use Rattle.invariant.proofs.Passed.{Allocatable, allocate-passed}
 use Rattle.invariant.proofs.Requested.{requested-room, requested-fresh, still-releasable, new-in-units}
+use Rattle.invariant.proofs.Kinded.{Kinded, allocated-kinds, copied-kinds, written-kinds}
 use Rattle.calls.specs.declared.HandleResult.{HandleResult}
 use Rattle.quotas.specs.declared.AmountResult.{AmountResult}
 use Rattle.access.specs.Results.{outcome}
@@ -165,6 +166,13 @@ module _ (unit : ℕ → ℕ) (units : Units unit) (s : List ℕ) (k : Accounts)
     unfolding copied
     filled-permissions = allocated-permissions q new (state-of s k)
 
+    -- quarantined blocks stand in the second kind only, and the numbers are in range
+    filled-kinds : Kinded (state-of (render (filled .blocks)) (filled .accounts))
+    filled-kinds =
+        let c = r .checked .sound in
+        written-kinds filled (copied-good old new made made-good)
+        (copied-kinds old new made (allocated-kinds q new (state-of s k) start room (sound-kinds unit s k c, sound-range unit s k c)))
+
     -- every object of it is in its units: the old ones were, and the new one is. The permissions are as they were
     filled-fits : is-sound unit (render (filled .blocks)) (filled .accounts) ≡ true
     unfolding is-sound objects-of
@@ -176,7 +184,7 @@ module _ (unit : ℕ → ℕ) (units : Units unit) (s : List ℕ) (k : Accounts)
         (member-all (in-units unit) (objects-of (render (filled .blocks)))
         (λ x m. ⊎-elim (λ (e : x ≡ new). rw e (new-in-units unit units s k q n p)) (λ y. sound-fits unit s k (r .checked .sound) x y)
         (added-cases new (objects (blocks-of s)) (objects (made .blocks)) d x (rw (written .objects, copied-objects old new made made-good) at m))))
-        may)
+        (and-both _ _ may (and-both _ _ (filled-kinds .0) (filled-kinds .1))))
 
     filled-checked : Checked unit (render (filled .blocks)) (filled .accounts) q
     filled-checked = record { extent = written .allowed; consistent = written .sound; sound = filled-fits; exists = r .checked .exists }

@@ -12,7 +12,7 @@ use lib.ListN.{length, getD, length-set}
 use Rattle.accounts.specs.declared.Accounts.{Accounts}
 use Rattle.accounts.specs.declared.Place.the-variants.{At, Nothing}
 use Rattle.accounts.specs.Accounts.{QUOTAS, zero-hold, is-for, find-hold, hold-at, put-hold, drop-hold, refund}
-use Rattle.accounts.proofs.Laws.{found-first, first-found, none-nothing}
+use Rattle.accounts.proofs.Laws.{found-first, first-found, none-nothing, refund-kept}
 use Rattle.layout.specs.Bytes.{Octets}
 use Rattle.model.specs.Answers.{refusal-number, verdict-values, amount-of, amount-values}
 use Rattle.model.specs.Objects.{lookup, found}
@@ -29,8 +29,8 @@ use Rattle.finder.specs.declared.Met.{Met}
 use Rattle.finder.specs.declared.Lookup.the-variants.{Found, Missing}
 use Rattle.finder.specs.Walk.{object-met, find-object}
 use Rattle.finder.proofs.Reached.{found-live}
-use Rattle.writer.specs.Freeing.{Inside, free-in}
-use Rattle.writer.proofs.Guards.{inside-test, frees}
+use Rattle.writer.specs.Freeing.{Inside, vacate-in}
+use Rattle.writer.proofs.Guards.{inside-test, vacates}
 use Rattle.access.specs.Results.{outcome}
 use Rattle.access.proofs.Lines.{check-refuses, check-accepts, refused-is, accepted-is, line-3-refuses}
 use Rattle.access.proofs.Records.{found-some, nothing-some}
@@ -101,6 +101,10 @@ module _ (unit : ℕ → ℕ) (s : List ℕ) (k : Accounts) (o : Octets s) (q : 
     left : k₂ ≡ drop-hold i (refund q (m .size - 8 + 8) k)
     left = e₂ ∙ ap (drop-hold i) e₁
 
+    same-kind : k₂ .kind ≡ k .kind
+    unfolding drop-hold put-hold
+    same-kind = ap (λ (a : Accounts). a .kind) left ∙ refund-kept q (m .size - 8 + 8) k .same-kind
+
     left-held : (b : Bool) → held (k₂ .holds) (m .serial) ≡ b → held (drop-hold i (refund q (m .size - 8 + 8) k) .holds) (m .serial) ≡ b
     left-held b v = ap (λ (a : Accounts). held (a .holds) (m .serial)) (sym left) ∙ v
 
@@ -121,10 +125,10 @@ module _ (unit : ℕ → ℕ) (s : List ℕ) (k : Accounts) (o : Octets s) (q : 
           gives s k₂ (m .size - 8 + 8) r re
           ∙ (rw left (still-held s k o (y .checked .consistent) (y .handle) m (y .named) q i (y .place) l (left-held true v)))
 
-      pub freed-result : length (k .holds) ≤ n → (s′ : List ℕ) → s′ ≡ free-in m s → amount-outcome s′ r ≡ claim-dropped s k q (object-met m)
+      pub freed-result : length (k .holds) ≤ n → (s′ : List ℕ) → s′ ≡ vacate-in (k₂ .kind) m s → amount-outcome s′ r ≡ claim-dropped s k q (object-met m)
       unfolding held
       freed-result b s′ si =
           let v = nothing-some (is-of (m .serial)) (k₂ .holds) 0 (none-nothing (is-of (m .serial)) (k₂ .holds) (λ j c. none-of j (omega (arith, left-long)))) in
-          let se = si ∙ sym (frees m s (inside-test m s holding-inside) .0) in
+          let se = si ∙ ap (λ (x : ℕ). vacate-in x m s) same-kind ∙ sym (vacates (k .kind) m s (inside-test m s holding-inside) .0) in
           gives s′ k₂ (m .size - 8 + 8) r re
           ∙ (rw (se, left) (no-longer-held s k o (y .checked .consistent) (y .handle) m (y .named) q i (y .place) l (left-held false v)))

@@ -30,7 +30,7 @@ use Rattle.model.specs.Calls.{given-back, released}
 use Rattle.model.specs.declared.Handle.{Handle}
 use Rattle.model.proofs.Bools.{and-left, and-right, or-neither, implies, implied}
 use Rattle.model.proofs.Lists.{first-some, all-member, member-all, all-append, getD-member}
-use Rattle.model.proofs.Blocks.{objects-live, objects-free, objects-append}
+use Rattle.model.proofs.Blocks.{objects-live, objects-free, objects-append, live-occupied}
 use Rattle.model.proofs.Consistent.{Tests, tests-exactly, consistent-cut, consistent-apart, consistent-facts, is-for-exactly}
 use Rattle.model.proofs.Settle.{stays, stays-objects, settle-same, settle-one}
 use Rattle.finder.specs.declared.Met.{Met}
@@ -41,9 +41,9 @@ use Rattle.finder.proofs.Named.{Named, lookup-found}
 use Rattle.accounts.specs.declared.Place.the-variants.{At}
 use Rattle.access.specs.Results.{outcome}
 use Rattle.calls.specs.Releasing.{claim-dropped}
-use Rattle.writer.specs.Freeing.{Inside, free-block}
+use Rattle.writer.specs.Freeing.{Inside, vacate-block}
 use Rattle.access.proofs.Records.{found-record, found-change}
-use Rattle.writer.proofs.Rooms.{freed-blocks, freed-inside}
+use Rattle.writer.proofs.Rooms.{vacated-blocks, freed-inside}
 
 -- a record in place of one for which the test says the same changes no answer
 pub any-set : (p : Hold → Bool) (hs : List Hold) (i : ℕ) (h : Hold) → p h ≡ p (getD hs i zero-hold) → any p (set hs i h) ≡ any p hs
@@ -125,32 +125,33 @@ others-differ xs b ys e l =
 
 -- blocks that can be written, with no two free ones side by side and serials that differ: m is a live block of them, the records hs hold every
 -- object, and the records hs′ hold what these hold, but perhaps not the object of m
-module _ (bs : List Block) (w : AllWritable bs) (a : free-apart bs ≡ true) (d : serials-differ (objects bs) ≡ true) (m : Met) (t : Stands bs m) (lv : live (t .block) ≡ true) (hs hs′ : List Hold)
+module _ (kind : ℕ) (bs : List Block) (w : AllWritable bs) (a : free-apart bs ≡ true) (d : serials-differ (objects bs) ≡ true) (m : Met) (t : Stands bs m)
+    (lv : live (t .block) ≡ true) (hs hs′ : List Hold)
     (st : all (stays hs) bs ≡ true) (f : (n : ℕ) → eqb n (t .block .serial) ≡ false → held hs′ n ≡ held hs n) where
   -- the block lies in the heap
   pub stands-inside : length (render bs) ≤ 32768 → Inside m (render bs)
   stands-inside l =
       let e : render (t .front ++ (t .block ∷ t .behind)) ≡ render bs = ap render (sym (t .split)) in
-      rw e at (freed-inside (t .front) (t .block) (t .behind) (rw (t .split) at w) lv m (t .place) (t .sized) (t .back) (rw e l))
+      rw e at (freed-inside (t .front) (t .block) (t .behind) (rw (t .split) at w) (live-occupied (t .block) lv) m (t .place) (t .sized) (t .back) (rw e l))
 
   -- where they hold it still, the very blocks are left
-  pub settled-held : held hs′ (t .block .serial) ≡ true → settle hs′ bs ≡ bs
-  settled-held y = settle-same hs′ bs (stays-all hs hs′ bs st (stays hs) st (λ b l p u. go (b .serial) u (eqb (b .serial) (t .block .serial)) refl)) a
+  pub settled-held : held hs′ (t .block .serial) ≡ true → settle kind hs′ bs ≡ bs
+  settled-held y = settle-same kind hs′ bs (stays-all hs hs′ bs st (stays hs) st (λ b l p u. go (b .serial) u (eqb (b .serial) (t .block .serial)) refl)) a
     where
       go : (n : ℕ) → held hs n ≡ true → (x : Bool) → eqb n (t .block .serial) ≡ x → held hs′ n ≡ true
       go n u true x = rw (eqb-true n (t .block .serial) x) y
       go n u false x = f n x ∙ u
 
   -- where they do not, its block is freed in place
-  pub settled-freed : held hs′ (t .block .serial) ≡ false → free-block m (render bs) ≡ render (settle hs′ bs)
+  pub settled-freed : held hs′ (t .block .serial) ≡ false → vacate-block kind m (render bs) ≡ render (settle kind hs′ bs)
   settled-freed y =
       let v : (all (stays hs) (t .front) && all (stays hs) (t .block ∷ t .behind)) ≡ true = sym (all-append (stays hs) (t .front) (t .block ∷ t .behind)) ∙ (rw (t .split) at st) in
       let o = others-differ (t .front) (t .block) (t .behind) (rw (t .split) at d) lv in
       let sx = still (t .front) (and-left _ _ v) (o .0) in
       let sy = still (t .behind) (all-tail (stays hs) (t .block) (t .behind) (and-right (all (stays hs) (t .front)) _ v)) (o .1) in
-      ap (λ (l : List Block). free-block m (render l)) (t .split)
-      ∙ freed-blocks (t .front) (t .block) (t .behind) (rw (t .split) at w) lv m (t .place) (t .sized) (t .back)
-      ∙ ap render (sym (settle-one hs′ bs (t .front) (t .block) (t .behind) (t .split) a lv y sx sy))
+      ap (λ (l : List Block). vacate-block kind m (render l)) (t .split)
+      ∙ vacated-blocks (t .front) (t .block) (t .behind) (rw (t .split) at w) (live-occupied (t .block) lv) m (t .place) (t .sized) (t .back) kind
+      ∙ ap render (sym (settle-one kind hs′ bs (t .front) (t .block) (t .behind) (t .split) a lv y sx sy))
     where
       still : (xs : List Block) → all (stays hs) xs ≡ true → all (other (t .block .serial)) xs ≡ true → all (stays hs′) xs ≡ true
       still xs x o = stays-all hs hs′ xs x (other (t .block .serial)) o (λ b l p u. rw (f (b .serial) (not-true _ (implies (live b) _ p l))) u)
@@ -181,21 +182,24 @@ module _ (s : List ℕ) (k : Accounts) (o : Octets s) (ok : consistent s k ≡ t
   pub inside : length s ≤ 32768 → Inside m s
   inside l =
       rw (rendered .0) at
-      (stands-inside (blocks-of s) (rendered .1) all-apart (tests .differ) m (named .stands) (named .living) (k .holds) (k .holds) all-stay (λ n x. refl) (rw (rendered .0) l))
+      (stands-inside (k .kind) (blocks-of s) (rendered .1) all-apart (tests .differ) m (named .stands) (named .living) (k .holds) (k .holds) all-stay
+      (λ n x. refl) (rw (rendered .0) l))
 
   -- other records that hold what these hold, but perhaps not this object: the very bytes are left, or its block is freed in place
   module _ (hs : List Hold) (f : (n : ℕ) → eqb n (m .serial) ≡ false → held hs n ≡ held (k .holds) n) where
-    same-bytes : held hs (m .serial) ≡ true → s ≡ render (settle hs (blocks-of s))
+    same-bytes : held hs (m .serial) ≡ true → s ≡ render (settle (k .kind) hs (blocks-of s))
     same-bytes y =
         sym
         (ap render
-        (settled-held (blocks-of s) (rendered .1) all-apart (tests .differ) m (named .stands) (named .living) (k .holds) hs all-stay (λ n x. f n (rw serial-is at x)) (rw serial-is y))
+        (settled-held (k .kind) (blocks-of s) (rendered .1) all-apart (tests .differ) m (named .stands) (named .living) (k .holds) hs all-stay
+        (λ n x. f n (rw serial-is at x)) (rw serial-is y))
         ∙ rendered .0)
 
-    freed-bytes : held hs (m .serial) ≡ false → free-block m s ≡ render (settle hs (blocks-of s))
+    freed-bytes : held hs (m .serial) ≡ false → vacate-block (k .kind) m s ≡ render (settle (k .kind) hs (blocks-of s))
     freed-bytes y =
-        ap (free-block m) (sym (rendered .0))
-        ∙ settled-freed (blocks-of s) (rendered .1) all-apart (tests .differ) m (named .stands) (named .living) (k .holds) hs all-stay (λ n x. f n (rw serial-is at x)) (rw serial-is y)
+        ap (vacate-block (k .kind) m) (sym (rendered .0))
+        ∙ settled-freed (k .kind) (blocks-of s) (rendered .1) all-apart (tests .differ) m (named .stands) (named .living) (k .holds) hs all-stay
+        (λ n x. f n (rw serial-is at x)) (rw serial-is y)
 
   -- the object is held
   object-held : held (k .holds) (m .serial) ≡ true
@@ -224,7 +228,8 @@ module _ (s : List ℕ) (k : Accounts) (o : Octets s) (ok : consistent s k ≡ t
     counted = ap (λ (x : Option Hold). or-else zero-hold x .count) (found-record (is-for (m .serial) q) (k .holds) i p)
 
     -- what is left, where w is what becomes of the record and n is given back
-    dropped-is : (w : Hold) → less-one (hold-at i k) ≡ w → (n : ℕ) → given-back q (object-met m) k ≡ n → (s′ : List ℕ) → s′ ≡ render (settle (set (k .holds) i w) (blocks-of s))
+    dropped-is : (w : Hold) → less-one (hold-at i k) ≡ w → (n : ℕ) → given-back q (object-met m) k ≡ n → (s′ : List ℕ) → s′ ≡ render
+        (settle (k .kind) (set (k .holds) i w) (blocks-of s))
         → outcome s′ (with-holds (set (k .holds) i w) (refund q n k)) (amount-of n) ≡ claim-dropped s k q (object-met m)
     unfolding released
     dropped-is w we n ne s′ se = rw (lowered, we, ne, ← se)
@@ -258,7 +263,7 @@ module _ (s : List ℕ) (k : Accounts) (o : Octets s) (ok : consistent s k ≡ t
         any-set (is-of t) (k .holds) i zero-hold (zero-of t ∙ sym (other-of (hold-at i k) t (rw record-serial d)))
 
     module _ (l : hold-at i k .count ≤ 1) where
-      last-outcome : (s′ : List ℕ) → s′ ≡ render (settle (set (k .holds) i zero-hold) (blocks-of s))
+      last-outcome : (s′ : List ℕ) → s′ ≡ render (settle (k .kind) (set (k .holds) i zero-hold) (blocks-of s))
           → outcome s′ (drop-hold i (refund q (m .size - 8 + 8) k)) (amount-of (m .size - 8 + 8)) ≡ claim-dropped s k q (object-met m)
       unfolding less-one given-back
       last-outcome s′ se =
@@ -275,7 +280,7 @@ module _ (s : List ℕ) (k : Accounts) (o : Octets s) (ok : consistent s k ≡ t
 
       -- an object that no quota holds is freed
       pub no-longer-held : held (drop-hold i (refund q (m .size - 8 + 8) k) .holds) (m .serial) ≡ false
-          → outcome (free-block m s) (drop-hold i (refund q (m .size - 8 + 8) k)) (amount-of (m .size - 8 + 8)) ≡ claim-dropped s k q (object-met m)
+          → outcome (vacate-block (k .kind) m s) (drop-hold i (refund q (m .size - 8 + 8) k)) (amount-of (m .size - 8 + 8)) ≡ claim-dropped s k q (object-met m)
       no-longer-held y =
           let v : held (set (k .holds) i zero-hold) (m .serial) ≡ false = rw (left-holds (m .size - 8 + 8)) at y in
-          last-outcome (free-block m s) (freed-bytes (set (k .holds) i zero-hold) held-others v)
+          last-outcome (vacate-block (k .kind) m s) (freed-bytes (set (k .holds) i zero-hold) held-others v)

@@ -18,7 +18,7 @@ ghost use Rattle.quotas.specs.Results.{amount-outcome};
 ghost use Rattle.calls.specs.Ready.{Checked, Holding};
 ghost use Rattle.calls.specs.Releasing.{claim-dropped};
 
-// One hold of a quota on a block is given up; the last one gives the quota its charge back, and an object that no quota holds is freed.
+// One hold of a quota on a block is given up; the last one gives the quota its charge back, and the block of an object that no quota holds is vacated.
 pub(crate) fn drop_claim(
     heap: &mut [u8],
     accounts: Accounts,
@@ -49,7 +49,7 @@ pub(crate) fn drop_claim(
         }
         at += 1;
     }
-    writer::free_block(heap, block);
+    writer::vacate_block(heap, block, left.kind);
     AmountResult::given(left, charge)
 }
 

@@ -18,7 +18,7 @@ use Rattle.accounts.specs.declared.Quota.{Quota}
 use Rattle.accounts.specs.declared.Hold.{Hold}
 use Rattle.accounts.specs.declared.Accounts.{Accounts}
 use Rattle.accounts.specs.Accounts.{QUOTAS, zero-quota, used}
-use Rattle.layout.specs.Blocks.{Block, size, parse}
+use Rattle.layout.specs.Blocks.{Block, size, QUARANTINED, parse}
 use Rattle.model.specs.declared.Handle.{Handle}
 use Rattle.model.specs.Lists.{all, any}
 use Rattle.model.specs.Objects.{object, objects-from, objects}
@@ -32,8 +32,8 @@ use Rattle.checker.proofs.Cases.{by-eq, same-test}
 use Rattle.checker.proofs.Tables.{all-at, all-places}
 use Rattle.checker.proofs.Struck.{strike-holds, strike-well, strike-keys, struck-held}
 use Rattle.checker.proofs.Agreement.{Agrees, settles, first-agrees, agrees-first, agrees-none}
-use Rattle.checker.proofs.Cutting.{cut-after, cut-whole, cut-none, cut-free, cut-live, objects-free, objects-live, objects-serial}
-use Rattle.checker.proofs.Cutting.{audit-step, audit-none, audit-some, step-free, Live, step-passes, passes-step}
+use Rattle.checker.proofs.Cutting.{cut-after, cut-whole, cut-none, cut-free, cut-live, objects-free, objects-quarantined, objects-live, objects-serial}
+use Rattle.checker.proofs.Cutting.{audit-step, audit-none, audit-some, step-free, step-quarantined, Live, step-passes, passes-step}
 
 -- what an audit that passes says
 abbrev Passes : ℕ → List Block → ℕ → Bool → List Hold → List ℕ → Type 0
@@ -61,6 +61,25 @@ module _ (last : ℕ) (b : Block) (bs : List Block) (ih : Says last bs) (at : �
       go true f = (λ e. absurd (false≢true (sym (audit-none last bs) ∙ e)), λ r. absurd (false≢true (r .0)))
       go false f = f
 
+  -- a quarantined block
+  quarantined-says : (b .serial ≡ 0 → ⊥) → b .serial ≡ QUARANTINED → (audit last (b ∷ bs) (some (from free hs owed)) ≡ true) ↔ Passes last
+      (b ∷ bs) at free hs owed
+  quarantined-says n z =
+      rw (
+        objects-quarantined at b bs z,
+        cut-live free b bs n,
+        audit-step last b bs (from free hs owed),
+        step-quarantined last (b .serial) (size b)
+            (from free hs owed) n z,
+      )
+      (go (leb 16 (size b)) (ih (at + size b) false hs owed well long))
+    where
+      go : (t : Bool) → (audit last bs (some (from false hs owed)) ≡ true) ↔ Passes last bs (at + size b) false hs owed
+          → (audit last bs (cond t (some (from false hs owed)) none) ≡ true)
+          ↔ (((t && cut-after false bs) ≡ true) × Agrees last (objects-from (at + size b) bs) hs owed)
+      go true f = f
+      go false f = (λ e. absurd (false≢true (sym (audit-none last bs) ∙ e)), λ r. absurd (false≢true (r .0)))
+
   -- a live block: its size is the charge for its object
   charge : size b ≡ charge-of (length (b .body))
   charge = omega arith
@@ -69,7 +88,7 @@ module _ (last : ℕ) (b : Block) (bs : List Block) (ih : Says last bs) (at : �
       ↔ (pay (b .serial) (charge-of (length (b .body))) (keys-of hs) (some (unpaid owed)) ≡ some p)
   paid-for p = rw charge (λ e. e, λ e. e)
 
-  module _ (n : b .serial ≡ 0 → ⊥) where
+  module _ (n : b .serial ≡ 0 → ⊥) (m : b .serial ≡ QUARANTINED → ⊥) where
     others : (p : Payment) → pay (b .serial) (size b) (keys-of hs) (some (unpaid owed)) ≡ some p
         → (audit last bs (some (record { free = false; keys = strike (b .serial) (keys-of hs); owed = p .owed })) ≡ true) ↔ Passes last bs (at + size b) false (strike-holds (b .serial) hs) (p .owed)
     others p e =
@@ -80,7 +99,7 @@ module _ (last : ℕ) (b : Block) (bs : List Block) (ih : Says last bs) (at : �
         → ((leb 16 (size b) && cut-after false bs) ≡ true) × Agrees last (object at b ∷ objects-from (at + size b) bs) hs owed
     there e =
         let x = audit-some last bs (visit last (b .serial) (size b) (from free hs owed)) e in
-        let y = passes-step last (b .serial) (size b) (from free hs owed) n (x .0) (x .1) in
+        let y = passes-step last (b .serial) (size b) (from free hs owed) n m (x .0) (x .1) in
         let r = others (y .0) (y .1 .paid) .0 (sym (ap (audit last bs) (x .1 ∙ y .2)) ∙ e) in (
           and-both _ _ (y .1 .long) (r .0),
           first-agrees last (object at b) (objects-from (at + size b) bs) hs owed well long n
@@ -105,11 +124,11 @@ module _ (last : ℕ) (b : Block) (bs : List Block) (ih : Says last bs) (at : �
           strikes = struck-held (b .serial) n hs well ∙ f .recorded;
           paid = e;
         } in
-        ap (audit last bs) (step-passes last (b .serial) (size b) (from free hs owed) n (f .payment) l)
+        ap (audit last bs) (step-passes last (b .serial) (size b) (from free hs owed) n m (f .payment) l)
         ∙ others (f .payment) e .1 (and-right (leb 16 (size b)) (cut-after false bs) (r .0), f .rest)
 
     live-says : (audit last (b ∷ bs) (some (from free hs owed)) ≡ true) ↔ Passes last (b ∷ bs) at free hs owed
-    live-says = rw (objects-live at b bs n, cut-live free b bs n, audit-step last b bs (from free hs owed)) (there, back)
+    live-says = rw (objects-live at b bs n m, cut-live free b bs n, audit-step last b bs (from free hs owed)) (there, back)
 
 pub audit-exactly : (last : ℕ) (bs : List Block) → Says last bs
 unfolding audit objects-from
@@ -117,7 +136,10 @@ audit-exactly last [] at free hs owed well long = rw (cut-none free) (λ e. (ref
 audit-exactly last (b ∷ bs) at free hs owed well long =
     by-eq (b .serial) 0
     (λ z. free-says last b bs (audit-exactly last bs) at free hs owed well long z)
-    (λ z. live-says last b bs (audit-exactly last bs) at free hs owed well long z)
+    (λ z.
+    by-eq (b .serial) QUARANTINED
+    (λ y. quarantined-says last b bs (audit-exactly last bs) at free hs owed well long z y)
+    (λ y. live-says last b bs (audit-exactly last bs) at free hs owed well long z y))
 
 -- a valid record is well-formed, since no object has the serial 0
 valid-well : (os : List Handle) → any (has-serial 0) os ≡ false → (h : Hold) → record-valid os h ≡ true → well-formed h ≡ true

@@ -3,18 +3,19 @@
 -- Assumes nothing.
 use Prim.Native.Nat.{ℕ, _+_}
 use mathlib.Core.Path.{_≡_, refl, sym, _∙_}
-use mathlib.Core.Bool.{Bool, true, false, not, cond, _&&_, false≢true, and-assoc}
+use mathlib.Core.Bool.{Bool, true, false, not, cond, _&&_, false≢true, and-assoc, and-false}
 use mathlib.Core.List.{List, [], _∷_}
 use mathlib.Core.Option.{Option, none, some}
 use native.Mathlib.Omega.{arith}
-use borrow.Author.Tests.{eq-eqb, ne-eqb}
+use borrow.Author.Tests.{eq-eqb, ne-eqb, not-true}
 use lib.Dec.{eqb, leb}
-use Rattle.layout.specs.Blocks.{Block, size, live}
+use Rattle.layout.specs.Blocks.{Block, size, QUARANTINED, live}
 use Rattle.model.specs.Lists.{all, any}
 use Rattle.model.specs.Objects.{object, objects-from}
 use Rattle.model.specs.Consistent.{long-enough, starts-free, free-apart, well-cut, has-serial}
+use Rattle.model.proofs.Blocks.{live-occupied}
 use Rattle.checker.specs.Keys.{strike, struck, Payment, pay, unpaid}
-use Rattle.checker.specs.Audit.{State, visit-free, settled, visit-live, visit, audit}
+use Rattle.checker.specs.Audit.{State, visit-free, visit-quarantined, settled, visit-live, visit, audit}
 
 -- the tests on the cut of blocks that stand behind a free block, or not
 unfoldable pub cut-after : Bool → List Block → Bool
@@ -53,20 +54,24 @@ module _ (at : ℕ) (b : Block) (bs : List Block) where
   unfolding objects-from
   objects-free z = rw (eq-eqb (b .serial) 0 z)
 
-  pub objects-live : (b .serial ≡ 0 → ⊥) → objects-from at (b ∷ bs) ≡ object at b ∷ objects-from (at + size b) bs
+  pub objects-quarantined : b .serial ≡ QUARANTINED → objects-from at (b ∷ bs) ≡ objects-from (at + size b) bs
   unfolding objects-from
-  objects-live n = rw (ne-eqb (b .serial) 0 n)
+  objects-quarantined z = rw (eq-eqb (b .serial) QUARANTINED z, and-false (not (eqb (b .serial) 0)))
+
+  pub objects-live : (b .serial ≡ 0 → ⊥) → (b .serial ≡ QUARANTINED → ⊥) → objects-from at (b ∷ bs) ≡ object at b ∷ objects-from (at + size b) bs
+  unfolding objects-from
+  objects-live n m = rw (ne-eqb (b .serial) 0 n, ne-eqb (b .serial) QUARANTINED m)
 
 -- no object has the serial 0
 pub objects-serial : (at : ℕ) (bs : List Block) → any (has-serial 0) (objects-from at bs) ≡ false
 unfolding objects-from any
 objects-serial at [] = refl
-objects-serial at (b ∷ bs) = go (eqb (b .serial) 0) refl (objects-serial (at + size b) bs)
+objects-serial at (b ∷ bs) = go (live b) refl (objects-serial (at + size b) bs)
   where
-    go : (t : Bool) → eqb (b .serial) 0 ≡ t → any (has-serial 0) (objects-from (at + size b) bs) ≡ false
-        → any (has-serial 0) (cond (not t) (object at b ∷ objects-from (at + size b) bs) (objects-from (at + size b) bs)) ≡ false
-    go true e ih = ih
-    go false e ih = rw (e, ih)
+    go : (t : Bool) → live b ≡ t → any (has-serial 0) (objects-from (at + size b) bs) ≡ false
+        → any (has-serial 0) (cond t (object at b ∷ objects-from (at + size b) bs) (objects-from (at + size b) bs)) ≡ false
+    go true e ih = rw (not-true (eqb (b .serial) 0) (live-occupied b e), ih)
+    go false e ih = ih
 
 -- the audit: one block, and a step that fails
 pub audit-step : (last : ℕ) (b : Block) (bs : List Block) (t : State) → audit last (b ∷ bs) (some t) ≡ audit last bs (visit last (b .serial) (size b) t)
@@ -95,14 +100,21 @@ module _ (last s n : ℕ) (t : State) where
     pub strikes : not (eqb (struck s (t .keys)) 0) ≡ true
     pub paid : pay s n (t .keys) (some (unpaid (t .owed))) ≡ some p
 
-  module _ (live : s ≡ 0 → ⊥) where
+  pub step-quarantined : (s ≡ 0 → ⊥) → s ≡ QUARANTINED → visit last s n t ≡ cond (leb 16 n)
+      (some (record { free = false; keys = t .keys; owed = t .owed })) none
+  unfolding visit visit-quarantined
+  step-quarantined m z = rw (ne-eqb s 0 m, eq-eqb s QUARANTINED z)
+
+  module _ (live : s ≡ 0 → ⊥) (alive : s ≡ QUARANTINED → ⊥) where
     pub step-passes : (p : Payment) → Live p → visit last s n t ≡ some (record { free = false; keys = strike s (t .keys); owed = p .owed })
     unfolding visit visit-live settled
-    step-passes p l = rw (ne-eqb s 0 live, l .long, l .given, l .strikes, l .paid)
+    step-passes p l = rw (ne-eqb s 0 live, ne-eqb s QUARANTINED alive, l .long, l .given, l .strikes, l .paid)
 
     pub passes-step : (t′ : State) → visit last s n t ≡ some t′ → (p : Payment) × Live p × (some t′ ≡ some (record { free = false; keys = strike s (t .keys); owed = p .owed }))
     unfolding visit visit-live settled
-    passes-step t′ e = go (leb 16 n) (leb s last) (not (eqb (struck s (t .keys)) 0)) (pay s n (t .keys) (some (unpaid (t .owed)))) refl refl refl refl (rw (ne-eqb s 0 live) at e)
+    passes-step t′ e =
+        go (leb 16 n) (leb s last) (not (eqb (struck s (t .keys)) 0)) (pay s n (t .keys) (some (unpaid (t .owed)))) refl refl refl refl
+        (rw (ne-eqb s 0 live, ne-eqb s QUARANTINED alive) at e)
       where
         no : none ≡ some t′ → (p : Payment) × Live p × (some t′ ≡ some (record { free = false; keys = strike s (t .keys); owed = p .owed }))
         no e = let z : _≡_ {A = ℕ} 0 1 = cc in absurd (omega arith)

@@ -14,7 +14,7 @@ use Rattle.model.specs.declared.Refusal.the-variants.{HeapLength, Inconsistent}
 use Rattle.model.specs.declared.Verdict.the-variants.{Accepted, Refused}
 use Rattle.model.specs.Lists.{all}
 use Rattle.model.specs.Answers.{verdict-values}
-use Rattle.model.specs.Consistent.{allowed, sound}
+use Rattle.model.specs.Consistent.{allowed, in-range, sound}
 use Rattle.model.specs.Refusals.{first-refusal, line-1, line-2, check-lines}
 use Rattle.model.specs.Calls.{unless, check}
 use Rattle.model.proofs.Bools.{and-left, and-right, and-no, and-yes}
@@ -23,7 +23,7 @@ use Rattle.checker.specs.Chains.{SLOTS}
 use Rattle.checker.specs.Audit.{owes, solvent, entry-valid, begin, audit-parsed, audited}
 use Rattle.checker.specs.Contracts.{Fresh, Index, Owing, Ready}
 use Rattle.checker.specs.Fitting.{fitting}
-use Rattle.checker.proofs.Fitting.{fitting-sound}
+use Rattle.checker.proofs.Fitting.{fitting-sound, unranged}
 use Rattle.checker.proofs.Consistency.{audited-is-consistent}
 
 -- new arrays
@@ -60,13 +60,18 @@ module _ (unit : ℕ → ℕ) (s : List ℕ) (k : Accounts) where
   unfolding verdict-values check unless first-refusal check-lines line-1 line-2
   verdict-length e = rw e
 
-  module _ (fits : allowed (length s) ≡ true) (long : length (k .quotas) ≡ QUOTAS) where
+  -- numbers that are not in range
+  pub verdict-range : allowed (length s) ≡ true → in-range k ≡ false → verdict-values (Refused Inconsistent) ≡ check unit s k .values
+  unfolding verdict-values check unless first-refusal check-lines line-1 line-2
+  verdict-range f e = rw (f, unranged unit s k e)
+
+  module _ (fits : allowed (length s) ≡ true) (ranged : in-range k ≡ true) (long : length (k .quotas) ≡ QUOTAS) where
     -- what is tested beside the audit, and all of it
     abbrev beside : Bool
-    beside = fitting unit 0 (parse s) && all permissible (permissions k)
+    beside = fitting unit (k .kind) 0 (parse s) && all permissible (permissions k)
 
     same-verdict : (audited (parse s) k && beside) ≡ sound unit s k
-    same-verdict = ap (λ (x : Bool). x && beside) (audited-is-consistent s k long) ∙ fitting-sound unit s k
+    same-verdict = ap (λ (x : Bool). x && beside) (audited-is-consistent s k long) ∙ fitting-sound unit s k ranged
 
     -- an audit that fails, and one that passes
     verdict-fails : (audited (parse s) k && beside) ≡ false → verdict-values (Refused Inconsistent) ≡ check unit s k .values
@@ -87,7 +92,7 @@ module _ (unit : ℕ → ℕ) (s : List ℕ) (k : Accounts) where
     unfolding audited
     verdict-insolvent w =
         verdict-fails
-        (one-fails (all well-formed (k .holds)) (all solvent (k .quotas)) _ (fitting unit 0 (parse s)) (all permissible (permissions k))
+        (one-fails (all well-formed (k .holds)) (all solvent (k .quotas)) _ (fitting unit (k .kind) 0 (parse s)) (all permissible (permissions k))
         (sym (valid-parts (k .quotas)) ∙ sym (w .0)))
 
     -- the walk
@@ -96,14 +101,15 @@ module _ (unit : ℕ → ℕ) (s : List ℕ) (k : Accounts) where
       ready = record { long = i .long; owed-long = ap length (w .1 refl) ∙ length-map (k .quotas) owes ∙ long; up = i .up; linked = i .linked; heads-inside = i .heads-inside }
 
       audited-walk : (audited (parse s) k && beside)
-          ≡ (audit-parsed (k .«last_serial») (parse s) (some (begin keys owed)) && fitting unit 0 (parse s))
+          ≡ (audit-parsed (k .«last_serial») (parse s) (some (begin keys owed)) && fitting unit (k .kind) 0 (parse s))
       unfolding audited
       audited-walk =
           let both = sym (valid-parts (k .quotas)) ∙ sym (w .0) in
           let paid = and-left (all solvent (k .quotas)) _ both in
           let may = and-right (all solvent (k .quotas)) _ both in
-          rw (i .well, paid, w .1 refl, i .keyed, may, and-yes (fitting unit 0 (parse s)))
+          rw (i .well, paid, w .1 refl, i .keyed, may, and-yes (fitting unit (k .kind) 0 (parse s)))
 
-      pub verdict-walk : (t : Bool) → t ≡ (audit-parsed (k .«last_serial») (parse s) (some (begin keys owed)) && fitting unit 0 (parse s)) → verdict-values (cond t Accepted (Refused Inconsistent)) ≡ check unit s k .values
+      pub verdict-walk : (t : Bool) → t ≡ (audit-parsed (k .«last_serial») (parse s) (some (begin keys owed)) && fitting unit (k .kind) 0 (parse s))
+          → verdict-values (cond t Accepted (Refused Inconsistent)) ≡ check unit s k .values
       verdict-walk true e = verdict-passes (audited-walk ∙ sym e)
       verdict-walk false e = verdict-fails (audited-walk ∙ sym e)

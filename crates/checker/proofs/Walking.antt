@@ -38,20 +38,29 @@ parsed-none last (some []) = refl
 parsed-none last (some (b ∷ bs)) = refl
 
 -- on the way
-pub record Walking (unit : ℕ → ℕ) (s keys₀ next heads owed₀ : List ℕ) (last : ℕ) (keys owed : List ℕ) (before back : ℕ) (rest : List ℕ) : Type 0 where
+pub record Walking (unit : ℕ → ℕ) (kind : ℕ) (s keys₀ next heads owed₀ : List ℕ) (last : ℕ) (keys owed : List ℕ) (before back : ℕ)
+    (rest : List ℕ) : Type 0 where
   pub inside : length rest ≤ length s
   pub ready : Ready keys next heads owed
   pub same : audit-parsed last (parse s) (some (begin keys₀ owed₀)) ≡ audit-parsed last (cut back rest) (some (behind before keys owed))
   pub even : (length s - length rest) % 8 ≡ 0
-  pub fit : fitting unit 0 (parse s) ≡ fitting unit (length s - length rest) (cut back rest)
+  pub fit : fitting unit kind 0 (parse s) ≡ fitting unit kind (length s - length rest) (cut back rest)
 
-pub walking-start : {unit : ℕ → ℕ} {s keys next heads owed : List ℕ} {last : ℕ} → Ready keys next heads owed → Walking unit s keys next heads owed last keys owed 1 0 s
+pub walking-start : {unit : ℕ → ℕ} {kind : ℕ} {s keys next heads owed : List ℕ} {last : ℕ} → Ready keys next heads owed
+    → Walking unit kind s keys next heads owed last keys owed 1 0 s
 unfolding parse
-walking-start {unit} {s} r =
-    record { inside = omega arith; ready = r; same = refl; even = ap (λ (x : ℕ). x % 8) (sub-self (length s)); fit = ap (λ (x : ℕ). fitting unit x (parse s)) (sym (sub-self (length s))) }
+walking-start {unit} {kind} {s} r =
+    record {
+      inside = omega arith;
+      ready = r;
+      same = refl;
+      even = ap (λ (x : ℕ). x % 8)
+          (sub-self (length s));
+      fit = ap (λ (x : ℕ). fitting unit kind x (parse s)) (sym (sub-self (length s)));
+    }
 
-module _ {unit : ℕ → ℕ} {s keys₀ next heads owed₀ : List ℕ} {last : ℕ} {keys owed : List ℕ} {before back : ℕ} {rest : List ℕ}
-    (g : Walking unit s keys₀ next heads owed₀ last keys owed before back rest) where
+module _ {unit : ℕ → ℕ} {kind : ℕ} {s keys₀ next heads owed₀ : List ℕ} {last : ℕ} {keys owed : List ℕ} {before back : ℕ} {rest : List ℕ}
+    (g : Walking unit kind s keys₀ next heads owed₀ last keys owed before back rest) where
   stops : cut back rest ≡ none → audit-parsed last (parse s) (some (begin keys₀ owed₀)) ≡ false
   unfolding audit-parsed
   stops e = g .same ∙ ap (λ (x : Option (List Block)). audit-parsed last x (some (behind before keys owed))) e
@@ -68,9 +77,9 @@ module _ {unit : ℕ → ℕ} {s keys₀ next heads owed₀ : List ℕ} {last : 
   walking-end h = g .same ∙ ap (λ (x : Option (List Block)). audit-parsed last x (some (behind before keys owed))) (cut-end back 0 rest (omega arith))
 
   -- at the end every object is in its units
-  pub walking-fits : length rest ≡ 0 → fitting unit 0 (parse s) ≡ true
+  pub walking-fits : length rest ≡ 0 → fitting unit kind 0 (parse s) ≡ true
   unfolding fitting all objects-from
-  walking-fits h = g .fit ∙ ap (fitting unit (length s - length rest)) (cut-end back 0 rest (omega arith))
+  walking-fits h = g .fit ∙ ap (fitting unit kind (length s - length rest)) (cut-end back 0 rest (omega arith))
 
   -- by the header that is read, and the visit
   module _ {h : Header} (e : header-at 0 rest ≡ h) (some-rest : 8 ≤ length rest) where
@@ -115,42 +124,45 @@ module _ {unit : ℕ → ℕ} {s keys₀ next heads owed₀ : List ℕ} {last : 
 
         -- the objects' units: the block's own, and those of the blocks behind it
         units-step : 1 ≤ h .size → h .back ≡ back
-            → fitting unit 0 (parse s) ≡ (fits-block unit (h .serial) (8 * h .size) end && fitting unit end (cut (h .size) rest′))
+            → fitting unit kind 0 (parse s) ≡ (fits-block unit kind (h .serial) (8 * h .size) end && fitting unit kind end (cut (h .size) rest′))
         units-step l q =
             let f = start-found 0 rest h (starts l) in
             let at = length s - length rest in
             let z : 0 + 8 * h .size ≡ 8 * h .size = omega arith in
-            g .fit ∙ ap (fitting unit at) (cut-at back 0 rest h (starts l) q)
-            ∙ ap (λ (x : ℕ). fitting unit at (in-front (read-block rest) (cut (h .size) (drop x rest)))) z
-            ∙ fitting-front unit at (read-block rest) (cut (h .size) (drop (8 * h .size) rest))
-            ∙ ap (λ (x : ℕ). fits-block unit (read-block rest .serial) x (at + x) && fitting unit (at + x) (cut (h .size) (drop (8 * h .size) rest))) (size-at 0 rest h f)
-            ∙ ap (λ (b : Block). fits-block unit (b .serial) (8 * h .size) (at + 8 * h .size) && fitting unit (at + 8 * h .size) (cut (h .size) (drop (8 * h .size) rest))) (block-at 0 rest h f)
-            ∙ (λ i. fits-block unit (h .serial) (8 * h .size) (ends i) && fitting unit (ends i) (cut (h .size) (sym p i)))
+            g .fit ∙ ap (fitting unit kind at) (cut-at back 0 rest h (starts l) q)
+            ∙ ap (λ (x : ℕ). fitting unit kind at (in-front (read-block rest) (cut (h .size) (drop x rest)))) z
+            ∙ fitting-front unit kind at (read-block rest) (cut (h .size) (drop (8 * h .size) rest))
+            ∙ ap (λ (x : ℕ). fits-block unit kind (read-block rest .serial) x (at + x) && fitting unit kind (at + x)
+            (cut (h .size) (drop (8 * h .size) rest))) (size-at 0 rest h f)
+            ∙ ap (λ (b : Block). fits-block unit kind (b .serial) (8 * h .size) (at + 8 * h .size) && fitting unit kind (at + 8 * h .size)
+            (cut (h .size) (drop (8 * h .size) rest))) (block-at 0 rest h f)
+            ∙ (λ i. fits-block unit kind (h .serial) (8 * h .size) (ends i) && fitting unit kind (ends i) (cut (h .size) (sym p i)))
 
         -- a block that fails, or does not fit
         pub walking-fails : h .back ≡ back
-            → (8 ≤ 8 * h .size → (visit last (h .serial) (8 * h .size) (behind before keys owed) ≡ none) ⊎ (fits-block unit (h .serial) (8 * h .size) end ≡ false))
-            → (audit-parsed last (parse s) (some (begin keys₀ owed₀)) && fitting unit 0 (parse s)) ≡ false
+            → (8 ≤ 8 * h .size → (visit last (h .serial) (8 * h .size) (behind before keys owed) ≡ none)
+            ⊎ (fits-block unit kind (h .serial) (8 * h .size) end ≡ false))
+            → (audit-parsed last (parse s) (some (begin keys₀ owed₀)) && fitting unit kind 0 (parse s)) ≡ false
         walking-fails q w =
             by-eq (h .size) 0
-            (λ z. ap (λ (x : Bool). x && fitting unit 0 (parse s)) (walking-nothing (omega arith) (start-no 0 rest e (λ l. absurd (omega arith)))))
+            (λ z. ap (λ (x : Bool). x && fitting unit kind 0 (parse s)) (walking-nothing (omega arith) (start-no 0 rest e (λ l. absurd (omega arith)))))
             (λ n. ⊎-elim
             (λ v.
-            ap (λ (x : Bool). x && fitting unit 0 (parse s))
+            ap (λ (x : Bool). x && fitting unit kind 0 (parse s))
             (step (omega (arith, n)) q ∙ ap (λ (t : Option State). audit-parsed last (cut (h .size) (drop (8 * h .size) rest)) t) v
             ∙ parsed-none last (cut (h .size) (drop (8 * h .size) rest))))
             (λ u.
-            and-no (audit-parsed last (parse s) (some (begin keys₀ owed₀))) (fitting unit 0 (parse s))
-            (units-step (omega (arith, n)) q ∙ ap (λ (x : Bool). x && fitting unit end (cut (h .size) rest′)) u))
+            and-no (audit-parsed last (parse s) (some (begin keys₀ owed₀))) (fitting unit kind 0 (parse s))
+            (units-step (omega (arith, n)) q ∙ ap (λ (x : Bool). x && fitting unit kind end (cut (h .size) rest′)) u))
             (w (omega (arith, n))))
 
-        pub walking-on : {keys′ owed′ : List ℕ} → Visited unit last (h .serial) (8 * h .size) end before next heads keys owed true keys′ owed′
-            → h .back ≡ back → Walking unit s keys₀ next heads owed₀ last keys′ owed′ (h .serial) (h .size) rest′
+        pub walking-on : {keys′ owed′ : List ℕ} → Visited unit kind last (h .serial) (8 * h .size) end before next heads keys owed true keys′ owed′
+            → h .back ≡ back → Walking unit kind s keys₀ next heads owed₀ last keys′ owed′ (h .serial) (h .size) rest′
         walking-on w q =
             record {
               inside = omega (arith, left, g .inside);
               ready = w .1;
               same = rw p (step (omega (arith, w .0)) q ∙ ap (λ (t : Option State). audit-parsed last (cut (h .size) (drop (8 * h .size) rest)) t) (w .2));
               even = rw (← ends) (omega (arith, g .even));
-              fit = units-step (omega (arith, w .0)) q ∙ ap (λ (x : Bool). x && fitting unit end (cut (h .size) rest′)) (w .3);
+              fit = units-step (omega (arith, w .0)) q ∙ ap (λ (x : Bool). x && fitting unit kind end (cut (h .size) rest′)) (w .3);
             }

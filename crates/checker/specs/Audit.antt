@@ -8,7 +8,7 @@ use lib.Dec.{leb, eqb}
 use Rattle.accounts.specs.declared.Quota.{Quota}
 use Rattle.accounts.specs.declared.Accounts.{Accounts}
 use Rattle.accounts.specs.Accounts.{permissible}
-use Rattle.layout.specs.Blocks.{Block, size}
+use Rattle.layout.specs.Blocks.{Block, size, QUARANTINED}
 use Rattle.model.specs.Lists.{all}
 use Rattle.checker.specs.Keys.{well-formed, keys-of, strike, struck, Payment, pay, unpaid}
 
@@ -55,9 +55,13 @@ visit-live last serial size t =
     cond (leb 16 size && (leb serial last && not (eqb (struck serial (t .keys)) 0)))
     (settled (strike serial (t .keys)) (pay serial size (t .keys) (some (unpaid (t .owed))))) none
 
+-- a quarantined block is at least 16 bytes long; it strikes nothing, and nobody pays for it
+unfoldable pub visit-quarantined : ℕ → State → Option State
+visit-quarantined size t = cond (leb 16 size) (some (record { free = false; keys = t .keys; owed = t .owed })) none
+
 -- a block with this serial and size; none where it is not as it must be
 unfoldable pub visit : ℕ → ℕ → ℕ → State → Option State
-visit last serial size t = cond (eqb serial 0) (visit-free t) (visit-live last serial size t)
+visit last serial size t = cond (eqb serial 0) (visit-free t) (cond (eqb serial QUARANTINED) (visit-quarantined size t) (visit-live last serial size t))
 
 -- the blocks one after the other, from a state on
 unfoldable pub audit : ℕ → List Block → Option State → Bool

@@ -86,11 +86,11 @@ pub record Ready (keys next heads owed : List ℕ) : Type 0 where
 
 -- `visit` takes a block of 8 bytes or more that is as it must be and fits, and leaves what the definition leaves, and the arrays ready for the next block;
 -- or says that the block is shorter, not as it must be, or does not fit
-abbrev pub Visited : (ℕ → ℕ) → ℕ → ℕ → ℕ → ℕ → ℕ → List ℕ → List ℕ → List ℕ → List ℕ → Bool → List ℕ → List ℕ → Type 0
-Visited unit last serial size end before next heads keys owed true keys′ owed′ =
+abbrev pub Visited : (ℕ → ℕ) → ℕ → ℕ → ℕ → ℕ → ℕ → ℕ → List ℕ → List ℕ → List ℕ → List ℕ → Bool → List ℕ → List ℕ → Type 0
+Visited unit kind last serial size end before next heads keys owed true keys′ owed′ =
     (8 ≤ size)
     × Ready keys′ next heads owed′
     × (visit last serial size (behind before keys owed) ≡ some (behind serial keys′ owed′))
-    × (fits-block unit serial size end ≡ true)
-Visited unit last serial size end before next heads keys owed false keys′ owed′ =
-    8 ≤ size → (visit last serial size (behind before keys owed) ≡ none) ⊎ (fits-block unit serial size end ≡ false)
+    × (fits-block unit kind serial size end ≡ true)
+Visited unit kind last serial size end before next heads keys owed false keys′ owed′ =
+    8 ≤ size → (visit last serial size (behind before keys owed) ≡ none) ⊎ (fits-block unit kind serial size end ≡ false)

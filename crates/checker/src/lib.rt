@@ -9,6 +9,8 @@ use accounts::Hold;
 use accounts::QUOTAS;
 use accounts::Quota;
 use layout::GREATEST_HEAP;
+use layout::QUARANTINED;
+use model::GREATEST_SERIAL;
 use model::Refusal;
 use model::Verdict;
 use std::num::wrapping_sub_usize;
@@ -19,7 +21,7 @@ ghost use mathlib.Core.Bool.{true, _&&_};
 ghost use lib.Dec.{eqb, ltb, leb};
 ghost use lib.ListN.{length};
 ghost use Rattle.model.specs.Answers.{verdict-values};
-ghost use Rattle.model.specs.Consistent.{allowed, fits-unit};
+ghost use Rattle.model.specs.Consistent.{allowed, fits-unit, greatest-serial};
 ghost use Rattle.model.specs.Calls.{check as check-of};
 ghost use Rattle.rounding.specs.Rounding.{unit};
 ghost use Rattle.checker.specs.Fitting.{fitting};
@@ -51,6 +53,16 @@ pub fn is_allowed(len: usize) -> bool
         return false;
     }
     len <= GREATEST_HEAP
+}
+
+// Rules 22.2 and 22.9: whether the last serial may have been given, and the kind is one of two.
+fn is_in_range(last: u32, kind: u8) -> bool
+    ensures { λ r. ⌜ r ≡ (leb last greatest-serial && ltb kind 2) ⌝ }
+{
+    if GREATEST_SERIAL < last {
+        return false;
+    }
+    kind < 2
 }
 
 // Whether a record without a serial is unused.
@@ -275,12 +287,24 @@ fn is_fitting(size: usize, end: usize) -> bool
     end % unit == 0
 }
 
-// A block of the walk, behind one with the serial `before`: a live one strikes its keys and is paid for. False where the block is not as it must be, or its object does not fit its unit.
+// Whether a quarantined block is long enough, and of the heap's kind.
+fn is_waiting(kind: u8, size: usize) -> bool
+    ensures { λ r. ⌜ r ≡ (leb 16 size && eqb kind 1) ⌝ }
+{
+    if size < 16 {
+        return false;
+    }
+    kind == 1
+}
+
+// A block of the walk, behind one with the serial `before`: a live one strikes its keys and is paid for. False where the block is not as it must be, not of
+// the heap's kind, or its object does not fit its unit.
 fn visit(
     keys: &mut [usize; HOLDS],
     next: &[u16; HOLDS],
     heads: &[u16; SLOTS],
     owed: &mut [usize; QUOTAS],
+    kind: u8,
     last: u32,
     before: u32,
     serial: u32,
@@ -288,13 +312,16 @@ fn visit(
     end: usize,
 ) -> bool
     requires { ⌜ Ready (now keys) (now next) (now heads) (now owed) × (size % 8 ≡ 0) × (end % 8 ≡ 0) × (size ≤ end) × (size < 2 ^ 32) ⌝ }
-    ensures { λ r. ⌜ Visited unit last serial size end before (now (next .entry)) (now (heads .entry)) (now (keys .entry)) (now (owed .entry)) r (now (keys .exit)) (now (owed .exit)) ⌝ }
+    ensures { λ r. ⌜ Visited unit kind last serial size end before (now (next .entry)) (now (heads .entry)) (now (keys .entry)) (now (owed .entry)) r (now (keys .exit)) (now (owed .exit)) ⌝ }
 {
     if serial == 0 {
         if before == 0 {
             return false;
         }
         return 8 <= size;
+    }
+    if serial == QUARANTINED {
+        return is_waiting(kind, size);
     }
     if last < serial {
         return false;
@@ -316,9 +343,10 @@ fn walk(
     heads: &[u16; SLOTS],
     owed: &mut [usize; QUOTAS],
     last: u32,
+    kind: u8,
 ) -> bool
     requires { ⌜ Ready (now keys) (now next) (now heads) (now owed) ⌝ }
-    ensures { λ r. ⌜ r ≡ (audit-parsed last (parse (now (heap .entry))) (some (begin (now (keys .entry)) (now (owed .entry)))) && fitting unit 0 (parse (now (heap .entry)))) ⌝ }
+    ensures { λ r. ⌜ r ≡ (audit-parsed last (parse (now (heap .entry))) (some (begin (now (keys .entry)) (now (owed .entry)))) && fitting unit kind 0 (parse (now (heap .entry)))) ⌝ }
 {
     let mut before: u32 = 1;
     let mut back: usize = 0;
@@ -335,7 +363,18 @@ fn walk(
         let serial = header.serial;
         let after = &rest[size..];
         let end = heap.len() - after.len();
-        if !visit(keys, next, heads, owed, last, before, serial, size, end) {
+        if !visit(
+            keys,
+            next,
+            heads,
+            owed,
+            kind,
+            last,
+            before,
+            serial,
+            size,
+            end,
+        ) {
             return false;
         }
         before = serial;
@@ -358,6 +397,11 @@ pub fn check(heap: &[u8], accounts: Accounts) -> Verdict
     if !is_allowed(heap.len()) {
         return Verdict::Refused(Refusal::HeapLength);
     }
+    let last = accounts.last_serial;
+    let kind = accounts.kind;
+    if !is_in_range(last, kind) {
+        return Verdict::Refused(Refusal::Inconsistent);
+    }
     let end = HOLDS as u16;
     let mut keys = [0usize; HOLDS];
     let mut next = [end; HOLDS];
@@ -371,8 +415,7 @@ pub fn check(heap: &[u8], accounts: Accounts) -> Verdict
     if !owing(quotas, &mut owed) {
         return Verdict::Refused(Refusal::Inconsistent);
     }
-    let last = accounts.last_serial;
-    if !walk(heap, &mut keys, &next, &heads, &mut owed, last) {
+    if !walk(heap, &mut keys, &next, &heads, &mut owed, last, kind) {
         return Verdict::Refused(Refusal::Inconsistent);
     }
     Verdict::Accepted

@@ -79,7 +79,7 @@ module _ (unit : ℕ → ℕ) where
     pub begins-sound : Sound (state-of s k)
     begins-sound =
         record {
-          good = did-good unit s k (d .quota) (d .handle) taken (f .octets) (f .quotas) (f .narrow) (f .serial);
+          good = did-good unit s k (d .quota) (d .handle) taken (f .octets) (f .quotas) (f .narrow);
           fitting = did-fitting unit s k (d .quota) (d .handle) taken;
         }
 

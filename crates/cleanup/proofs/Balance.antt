@@ -1,4 +1,4 @@
--- A good state is known by its blocks, its records, its last serial, and its quotas but for what remains of them.
+-- A good state is known by its blocks, its records, its last serial, its kind, and its quotas but for what remains of them.
 -- What remains of a quota is its grant less its charges, and the charges follow from records and objects. So no sum of refunds has to be compared.
 -- Assumes nothing.
 use mathlib.Core.Path.{_≡_, refl, ap, sym, _∙_}
@@ -52,17 +52,17 @@ module _ (t u : State) (g : Good t) (h : Good u) (e : but-remainders (t .account
       ext-getD zero-quota (t .accounts .quotas) (u .accounts .quotas) (g .quotas ∙ sym (h .quotas))
       (λ j l. same-quota (getD (t .accounts .quotas) j zero-quota) (getD (u .accounts .quotas) j zero-quota) (same-but j) (same-remainder j l))
 
-  -- are the same state, if they have the last serial in common too
-  pub same-state : t .accounts .«last_serial» ≡ u .accounts .«last_serial» → t ≡ u
-  same-state l = let a = same-accounts (t .accounts) (u .accounts) same-quotas l r in λ i. record { blocks = b i; accounts = a i }
+  -- are the same state, if they have the last serial and the kind in common too
+  pub same-state : t .accounts .«last_serial» ≡ u .accounts .«last_serial» → t .accounts .kind ≡ u .accounts .kind → t ≡ u
+  same-state l n = let a = same-accounts (t .accounts) (u .accounts) same-quotas l r n in λ i. record { blocks = b i; accounts = a i }
 
--- what a release leaves: the records, the blocks, the quotas but for what remains, and the last serial
+-- what a release leaves: the records, the blocks, the quotas but for what remains, the last serial and the kind
 module _ (q : ℕ) (o : Handle) (t : State) where
   pub released-holds : released q o t .accounts .holds ≡ lower-count (o .serial) q (t .accounts .holds)
   unfolding released
   released-holds = refl
 
-  pub released-blocks : released q o t .blocks ≡ settle (lower-count (o .serial) q (t .accounts .holds)) (t .blocks)
+  pub released-blocks : released q o t .blocks ≡ settle (t .accounts .kind) (lower-count (o .serial) q (t .accounts .holds)) (t .blocks)
   unfolding released
   released-blocks = refl
 
@@ -73,3 +73,7 @@ module _ (q : ℕ) (o : Handle) (t : State) where
   pub released-last : released q o t .accounts .«last_serial» ≡ t .accounts .«last_serial»
   unfolding released
   released-last = refund-kept q (given-back q o (t .accounts)) (t .accounts) .same-last
+
+  pub released-kind : released q o t .accounts .kind ≡ t .accounts .kind
+  unfolding released
+  released-kind = refund-kept q (given-back q o (t .accounts)) (t .accounts) .same-kind

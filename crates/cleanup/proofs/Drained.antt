@@ -27,7 +27,7 @@ use Rattle.model.specs.Step.{step}
 use Rattle.model.specs.declared.Handle.{Handle}
 use Rattle.model.specs.declared.Call.the-variants.{FreeAll}
 use Rattle.model.proofs.Bools.{and-left, and-right, and-both, or-neither}
-use Rattle.model.proofs.Consistent.{is-for-exactly, sound-consistent}
+use Rattle.model.proofs.Consistent.{is-for-exactly, sound-consistent, sound-range, range-serial}
 use Rattle.model.proofs.Settle.{stays-objects, settle-same, settle-twice, drop-none}
 use Rattle.model.proofs.Refusals.{by-lines, refusal-of-lines, call-accepted-exactly}
 use Rattle.invariant.proofs.Good.{Good}
@@ -35,11 +35,11 @@ use Rattle.invariant.proofs.Heaps.{heap-good, heap-again}
 use Rattle.invariant.proofs.Counts.{counted-used}
 use Rattle.invariant.proofs.Passed.{free-all-passed}
 use Rattle.invariant.proofs.Settled.{released-paid, freed-paid, freed-good}
-use Rattle.invariant.proofs.Releasing.{Possible, possible-there}
+use Rattle.invariant.proofs.Releasing.{Possible, possible-there, sound-fitting}
 use Rattle.cleanup.specs.Releases.{Drop, Cleaned, cleaned, accepted-throughout, Fits}
 use Rattle.cleanup.specs.FreeAll.{all-for, sum-of, AsFreeAll, FreeAllByReleases}
 use Rattle.cleanup.proofs.Lowering.{lowered-held}
-use Rattle.cleanup.proofs.Balance.{but-remainders, same-state, released-holds, released-blocks, released-but, released-last}
+use Rattle.cleanup.proofs.Balance.{but-remainders, same-state, released-holds, released-blocks, released-but, released-last, released-kind}
 use Rattle.cleanup.proofs.Accepting.{Sound, after, Accepted, next-sound, after-first, rest-accepted, first-possible}
 
 -- a used record with one hold less is of zeros or still used
@@ -76,18 +76,19 @@ module _ (unit : ℕ → ℕ) (q : ℕ) where
     pub good : Good state
     pub heap : after unit ds t .heap ≡ render (state .blocks)
     pub accounts : after unit ds t .accounts ≡ state .accounts
-    pub blocks : state .blocks ≡ settle (state .accounts .holds) (t .blocks)
+    pub blocks : state .blocks ≡ settle (t .accounts .kind) (state .accounts .holds) (t .blocks)
     pub fewer : (serial : ℕ) → held (state .accounts .holds) serial ≡ true → held (t .accounts .holds) serial ≡ true
     pub same : drop-records q (state .accounts .holds) ≡ drop-records q (t .accounts .holds)
     pub but : but-remainders (state .accounts) ≡ but-remainders (t .accounts)
     pub last : state .accounts .«last_serial» ≡ t .accounts .«last_serial»
+    pub kind : state .accounts .kind ≡ t .accounts .kind
     pub paid : remaining q (state .accounts) ≡ remaining q (t .accounts) + sum-of (after unit ds t .answers)
 
   -- nothing is settled in a good state
-  settled : (t : State) → Good t → t .blocks ≡ settle (t .accounts .holds) (t .blocks)
+  settled : (t : State) → Good t → t .blocks ≡ settle (t .accounts .kind) (t .accounts .holds) (t .blocks)
   unfolding objects well-cut
   settled t g =
-      sym (settle-same (t .accounts .holds) (t .blocks) (sym (stays-objects (t .accounts .holds) 0 (t .blocks)) ∙ g .tests .recorded)
+      sym (settle-same (t .accounts .kind) (t .accounts .holds) (t .blocks) (sym (stays-objects (t .accounts .holds) 0 (t .blocks)) ∙ g .tests .recorded)
       (and-right (all long-enough (t .blocks)) (free-apart (t .blocks)) (g .tests .cut)))
 
   -- a release that is possible, in front of a list
@@ -117,8 +118,9 @@ module _ (unit : ℕ → ℕ) (q : ℕ) where
           accounts = ap (λ (c : Cleaned). c .accounts) (after-first unit t g d o p ds) ∙ e .accounts;
           blocks =
               e .blocks
-              ∙ ap (settle (e .state .accounts .holds)) (released-blocks (d .quota) o t)
-              ∙ settle-twice left (e .state .accounts .holds) still-held (t .blocks);
+              ∙ ap (λ (n : ℕ). settle n (e .state .accounts .holds) (released (d .quota) o t .blocks)) (released-kind (d .quota) o t)
+              ∙ ap (settle (t .accounts .kind) (e .state .accounts .holds)) (released-blocks (d .quota) o t)
+              ∙ settle-twice (t .accounts .kind) left (e .state .accounts .holds) still-held (t .blocks);
           fewer = λ serial h. lowered-held (o .serial) (d .quota) (t .accounts .holds) serial (still-held serial h);
           same =
               e .same
@@ -127,6 +129,7 @@ module _ (unit : ℕ → ℕ) (q : ℕ) where
               (lowered-dropped (o .serial) q (t .accounts .holds));
           but = e .but ∙ released-but (d .quota) o t;
           last = e .last ∙ released-last (d .quota) o t;
+          kind = e .kind ∙ released-kind (d .quota) o t;
           paid = omega (arith, e .paid, repaid, summed);
         }
 
@@ -143,6 +146,7 @@ module _ (unit : ℕ → ℕ) (q : ℕ) where
         same = refl;
         but = refl;
         last = refl;
+        kind = refl;
         paid = omega arith;
       }
   ends (d ∷ ds) t g a f =
@@ -175,8 +179,9 @@ module _ (unit : ℕ → ℕ) (q : ℕ) where
         same-state (end .state) all-freed (end .good) (freed-good q t (g .good) exists)
         (end .but ∙ sym (refund-but q back (t .accounts)))
         end-holds
-        (end .blocks ∙ ap (λ (hs : List Hold). settle hs (t .blocks)) end-holds)
+        (end .blocks ∙ ap (λ (hs : List Hold). settle (t .accounts .kind) hs (t .blocks)) end-holds)
         (end .last ∙ sym (refund-kept q back (t .accounts) .same-last))
+        (end .kind ∙ sym (refund-kept q back (t .accounts) .same-kind))
 
     end-sum : sum-of (after unit ds t .answers) ≡ back
     end-sum = omega (arith, end .paid, freed-paid q t (g .good) exists, ap (λ (u : State). remaining q (u .accounts)) end-freed)
@@ -201,11 +206,11 @@ module _ (unit : ℕ → ℕ) (q : ℕ) where
     again = heap-again s k (fits .octets) whole
 
     pub begun : Sound unit (state-of s k)
-    unfolding sound objects-of
     begun =
+        let e = checked .1 in
         record {
-          good = heap-good s k (checked .0) (fits .octets) whole (fits .quotas) (fits .narrow) (fits .serial);
-          fitting = and-right (consistent s k) _ (checked .1);
+          good = heap-good s k (checked .0) (fits .octets) whole (fits .quotas) (fits .narrow) (range-serial k (sound-range unit s k e));
+          fitting = sound-fitting unit s k e;
         }
 
     pub exists : q < QUOTAS

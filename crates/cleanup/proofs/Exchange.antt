@@ -28,11 +28,22 @@ use Rattle.invariant.proofs.Releasing.{Possible, possible-there, possible-good}
 use Rattle.cleanup.specs.Releases.{Drop, Answered}
 use Rattle.cleanup.proofs.Lowering.{lowered-held, lowered-record, other-record, lowered-exchanged, record-held}
 use Rattle.cleanup.proofs.Finding.{found-kept, found-before}
-use Rattle.cleanup.proofs.Balance.{same-state, released-holds, released-but, released-last}
+use Rattle.cleanup.proofs.Balance.{same-state, released-holds, released-but, released-last, released-kind}
 
 -- the answer of a release
 abbrev pub answer : ℕ → Handle → State → Answered
 answer q o t = record { quota = q; values = amount-of (given-back q o (t .accounts)) }
+
+-- blocks that are settled after one release and after another are settled once, whatever the kind
+settled-once : (q j : ℕ) (o p : Handle) (t : State)
+    → released j p (released q o t) .blocks
+    ≡ settle (t .accounts .kind) (lower-count (p .serial) j (lower-count (o .serial) q (t .accounts .holds))) (t .blocks)
+unfolding released
+settled-once q j o p t =
+    let hs = lower-count (o .serial) q (t .accounts .holds) in
+    let less = lower-count (p .serial) j hs in
+    ap (λ (n : ℕ). settle n less (settle (t .accounts .kind) hs (t .blocks))) (released-kind q o t)
+    ∙ settle-twice (t .accounts .kind) hs less (lowered-held (p .serial) j hs) (t .blocks)
 
 -- two releases, one after the other
 module _ (t : State) (g : Good t) (d e : Drop) (o p : Handle) (a : Possible (d .quota) (d .handle) o t)
@@ -107,12 +118,9 @@ module _ (t : State) (g : Good t) (d e : Drop) (o p : Handle) (a : Possible (d .
   both-blocks : same ≡ false → both-done .blocks ≡ both-done′ .blocks
   unfolding released
   both-blocks s =
-      let hs = t .accounts .holds in
-      let hd = lower-count (o .serial) (d .quota) hs in
-      let he = lower-count (p .serial) (e .quota) hs in
-      settle-twice hd (lower-count (p .serial) (e .quota) hd) (lowered-held (p .serial) (e .quota) hd) (t .blocks)
-      ∙ ap (λ (l : List Hold). settle l (t .blocks)) (both-holds s)
-      ∙ sym (settle-twice he (lower-count (o .serial) (d .quota) he) (lowered-held (o .serial) (d .quota) he) (t .blocks))
+      settled-once (d .quota) (e .quota) o p t
+      ∙ ap (λ (l : List Hold). settle (t .accounts .kind) l (t .blocks)) (both-holds s)
+      ∙ sym (settled-once (e .quota) (d .quota) p o t)
 
   -- the two orders lead to the same state
   both-same : (x : Bool) → same ≡ x → both-done ≡ both-done′
@@ -123,6 +131,7 @@ module _ (t : State) (g : Good t) (d e : Drop) (o p : Handle) (a : Possible (d .
       ((released-but (e .quota) p first-done ∙ released-but (d .quota) o t) ∙ sym (released-but (d .quota) o second-done ∙ released-but (e .quota) p t))
       (both-holds s) (both-blocks s)
       ((released-last (e .quota) p first-done ∙ released-last (d .quota) o t) ∙ sym (released-last (d .quota) o second-done ∙ released-last (e .quota) p t))
+      ((released-kind (e .quota) p first-done ∙ released-kind (d .quota) o t) ∙ sym (released-kind (d .quota) o second-done ∙ released-kind (e .quota) p t))
 
   -- a release of another record gives back the same
   same-answer : (q : ℕ) (x : Handle) (j : ℕ) (y : Handle) → has-record (t .accounts .holds) j (y .serial) ≡ true

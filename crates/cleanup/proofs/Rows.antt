@@ -1,5 +1,6 @@
 -- Computed rows: two objects that two quotas hold, released in two orders. The heap is fresh again both times, and the answers come in another order,
--- so the answers of two orders are not equal as lists. A list with a refused release goes on behind it.
+-- so the answers of two orders are not equal as lists. A list with a refused release goes on behind it. In a heap with quarantine the same lists leave two
+-- blocks that wait side by side in front of a free one, whichever was released first.
 -- Assumes nothing.
 use Prim.Native.Nat.{ℕ}
 use mathlib.Core.Path.{_≡_, refl}
@@ -7,10 +8,11 @@ use mathlib.Core.List.{List, [], _∷_, map}
 use mathlib.Core.Bool.{true, false}
 use lib.ListN.{replicate}
 use Rattle.accounts.specs.Accounts.{with-last-serial}
-use Rattle.layout.specs.Blocks.{render}
+use Rattle.layout.specs.Blocks.{Block, QUARANTINED, render}
 use Rattle.rounding.specs.Rounding.{unit}
 use Rattle.model.specs.Calls.{Outcome, allocate, claim, release, free-all}
 use Rattle.model.specs.Cases.{opened-heap}
+use Rattle.model.specs.Quarantine.{waiting-heap}
 use Rattle.model.specs.declared.Handle.{Handle}
 use Rattle.model.proofs.Computing.{computing}
 use Rattle.cleanup.specs.Releases.{Drop, Answered, Cleaned, cleaned, accepted-throughout}
@@ -20,12 +22,15 @@ fresh-heap : Outcome
 fresh-heap = opened-heap 128 100 100
 
 -- a heap of 128 bytes with objects of 16 and 24 bytes; quota 0 holds the first twice and the second once, quota 1 holds the second
-held-heap : Outcome
-held-heap =
-    let b = allocate unit (fresh-heap .heap) (fresh-heap .accounts) 0 16 in
+held-in : Outcome → Outcome
+held-in t =
+    let b = allocate unit (t .heap) (t .accounts) 0 16 in
     let c = allocate unit (b .heap) (b .accounts) 0 24 in
     let d = claim unit (c .heap) (c .accounts) 0 (b .values .handle) in
     claim unit (d .heap) (d .accounts) 1 (c .values .handle)
+
+held-heap : Outcome
+held-heap = held-in fresh-heap
 
 first : Handle
 first = record { base = 8; length = 16; serial = 1 }
@@ -66,14 +71,14 @@ order-rows : (amounts one-order ≡ 0 ∷ 32 ∷ 32 ∷ 24 ∷ []) × (answered 
     × (after one-order .heap ≡ 16 ∷ replicate 127 0) × (after one-order .accounts ≡ with-last-serial 2 (fresh-heap .accounts))
     × (amounts other-order ≡ 32 ∷ 0 ∷ 24 ∷ 32 ∷ []) × (answered other-order ≡ 1 ∷ 0 ∷ 0 ∷ 0 ∷ []) × (accepted-throughout (after other-order .answers) ≡ true)
     × (after other-order .heap ≡ 16 ∷ replicate 127 0) × (after other-order .accounts ≡ with-last-serial 2 (fresh-heap .accounts))
-unfolding computing opened-heap fresh-heap held-heap first second drop one-order other-order after amounts answered cleaned accepted-throughout
+unfolding computing opened-heap fresh-heap held-in held-heap first second drop one-order other-order after amounts answered cleaned accepted-throughout
 order-rows = (refl, refl, refl, refl, refl, refl, refl, refl, refl, refl)
 
 -- refused releases, and the others of the same list
 refusal-rows : (refusals with-refusals ≡ 6 ∷ 0 ∷ 0 ∷ 5 ∷ 0 ∷ []) × (amounts with-refusals ≡ 0 ∷ 0 ∷ 24 ∷ 0 ∷ 32 ∷ [])
     × (accepted-throughout (after with-refusals .answers) ≡ false)
     × (accepted-throughout [] ≡ true)
-unfolding computing opened-heap fresh-heap held-heap first second drop with-refusals after amounts refusals cleaned accepted-throughout
+unfolding computing opened-heap fresh-heap held-in held-heap first second drop with-refusals after amounts refusals cleaned accepted-throughout
 refusal-rows = (refl, refl, refl, refl)
 
 -- one quota's releases and its free-all
@@ -89,6 +94,41 @@ free-rows : (all-for 0 of-quota-0 ≡ true) × (all-for 1 of-quota-0 ≡ false) 
     × (releases-of 0 (held-heap .accounts .holds) (first ∷ second ∷ []) ≡ drop 0 first ∷ drop 0 first ∷ drop 0 second ∷ [])
     × (releases-of 1 (held-heap .accounts .holds) (first ∷ second ∷ []) ≡ drop 1 second ∷ [])
     × (freed-heap .values .amount ≡ 56) × (after of-quota-0 .heap ≡ second-left) × (freed-heap .heap ≡ second-left)
-unfolding computing opened-heap fresh-heap held-heap freed-heap second-left first second drop one-order other-order of-quota-0 with-refusals after cleaned
-    all-for sum-of releases-of
+unfolding computing opened-heap fresh-heap held-in held-heap freed-heap second-left first second drop one-order other-order of-quota-0 with-refusals after
+    cleaned all-for sum-of releases-of
 free-rows = (refl, refl, refl, refl, refl, refl, refl, refl, refl, refl, refl, refl)
+
+-- the same in a heap with quarantine
+held-waiting : Outcome
+held-waiting = held-in (waiting-heap 128)
+
+waits-after : List Drop → Cleaned
+waits-after ds = cleaned (release unit) ds (held-waiting .heap) (held-waiting .accounts)
+
+waits-amounts : List Drop → List ℕ
+waits-amounts ds = map (λ (a : Answered). a .values .amount) (waits-after ds .answers)
+
+-- a block of zeros
+block : ℕ → ℕ → Block
+block serial n = record { serial = serial; body = replicate n 0 }
+
+both-wait : List ℕ
+both-wait = render (block QUARANTINED 16 ∷ block QUARANTINED 24 ∷ block 0 64 ∷ [])
+
+waiting-rows : (waits-amounts one-order ≡ 0 ∷ 32 ∷ 32 ∷ 24 ∷ []) × (waits-amounts other-order ≡ 32 ∷ 0 ∷ 24 ∷ 32 ∷ [])
+    × (waits-after one-order .heap ≡ both-wait) × (waits-after one-order .accounts ≡ with-last-serial 2 (waiting-heap 128 .accounts))
+    × (waits-after other-order .heap ≡ both-wait) × (waits-after other-order .accounts ≡ with-last-serial 2 (waiting-heap 128 .accounts))
+unfolding computing waiting-heap held-in held-waiting first second drop one-order other-order waits-after waits-amounts block both-wait cleaned
+waiting-rows = (refl, refl, refl, refl, refl, refl)
+
+-- and one quota's releases and its free-all
+freed-waiting : Outcome
+freed-waiting = free-all unit (held-waiting .heap) (held-waiting .accounts) 0
+
+first-waits : List ℕ
+first-waits = render (block QUARANTINED 16 ∷ block 2 24 ∷ block 0 64 ∷ [])
+
+free-waiting-rows : (freed-waiting .values .amount ≡ 56) × (sum-of (waits-after of-quota-0 .answers) ≡ 56)
+    × (freed-waiting .heap ≡ first-waits) × (waits-after of-quota-0 .heap ≡ first-waits)
+unfolding computing waiting-heap held-in held-waiting first second drop of-quota-0 waits-after block first-waits freed-waiting cleaned sum-of
+free-waiting-rows = (refl, refl, refl, refl)

@@ -45,12 +45,11 @@ cleaned run (d ∷ ds) s k =
 unfoldable pub accepted-throughout : List Answered → Bool
 accepted-throughout answers = all (λ a. eqb (a .values .refusal) 0) answers
 
--- heap and accounts are what their types can hold: bytes, so many quotas, 32-bit numbers
+-- heap and accounts are what their types can hold: bytes, so many quotas, 32-bit grants
 pub record Fits (s : List ℕ) (k : Accounts) : Type 0 where
   pub octets : Octets s
   pub quotas : length (k .quotas) ≡ QUOTAS
   pub narrow : (q : ℕ) → getD (k .quotas) q zero-quota .grant < 2 ^ 32
-  pub serial : k .«last_serial» < 2 ^ 32
 
 -- rules 19.3 to 19.5: the second list does as the first. It is accepted throughout, leaves the same heap bytes and accounts, and gives each quota the same
 -- answers

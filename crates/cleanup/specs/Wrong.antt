@@ -1,4 +1,5 @@
--- The wrong heaps of rule 19.9: what each does instead of `release` or `free-all`. That clean-up in any order does not hold of them is `proofs/Wrong.antt`.
+-- The wrong heaps of rules 19.9 and 22.15: what each does instead of `release` or `free-all`. That clean-up in any order does not hold of them is
+-- `proofs/Wrong.antt`.
 use Prim.Native.Nat.{_-_, _%_}
 use mathlib.Core.List.{List, reverse}
 use mathlib.Core.Bool.{cond}
@@ -10,7 +11,7 @@ use Rattle.rounding.specs.Rounding.{unit}
 use Rattle.model.specs.Lists.{all, first, change-first, or-else}
 use Rattle.model.specs.Answers.{refused, amount-of}
 use Rattle.model.specs.Objects.{objects-of}
-use Rattle.model.specs.Calls.{unchanged, release, free-all}
+use Rattle.model.specs.Calls.{unchanged, release, free-all, sweep}
 use Rattle.cleanup.specs.Releases.{Run}
 use Rattle.cleanup.specs.FreeAll.{Freeing}
 
@@ -40,6 +41,12 @@ unfoldable pub tells-the-remainder : Run
 tells-the-remainder s k q h =
     let t = release unit s k q h in
     record { heap = t .heap; accounts = t .accounts; values = amount-of (remaining q (t .accounts)) }
+
+-- a release sweeps what waited before it
+unfoldable pub sweeps-first : Run
+sweeps-first s k q h =
+    let t = sweep unit s k in
+    release unit (t .heap) (t .accounts) q h
 
 -- free-all leaves the objects of the quota alone in the heap
 unfoldable pub keeps-the-heap : Freeing

@@ -20,11 +20,11 @@ use Rattle.accounts.specs.Accounts.{zero-quota, zero-hold}
 use Rattle.accounts.proofs.Laws.{same-accounts}
 use Rattle.image_model.proofs.Items.{All, all-both}
 use Rattle.model.proofs.Bools.{and-left, and-right, and-both}
-use Rattle.comparison.specs.Differences.{State, Run, same-quota, same-record, serial-part, quota-part, record-part, runs, bytes-of, byte-part}
+use Rattle.comparison.specs.Differences.{State, Run, same-quota, same-record, number-part, quota-part, record-part, runs, bytes-of, byte-part}
 use Rattle.comparison.specs.Differences.{differences}
 use Rattle.comparison.specs.Listing.{part-of, start-of, Before, Longest, OneSize}
 use Rattle.comparison.specs.declared.Difference.{Difference}
-use Rattle.comparison.specs.declared.Difference.the-variants.{LastSerial, Quota as QuotaAt, Record as RecordAt, Bytes}
+use Rattle.comparison.specs.declared.Difference.the-variants.{LastSerial, Kind, Quota as QuotaAt, Record as RecordAt, Bytes}
 use Rattle.comparison.proofs.Lists.{all-imply, all-member, all-map, Sorted, sorted-both, parts-rise, sorted-places, not-before-itself}
 use Rattle.comparison.proofs.Runs.{Split, no-runs, runs-split}
 use Rattle.comparison.proofs.Longest.{runs-sorted, runs-exact, bytes-exact}
@@ -60,43 +60,44 @@ same-record-is x y e =
     λ i. record { serial = s i; quota = q i; count = n i }
 
 -- the parts: what is in each, and in order
-serial-in : (x y : ℕ) → All (λ d. part-of d ≡ 0) (serial-part x y)
-unfolding serial-part
-serial-in x y = go (eqb x y)
-  where
-    go : (b : Bool) → All (λ d. part-of d ≡ 0) (cond b [] (LastSerial ∷ []))
-    go true = tt
-    go false = (refl, tt)
+module _ (name : Difference) (x y : ℕ) where
+  number-in : All (λ d. part-of d ≡ part-of name) (number-part name x y)
+  unfolding number-part
+  number-in = go (eqb x y)
+    where
+      go : (b : Bool) → All (λ d. part-of d ≡ part-of name) (cond b [] (name ∷ []))
+      go true = tt
+      go false = (refl, tt)
 
-serial-sorted : (x y : ℕ) → Sorted (serial-part x y)
-unfolding serial-part
-serial-sorted x y = go (eqb x y)
-  where
-    go : (b : Bool) → Sorted (cond b [] (LastSerial ∷ []))
-    go true = tt
-    go false = (tt, tt)
+  number-sorted : Sorted (number-part name x y)
+  unfolding number-part
+  number-sorted = go (eqb x y)
+    where
+      go : (b : Bool) → Sorted (cond b [] (name ∷ []))
+      go true = tt
+      go false = (tt, tt)
 
-serial-is : (x y : ℕ) → List·Memᴰ LastSerial (serial-part x y) ↔ (x ≢ y)
-unfolding serial-part
-serial-is x y = go (eqb x y) refl
-  where
-    go : (b : Bool) → eqb x y ≡ b → List·Memᴰ LastSerial (cond b [] (LastSerial ∷ [])) ↔ (x ≢ y)
-    go true e = (λ m. absurd (List·Memᴰ·not-nil m), λ f. absurd (f (eqb-true x y e)))
-    go false e = (λ m. eqb-false x y e, λ f. List·Memᴰ·head refl)
+  number-is : List·Memᴰ name (number-part name x y) ↔ (x ≢ y)
+  unfolding number-part
+  number-is = go (eqb x y) refl
+    where
+      go : (b : Bool) → eqb x y ≡ b → List·Memᴰ name (cond b [] (name ∷ [])) ↔ (x ≢ y)
+      go true e = (λ m. absurd (List·Memᴰ·not-nil m), λ f. absurd (f (eqb-true x y e)))
+      go false e = (λ m. eqb-false x y e, λ f. List·Memᴰ·head refl)
 
-quota-in : (xs ys : List Quota) → All (λ d. part-of d ≡ 1) (quota-part 0 xs ys)
+quota-in : (xs ys : List Quota) → All (λ d. part-of d ≡ 2) (quota-part 0 xs ys)
 unfolding quota-part
-quota-in xs ys = differing-all same-quota QuotaAt (λ d. part-of d ≡ 1) 0 xs ys (λ k l. refl)
+quota-in xs ys = differing-all same-quota QuotaAt (λ d. part-of d ≡ 2) 0 xs ys (λ k l. refl)
 
-record-in : (xs ys : List Hold) → All (λ d. part-of d ≡ 2) (record-part 0 xs ys)
+record-in : (xs ys : List Hold) → All (λ d. part-of d ≡ 3) (record-part 0 xs ys)
 unfolding record-part
-record-in xs ys = differing-all same-record RecordAt (λ d. part-of d ≡ 2) 0 xs ys (λ k l. refl)
+record-in xs ys = differing-all same-record RecordAt (λ d. part-of d ≡ 3) 0 xs ys (λ k l. refl)
 
-bytes-in : (s t : List ℕ) → All (λ d. part-of d ≡ 3) (byte-part 0 s t)
+bytes-in : (s t : List ℕ) → All (λ d. part-of d ≡ 4) (byte-part 0 s t)
 unfolding byte-part
-bytes-in s t = all-map bytes-of (λ d. part-of d ≡ 3) (runs 0 s t) (go (runs 0 s t))
+bytes-in s t = all-map bytes-of (λ d. part-of d ≡ 4) (runs 0 s t) (go (runs 0 s t))
   where
-    go : (rs : List Run) → All (λ (r : Run). part-of (bytes-of r) ≡ 3) rs
+    go : (rs : List Run) → All (λ (r : Run). part-of (bytes-of r) ≡ 4) rs
     go [] = tt
     go (r ∷ rs) = (refl, go rs)
 
@@ -122,7 +123,10 @@ then v w = (λ p. w .0 (v .0 p), λ r. v .1 (w .1 r))
 
 module _ (a b : State) where
   serials : List Difference
-  serials = serial-part (a .accounts .«last_serial») (b .accounts .«last_serial»)
+  serials = number-part LastSerial (a .accounts .«last_serial») (b .accounts .«last_serial»)
+
+  kinds : List Difference
+  kinds = number-part Kind (a .accounts .kind) (b .accounts .kind)
 
   quotas : List Difference
   quotas = quota-part 0 (a .accounts .quotas) (b .accounts .quotas)
@@ -133,32 +137,42 @@ module _ (a b : State) where
   bytes : List Difference
   bytes = byte-part 0 (a .heap) (b .heap)
 
-  bytes-above : (m : ℕ) → m < 3 → All (λ d. m < part-of d) bytes
+  bytes-above : (m : ℕ) → m < 4 → All (λ d. m < part-of d) bytes
   unfolding bytes
-  bytes-above m l = higher m 3 bytes l (bytes-in (a .heap) (b .heap))
+  bytes-above m l = higher m 4 bytes l (bytes-in (a .heap) (b .heap))
 
-  records-above : (m : ℕ) → m < 2 → All (λ d. m < part-of d) (records ++ bytes)
+  records-above : (m : ℕ) → m < 3 → All (λ d. m < part-of d) (records ++ bytes)
   unfolding records
   records-above m l =
-      all-both (λ d. m < part-of d) records bytes (higher m 2 records l (record-in (a .accounts .holds) (b .accounts .holds))) (bytes-above m (omega arith))
+      all-both (λ d. m < part-of d) records bytes (higher m 3 records l (record-in (a .accounts .holds) (b .accounts .holds))) (bytes-above m (omega arith))
 
-  quotas-above : All (λ d. 0 < part-of d) (quotas ++ (records ++ bytes))
+  quotas-above : (m : ℕ) → m < 2 → All (λ d. m < part-of d) (quotas ++ (records ++ bytes))
   unfolding quotas
-  quotas-above =
-      all-both (λ d. 0 < part-of d) quotas (records ++ bytes) (higher 0 1 quotas (omega arith) (quota-in (a .accounts .quotas) (b .accounts .quotas)))
-      (records-above 0 (omega arith))
+  quotas-above m l =
+      all-both (λ d. m < part-of d) quotas (records ++ bytes) (higher m 2 quotas l (quota-in (a .accounts .quotas) (b .accounts .quotas)))
+      (records-above m (omega arith))
+
+  kinds-above : All (λ d. 0 < part-of d) (kinds ++ (quotas ++ (records ++ bytes)))
+  unfolding kinds
+  kinds-above =
+      all-both (λ d. 0 < part-of d) kinds (quotas ++ (records ++ bytes))
+      (higher 0 1 kinds (omega arith) (number-in Kind (a .accounts .kind) (b .accounts .kind)))
+      (quotas-above 0 (omega arith))
 
   -- the list is sorted
   sorted : Sorted (differences a b)
-  unfolding differences serials quotas records bytes quota-part record-part byte-part
+  unfolding differences serials kinds quotas records bytes quota-part record-part byte-part
   sorted =
-      sorted-both serials (quotas ++ (records ++ bytes)) (serial-sorted (a .accounts .«last_serial») (b .accounts .«last_serial»))
+      sorted-both serials (kinds ++ (quotas ++ (records ++ bytes))) (number-sorted LastSerial (a .accounts .«last_serial») (b .accounts .«last_serial»))
+      (sorted-both kinds (quotas ++ (records ++ bytes)) (number-sorted Kind (a .accounts .kind) (b .accounts .kind))
       (sorted-both quotas (records ++ bytes) (differing-sorted same-quota QuotaAt (λ j k l. inr (refl, l)) 0 (a .accounts .quotas) (b .accounts .quotas))
       (sorted-both records bytes (differing-sorted same-record RecordAt (λ j k l. inr (refl, l)) 0 (a .accounts .holds) (b .accounts .holds))
       (runs-sorted (a .heap) (b .heap) 0 (runs 0 (a .heap) (b .heap)) (runs-split (a .heap) (b .heap) 0))
-      (parts-rise 2 records bytes (record-in (a .accounts .holds) (b .accounts .holds)) (bytes-above 2 (omega arith))))
-      (parts-rise 1 quotas (records ++ bytes) (quota-in (a .accounts .quotas) (b .accounts .quotas)) (records-above 1 (omega arith))))
-      (parts-rise 0 serials (quotas ++ (records ++ bytes)) (serial-in (a .accounts .«last_serial») (b .accounts .«last_serial»)) quotas-above)
+      (parts-rise 3 records bytes (record-in (a .accounts .holds) (b .accounts .holds)) (bytes-above 3 (omega arith))))
+      (parts-rise 2 quotas (records ++ bytes) (quota-in (a .accounts .quotas) (b .accounts .quotas)) (records-above 2 (omega arith))))
+      (parts-rise 1 kinds (quotas ++ (records ++ bytes)) (number-in Kind (a .accounts .kind) (b .accounts .kind)) (quotas-above 1 (omega arith))))
+      (parts-rise 0 serials (kinds ++ (quotas ++ (records ++ bytes)))
+      (number-in LastSerial (a .accounts .«last_serial») (b .accounts .«last_serial»)) kinds-above)
 
   -- asked for two, the one with the lower number comes before the other; so nothing is listed twice
   pub in-order : (m n : ℕ) (d e : Difference) → m < n → getElem? (differences a b) m ≡ some d → getElem? (differences a b) n ≡ some e → Before d e
@@ -172,31 +186,44 @@ module _ (a b : State) where
 
   -- what is listed is exactly what differs
   pub serial-exact : List·Memᴰ LastSerial (differences a b) ↔ (a .accounts .«last_serial» ≢ b .accounts .«last_serial»)
-  unfolding differences serials quotas records bytes
+  unfolding differences serials kinds quotas records bytes
   serial-exact =
-      then (only-part LastSerial 0 serials (quotas ++ (records ++ bytes)) quotas-above refl)
-      (serial-is (a .accounts .«last_serial») (b .accounts .«last_serial»))
+      then (only-part LastSerial 0 serials (kinds ++ (quotas ++ (records ++ bytes))) kinds-above refl)
+      (number-is LastSerial (a .accounts .«last_serial») (b .accounts .«last_serial»))
 
-  behind-serial : (d : Difference) → 0 < part-of d → List·Memᴰ d (differences a b) ↔ List·Memᴰ d (quotas ++ (records ++ bytes))
-  unfolding differences serials quotas records bytes
-  behind-serial d l = skip-part d 0 serials (quotas ++ (records ++ bytes)) (serial-in (a .accounts .«last_serial») (b .accounts .«last_serial»)) l
+  behind-serial : (d : Difference) → 0 < part-of d → List·Memᴰ d (differences a b) ↔ List·Memᴰ d (kinds ++ (quotas ++ (records ++ bytes)))
+  unfolding differences serials kinds quotas records bytes
+  behind-serial d l =
+      skip-part d 0 serials (kinds ++ (quotas ++ (records ++ bytes))) (number-in LastSerial (a .accounts .«last_serial») (b .accounts .«last_serial»)) l
 
-  behind-quotas : (d : Difference) → 1 < part-of d → List·Memᴰ d (differences a b) ↔ List·Memᴰ d (records ++ bytes)
+  pub kind-exact : List·Memᴰ Kind (differences a b) ↔ (a .accounts .kind ≢ b .accounts .kind)
+  unfolding kinds
+  kind-exact =
+      then (behind-serial Kind (omega arith))
+      (then (only-part Kind 1 kinds (quotas ++ (records ++ bytes)) (quotas-above 1 (omega arith)) refl)
+      (number-is Kind (a .accounts .kind) (b .accounts .kind)))
+
+  behind-kind : (d : Difference) → 1 < part-of d → List·Memᴰ d (differences a b) ↔ List·Memᴰ d (quotas ++ (records ++ bytes))
+  unfolding kinds
+  behind-kind d l =
+      then (behind-serial d (omega arith)) (skip-part d 1 kinds (quotas ++ (records ++ bytes)) (number-in Kind (a .accounts .kind) (b .accounts .kind)) l)
+
+  behind-quotas : (d : Difference) → 2 < part-of d → List·Memᴰ d (differences a b) ↔ List·Memᴰ d (records ++ bytes)
   unfolding quotas
   behind-quotas d l =
-      then (behind-serial d (omega arith)) (skip-part d 1 quotas (records ++ bytes) (quota-in (a .accounts .quotas) (b .accounts .quotas)) l)
+      then (behind-kind d (omega arith)) (skip-part d 2 quotas (records ++ bytes) (quota-in (a .accounts .quotas) (b .accounts .quotas)) l)
 
-  behind-records : (d : Difference) → 2 < part-of d → List·Memᴰ d (differences a b) ↔ List·Memᴰ d bytes
+  behind-records : (d : Difference) → 3 < part-of d → List·Memᴰ d (differences a b) ↔ List·Memᴰ d bytes
   unfolding records
-  behind-records d l = then (behind-quotas d (omega arith)) (skip-part d 2 records bytes (record-in (a .accounts .holds) (b .accounts .holds)) l)
+  behind-records d l = then (behind-quotas d (omega arith)) (skip-part d 3 records bytes (record-in (a .accounts .holds) (b .accounts .holds)) l)
 
   module _ (w : OneSize a b) where
     pub quota-exact : (q : ℕ) → List·Memᴰ (QuotaAt q) (differences a b)
         ↔ (getD (a .accounts .quotas) q zero-quota ≢ getD (b .accounts .quotas) q zero-quota)
     unfolding quotas quota-part
     quota-exact q =
-        then (behind-serial (QuotaAt q) (omega arith))
-        (then (only-part (QuotaAt q) 1 quotas (records ++ bytes) (records-above 1 (omega arith)) refl)
+        then (behind-kind (QuotaAt q) (omega arith))
+        (then (only-part (QuotaAt q) 2 quotas (records ++ bytes) (records-above 2 (omega arith)) refl)
         (items-exact same-quota QuotaAt (λ j k e. ap start-of e) same-quota-self same-quota-is zero-quota (a .accounts .quotas)
         (b .accounts .quotas) (w .quotas) q))
 
@@ -205,7 +232,7 @@ module _ (a b : State) where
     unfolding records record-part
     record-exact p =
         then (behind-quotas (RecordAt p) (omega arith))
-        (then (only-part (RecordAt p) 2 records bytes (bytes-above 2 (omega arith)) refl)
+        (then (only-part (RecordAt p) 3 records bytes (bytes-above 3 (omega arith)) refl)
         (items-exact same-record RecordAt (λ j k e. ap start-of e) same-record-self same-record-is zero-hold (a .accounts .holds)
         (b .accounts .holds) (w .holds) p))
 
@@ -229,11 +256,11 @@ no-front : (xs ys : List Difference) → xs ++ ys ≡ [] → (xs ≡ []) × (ys 
 no-front [] ys e = (refl, e)
 no-front (x ∷ xs) ys e = let no : _≡_ {A = ℕ} 0 1 = cc in absurd (omega arith)
 
-serial-none : (x y : ℕ) → serial-part x y ≡ [] → x ≡ y
-unfolding serial-part
-serial-none x y e = go (eqb x y) refl e
+number-none : (name : Difference) (x y : ℕ) → number-part name x y ≡ [] → x ≡ y
+unfolding number-part
+number-none name x y e = go (eqb x y) refl e
   where
-    go : (b : Bool) → eqb x y ≡ b → cond b [] (LastSerial ∷ []) ≡ [] → x ≡ y
+    go : (b : Bool) → eqb x y ≡ b → cond b [] (name ∷ []) ≡ [] → x ≡ y
     go true q z = eqb-true x y q
     go false q z = let no : _≡_ {A = ℕ} 0 1 = cc in absurd (omega arith)
 
@@ -250,10 +277,11 @@ unfolding byte-part
 none-bytes s = ap (map bytes-of) (no-runs s s 0 (λ k l h. eq-eqb (getD s k 0) (getD s k 0) refl))
 
 pub differences-self : (a : State) → differences a a ≡ []
-unfolding differences serial-part quota-part record-part
+unfolding differences number-part quota-part record-part
 differences-self a =
     rw (
       eq-eqb (a .accounts .«last_serial») (a .accounts .«last_serial») refl,
+      eq-eqb (a .accounts .kind) (a .accounts .kind) refl,
       none-differing same-quota QuotaAt same-quota-self 0 (a .accounts .quotas),
       none-differing same-record RecordAt same-record-self 0 (a .accounts .holds),
       none-bytes (a .heap),
@@ -265,12 +293,14 @@ differences-empty a b w = (there, λ e. rw e (differences-self b))
   where
     there : differences a b ≡ [] → a ≡ b
     there e =
-        let x = no-front (serial-part (a .accounts .«last_serial») (b .accounts .«last_serial»)) _ e in
-        let y = no-front (quota-part 0 (a .accounts .quotas) (b .accounts .quotas)) _ (x .1) in
+        let x = no-front (number-part LastSerial (a .accounts .«last_serial») (b .accounts .«last_serial»)) _ e in
+        let u = no-front (number-part Kind (a .accounts .kind) (b .accounts .kind)) _ (x .1) in
+        let y = no-front (quota-part 0 (a .accounts .quotas) (b .accounts .quotas)) _ (u .1) in
         let z = no-front (record-part 0 (a .accounts .holds) (b .accounts .holds)) _ (y .1) in
-        let n = serial-none (a .accounts .«last_serial») (b .accounts .«last_serial») (x .0) in
+        let n = number-none LastSerial (a .accounts .«last_serial») (b .accounts .«last_serial») (x .0) in
+        let c = number-none Kind (a .accounts .kind) (b .accounts .kind) (u .0) in
         let q = differing-none same-quota QuotaAt same-quota-is 0 (a .accounts .quotas) (b .accounts .quotas) (w .quotas) (y .0) in
         let h = differing-none same-record RecordAt same-record-is 0 (a .accounts .holds) (b .accounts .holds) (w .holds) (z .0) in
         let s = bytes-none (a .heap) (b .heap) (w .heap) (z .1) in
-        let k = same-accounts (a .accounts) (b .accounts) q n h in
+        let k = same-accounts (a .accounts) (b .accounts) q n h c in
         λ i. record { heap = s i; accounts = k i }

@@ -18,12 +18,12 @@ use Rattle.image_model.specs.Reading.{form-of, size-in, accounts-of, accounts-i
 use Rattle.image_model.proofs.Items.{each-length}
 use Rattle.image_model.proofs.Places.{marks-keep, blank-lengths}
 use Rattle.image.proofs.Parses.{form-of-fits}
-use Rattle.comparison.specs.Differences.{state-in, same-quota, same-record, serial-part, differing, quota-part, record-part, byte-part, differences}
-use Rattle.comparison.specs.Positions.{from-byte, from-record, from-quota, behind, first-of}
+use Rattle.comparison.specs.Differences.{state-in, same-quota, same-record, number-part, differing, quota-part, record-part, byte-part, differences}
+use Rattle.comparison.specs.Positions.{from-byte, from-record, from-quota, from-kind, behind, first-of}
 use Rattle.comparison.specs.Finding.{same-byte, Reaches}
 use Rattle.comparison.specs.declared.Difference.{Difference}
-use Rattle.comparison.specs.declared.Difference.the-variants.{LastSerial, Quota as QuotaAt, Record as RecordAt, Bytes}
-use Rattle.comparison.specs.declared.Position.the-variants.{Quota as FromQuota, Record as FromRecord, Byte}
+use Rattle.comparison.specs.declared.Difference.the-variants.{LastSerial, Kind, Quota as QuotaAt, Record as RecordAt, Bytes}
+use Rattle.comparison.specs.declared.Position.the-variants.{Kind as FromKind, Quota as FromQuota, Record as FromRecord, Byte}
 use Rattle.comparison.specs.declared.NextAnswer.the-variants.{Differs, Nothing}
 use Rattle.comparison.proofs.Runs.{equal, end, RunFrom, first-run, no-runs}
 use Rattle.comparison.proofs.Items.{from-found, from-end}
@@ -151,15 +151,15 @@ module _ {A : Type 0} (same : A → A → Bool) (name : ℕ → Difference) (d :
   pub items-none : n ≤ at → rest ≡ differing same name from (drop from xs) (drop from ys) ++ rest
   items-none l = rw (reached, from-end same name d xs ys at (omega arith))
 
--- the last serial in front of all
-module _ (x y : ℕ) (rest : List Difference) where
-  pub serial-found : (x ≡ y → ⊥) → Differs LastSerial (FromQuota 0) ≡ first-of (serial-part x y ++ rest)
-  unfolding serial-part first-of behind
-  serial-found f = rw (ne-eqb x y f)
+-- a number in front of what is behind it
+module _ (name : Difference) (x y : ℕ) (rest : List Difference) where
+  pub number-found : (x ≡ y → ⊥) → Differs name (behind name) ≡ first-of (number-part name x y ++ rest)
+  unfolding number-part first-of
+  number-found f = rw (ne-eqb x y f)
 
-  pub serial-same : x ≡ y → rest ≡ serial-part x y ++ rest
-  unfolding serial-part
-  serial-same e = rw (eq-eqb x y e)
+  pub number-same : x ≡ y → rest ≡ number-part name x y ++ rest
+  unfolding number-part
+  number-same e = rw (eq-eqb x y e)
 
 -- the same of the accounts that two images say
 module _ (i j : List ℕ) (k l : Accounts) (one : k ≡ accounts-in i) (two : l ≡ accounts-in j) where
@@ -197,11 +197,19 @@ module _ (i j : List ℕ) (k l : Accounts) (one : k ≡ accounts-in i) (two : l 
     unfolding from-record state-in record-part
     records-none h = rw (← one, ← two) (ap first-of (items-none same-record RecordAt zero-hold HOLDS (k .holds) (l .holds) holds-1 holds-2 from at reached _ h))
 
-  pub start-differs : (k .«last_serial» ≡ l .«last_serial» → ⊥) → Differs LastSerial (FromQuota 0) ≡ first-of (differences (state-in i) (state-in j))
-  unfolding state-in
-  start-differs f =
-      rw (from-start (state-in i) (state-in j), ← one, ← two) (serial-found (k .«last_serial») (l .«last_serial») _ f)
+  pub kind-differs : (k .kind ≡ l .kind → ⊥) → Differs Kind (FromQuota 0) ≡ first-of (from-kind (state-in i) (state-in j))
+  unfolding state-in from-kind behind
+  kind-differs f = rw (← one, ← two) (number-found Kind (k .kind) (l .kind) _ f)
 
-  pub start-same : k .«last_serial» ≡ l .«last_serial» → first-of (from-quota (state-in i) (state-in j) 0) ≡ first-of (differences (state-in i) (state-in j))
+  pub kind-same : k .kind ≡ l .kind → first-of (from-quota (state-in i) (state-in j) 0) ≡ first-of (from-kind (state-in i) (state-in j))
+  unfolding state-in from-kind
+  kind-same e = rw (← one, ← two) (ap first-of (number-same Kind (k .kind) (l .kind) _ e))
+
+  pub start-differs : (k .«last_serial» ≡ l .«last_serial» → ⊥) → Differs LastSerial FromKind ≡ first-of (differences (state-in i) (state-in j))
+  unfolding state-in behind
+  start-differs f =
+      rw (from-start (state-in i) (state-in j), ← one, ← two) (number-found LastSerial (k .«last_serial») (l .«last_serial») _ f)
+
+  pub start-same : k .«last_serial» ≡ l .«last_serial» → first-of (from-kind (state-in i) (state-in j)) ≡ first-of (differences (state-in i) (state-in j))
   unfolding state-in
-  start-same e = rw (from-start (state-in i) (state-in j), ← one, ← two) (ap first-of (serial-same (k .«last_serial») (l .«last_serial») _ e))
+  start-same e = rw (from-start (state-in i) (state-in j), ← one, ← two) (ap first-of (number-same LastSerial (k .«last_serial») (l .«last_serial») _ e))

@@ -13,13 +13,13 @@ use lib.ListN.{length, take, drop, getElem?}
 use lib.Seq.{take-all}
 use lib.Dec.{eqb}
 use Rattle.accounts.specs.Accounts.{zero-quota, zero-hold}
-use Rattle.comparison.specs.Differences.{State, Run, same-quota, same-record, serial-part, quota-part, record-part, runs, bytes-of, byte-part}
+use Rattle.comparison.specs.Differences.{State, Run, same-quota, same-record, number-part, quota-part, record-part, runs, bytes-of, byte-part}
 use Rattle.comparison.specs.Differences.{differences}
-use Rattle.comparison.specs.Positions.{from-byte, from-record, from-quota, differences-from, behind, first-of, next-of, with-answer, asked}
+use Rattle.comparison.specs.Positions.{from-byte, from-record, from-quota, from-kind, differences-from, behind, first-of, next-of, with-answer, asked}
 use Rattle.comparison.specs.declared.Difference.{Difference}
-use Rattle.comparison.specs.declared.Difference.the-variants.{LastSerial, Quota as QuotaAt, Record as RecordAt}
+use Rattle.comparison.specs.declared.Difference.the-variants.{LastSerial, Kind, Quota as QuotaAt, Record as RecordAt}
 use Rattle.comparison.specs.declared.Position.{Position}
-use Rattle.comparison.specs.declared.Position.the-variants.{Start, Quota, Record, Byte}
+use Rattle.comparison.specs.declared.Position.the-variants.{Start, Kind as FromKind, Quota, Record, Byte}
 use Rattle.comparison.specs.declared.NextAnswer.the-variants.{Differs, Nothing}
 use Rattle.comparison.proofs.Runs.{runs-go-on}
 use Rattle.comparison.proofs.Items.{items-go-on}
@@ -68,23 +68,36 @@ module _ (a b : State) where
           rw (w .1, add-one, w .2) (x .2)
       go (inr x) = records-go-on 0 d ds x
 
-  -- the whole list is that of the last serial, and then that from the first quota on
-  pub from-start : differences a b ≡ serial-part (a .accounts .«last_serial») (b .accounts .«last_serial») ++ from-quota a b 0
-  unfolding differences from-quota from-record from-byte
+  -- a number in front of a list that goes on
+  number-goes-on : (name : Difference) (x y : ℕ) (rest : List Difference) → GoesOn name rest
+      → ((d : Difference) (ds : List Difference) → rest ≡ d ∷ ds → GoesOn d ds)
+      → (d : Difference) (ds : List Difference) → number-part name x y ++ rest ≡ d ∷ ds → GoesOn d ds
+  unfolding number-part
+  number-goes-on name x y rest next later d ds e = go (eqb x y) e
+    where
+      go : (b : Bool) → cond b [] (name ∷ []) ++ rest ≡ d ∷ ds → GoesOn d ds
+      go true z = later d ds z
+      go false z = let u : d ≡ name = cc in let v : rest ≡ ds = cc in rw u (next ∙ v)
+
+  kind-goes-on : (d : Difference) (ds : List Difference) → from-kind a b ≡ d ∷ ds → GoesOn d ds
+  unfolding from-kind differences-from behind
+  kind-goes-on = number-goes-on Kind (a .accounts .kind) (b .accounts .kind) (from-quota a b 0) refl (quotas-go-on 0)
+
+  -- the whole list is that of the last serial, and then that from the kind on
+  pub from-start : differences a b ≡ number-part LastSerial (a .accounts .«last_serial») (b .accounts .«last_serial») ++ from-kind a b
+  unfolding differences from-kind from-quota from-record from-byte
   from-start = refl
 
   start-goes-on : (d : Difference) (ds : List Difference) → differences a b ≡ d ∷ ds → GoesOn d ds
-  unfolding serial-part differences-from behind
-  start-goes-on d ds e = go (eqb (a .accounts .«last_serial») (b .accounts .«last_serial»)) (sym from-start ∙ e)
-    where
-      go : (x : Bool) → cond x [] (LastSerial ∷ []) ++ from-quota a b 0 ≡ d ∷ ds → GoesOn d ds
-      go true z = quotas-go-on 0 d ds z
-      go false z = let x : d ≡ LastSerial = cc in let y : from-quota a b 0 ≡ ds = cc in rw x y
+  unfolding differences-from behind
+  start-goes-on d ds e =
+      number-goes-on LastSerial (a .accounts .«last_serial») (b .accounts .«last_serial») (from-kind a b) refl kind-goes-on d ds (sym from-start ∙ e)
 
   -- behind the first difference from a position on, the others follow
   pub goes-on : (p : Position) (d : Difference) (ds : List Difference) → differences-from p a b ≡ d ∷ ds → differences-from (behind d) a b ≡ ds
   unfolding differences-from
   goes-on Start d ds e = start-goes-on d ds e
+  goes-on FromKind d ds e = kind-goes-on d ds e
   goes-on (Quota q) d ds e = quotas-go-on q d ds e
   goes-on (Record p) d ds e = records-go-on p d ds e
   goes-on (Byte at) d ds e = bytes-go-on at d ds e

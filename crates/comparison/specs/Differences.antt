@@ -1,5 +1,5 @@
--- What differs between two states, as a list (rules 14.2 to 14.6): the last serial, then quotas by number, hold records by place and, at the end,
--- runs of heap bytes by offset, each as long as can be.
+-- What differs between two states, as a list (rules 14.2 to 14.6): the last serial, the kind, then quotas by number, hold records by place and, at the
+-- end, runs of heap bytes by offset, each as long as can be.
 use Prim.Native.Nat.{ℕ, suc}
 use mathlib.Core.List.{List, [], _∷_, _++_, map}
 use mathlib.Core.Bool.{Bool, cond, _&&_}
@@ -9,7 +9,7 @@ use Rattle.accounts.specs.declared.Hold.{Hold}
 use Rattle.accounts.specs.declared.Accounts.{Accounts}
 use Rattle.image_model.specs.Reading.{heap-in, accounts-in}
 use Rattle.comparison.specs.declared.Difference.{Difference}
-use Rattle.comparison.specs.declared.Difference.the-variants.{LastSerial, Quota as QuotaAt, Record as RecordAt, Bytes}
+use Rattle.comparison.specs.declared.Difference.the-variants.{LastSerial, Kind, Quota as QuotaAt, Record as RecordAt, Bytes}
 
 -- a heap and its accounts; and those that an image says
 pub record State : Type 0 where
@@ -26,8 +26,9 @@ same-quota x y = eqb (x .grant) (y .grant) && (eqb (x .remainder) (y .remainder)
 unfoldable pub same-record : Hold → Hold → Bool
 same-record x y = eqb (x .serial) (y .serial) && (eqb (x .quota) (y .quota) && eqb (x .count) (y .count))
 
-unfoldable pub serial-part : ℕ → ℕ → List Difference
-serial-part x y = cond (eqb x y) [] (LastSerial ∷ [])
+-- a name, where two numbers are not the same
+unfoldable pub number-part : Difference → ℕ → ℕ → List Difference
+number-part d x y = cond (eqb x y) [] (d ∷ [])
 
 -- the names of the items that are not the same, where the first has the number n
 module _ {A : Type 0} (same : A → A → Bool) (name : ℕ → Difference) where
@@ -74,7 +75,8 @@ byte-part at xs ys = map bytes-of (runs at xs ys)
 -- everything that differs, in order
 unfoldable pub differences : State → State → List Difference
 differences a b =
-    serial-part (a .accounts .«last_serial») (b .accounts .«last_serial»)
+    number-part LastSerial (a .accounts .«last_serial») (b .accounts .«last_serial»)
+    ++ (number-part Kind (a .accounts .kind) (b .accounts .kind)
     ++ (quota-part 0 (a .accounts .quotas) (b .accounts .quotas)
     ++ (record-part 0 (a .accounts .holds) (b .accounts .holds)
-    ++ byte-part 0 (a .heap) (b .heap)))
+    ++ byte-part 0 (a .heap) (b .heap))))

@@ -14,7 +14,7 @@ use Rattle.finder.specs.declared.Met.{Met}
 use Rattle.finder.specs.declared.Lookup.{Lookup}
 use Rattle.finder.specs.declared.Lookup.the-variants.{Found, Missing}
 use Rattle.finder.specs.declared.Fit.the-variants.{At, Nowhere}
-use Rattle.finder.specs.Walk.{met-at, met, live-met, has-room, base-in, fit-in, fit-met, fitted, find-fit}
+use Rattle.finder.specs.Walk.{met-at, met, occupied-met, has-room, base-in, fit-in, fit-met, fitted, find-fit}
 use Rattle.finder.proofs.Walk.{Searching, search-ended}
 use Rattle.finder.proofs.Multiple.{multiple-behind}
 
@@ -45,7 +45,7 @@ module _ (a n : ℕ) where
   -- nor has a block that ends before the object would
   pub fit-short : (m : Met) → m .at + m .size < base-in a m + n → fit-in a n m ≡ Nowhere
   unfolding fit-in has-room
-  fit-short m l = rw (lt-leb (base-in a m + n) (m .at + m .size) l, and-no (not (live-met m)) false refl)
+  fit-short m l = rw (lt-leb (base-in a m + n) (m .at + m .size) l, and-no (not (occupied-met m)) false refl)
 
   -- or one with fewer bytes behind its header
   pub fit-small : 0 < a → (m : Met) → m .size < n + 8 → fit-in a n m ≡ Nowhere

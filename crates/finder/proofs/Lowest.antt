@@ -12,12 +12,12 @@ use native.Mathlib.Omega.{arith}
 use lib.ListN.{length}
 use lib.Dec.{leb}
 use borrow.Author.Tests.{le-leb, leb-true, not-true}
-use Rattle.layout.specs.Blocks.{Block, size, units, live, total-size, parse}
+use Rattle.layout.specs.Blocks.{Block, size, units, occupied, total-size, parse}
 use Rattle.layout.proofs.Render.{size-append}
 use Rattle.model.specs.Lists.{first, total}
 use Rattle.model.specs.Objects.{blocks-of}
 use Rattle.model.specs.Consistent.{free-apart}
-use Rattle.model.specs.Space.{occupied, outside-occupied, suitable, lowest-base}
+use Rattle.model.specs.Space.{outside-occupied, suitable, lowest-base}
 use Rattle.model.proofs.Bools.{and-left, and-right, and-both, or-left, or-right, fails}
 use Rattle.model.proofs.Lists.{first-some}
 use Rattle.model.proofs.Blocks.{total-is}
@@ -26,7 +26,7 @@ use Rattle.model.proofs.Base.{some-lowest, none-lowest}
 use Rattle.model.proofs.Carve.{carved}
 use Rattle.finder.specs.declared.Met.{Met}
 use Rattle.finder.specs.declared.Fit.the-variants.{At, Nowhere}
-use Rattle.finder.specs.Walk.{met, live-met, base-in, has-room, fitted, find-fit}
+use Rattle.finder.specs.Walk.{met, occupied-met, base-in, has-room, fitted, find-fit}
 use Rattle.finder.proofs.Multiple.{multiple-is, multiple-behind, multiple-lowest}
 use Rattle.finder.proofs.Fits.{fit-first}
 use Rattle.finder.proofs.Parsed.{placed, met-of, met-parsed, total-parsed, Stands, search-stands}
@@ -39,7 +39,8 @@ outside-before start end at (b ∷ bs) h =
     and-both _ _ (or-right (not (occupied b)) _ (or-left (leb end at) _ (le-leb end at h))) (outside-before start end (at + size b) bs (omega arith))
 
 -- a run in a free block is outside every live one
-outside-free : (start end at : ℕ) (xs : List Block) (f : Block) (ys : List Block) → live f ≡ false → at + total-size xs ≤ start → end ≤ at + total-size xs + size f
+outside-free : (start end at : ℕ) (xs : List Block) (f : Block) (ys : List Block) → occupied f ≡ false → at + total-size xs ≤ start
+    → end ≤ at + total-size xs + size f
     → outside-occupied start end at (xs ++ (f ∷ ys)) ≡ true
 unfolding outside-occupied total-size
 outside-free start end at [] f ys e low high = rw e (outside-before start end (at + size f) ys (omega arith))
@@ -49,15 +50,15 @@ outside-free start end at (x ∷ xs) f ys e low high =
 
 module _ (a n : ℕ) where
   -- a block that has room is free, and its lowest base leaves room for n bytes
-  room-free : (m : Met) → has-room a n m ≡ true → live-met m ≡ false
+  room-free : (m : Met) → has-room a n m ≡ true → occupied-met m ≡ false
   unfolding has-room
-  room-free m e = not-true (live-met m) (and-left (not (live-met m)) _ e)
+  room-free m e = not-true (occupied-met m) (and-left (not (occupied-met m)) _ e)
 
   room-ends : (m : Met) → has-room a n m ≡ true → base-in a m + n ≤ m .at + m .size
   unfolding has-room
-  room-ends m e = leb-true (base-in a m + n) (m .at + m .size) (and-right (not (live-met m)) _ e)
+  room-ends m e = leb-true (base-in a m + n) (m .at + m .size) (and-right (not (occupied-met m)) _ e)
 
-  room-yes : (m : Met) → live-met m ≡ false → base-in a m + n ≤ m .at + m .size → has-room a n m ≡ true
+  room-yes : (m : Met) → occupied-met m ≡ false → base-in a m + n ≤ m .at + m .size → has-room a n m ≡ true
   unfolding has-room
   room-yes m e h = rw e (le-leb (base-in a m + n) (m .at + m .size) h)
 
@@ -73,14 +74,15 @@ nowhere-met a (some x) q = cc
 pub record Fitting (a n : ℕ) (s : List ℕ) (bs : List Block) (m : Met) (b : ℕ) : Type 0 where
   pub lowest : lowest-base (length s) (blocks-of s) a n ≡ some b
   pub stands : Stands bs m
-  pub free : live (stands .block) ≡ false
+  pub free : occupied (stands .block) ≡ false
   pub multiple : b % a ≡ 0
   pub low : m .at + 8 ≤ b
   pub high : b + n ≤ m .at + m .size
 
 module _ (a n : ℕ) (positive : 0 < a) where
   -- where a free block holds a run at a multiple of a, the first block that has room has its base no higher
-  no-higher : (base at back : ℕ) (xs : List Block) (f : Block) (ys : List Block) → live f ≡ false → base % a ≡ 0 → at + total size xs + 8 ≤ base → base + n ≤ at + total size xs + size f
+  no-higher : (base at back : ℕ) (xs : List Block) (f : Block) (ys : List Block) → occupied f ≡ false → base % a ≡ 0 → at + total size xs + 8 ≤ base
+      → base + n ≤ at + total size xs + size f
       → (m : Met) × (first (has-room a n) (met-of at back (xs ++ (f ∷ ys))) ≡ some m) × (base-in a m ≤ base)
   unfolding met-of total first
   no-higher base at back [] f ys e multiple low high =
@@ -113,7 +115,8 @@ module _ (a n : ℕ) (positive : 0 < a) where
             omega (arith, r .2)
 
     -- the run at a base in a free block is suitable
-    run-suitable : (m : Met) (w : Stands bs m) → live (w .block) ≡ false → (b : ℕ) → m .at + 8 ≤ b → b + n ≤ m .at + m .size → suitable (length s) bs n b ≡ true
+    run-suitable : (m : Met) (w : Stands bs m) → occupied (w .block) ≡ false → (b : ℕ) → m .at + 8 ≤ b → b + n ≤ m .at + m .size → suitable (length s) bs n b
+        ≡ true
     unfolding suitable total-size
     run-suitable m w free b low high =
         let place = w .place in
@@ -131,7 +134,7 @@ module _ (a n : ℕ) (positive : 0 < a) where
         let is = g .1 in
         let t = first-some (has-room a n) (met s) m f .1 in
         let w = search-stands s bs e (has-room a n) m f in
-        let free : live (w .block) ≡ false = rw (w .serial) at (room-free a n m t) in
+        let free : occupied (w .block) ≡ false = rw (w .serial) at (room-free a n m t) in
         let multiple : b % a ≡ 0 = rw is at (multiple-is a positive (m .at + 8)) in
         let low : m .at + 8 ≤ b = rw is at (multiple-behind a positive (m .at + 8)) in
         let high : b + n ≤ m .at + m .size = rw is at (room-ends a n m t) in

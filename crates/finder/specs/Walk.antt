@@ -6,7 +6,7 @@ use mathlib.Core.Bool.{Bool, not, cond, _&&_}
 use mathlib.Core.Option.{Option, none, some}
 use lib.ListN.{length}
 use lib.Dec.{leb, eqb}
-use Rattle.layout.specs.Blocks.{start-at}
+use Rattle.layout.specs.Blocks.{QUARANTINED, start-at}
 use Rattle.layout.specs.declared.Header.{Header}
 use Rattle.layout.specs.declared.Start.{Start}
 use Rattle.layout.specs.declared.Start.the-variants.{Block as Starts, Nothing}
@@ -51,9 +51,12 @@ met-from (suc fuel) at s = followed (met-at at s) (λ next. met-from fuel next s
 unfoldable pub met : List ℕ → List Met
 met s = met-from (length s) 0 s
 
--- a block that was met is live
+-- a block that was met is not free, and is live
+abbrev pub occupied-met : Met → Bool
+occupied-met m = not (eqb (m .serial) 0)
+
 abbrev pub live-met : Met → Bool
-live-met m = not (eqb (m .serial) 0)
+live-met m = occupied-met m && not (eqb (m .serial) QUARANTINED)
 
 -- its object: what follows the header
 abbrev pub object-met : Met → Handle
@@ -95,7 +98,7 @@ base-in a m = multiple-from a (m .at + 8)
 
 -- the block is free, and an object of n bytes at its lowest base ends in it
 unfoldable pub has-room : ℕ → ℕ → Met → Bool
-has-room a n m = not (live-met m) && leb (base-in a m + n) (m .at + m .size)
+has-room a n m = not (occupied-met m) && leb (base-in a m + n) (m .at + m .size)
 
 -- the block that was found, with its lowest base
 abbrev pub fitted : ℕ → Option Met → Fit

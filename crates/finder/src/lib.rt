@@ -1,4 +1,5 @@
 // The walk over the heap's blocks from offset 0 (rule 2.8): the block whose object a handle names, and the first free block with room for a new object.
+use layout::QUARANTINED;
 use layout::Start;
 use model::Handle;
 ghost use mathlib.Core.Path.{_≡_};
@@ -51,6 +52,9 @@ fn holds_named(block: Met, handle: Handle) -> bool
         return false;
     }
     if handle.serial != block.serial {
+        return false;
+    }
+    if block.serial == QUARANTINED {
         return false;
     }
     if handle.length == 0 {

@@ -25,3 +25,5 @@ pub use quotas::claim;
 pub use quotas::clear_permissions;
 pub use quotas::free_all;
 pub use quotas::open;
+pub use quotas::open_plain;
+pub use quotas::sweep;

@@ -65,6 +65,7 @@ pub fn perform(heap: &mut [u8], accounts: Accounts, call: Call) -> Performed
         Call::Claim { quota, handle } => of_amount(quotas::claim(heap, accounts, quota, handle)),
         Call::Release { quota, handle } => of_amount(calls::release(heap, accounts, quota, handle)),
         Call::FreeAll { quota } => of_amount(quotas::free_all(heap, accounts, quota)),
+        Call::Sweep => of_amount(quotas::sweep(heap, accounts)),
         Call::Reallocate {
             quota,
             handle,

@@ -135,31 +135,32 @@ module _ (f : Form) (fits : FormFits f) (n : ℕ) (k : Accounts) (qs : length (k
       many-length record-bytes 8 record-length (take (f .records) (k .holds))
       ∙ ap (λ (x : ℕ). x * 8) (length-take-le (f .records) (k .holds) (omega (arith, fits .records)))
 
-  pub head-written : (s₀ s₁ s₂ s₃ s₄ s₅ s₆ : List ℕ) → length s₀ ≡ head-length f → s₁ ≡ write-number 2 0 (f .number) s₀ → s₂ ≡ write-number 2 2 0 s₁
+  pub head-written : (s₀ s₁ s₂ s₃ s₄ s₅ s₆ : List ℕ) → length s₀ ≡ head-length f → s₁ ≡ write-number 2 0 (f .number) s₀
+      → (m : ℕ) → bytes 2 m ≡ marks-of f k → s₂ ≡ write-number 2 2 m s₁
       → s₃ ≡ write-number 4 4 n s₂
       → s₄ ≡ write-number 4 8 (k .«last_serial») s₃ → s₅ ≡ overwrite 12 (many (entry-bytes f) (take (f .quotas) (k .quotas))) s₄
       → s₆ ≡ overwrite (12 + f .quotas * entry-width f) (many record-bytes (take (f .records) (k .holds))) s₅ → s₆ ≡ head-of f n k
-  unfolding write-number head-of marks-of entries records head-length
-  head-written s₀ s₁ s₂ s₃ s₄ s₅ s₆ l e₁ e₂ e₃ e₄ e₅ e₆ =
+  unfolding write-number head-of entries records head-length
+  head-written s₀ s₁ s₂ s₃ s₄ s₅ s₆ l e₁ v me e₂ e₃ e₄ e₅ e₆ =
       let h : length s₀ ≡ 12 + length entries + length records = rw (entries-long, records-long) l in
       let a = bytes 2 (f .number) in
-      let m = a ++ bytes 2 0 in
+      let m = a ++ bytes 2 v in
       let c = m ++ bytes 4 n in
       let d = c ++ bytes 4 (k .«last_serial») in
       let x = d ++ entries in
       let al : length a ≡ 2 = bytes-length 2 (f .number) in
-      let zl : length (bytes 2 0) ≡ 2 = bytes-length 2 0 in
+      let zl : length (bytes 2 v) ≡ 2 = bytes-length 2 v in
       let nl : length (bytes 4 n) ≡ 4 = bytes-length 4 n in
       let sl : length (bytes 4 (k .«last_serial»)) ≡ 4 = bytes-length 4 (k .«last_serial») in
-      let ml : length m ≡ 4 = omega (arith, length-append a (bytes 2 0)) in
+      let ml : length m ≡ 4 = omega (arith, length-append a (bytes 2 v)) in
       let cl : length c ≡ 8 = omega (arith, length-append m (bytes 4 n)) in
       let dl : length d ≡ 12 = omega (arith, length-append c (bytes 4 (k .«last_serial»))) in
       let xl : length x ≡ 12 + length entries = omega (arith, length-append d entries) in
-      let two = behind 2 a (bytes 2 0) s₀ s₁ s₂ al (omega arith) e₁ e₂ in
+      let two = behind 2 a (bytes 2 v) s₀ s₁ s₂ al (omega arith) e₁ e₂ in
       let three = behind 4 m (bytes 4 n) s₀ s₂ s₃ ml (omega arith) two e₃ in
       let four = behind 8 c (bytes 4 (k .«last_serial»)) s₀ s₃ s₄ cl (omega arith) three e₄ in
       let five = behind 12 d entries s₀ s₄ s₅ dl (omega arith) four e₅ in
       let last : s₆ ≡ overwrite (12 + length entries) records s₅ = e₆ ∙ ap (λ (z : ℕ). overwrite (12 + z) records s₅) (sym entries-long) in
       let six = behind (12 + length entries) x records s₀ s₅ s₆ xl (omega arith) five last in
       let yl : length (x ++ records) ≡ length s₀ = omega (arith, length-append x records) in
-      six ∙ whole (x ++ records) s₀ yl ∙ rw (append-assoc, append-assoc, append-assoc, append-assoc, two-zeros)
+      six ∙ whole (x ++ records) s₀ yl ∙ rw (append-assoc, append-assoc, append-assoc, append-assoc, me)

@@ -31,7 +31,6 @@ use Rattle.image.specs.declared.Shape.{Shape}
 use Rattle.image.specs.declared.Shape.the-variants.{Image, Refused}
 use Rattle.image.specs.declared.Parsed.{Parsed}
 use Rattle.image.specs.Parsing.{FormFits, Parts, shape-parts, parts-of, unless-parts, parts-in}
-use Rattle.image.proofs.Zeros.{zeros-number, number-zeros}
 
 -- a form with a number fits
 pub form-fits : (n : ℕ) (f : Form) → form-numbered n ≡ some f → FormFits f
@@ -122,35 +121,39 @@ module _ (i : List ℕ) where
           unfolding form-of form-in or-else
           form-is = rw known
 
-          pub refused-marks : (number (marks-in (stream-of i)) ≡ 0 → ⊥) → first-refusal (shape-lines i) ≡ 23
-          unfolding shape-lines line-21 line-22 line-23 first-refusal form-in is-none marks-right
-          refused-marks e =
-              rw (ne-eqb (length i) 0 some-bytes, eq-eqb (length i % 512) 0 whole, sym told ∙ frames, known, number-zeros (marks-in (stream-of i)) e)
+          module _ (m : Bool) (me : m ≡ marks-right f (marks-in (stream-of i))) where
+            marks-are : (x : Bool) → m ≡ x → marks-right (form-of i) (marks-in (stream-of i)) ≡ x
+            marks-are x e = ap (λ (g : Form). marks-right g (marks-in (stream-of i))) (sym form-is) ∙ sym me ∙ e
 
-          module _ (marks : number (marks-in (stream-of i)) ≡ 0) (c : Bool) (is : c ≡ contents-right i) where
-            pub refused-contents : c ≡ false → first-refusal (shape-lines i) ≡ 24
-            unfolding shape-lines line-21 line-22 line-23 line-24 first-refusal form-in is-none marks-right
-            refused-contents e =
-                rw (
-                  ne-eqb (length i) 0 some-bytes,
-                  eq-eqb (length i % 512) 0 whole,
-                  sym told ∙ frames,
-                  known,
-                  zeros-number (marks-in (stream-of i)) marks,
-                  sym is ∙ e,
-                )
+            pub refused-marks : m ≡ false → first-refusal (shape-lines i) ≡ 23
+            unfolding shape-lines line-21 line-22 line-23 first-refusal form-in is-none
+            refused-marks e =
+                rw (ne-eqb (length i) 0 some-bytes, eq-eqb (length i % 512) 0 whole, sym told ∙ frames, known, marks-are false e)
 
-            pub refused-none : c ≡ true → first-refusal (shape-lines i) ≡ 0
-            unfolding shape-lines line-21 line-22 line-23 line-24 first-refusal form-in is-none marks-right
-            refused-none e =
-                rw (
-                  ne-eqb (length i) 0 some-bytes,
-                  eq-eqb (length i % 512) 0 whole,
-                  sym told ∙ frames,
-                  known,
-                  zeros-number (marks-in (stream-of i)) marks,
-                  sym is ∙ e,
-                )
+            module _ (marks : m ≡ true) (c : Bool) (is : c ≡ contents-right i) where
+              pub refused-contents : c ≡ false → first-refusal (shape-lines i) ≡ 24
+              unfolding shape-lines line-21 line-22 line-23 line-24 first-refusal form-in is-none
+              refused-contents e =
+                  rw (
+                    ne-eqb (length i) 0 some-bytes,
+                    eq-eqb (length i % 512) 0 whole,
+                    sym told ∙ frames,
+                    known,
+                    marks-are true marks,
+                    sym is ∙ e,
+                  )
+
+              pub refused-none : c ≡ true → first-refusal (shape-lines i) ≡ 0
+              unfolding shape-lines line-21 line-22 line-23 line-24 first-refusal form-in is-none
+              refused-none e =
+                  rw (
+                    ne-eqb (length i) 0 some-bytes,
+                    eq-eqb (length i % 512) 0 whole,
+                    sym told ∙ frames,
+                    known,
+                    marks-are true marks,
+                    sym is ∙ e,
+                  )
 
 -- the parts that are found, from the first line that holds
 unless-some : (m : ℕ) (x : Parts) → 1 ≤ m → record { refusal = m; form = form-1; size = 0; accounts = zero-accounts } ≡ unless-parts m x

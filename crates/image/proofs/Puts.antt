@@ -2,11 +2,11 @@
 -- Assumes nothing.
 use mathlib.Core.Path.{_≡_, refl, ap, sym, _∙_}
 use mathlib.Core.List.{List, _∷_, _++_}
-use mathlib.Core.Bool.{Bool, true, false, and-true}
+use mathlib.Core.Bool.{Bool, true, false}
 use Prim.Native.Nat.{ℕ, suc, _+_, _*_, _/_, _≤_, _<_}
 use native.Mathlib.Omega.{arith}
 use lib.ListN.{length, drop, length-append}
-use lib.Dec.{ltb}
+use lib.Dec.{ltb, eqb}
 use borrow.Author.Tests.{ltb-true, ltb-false, lt-ltb, le-ltb, le-leb, lt-leb}
 use Rattle.rounding.specs.Rounding.{unit}
 use Rattle.accounts.specs.declared.Accounts.{Accounts}
@@ -26,13 +26,13 @@ use Rattle.framing.specs.Frames.{frames-for, has-room, Framed, write-frames}
 use Rattle.image_model.specs.declared.Form.{Form}
 use Rattle.image_model.specs.declared.ImageRefusal.the-variants.{Call, Room, NotCarried}
 use Rattle.image_model.specs.declared.WriteAnswer.the-variants.{Written, Refused as NotWritten}
-use Rattle.image_model.specs.Stream.{no-grant, all-permitted, marks-of, carries, head-length, head-of, stream, image-of, image-length}
+use Rattle.image_model.specs.Stream.{no-grant, all-permitted, carries, head-length, head-of, stream, image-of, image-length}
 use Rattle.image_model.specs.Answers.{Imaged, imaged}
 use Rattle.image_model.specs.Images.{line-28, put-lines, write-lines, unless-written, write-image}
 use Rattle.image.specs.Parsing.{FormFits, length-for, put-image}
-use Rattle.image_model.specs.Items.{all-zero}
 use Rattle.image_model.proofs.Places.{full-carries}
 use Rattle.image.proofs.Heads.{head-short}
+use Rattle.image.proofs.Marked.{marks-zero}
 
 -- what the frames answer, as an image
 unfoldable pub as-image : List ℕ → FrameAnswer → Imaged
@@ -120,6 +120,11 @@ module _ (f : Form) (k : Accounts) where
       unfolding carries
       carried-records e = rw (lean, sym ge ∙ granted, sym re ∙ e)
 
-      pub carried-permissions : r ≡ true → (p : Bool) → p ≡ all all-permitted (k .quotas) → p ≡ carries f k
-      unfolding carries marks-of all-zero all
-      carried-permissions e p pe = pe ∙ rw (lean, sym ge ∙ granted, sym re ∙ e) (sym (and-true (all all-permitted (k .quotas))))
+      module _ (records : r ≡ true) (p : Bool) (pe : p ≡ all all-permitted (k .quotas)) where
+        pub carried-permissions : p ≡ false → false ≡ carries f k
+        unfolding carries
+        carried-permissions e = rw (lean, sym ge ∙ granted, sym re ∙ records, sym pe ∙ e)
+
+        pub carried-marks : p ≡ true → (n : ℕ) → n ≡ 256 * k .kind → n < 65536 → eqb n 0 ≡ carries f k
+        unfolding carries
+        carried-marks e n is h = marks-zero k n is h ∙ sym (rw (lean, sym ge ∙ granted, sym re ∙ records, sym pe ∙ e))

@@ -5,7 +5,7 @@ use mathlib.Core.List.{List, [], _∷_, map}
 use Prim.Native.Nat.{ℕ, _-_}
 use lib.ListN.{replicate, take}
 use Rattle.accounts.specs.declared.Accounts.{Accounts}
-use Rattle.accounts.specs.Accounts.{QUOTAS, zero-accounts, opened}
+use Rattle.accounts.specs.Accounts.{QUOTAS, zero-accounts, plain, opened}
 use Rattle.image_model.specs.Stream.{form-1, form-2, image-of}
 use Rattle.image_model.specs.declared.ImageRefusal.the-variants.{Contents}
 use Rattle.image_model.proofs.Computing.{computing}
@@ -13,7 +13,7 @@ use Rattle.image.specs.declared.Shape.the-variants.{Image, Refused}
 use Rattle.image.specs.Parsing.{Parts, shape-parts, unless-parts, parts-in, examined-in, length-for}
 
 accounts : Accounts
-accounts = opened (100 ∷ 1000 ∷ replicate (QUOTAS - 2) 0)
+accounts = opened plain (100 ∷ 1000 ∷ replicate (QUOTAS - 2) 0)
 
 -- a heap that is not consistent with the accounts: only its own bytes count here
 image : List ℕ

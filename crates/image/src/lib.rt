@@ -8,6 +8,7 @@ mod asking;
 mod entries;
 mod forms;
 mod head;
+mod marks;
 mod numbers;
 mod parsing;
 mod reading;

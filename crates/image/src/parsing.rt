@@ -7,6 +7,8 @@ use crate::entries::read_entries;
 use crate::forms::entry_at;
 use crate::forms::form_numbered;
 use crate::forms::heap_at;
+use crate::marks::marks_right;
+use crate::marks::read_kind;
 use crate::numbers::read_pair;
 use crate::numbers::read_quad;
 use crate::records::read_records;
@@ -74,6 +76,7 @@ pub(crate) fn read_accounts(image: &[u8], form: Form) -> Accounts
         quotas: read_entries(image, quotas, full),
         last_serial: read_quad(image, 8),
         holds: read_records(image, entry_at(quotas, full), records),
+        kind: read_kind(image, full),
     }
 }
 
@@ -103,7 +106,7 @@ pub fn parse_image(image: &[u8]) -> Parsed
     let FormAnswer::Known(form) = form_numbered(read_pair(image, 0)) else {
         return refused(ImageRefusal::FormNumber);
     };
-    if read_pair(image, 2) != 0 {
+    if !marks_right(image, form.full) {
         return refused(ImageRefusal::FormNumber);
     }
     let size = read_quad(image, 4) as usize;

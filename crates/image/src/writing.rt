@@ -6,6 +6,7 @@ use crate::forms::form_1;
 use crate::forms::form_2;
 use crate::forms::heap_at;
 use crate::head::write_head;
+use crate::marks::marks;
 use crate::records::none_used;
 use accounts::Accounts;
 use framing::FrameAnswer;
@@ -37,7 +38,10 @@ fn is_carried(form: Form, accounts: Accounts) -> bool
     if !none_used(holds, form.records) {
         return false;
     }
-    are_permitted(quotas)
+    if !are_permitted(quotas) {
+        return false;
+    }
+    marks(true, accounts.kind) == 0
 }
 
 // Bytes for the longest head.

@@ -41,7 +41,6 @@ module _ (i h : List ℕ) (octets : Octets i) (accepted : read-image i h .refusa
         sound = a .sound;
         quotas = a .typed .quotas;
         narrow = a .typed .grant;
-        serial = a .typed .last;
       })
 
   -- and is as long as the lent heap

@@ -4,7 +4,7 @@
 use mathlib.Core.Path.{_≡_, refl}
 use mathlib.Core.List.{List, _++_, append-assoc}
 use mathlib.Core.Bool.{Bool, true, false}
-use Prim.Native.Nat.{ℕ, _+_, _*_, _≤_}
+use Prim.Native.Nat.{ℕ, _+_, _*_, _≤_, _<_, _^_}
 use native.Mathlib.Omega.{arith}
 use lib.ListN.{length, take, drop, replicate, length-append, length-drop}
 use lib.Seq.{take-at, drop-at, drop-drop}
@@ -25,7 +25,8 @@ use Rattle.image_model.specs.Reading.{entry-of, entry-right, record-of, 
 use Rattle.image_model.specs.declared.Form.{Form}
 use Rattle.image_model.proofs.Items.{All, all-places, all-drop, all-both, all-same, each-length, each-all, many-each}
 use Rattle.image_model.proofs.Parts.{split, bytes-split-here}
-use Rattle.image_model.proofs.Places.{Known, known-shaped, marks-again, marks-keep, marks-blank, full-carries, facts-carried, blank-lengths, blank-is}
+use Rattle.image_model.proofs.Places.{Known, known-shaped, marks-again, marks-keep, marks-narrow, marks-blank, full-carries, facts-carried}
+use Rattle.image_model.proofs.Places.{blank-lengths, blank-is}
 use Rattle.image_model.proofs.Entries.{EntryFits, RecordFits, four-below, entry-again, entry-fits, entry-permits, record-again, record-fits}
 use Rattle.image_model.proofs.Cuts.{padded-take}
 
@@ -43,6 +44,7 @@ module _ (f : Form) (t : List ℕ) where
         quotas = read-quotas ++ drop (f .quotas) (blank f .quotas);
         «last_serial» = number (take 4 (drop 8 t));
         holds = read-holds ++ drop (f .records) (blank f .holds);
+        kind = 0;
       }
 
   keeps : (accounts-of f t .quotas ≡ read-accounts .quotas) × (accounts-of f t .«last_serial» ≡ read-accounts .«last_serial»)
@@ -103,6 +105,10 @@ module _ (f : Form) (t : List ℕ) where
       let z : All RecordFits (blank f .holds) = rw (blank-is f .1) (all-same RecordFits HOLDS zero-hold (lit< tt, lit< tt, lit< tt)) in
       rw (keeps .2) (all-both RecordFits read-holds (drop (f .records) (blank f .holds)) a (all-drop RecordFits (f .records) (blank f .holds) z))
 
+  kind-fits : Octets t → accounts-of f t .kind < 2 ^ 8
+  unfolding accounts-of read-accounts
+  kind-fits o = marks-narrow f (marks-in t) read-accounts (octets-take 2 (drop 2 t) (octets-drop 2 t o))
+
   pub typed-read : Known f → Octets t → Typed (accounts-of f t)
   unfolding read-accounts
   typed-read e o =
@@ -120,6 +126,7 @@ module _ (f : Form) (t : List ℕ) where
         serial = λ i. all-places RecordFits zero-hold (accounts-of f t .holds) r (lit< tt, lit< tt, lit< tt) i .0;
         quota = λ i. all-places RecordFits zero-hold (accounts-of f t .holds) r (lit< tt, lit< tt, lit< tt) i .1;
         count = λ i. all-places RecordFits zero-hold (accounts-of f t .holds) r (lit< tt, lit< tt, lit< tt) i .2;
+        kind = kind-fits o;
       }
 
 -- the parts, put back

@@ -20,6 +20,7 @@ accounts =
       quotas = with-permissions 6 (quota 100 84) ∷ quota 1000 984 ∷ replicate (QUOTAS - 3) (quota 0 0) ++ (with-permissions 0 (quota 5 5) ∷ []);
       «last_serial» = 1;
       holds = hold 1 0 1 ∷ replicate (HOLDS - 2) zero-hold ++ (hold 1 1 3 ∷ []);
+      kind = 0;
     }
 
 times : ℕ → List ℕ → List ℕ
@@ -74,7 +75,7 @@ refused =
     (but 0 3 into 64 is 23)
     ∷ (but 1 1 into 64 is 23)
     ∷ (but 2 1 into 64 is 23)
-    ∷ (but 3 1 into 64 is 23)
+    ∷ (but 3 2 into 64 is 23)
     ∷ (but 0 1 into 64 is 24)
     -- 24: permissions above 7 of the first quota and the last; each byte behind them; spare bytes of the first record and the last; a frame too many;
     -- a byte behind the heap; the same where the lent heap has another length

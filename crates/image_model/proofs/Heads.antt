@@ -22,7 +22,7 @@ use Rattle.image_model.specs.Reading.{entry-of, entry-right, record-of, 
 use Rattle.image_model.specs.declared.Form.{Form}
 use Rattle.image_model.proofs.Items.{All, places-all, all-take, all-map, all-two, many-length, each-many, every-many}
 use Rattle.image_model.proofs.Parts.{part-here, part-behind, number-here}
-use Rattle.image_model.proofs.Places.{Known, QuotaSound, known-shaped, marks-length, marks-back, all-carried, quotas-whole, holds-whole}
+use Rattle.image_model.proofs.Places.{Known, QuotaSound, known-shaped, marks-length, marks-back, all-carried, marks-carried, quotas-whole, holds-whole}
 use Rattle.image_model.proofs.Entries.{EntryFits, EntryCarried, RecordFits, entry-length, entry-back, entry-tested, record-length, record-back}
 use Rattle.image_model.proofs.Entries.{record-tested}
 use Rattle.image_model.proofs.Cuts.{padded-take}
@@ -155,7 +155,7 @@ module _ (f : Form) (e : Known f) (s : List ℕ) (k : Accounts) (y : Typed k) (t
       let l = number-here 4 8 (k .«last_serial») t behind-serial at-8 (y .last) in
       let a = quotas-read c z in
       let b = holds-read c in
-      (λ i. with-marks f (marks-read i) (record { quotas = a i; «last_serial» = l i; holds = b i })) ∙ marks-back f k
+      (λ i. with-marks f (marks-read i) (record { quotas = a i; «last_serial» = l i; holds = b i; kind = 0 })) ∙ marks-back f k (y .kind) (marks-carried f k c)
 
   pub heap-read : length s < 2 ^ 32 → heap-of f t ≡ s
   unfolding heap-of

@@ -2,19 +2,19 @@
 -- definitions of `Stream`; every law above this file speaks of any form that has a number.
 -- Assumes nothing.
 use mathlib.Core.Path.{_≡_, refl, ap, sym, _∙_}
-use mathlib.Core.List.{List, [], _∷_, _++_}
+use mathlib.Core.List.{List, [], _∷_, _++_, append-nil}
 use mathlib.Core.Bool.{Bool, true, false, cond, not, _&&_, _||_, true≢false}
 use mathlib.Core.Option.{none, some}
-use Prim.Native.Nat.{ℕ, _≤_, _<_, _^_}
+use Prim.Native.Nat.{ℕ, _%_, _≤_, _<_, _^_}
 use native.Mathlib.Omega.{arith}
 use native.Mathlib.Nat.{mod-eq-of-lt}
 use lib.ListN.{length, take, drop, replicate, getD, length-drop}
-use lib.Dec.{eqb, lit<}
-use borrow.Author.Tests.{eqb-true, not-true, not-false}
+use lib.Dec.{eqb, ltb, lit<}
+use borrow.Author.Tests.{eqb-true, lt-ltb, not-true, not-false}
 use Rattle.accounts.specs.declared.Quota.{Quota}
 use Rattle.accounts.specs.declared.Hold.{Hold}
 use Rattle.accounts.specs.declared.Accounts.{Accounts}
-use Rattle.accounts.specs.Accounts.{QUOTAS, HOLDS, ALL-PERMISSIONS, permissible, zero-hold, with-permissions, granted, opened, used, unused}
+use Rattle.accounts.specs.Accounts.{QUOTAS, HOLDS, ALL-PERMISSIONS, permissible, zero-hold, with-permissions, with-kind, granted, opened, used, unused}
 use Rattle.layout.specs.Bytes.{bytes, Octets}
 use Rattle.model.specs.Lists.{all}
 use Rattle.model.proofs.Bools.{and-left, and-right}
@@ -24,6 +24,7 @@ use Rattle.image_model.specs.Stream.{no-grant, all-permitted, carries, b
 use Rattle.image_model.specs.declared.Form.{Form}
 use Rattle.image_model.proofs.Rows.{head-rows}
 use Rattle.image_model.proofs.FullRows
+use Rattle.image_model.proofs.KindRows
 use Rattle.image_model.proofs.Items.{All, all-drop, all-map, all-tested, tested-all, all-two, all-of, none-behind, filled-behind, zeros-are, are-zeros}
 use Rattle.image_model.proofs.Parts.{bytes-split-here, one-at}
 
@@ -167,31 +168,70 @@ module _ (f : Form) where
 -- Second place. The marks are two bytes, they are right, and they say the accounts that they were written of
 module _ (f : Form) where
   pub marks-length : (k : Accounts) → length (marks-of f k) ≡ 2
-  unfolding marks-of
-  marks-length k = refl
+  unfolding marks-of bytes
+  marks-length k = go (f .full)
+    where
+      go : (x : Bool) → length (cond x (bytes 1 0 ++ bytes 1 (k .kind)) (replicate 2 0)) ≡ 2
+      go true = refl
+      go false = refl
 
-  pub marks-tested : (k : Accounts) → marks-right f (marks-of f k) ≡ true
-  unfolding marks-of marks-right
-  marks-tested k = are-zeros 2
+  pub marks-tested : (k : Accounts) → k .kind < 2 → marks-right f (marks-of f k) ≡ true
+  unfolding marks-of marks-right bytes
+  marks-tested k h = go (f .full)
+    where
+      marks : Bool → List ℕ
+      marks x = cond x (bytes 1 0 ++ bytes 1 (k .kind)) (replicate 2 0)
 
-  pub marks-back : (k : Accounts) → with-marks f (marks-of f k) (record { quotas = k .quotas; «last_serial» = k .«last_serial»; holds = k .holds }) ≡ k
-  unfolding with-marks
-  marks-back k = refl
+      go : (x : Bool) → cond x (eqb (getD (marks x) 0 0) 0 && ltb (getD (marks x) 1 0) 2) (all-zero (marks x)) ≡ true
+      go true = let e : k .kind % 256 ≡ k .kind = mod-eq-of-lt (omega arith) in rw e (lt-ltb (k .kind) 2 h)
+      go false = are-zeros 2
+
+  -- what the form says of the kind is all that there is to say
+  pub marks-back : (k : Accounts) → k .kind < 2 ^ 8 → (f .full || all-zero (marks-of form-2 k)) ≡ true
+      → with-marks f (marks-of f k) (record { quotas = k .quotas; «last_serial» = k .«last_serial»; holds = k .holds; kind = 0 }) ≡ k
+  unfolding marks-of with-marks bytes form-2 all-zero all
+  marks-back k h e = go (f .full) e
+    where
+      same : k .kind % 256 ≡ k .kind
+      same = mod-eq-of-lt h
+
+      go : (x : Bool) → (x || (eqb 0 (k .kind % 256) && true)) ≡ true
+          → with-kind (cond x (getD (cond x (bytes 1 0 ++ bytes 1 (k .kind)) (replicate 2 0)) 1 0) 0) k ≡ k
+      go true y = λ i. with-kind (same i) k
+      go false y = let z = eqb-true 0 (k .kind % 256) (and-left (eqb 0 (k .kind % 256)) true y) ∙ same in λ i. with-kind (z i) k
 
   -- bytes that are right are those of the accounts that they say, which are otherwise as they were
   pub marks-again : (m : List ℕ) (k : Accounts) → Octets m → length m ≡ 2 → marks-right f m ≡ true → marks-of f (with-marks f m k) ≡ m
-  unfolding marks-of marks-right
-  marks-again m k o l e = sym (rw l at (zeros-are m e))
+  unfolding marks-of marks-right with-marks
+  marks-again m k o l e = go (f .full) e
+    where
+      go : (x : Bool) → cond x (eqb (getD m 0 0) 0 && ltb (getD m 1 0) 2) (all-zero m) ≡ true
+          → cond x (bytes 1 0 ++ bytes 1 (cond x (getD m 1 0) 0)) (replicate 2 0) ≡ m
+      go true e =
+          let z = eqb-true (getD m 0 0) 0 (and-left (eqb (getD m 0 0) 0) _ e) in
+          let n : drop 2 m ≡ [] = no-bytes (drop 2 m) (simp length-drop (omega arith)) in
+          let last : bytes 1 (getD m 1 0) ≡ drop 1 m =
+          rw (← one-at 1 m (omega arith)) (rw (n, append-nil) at (bytes-split-here 1 1 m o (omega arith))) in
+          rw (last, ← z, ← one-at 0 m (omega arith)) (bytes-split-here 1 0 m o (omega arith))
+      go false e = sym (rw l at (zeros-are m e))
 
   pub marks-keep : (m : List ℕ) (k : Accounts)
       → (with-marks f m k .quotas ≡ k .quotas) × (with-marks f m k .«last_serial» ≡ k .«last_serial») × (with-marks f m k .holds ≡ k .holds)
   unfolding with-marks
   marks-keep m k = (refl, refl, refl)
 
-  -- and where the form is not full, they say accounts whose marks in form 2 are zero
+  -- they say a number that fits; and where the form is not full, accounts whose marks in form 2 are zero
+  pub marks-narrow : (m : List ℕ) (k : Accounts) → Octets m → with-marks f m k .kind < 2 ^ 8
+  unfolding with-marks
+  marks-narrow m k o = go (f .full)
+    where
+      go : (x : Bool) → cond x (getD m 1 0) 0 < 2 ^ 8
+      go true = o 1
+      go false = lit< tt
+
   pub marks-blank : (m : List ℕ) (k : Accounts) → f .full ≡ false → all-zero (marks-of form-2 (with-marks f m k)) ≡ true
-  unfolding marks-of
-  marks-blank m k e = are-zeros 2
+  unfolding marks-of with-marks bytes form-2
+  marks-blank m k e = rw e (are-zeros 2)
 
 -- Third place. A full form carries all accounts; of another one these are the facts
 pub full-carries : (f : Form) (k : Accounts) → f .full ≡ true → carries f k ≡ true
@@ -235,7 +275,7 @@ module _ (f : Form) (k : Accounts) (lean : f .full ≡ false) where
       let p = all-tested all-permitted (k .quotas) (c .permissions) in
       rw (lean, g, r, p) (c .marks)
 
--- what the form says of the quotas' permissions is all that there is to say
+-- what the form says of the quotas' permissions, and of the marks, is all that there is to say
 pub all-carried : (f : Form) (k : Accounts) → carries f k ≡ true → All (λ (q : Quota). (f .full || all-permitted q) ≡ true) (k .quotas)
 all-carried f k c = go (f .full) refl
   where
@@ -244,6 +284,13 @@ all-carried f k c = go (f .full) refl
     go false e =
         all-map (λ (q : Quota). all-permitted q ≡ true) (λ (q : Quota). (f .full || all-permitted q) ≡ true) (λ q p. rw (e, p)) (k .quotas)
         (carried-facts f k e c .permissions)
+
+pub marks-carried : (f : Form) (k : Accounts) → carries f k ≡ true → (f .full || all-zero (marks-of form-2 k)) ≡ true
+marks-carried f k c = go (f .full) refl
+  where
+    go : (x : Bool) → f .full ≡ x → (f .full || all-zero (marks-of form-2 k)) ≡ true
+    go true e = rw e
+    go false e = rw e (carried-facts f k e c .marks)
 
 -- Fourth place. What the form lacks is as long as the accounts are; its quotas have every permission, and all its other numbers are zero
 pub blank-lengths : (f : Form) → (length (blank f .quotas) ≡ QUOTAS) × (length (blank f .holds) ≡ HOLDS)

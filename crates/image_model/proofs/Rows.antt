@@ -1,5 +1,5 @@
 -- The definitions computed at small heaps, in form 1: two images in full, and each refusal of the writer and the reader on both sides of its line.
--- Form 2 is `FullRows`.
+-- Form 2 is `FullRows`, and heaps of the second kind are `KindRows`.
 -- Assumes nothing.
 use mathlib.Core.Path.{_≡_, refl}
 use mathlib.Core.List.{List, [], _∷_, _++_, map}
@@ -8,7 +8,7 @@ use lib.ListN.{length, take, set, getD, replicate}
 use Rattle.accounts.specs.declared.Accounts.{Accounts}
 use Rattle.accounts.specs.declared.Quota.{Quota}
 use Rattle.accounts.specs.declared.Hold.{Hold}
-use Rattle.accounts.specs.Accounts.{QUOTAS, HOLDS, zero-quota, zero-hold, zero-accounts, with-permissions, with-quotas, with-holds, opened}
+use Rattle.accounts.specs.Accounts.{QUOTAS, HOLDS, zero-quota, zero-hold, zero-accounts, with-permissions, with-quotas, with-holds, plain, opened}
 use Rattle.framing.specs.Frames.{frame-of, cut-from, cut}
 use Rattle.image_model.specs.Stream.{form-1, form-2, stream, image-of, image-length, head-length}
 use Rattle.image_model.specs.Answers.{Imaged, Restored-to}
@@ -20,7 +20,7 @@ fresh : List ℕ
 fresh = 8 ∷ replicate 63 0
 
 fresh-accounts : Accounts
-fresh-accounts = opened (100 ∷ 1000 ∷ replicate (QUOTAS - 2) 0)
+fresh-accounts = opened plain (100 ∷ 1000 ∷ replicate (QUOTAS - 2) 0)
 
 -- an object of 8 bytes with the serial 1, which quotas 0 and 1 hold, in the records 0 and 53; the free block behind it ends with bytes that are not zero
 unfoldable pub heap : List ℕ
@@ -38,6 +38,7 @@ accounts =
       quotas = quota 100 84 ∷ quota 1000 984 ∷ replicate (QUOTAS - 2) (quota 0 0);
       «last_serial» = 1;
       holds = hold 1 0 1 ∷ replicate 52 zero-hold ++ (hold 1 1 3 ∷ replicate (HOLDS - 54) zero-hold);
+      kind = 0;
     }
 
 unfoldable pub small : Unit {0}

@@ -46,6 +46,7 @@ module _ (f : Form) (t : List ℕ) where
         quotas = each (entry-of f) (entry-width f) (f .quotas) (drop entries-at t) ++ drop (f .quotas) (blank f .quotas);
         «last_serial» = number (take 4 (drop 8 t));
         holds = each record-of record-width (f .records) (drop (records-at f) t) ++ drop (f .records) (blank f .holds);
+        kind = 0;
       })
 
   unfoldable pub heap-of : List ℕ

@@ -13,7 +13,7 @@ use borrow.Author.Tests.{eq-eqb, ne-eqb}
 use Rattle.accounts.specs.declared.Hold.{Hold}
 use Rattle.accounts.specs.Accounts.{QUOTAS, quota-at, used, remaining, charge}
 use Rattle.accounts.proofs.Laws.{charge-kept}
-use Rattle.layout.specs.Blocks.{size}
+use Rattle.layout.specs.Blocks.{size, QUARANTINED}
 use Rattle.model.specs.Lists.{all, total}
 use Rattle.model.specs.Objects.{objects}
 use Rattle.model.specs.Consistent.{charge-of, has-record}
@@ -38,7 +38,7 @@ pub record Room (q : ℕ) (o : Handle) (t : State) : Type 0 where
   pub paid : charge-of (o .length) ≤ remaining q (t .accounts)
   pub unused : all used (t .accounts .holds) ≡ false
   pub next : o .serial ≡ t .accounts .«last_serial» + 1
-  pub narrow : o .serial < 2 ^ 32
+  pub narrow : o .serial < QUARANTINED
   pub long : 8 ≤ o .length
   pub even : o .length % 8 ≡ 0
   pub aligned : o .base % 8 ≡ 0
@@ -70,7 +70,7 @@ module _ (q : ℕ) (o : Handle) (t : State) (g : Good t) (r : Room q o t) where
   -- the new object is added
   pub allocated-objects : Added o (objects (t .blocks)) (objects (allocated q o t .blocks))
   unfolding allocated
-  allocated-objects = carve-added o (t .blocks) (good-laid t g) (r .fits) (r .aligned) (r .even) new
+  allocated-objects = carve-added o (t .blocks) (good-laid t g) (r .fits) (r .aligned) (r .even) new (r .narrow)
 
   -- no quota had a count for it
   pub allocated-fresh : (j : ℕ) → count-of (o .serial) j (t .accounts .holds) ≡ 0

@@ -8,7 +8,7 @@ use lib.ListN.{length, getD}
 use lib.Dec.{leb, ltb}
 use Rattle.accounts.specs.declared.Hold.{Hold}
 use Rattle.accounts.specs.Accounts.{QUOTAS, zero-quota, used}
-use Rattle.layout.specs.Blocks.{size, AllWritable, AllOctets}
+use Rattle.layout.specs.Blocks.{size, QUARANTINED, AllWritable, AllOctets}
 use Rattle.model.specs.Lists.{all, total}
 use Rattle.model.specs.Consistent.{allowed, records-differ}
 use Rattle.model.specs.Calls.{State}
@@ -30,4 +30,4 @@ pub record Good (t : State) : Type 0 where
   pub tests : Tests (t .blocks) (t .accounts)
   pub quotas : length (t .accounts .quotas) ≡ QUOTAS
   pub narrow : (q : ℕ) → getD (t .accounts .quotas) q zero-quota .grant < 2 ^ 32
-  pub serial : t .accounts .«last_serial» < 2 ^ 32
+  pub serial : t .accounts .«last_serial» < QUARANTINED

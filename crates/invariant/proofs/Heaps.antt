@@ -13,7 +13,7 @@ use borrow.Author.Tests.{le-leb, lt-ltb}
 use Rattle.accounts.specs.declared.Accounts.{Accounts}
 use Rattle.accounts.specs.Accounts.{QUOTAS, zero-quota, used}
 use Rattle.layout.specs.Bytes.{Octets}
-use Rattle.layout.specs.Blocks.{Block, size, render, parse, AllWritable}
+use Rattle.layout.specs.Blocks.{Block, size, QUARANTINED, render, parse, AllWritable}
 use Rattle.layout.proofs.Render.{length-render, octets-render}
 use Rattle.layout.proofs.Parse.{parse-is, parse-octets}
 use Rattle.model.specs.Lists.{total}
@@ -68,7 +68,7 @@ heap-again s k o c = heap-blocks s k o c .0
 
 -- the state of a consistent heap
 pub heap-good : (s : List ℕ) (k : Accounts) → allowed (length s) ≡ true → Octets s → consistent s k ≡ true → length (k .quotas) ≡ QUOTAS
-    → ((q : ℕ) → getD (k .quotas) q zero-quota .grant < 2 ^ 32) → k .«last_serial» < 2 ^ 32 → Good (state-of s k)
+    → ((q : ℕ) → getD (k .quotas) q zero-quota .grant < 2 ^ 32) → k .«last_serial» < QUARANTINED → Good (state-of s k)
 heap-good s k e o c l n f =
     let r = consistent-cut s k c in
     let same : length s ≡ total size (blocks-of s) = ap length (sym (heap-again s k o c)) ∙ render-total (blocks-of s) in

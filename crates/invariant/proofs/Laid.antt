@@ -10,23 +10,24 @@ use mathlib.Core.Bool.{Bool, true, false, cond, _&&_}
 use mathlib.Core.Logic.{_↔_}
 use lib.ListN.{length, take, drop, replicate, length-append, length-take, length-drop}
 use lib.Dec.{leb, ltb, eqb, lit<}
-use borrow.Author.Tests.{ltb-true, lt-ltb, leb-true, eqb-true}
+use borrow.Author.Tests.{ltb-true, lt-ltb, leb-true, eqb-true, ne-eqb}
 use Rattle.accounts.specs.declared.Hold.{Hold}
 use Rattle.layout.specs.Bytes.{Octets}
-use Rattle.layout.specs.Blocks.{Block, size, AllWritable, AllOctets}
+use Rattle.layout.specs.Blocks.{Block, size, QUARANTINED, AllWritable, AllOctets}
 use Rattle.layout.proofs.Parts.{zeros-octets}
 use Rattle.layout.proofs.Numbers.{octets-take, octets-drop, octets-append}
 use Rattle.model.specs.Lists.{all, total}
 use Rattle.model.specs.Objects.{objects-from, objects}
-use Rattle.model.specs.Consistent.{allowed, long-enough, starts-free, free-apart, well-cut, serials-differ}
-use Rattle.model.specs.Space.{suitable, carve, vacate, settle, body-of, copy-into}
+use Rattle.model.specs.Consistent.{allowed, long-enough, starts-free, free-apart, well-cut, serials-differ, in-kind}
+use Rattle.model.specs.Space.{suitable, carve, vacant, vacate, reclaim, settle, swept, body-of, copy-into}
 use Rattle.model.specs.declared.Handle.{Handle}
-use Rattle.model.proofs.Bools.{and-left, and-right, and-both}
-use Rattle.model.proofs.Lists.{all-member}
+use Rattle.model.proofs.Bools.{and-left, and-right, and-both, or-left}
+use Rattle.model.proofs.Lists.{all-member, member-all}
 use Rattle.model.proofs.Blocks.{whole-size, Whole}
 use Rattle.model.proofs.Carve.{Carved, Added, carved, cut-all, carved-all, carved-cut, carved-whole, carved-total, carve-objects, place}
 use Rattle.model.proofs.Join.{joined, join-all}
-use Rattle.model.proofs.Settle.{vacated-all, settle-objects, settle-total, settle-whole, settle-cut}
+use Rattle.model.proofs.Settle.{vacant-narrow, vacated-all, settle-objects, settle-total, settle-whole, settle-cut}
+use Rattle.model.proofs.Sweep.{not-quarantined, unquarantined-all, swept-objects, swept-total, swept-whole, swept-cut, swept-none}
 use Rattle.invariant.proofs.Members.{differ-kept, differ-added}
 
 -- a block that can be written as far as its serial and its bytes go
@@ -101,7 +102,8 @@ carved-stored base n serial at bs cs c s narrow =
     (λ p. storable-exactly _ .1 (lit< tt, octets-drop (base + n - place c) (b .body) old)))
 
 -- a new object with a new serial is carved out
-module _ (o : Handle) (bs : List Block) (l : Laid bs) (fits : suitable (total size bs) bs (o .length) (o .base) ≡ true) (aligned : o .base % 8 ≡ 0) (even : o .length % 8 ≡ 0) (new : 0 < o .serial) where
+module _ (o : Handle) (bs : List Block) (l : Laid bs) (fits : suitable (total size bs) bs (o .length) (o .base) ≡ true) (aligned : o .base % 8 ≡ 0)
+    (even : o .length % 8 ≡ 0) (new : 0 < o .serial) (narrow : o .serial < QUARANTINED) where
   -- no two free blocks stand side by side
   apart : free-apart bs ≡ true
   unfolding well-cut
@@ -109,42 +111,91 @@ module _ (o : Handle) (bs : List Block) (l : Laid bs) (fits : suitable (total si
 
   -- exactly that object is added
   pub carve-added : Added o (objects bs) (objects (carve (o .base) (o .length) (o .serial) bs))
-  carve-added = carve-objects (o .base) (o .length) (o .serial) bs apart fits (l .whole) aligned even new
+  carve-added = carve-objects (o .base) (o .length) (o .serial) bs apart fits (l .whole) aligned even new narrow
 
   -- and a heap can still be written of the blocks
-  pub carve-laid : o .serial < 2 ^ 32 → 8 ≤ o .length → ((p : Handle) → List·Memᴰ p (objects bs) → p .serial ≡ o .serial → ⊥)
+  pub carve-laid : 8 ≤ o .length → ((p : Handle) → List·Memᴰ p (objects bs) → p .serial ≡ o .serial → ⊥)
       → Laid (carve (o .base) (o .length) (o .serial) bs)
-  carve-laid narrow long fresh =
+  carve-laid long fresh =
       let c = carved (o .base) (o .length) (o .serial) bs apart fits in
       record {
         whole = carved-whole c refl (l .whole) aligned even;
-        stored = carved-stored (o .base) (o .length) (o .serial) 0 bs _ c (l .stored) narrow;
+        stored = carved-stored (o .base) (o .length) (o .serial) 0 bs _ c (l .stored) (omega arith);
         extent = rw (carved-total c refl (l .whole) aligned even) (l .extent);
         cut = carved-cut c new long (l .cut);
         differ = differ-added o (objects bs) (objects (carve (o .base) (o .length) (o .serial) bs)) carve-added fresh (l .differ);
       }
 
 -- blocks that no record holds become free, and those that are joined have bytes
-settle-stored : (hs : List Hold) (bs : List Block) → all storable bs ≡ true → all storable (settle hs bs) ≡ true
-unfolding settle vacate
-settle-stored hs bs s =
+settle-stored : (kind : ℕ) (hs : List Hold) (bs : List Block) → all storable bs ≡ true → all storable (settle kind hs bs) ≡ true
+unfolding settle reclaim vacate
+settle-stored kind hs bs s =
     join-all storable
     (λ b c p q.
     storable-exactly (joined b c) .1
     (lit< tt, octets-append (b .body) (replicate 8 0 ++ c .body) (storable-exactly b .0 p .1) (octets-append (replicate 8 0) (c .body) (zeros-octets 8) (storable-exactly c .0 q .1))))
-    _ (vacated-all storable (λ b e. storable-exactly _ .1 (lit< tt, zeros-octets (length (b .body)))) hs bs s)
+    _ (vacated-all kind storable (λ b l e. storable-exactly _ .1 (vacant-narrow kind, zeros-octets (length (b .body)))) hs bs s)
 
 -- so a heap can still be written of the blocks
-pub settle-laid : (hs : List Hold) (bs : List Block) → Laid bs → Laid (settle hs bs)
+pub settle-laid : (kind : ℕ) (hs : List Hold) (bs : List Block) → Laid bs → Laid (settle kind hs bs)
 unfolding well-cut
-settle-laid hs bs l =
+settle-laid kind hs bs l =
     record {
-      whole = settle-whole hs bs (l .whole);
-      stored = settle-stored hs bs (l .stored);
-      extent = rw (settle-total hs bs) (l .extent);
-      cut = settle-cut hs bs (and-left (all long-enough bs) _ (l .cut));
-      differ = rw (settle-objects hs bs) (differ-kept _ (objects bs) (l .differ));
+      whole = settle-whole kind hs bs (l .whole);
+      stored = settle-stored kind hs bs (l .stored);
+      extent = rw (settle-total kind hs bs) (l .extent);
+      cut = settle-cut kind hs bs (and-left (all long-enough bs) _ (l .cut));
+      differ = rw (settle-objects kind hs bs) (differ-kept _ (objects bs) (l .differ));
     }
+
+-- quarantined blocks become free, with the bytes that they have
+swept-stored : (bs : List Block) → all storable bs ≡ true → all storable (swept bs) ≡ true
+unfolding swept reclaim
+swept-stored bs s =
+    join-all storable
+    (λ b c p q.
+    storable-exactly (joined b c) .1 (
+      lit< tt,
+      octets-append (b .body) (replicate 8 0 ++ c .body) (storable-exactly b .0 p .1)
+          (octets-append (replicate 8 0) (c .body) (zeros-octets 8) (storable-exactly c .0 q .1)),
+    ))
+    _ (unquarantined-all storable (λ b e. storable-exactly _ .1 (lit< tt, storable-exactly b .0 e .1)) bs s)
+
+-- so a heap can still be written of the blocks
+pub swept-laid : (bs : List Block) → Laid bs → Laid (swept bs)
+unfolding well-cut
+swept-laid bs l =
+    record {
+      whole = swept-whole bs (l .whole);
+      stored = swept-stored bs (l .stored);
+      extent = rw (swept-total bs) (l .extent);
+      cut = swept-cut bs (and-left (all long-enough bs) _ (l .cut));
+      differ = rw (swept-objects bs) (l .differ);
+    }
+
+-- quarantined blocks stand in a heap of the second kind only, whatever becomes of blocks
+vacant-kind : (kind : ℕ) → kind < 2 → (body : List ℕ) → in-kind kind (record { serial = vacant kind; body = body }) ≡ true
+unfolding in-kind
+vacant-kind zero l body = refl
+vacant-kind (suc zero) l body = refl
+vacant-kind (suc (suc n)) l body = absurd (omega arith)
+
+pub settle-kinds : (kind : ℕ) → kind < 2 → (hs : List Hold) (bs : List Block) → all (in-kind kind) bs ≡ true → all (in-kind kind) (settle kind hs bs) ≡ true
+unfolding settle reclaim vacate in-kind
+settle-kinds kind l hs bs a =
+    join-all (in-kind kind) (λ b c p q. refl) _ (vacated-all kind (in-kind kind) (λ b v e. vacant-kind kind l (replicate (length (b .body)) 0)) hs bs a)
+
+pub carve-kinds : {base n serial at : ℕ} {bs cs : List Block} (c : Carved base n serial at bs cs) (kind : ℕ) → serial < QUARANTINED → all (in-kind kind) bs
+    ≡ true → all (in-kind kind) cs ≡ true
+unfolding in-kind
+carve-kinds {base} {n} {serial} c kind l a =
+    carved-all c (in-kind kind) a
+    (cut-all base n serial (place c) (c .block) (in-kind kind) (rw (ne-eqb serial QUARANTINED (λ e. omega arith))) (λ p. refl) (λ p. refl))
+
+pub swept-kinds : (kind : ℕ) (bs : List Block) → all (in-kind kind) (swept bs) ≡ true
+unfolding in-kind
+swept-kinds kind bs =
+    member-all (in-kind kind) (swept bs) (λ b m. or-left (not-quarantined b) (eqb kind 1) (all-member not-quarantined (swept bs) (swept-none bs) b m))
 
 -- what becomes of a block when bytes are copied to the object with a serial: the same serial, and as many bytes
 put : ℕ → List ℕ → Block → Block
@@ -221,6 +272,11 @@ module _ (serial : ℕ) (new : List ℕ) where
       (put-elim (λ c. storable c ≡ true) b
       (λ e. storable-exactly _ .1 (rw e at (r .0), octets-append (take (length (b .body)) new) (drop (length new) (b .body)) (octets-take (length (b .body)) new o) (octets-drop (length new) (b .body) (r .1)))) (and-left (storable b) _ s))
       (copy-stored o bs (and-right (storable b) _ s))
+
+  -- serials stay, and so the kind
+  pub copy-kinds : (kind : ℕ) (bs : List Block) → all (in-kind kind) (copy-into serial new bs) ≡ all (in-kind kind) bs
+  unfolding in-kind
+  copy-kinds kind bs = copy-all (in-kind kind) (λ b c e f. rw e) bs
 
   -- so a heap can still be written of the blocks
   pub copy-laid : Octets new → (bs : List Block) → Laid bs → Laid (copy-into serial new bs)

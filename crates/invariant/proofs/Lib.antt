@@ -14,5 +14,6 @@ pub mod Settled
 pub mod Copied
 pub mod Transitions
 pub mod Passed
+pub mod Kinded
 pub mod Releasing
 pub mod Requested

@@ -16,6 +16,7 @@ use Rattle.model.specs.Objects.{lookup, lookup-whole, found}
 use Rattle.model.specs.Consistent.{charge-of, has-record}
 use Rattle.model.specs.Refusals.{Line, _when_, line-holds, line-1, line-2, line-3, line-4, line-5, line-6, line-7, line-8, line-9, line-10, line-11, line-12}
 use Rattle.model.specs.Refusals.{only-if, claims-first, base-for, free-all-lines, release-lines, claim-lines, allocate-lines, reallocate-lines}
+use Rattle.layout.specs.Blocks.{QUARANTINED}
 use Rattle.model.specs.declared.Handle.{Handle}
 use Rattle.model.proofs.Bools.{or-neither}
 
@@ -60,9 +61,9 @@ record-left : (k : Accounts) → line-holds (line-9 k) ≡ false → all used (k
 unfolding line-9
 record-left k e = e
 
-serial-left : (k : Accounts) → line-holds (line-10 k) ≡ false → k .«last_serial» < 2 ^ 32 → k .«last_serial» + 1 < 2 ^ 32
+serial-left : (k : Accounts) → line-holds (line-10 k) ≡ false → k .«last_serial» < QUARANTINED → k .«last_serial» + 1 < QUARANTINED
 unfolding line-10
-serial-left k e l = let z : k .«last_serial» ≡ 4294967295 → ⊥ = eqb-false (k .«last_serial») 4294967295 e in omega (arith, z)
+serial-left k e l = let z : k .«last_serial» ≡ 4294967294 → ⊥ = eqb-false (k .«last_serial») 4294967294 e in omega (arith, z)
 
 base-found : (unit : ℕ → ℕ) (s : List ℕ) (n : ℕ) → line-holds (line-11 unit s n) ≡ false → (b : ℕ) × (base-for unit s n ≡ some b)
 unfolding line-11
@@ -130,7 +131,7 @@ module _ (unit : ℕ → ℕ) (s : List ℕ) (k : Accounts) where
     pub asked : 0 < n
     pub paid : charge-of (object-length unit n) ≤ remaining q k
     pub unused : all used (k .holds) ≡ false
-    pub left : k .«last_serial» < 2 ^ 32 → k .«last_serial» + 1 < 2 ^ 32
+    pub left : k .«last_serial» < QUARANTINED → k .«last_serial» + 1 < QUARANTINED
     pub base : ℕ
     pub based : base-for unit s n ≡ some base
 

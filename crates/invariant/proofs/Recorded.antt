@@ -14,7 +14,7 @@ use borrow.Author.Tests.{ltb-true, leb-true, ne-eqb}
 use Rattle.accounts.specs.declared.Hold.{Hold}
 use Rattle.accounts.specs.declared.Accounts.{Accounts}
 use Rattle.accounts.specs.Accounts.{QUOTAS, quota-at, used}
-use Rattle.layout.specs.Blocks.{size}
+use Rattle.layout.specs.Blocks.{size, QUARANTINED}
 use Rattle.model.specs.Lists.{total}
 use Rattle.model.specs.Objects.{objects}
 use Rattle.model.specs.Consistent.{held}
@@ -50,7 +50,7 @@ pub record Recorded (os : List Handle) (k : Accounts) : Type 0 where
 pub record Limits (k : Accounts) : Type 0 where
   pub quotas : length (k .quotas) ≡ QUOTAS
   pub narrow : (q : ℕ) → quota-at q k .grant < 2 ^ 32
-  pub serial : k .«last_serial» < 2 ^ 32
+  pub serial : k .«last_serial» < QUARANTINED
 
 -- a record with a count is used
 counted-used : (h : Hold) → 0 < h .count → used h ≡ true

@@ -4,7 +4,7 @@
 use mathlib.Core.Path.{_≡_, ap, _∙_}
 use Prim.Native.Nat.{ℕ, _<_, _^_}
 use mathlib.Core.List.{List, List·Memᴰ}
-use mathlib.Core.Bool.{true, false, not, _&&_}
+use mathlib.Core.Bool.{true, false, not}
 use mathlib.Core.Option.{some}
 use lib.ListN.{length, getD}
 use borrow.Author.Tests.{not-false, lt-leb}
@@ -21,13 +21,14 @@ use Rattle.model.specs.Calls.{State, leaves, unless, state-of, given-back, rele
 use Rattle.model.specs.Step.{step}
 use Rattle.model.specs.declared.Handle.{Handle}
 use Rattle.model.specs.declared.Call.the-variants.{Release}
-use Rattle.model.proofs.Bools.{and-left, and-right, and-both, or-neither}
+use Rattle.model.proofs.Bools.{and-both, or-neither}
 use Rattle.model.proofs.Lists.{first-some, all-member, member-all}
-use Rattle.model.proofs.Consistent.{sound-consistent}
+use Rattle.model.proofs.Consistent.{sound-consistent, sound-fits, sound-permissible, sound-kinds, sound-range, range-serial}
 use Rattle.model.proofs.Permissions.{released-permissions}
 use Rattle.model.proofs.Refusals.{call-accepted-exactly}
 use Rattle.invariant.proofs.Good.{Good}
 use Rattle.invariant.proofs.Heaps.{good-heap, heap-good}
+use Rattle.invariant.proofs.Kinded.{Kinded, released-kinds, written-kinds}
 use Rattle.invariant.proofs.Members.{keep-exactly}
 use Rattle.invariant.proofs.Settled.{released-good, released-objects}
 use Rattle.invariant.proofs.Passed.{release-passed}
@@ -38,14 +39,29 @@ pub record Possible (q : ℕ) (h o : Handle) (t : State) : Type 0 where
   pub names : first (names h) (objects (t .blocks)) ≡ some o
   pub recorded : has-record (t .accounts .holds) q (o .serial) ≡ true
 
--- what `sound` asks for beyond consistency: every object of a state fits its unit, and every quota's permissions are such
-abbrev pub Fitting : (ℕ → ℕ) → State → Type 0
-Fitting unit t = (all (in-units unit) (objects (t .blocks)) && all permissible (permissions (t .accounts))) ≡ true
+-- what `sound` asks for beyond consistency: every object of a state fits its unit, every quota's permissions are such, and blocks and numbers are of the kind
+pub record Fitting (unit : ℕ → ℕ) (t : State) : Type 0 where
+  pub units : all (in-units unit) (objects (t .blocks)) ≡ true
+  pub permitted : all permissible (permissions (t .accounts)) ≡ true
+  pub kinded : Kinded t
 
 -- a good state that has this is written as a sound heap
 good-sound : (unit : ℕ → ℕ) (t : State) → Good t → Fitting unit t → sound unit (render (t .blocks)) (t .accounts) ≡ true
 unfolding sound
-good-sound unit t g f = and-both _ _ (good-heap t g .sound) (rw (good-heap t g .objects) f)
+good-sound unit t g f =
+    let k = written-kinds t g (f .kinded) in
+    and-both _ _ (good-heap t g .sound)
+    (and-both _ _ (ap (all (in-units unit)) (good-heap t g .objects) ∙ f .units) (and-both _ _ (f .permitted) (and-both _ _ (k .0) (k .1))))
+
+-- and a sound heap's state has it
+pub sound-fitting : (unit : ℕ → ℕ) (s : List ℕ) (k : Accounts) → sound unit s k ≡ true → Fitting unit (state-of s k)
+unfolding objects-of
+sound-fitting unit s k e =
+    record {
+      units = member-all (in-units unit) (objects-of s) (sound-fits unit s k e);
+      permitted = sound-permissible unit s k e;
+      kinded = (sound-kinds unit s k e, sound-range unit s k e);
+    }
 
 -- a release that is possible in a good state
 module _ (q : ℕ) (h o : Handle) (t : State) (g : Good t) (p : Possible q h o t) where
@@ -65,10 +81,13 @@ module _ (q : ℕ) (h o : Handle) (t : State) (g : Good t) (p : Possible q h o t
     -- so they fit their units, and a release leaves the permissions
     pub possible-fitting : Fitting unit (released q o t)
     possible-fitting =
-        and-both _ _
-        (member-all (in-units unit) (objects (released q o t .blocks))
-        (λ x m. all-member (in-units unit) (objects (t .blocks)) (and-left _ _ f) x (possible-kept x m)))
-        (ap (all permissible) (released-permissions q o t) ∙ and-right (all (in-units unit) (objects (t .blocks))) _ f)
+        record {
+          units =
+              member-all (in-units unit) (objects (released q o t .blocks))
+              (λ x m. all-member (in-units unit) (objects (t .blocks)) (f .units) x (possible-kept x m));
+          permitted = ap (all permissible) (released-permissions q o t) ∙ f .permitted;
+          kinded = released-kinds q o t (f .kinded);
+        }
 
     found-here : lookup h (render (t .blocks)) ≡ some o
     unfolding lookup
@@ -100,12 +119,10 @@ module _ (unit : ℕ → ℕ) (s : List ℕ) (k : Accounts) (q : ℕ) (h : Handl
   did-consistent = sound-consistent unit s k (checked .1)
 
   pub did-fitting : Fitting unit (state-of s k)
-  unfolding sound objects-of
-  did-fitting = and-right (consistent s k) _ (checked .1)
+  did-fitting = sound-fitting unit s k (checked .1)
 
-  pub did-good : Octets s → length (k .quotas) ≡ QUOTAS → ((j : ℕ) → getD (k .quotas) j zero-quota .grant < 2 ^ 32) → k .«last_serial» < 2 ^ 32
-      → Good (state-of s k)
-  did-good o l n f = heap-good s k (checked .0) o did-consistent l n f
+  pub did-good : Octets s → length (k .quotas) ≡ QUOTAS → ((j : ℕ) → getD (k .quotas) j zero-quota .grant < 2 ^ 32) → Good (state-of s k)
+  did-good o l n = heap-good s k (checked .0) o did-consistent l n (range-serial k (sound-range unit s k (checked .1)))
 
   pub did : (o : Handle) × Possible q h o (state-of s k)
   unfolding lookup objects-of found or-else

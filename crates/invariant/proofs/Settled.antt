@@ -14,15 +14,16 @@ use Rattle.accounts.proofs.Laws.{refund-kept}
 use Rattle.model.specs.Lists.{total, keep}
 use Rattle.model.specs.Objects.{objects}
 use Rattle.model.specs.Consistent.{charge-of, charges, has-record}
-use Rattle.model.specs.Space.{settle}
+use Rattle.model.specs.Space.{settle, swept}
 use Rattle.model.specs.Holds.{count-of, lower-count}
 use Rattle.model.specs.Calls.{State, given-back, released, freed}
 use Rattle.model.specs.declared.Handle.{Handle}
 use Rattle.model.proofs.Settle.{object-held, settle-objects}
+use Rattle.model.proofs.Sweep.{swept-objects}
 use Rattle.invariant.proofs.Good.{Ordered, Good}
 use Rattle.invariant.proofs.Counts.{record-counted, counted-quota, lower-ordered, lower-counted, drop-ordered, drop-count}
 use Rattle.invariant.proofs.Charges.{cost, charges-counted, total-members}
-use Rattle.invariant.proofs.Laid.{settle-laid}
+use Rattle.invariant.proofs.Laid.{settle-laid, swept-laid}
 use Rattle.invariant.proofs.Recorded.{due, owed, Recorded, good-laid, good-recorded, good-limits, good-state}
 use Rattle.invariant.proofs.Payments.{same-grant, same-limits, refunded, cost-some, themselves, owed-moved}
 use Rattle.invariant.proofs.Moves.{Fewer, kept-recorded}
@@ -40,19 +41,21 @@ module _ (q n : ℕ) (t : State) (g : Good t) (exists : q < QUOTAS) (hs : List H
   settled-paid = rw (eq-eqb q q refl) at (refunded q n (t .accounts) (good-limits t g) exists fits q)
 
   -- the objects that are held and the accounts fit together
-  settled-recorded : Fewer hs (t .accounts .holds) → Recorded (objects (settle hs (t .blocks))) (with-holds hs (refund q n (t .accounts)))
+  settled-recorded : Fewer hs (t .accounts .holds) → Recorded (objects (settle (t .accounts .kind) hs (t .blocks))) (with-holds hs (refund q n (t .accounts)))
   settled-recorded fewer =
       let k = t .accounts in
       let b = good-recorded t g in
-      rw (settle-objects hs (t .blocks))
+      rw (settle-objects (t .accounts .kind) hs (t .blocks))
       (kept-recorded (objects (t .blocks)) k (with-holds hs (refund q n k)) b r fewer (refund-kept q n k .same-last)
       (λ j l. omega (arith, same-grant q k (refund q n k) (refund-kept q n k) j, refunded q n k (good-limits t g) exists fits j, b .balance j l, less j)))
 
   -- and the state is good
-  settled-good : Fewer hs (t .accounts .holds) → Good (record { blocks = settle hs (t .blocks); accounts = with-holds hs (refund q n (t .accounts)) })
+  settled-good : Fewer hs (t .accounts .holds) → Good
+      (record { blocks = settle (t .accounts .kind) hs (t .blocks); accounts = with-holds hs (refund q n (t .accounts)) })
   settled-good fewer =
       let k = t .accounts in
-      good-state (record { blocks = settle hs (t .blocks); accounts = with-holds hs (refund q n k) }) (settle-laid hs (t .blocks) (good-laid t g)) (settled-recorded fewer)
+      good-state (record { blocks = settle (t .accounts .kind) hs (t .blocks); accounts = with-holds hs (refund q n k) })
+      (settle-laid (t .accounts .kind) hs (t .blocks) (good-laid t g)) (settled-recorded fewer)
       (same-limits q k (refund q n k) (refund-kept q n k) hs (good-limits t g))
 
 -- one count less costs the charge less if it was the last
@@ -112,7 +115,7 @@ module _ (q : ℕ) (o : Handle) (t : State) (g : Good t) (there : List·Memᴰ o
   -- and its objects are those that are still held
   pub released-objects : objects (released q o t .blocks) ≡ keep (object-held (lower-count (o .serial) q (t .accounts .holds))) (objects (t .blocks))
   unfolding released
-  released-objects = settle-objects (lower-count (o .serial) q (t .accounts .holds)) (t .blocks)
+  released-objects = settle-objects (t .accounts .kind) (lower-count (o .serial) q (t .accounts .holds)) (t .blocks)
 
 -- objects that cost nothing cost nothing together
 total-none : (f : Handle → ℕ) (os : List Handle) → ((o : Handle) → f o ≡ 0) → total f os ≡ 0
@@ -169,4 +172,10 @@ module _ (q : ℕ) (t : State) (g : Good t) (exists : q < QUOTAS) where
   -- and its objects are those that are still held
   pub freed-objects : objects (freed q (charges (t .accounts .holds) q (objects (t .blocks))) t .blocks) ≡ keep (object-held (drop-records q (t .accounts .holds))) (objects (t .blocks))
   unfolding freed
-  freed-objects = settle-objects (drop-records q (t .accounts .holds)) (t .blocks)
+  freed-objects = settle-objects (t .accounts .kind) (drop-records q (t .accounts .holds)) (t .blocks)
+
+-- a sweep keeps a state good: its objects are the same
+pub swept-good : (t : State) → Good t → Good (record { blocks = swept (t .blocks); accounts = t .accounts })
+swept-good t g =
+    good-state (record { blocks = swept (t .blocks); accounts = t .accounts }) (swept-laid (t .blocks) (good-laid t g))
+    (rw (swept-objects (t .blocks)) (good-recorded t g)) (good-limits t g)

@@ -15,15 +15,15 @@ use Rattle.layout.specs.Blocks.{Block, live, render}
 use Rattle.model.specs.Lists.{all}
 use Rattle.model.specs.Objects.{objects, blocks-of, objects-of, lookup, lookup-whole, found}
 use Rattle.model.specs.Consistent.{long-enough, free-apart, well-cut, charges, has-record}
-use Rattle.model.specs.Space.{body-of}
+use Rattle.model.specs.Space.{body-of, swept}
 use Rattle.model.specs.Calls.{Outcome, State, unless, state-of, allocated, released, freed, copied, new-object, allocate, allocate-array, claim, release}
-use Rattle.model.specs.Calls.{free-all, reallocate, lend, remaining-of, can-release, list-block, clear}
+use Rattle.model.specs.Calls.{free-all, reallocate, lend, remaining-of, can-release, list-block, clear, sweep}
 use Rattle.model.specs.Refusals.{first-refusal, quota-lines, free-all-lines, lend-lines, release-lines, claim-lines, check-lines, allocate-lines}
 use Rattle.model.specs.Refusals.{reallocate-lines}
 use Rattle.model.specs.Step.{step}
 use Rattle.model.specs.declared.Call.{Call}
 use Rattle.model.specs.declared.Call.the-variants.{Allocate, AllocateArray, Claim, Release, FreeAll, Reallocate, Lend, Remaining, CanRelease, ListBlock}
-use Rattle.model.specs.declared.Call.the-variants.{ClearPermissions}
+use Rattle.model.specs.declared.Call.the-variants.{ClearPermissions, Sweep}
 use Rattle.model.proofs.Refusals.{accepted-exactly, by-lines}
 use Rattle.model.specs.declared.Handle.{Handle}
 use Rattle.model.proofs.Bools.{and-right}
@@ -34,8 +34,8 @@ use Rattle.invariant.proofs.Good.{Good}
 use Rattle.ledger.proofs.Agreement.{Agrees}
 use Rattle.invariant.proofs.Heaps.{good-heap}
 use Rattle.ledger.proofs.Contents.{contents-stay}
-use Rattle.ledger.proofs.Staying.{carved-live, settled-live, copied-live}
-use Rattle.invariant.proofs.Transitions.{Room, allocated-good, released-good, freed-good, copied-good}
+use Rattle.ledger.proofs.Staying.{carved-live, settled-live, copied-live, swept-live}
+use Rattle.invariant.proofs.Transitions.{Room, allocated-good, released-good, freed-good, copied-good, swept-good}
 use Rattle.invariant.proofs.Passed.{Allocatable, allocate-passed, Releasable, release-passed, free-all-passed, Reallocatable, reallocate-passed}
 use Rattle.invariant.proofs.Requested.{still-releasable}
 use Rattle.ledger.proofs.Steps.{good, again, room, fresh-serial, there, old-there}
@@ -59,11 +59,11 @@ allocated-leaves q o t g r b l m ne = ⊎-elim (λ e. absurd (ne (ap (λ (x : Bl
 
 pub released-leaves : (new q : ℕ) (o : Handle) (t : State) → Leaves new t (released q o t)
 unfolding released
-released-leaves new q o t b l m ne = settled-live _ (t .blocks) b l m
+released-leaves new q o t b l m ne = settled-live (t .accounts .kind) _ (t .blocks) b l m
 
 pub freed-leaves : (new q back : ℕ) (t : State) → Leaves new t (freed q back t)
 unfolding freed
-freed-leaves new q back t b l m ne = settled-live _ (t .blocks) b l m
+freed-leaves new q back t b l m ne = settled-live (t .accounts .kind) _ (t .blocks) b l m
 
 pub copied-leaves : (old new : Handle) (t : State) → Leaves (new .serial) t (copied old new t)
 unfolding copied
@@ -155,7 +155,7 @@ module _ (unit : ℕ → ℕ) (units : Units unit) (l : Ledger) (s : List ℕ) (
 module _ (unit : ℕ → ℕ) (units : Units unit) where
   pub step-bytes : (c : Call) (l : Ledger) (s : List ℕ) (k : Accounts) → Agrees l s k → (o : Handle) → List·Memᴰ o (objects-of s)
       → List·Memᴰ o (objects-of (step unit c s k .heap)) → contents o (step unit c s k .heap) ≡ contents o s
-  unfolding step allocate allocate-array claim release free-all reallocate lend remaining-of can-release list-block clear
+  unfolding step allocate allocate-array claim release free-all sweep reallocate lend remaining-of can-release list-block clear
   step-bytes (Allocate q n) l s k a =
       accepted-bytes s k (first-refusal (allocate-lines unit s k q n)) _
       (λ e. allocate-bytes unit units l s k a q n (allocate-passed unit s k q n (accepted-exactly (allocate-lines unit s k q n) (by-lines unit (Allocate q n) s k .numbered) .0 e)))
@@ -170,6 +170,11 @@ module _ (unit : ℕ → ℕ) (units : Units unit) where
       accepted-bytes s k (first-refusal (free-all-lines unit s k q)) _
       (λ e. free-bytes unit units l s k a q (free-all-passed unit s k q
       (accepted-exactly (free-all-lines unit s k q) (by-lines unit (FreeAll q) s k .numbered) .0 e)))
+  step-bytes Sweep l s k a =
+      accepted-bytes s k (first-refusal (check-lines unit s k)) _
+      (λ e o m.
+      left-bytes l s k a (o .serial + 1) (record { blocks = swept (blocks-of s); accounts = k }) (swept-good (state-of s k) (good l s k a))
+      (λ b v x ne. swept-live (blocks-of s) b v x) o m (λ z. omega arith))
   step-bytes (Reallocate q h n) l s k a =
       accepted-bytes s k (first-refusal (reallocate-lines unit s k q h n)) _
       (λ e. reallocate-bytes unit units l s k a q h n (reallocate-passed unit s k q h n (accepted-exactly (reallocate-lines unit s k q h n) (by-lines unit (Reallocate q h n) s k .numbered) .0 e)))

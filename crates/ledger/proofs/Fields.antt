@@ -28,7 +28,7 @@ use Rattle.model.specs.Step.{step}
 use Rattle.model.specs.declared.Handle.{Handle}
 use Rattle.model.specs.declared.ListedBlock.{ListedBlock}
 use Rattle.model.specs.declared.Call.the-variants.{Remaining}
-use Rattle.model.proofs.Consistent.{Tests, tests-exactly, valid-exactly, balance-exactly, consistent-cut}
+use Rattle.model.proofs.Consistent.{Tests, tests-exactly, valid-exactly, balance-exactly, consistent-cut, range-serial}
 use Rattle.ledger.specs.Ledger.{Entry, Ledger, holds-of, cost-to}
 use Rattle.ledger.specs.Demand3.{Within, objects-in}
 use Rattle.invariant.proofs.Good.{Ordered}
@@ -51,7 +51,7 @@ module _ (l : Ledger) (s : List ℕ) (k : Accounts) (a : Agrees l s k) where
 
   -- the records are in order
   pub ordered-of : Ordered (k .holds)
-  ordered-of = good-ordered (state-of s k) (heap-good s k (a .extent) (a .octets) (a .sound) (a .quotas) (a .narrow) (a .serial))
+  ordered-of = good-ordered (state-of s k) (heap-good s k (a .extent) (a .octets) (a .sound) (a .quotas) (a .narrow) (range-serial k (a .kinded .1)))
 
   -- the objects of live blocks have different serials
   pub live-once-of : serials-differ (objects-of s) ≡ true

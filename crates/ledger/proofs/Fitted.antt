@@ -16,12 +16,12 @@ use Rattle.model.specs.Consistent.{consistent, in-units, sound}
 use Rattle.model.specs.Refusals.{first-refusal, quota-lines, free-all-lines, lend-lines, release-lines, claim-lines, check-lines, allocate-lines}
 use Rattle.model.specs.Refusals.{reallocate-lines}
 use Rattle.model.specs.Calls.{Outcome, unless, allocate, allocate-array, claim, release, free-all, reallocate, lend, remaining-of, can-release, list-block}
-use Rattle.model.specs.Calls.{clear}
+use Rattle.model.specs.Calls.{clear, sweep}
 use Rattle.model.specs.Step.{step}
 use Rattle.model.specs.declared.Handle.{Handle}
 use Rattle.model.specs.declared.Call.{Call}
 use Rattle.model.specs.declared.Call.the-variants.{Allocate, AllocateArray, Claim, Release, FreeAll, Reallocate, Lend, Remaining, CanRelease, ListBlock}
-use Rattle.model.specs.declared.Call.the-variants.{ClearPermissions}
+use Rattle.model.specs.declared.Call.the-variants.{ClearPermissions, Sweep}
 use Rattle.model.proofs.Bools.{and-both}
 use Rattle.model.proofs.Consistent.{sound-fits}
 use Rattle.model.specs.Lists.{all}
@@ -46,7 +46,8 @@ pub sound-of : (unit : ℕ → ℕ) (l : Ledger) (s : List ℕ) (k : Accounts) �
 unfolding sound
 sound-of unit l s k a f p =
     let fits = member-all (in-units unit) (objects-of s) (λ o m. f o (a .matches .objects o .0 m)) in
-    and-both (consistent s k) _ (a .sound) (and-both (all (in-units unit) (objects-of s)) _ fits p)
+    and-both (consistent s k) _ (a .sound)
+    (and-both (all (in-units unit) (objects-of s)) _ fits (and-both (all permissible (permissions k)) _ p (and-both _ _ (a .kinded .0) (a .kinded .1))))
 
 -- a beginning has none, or those of a state that was read
 pub restored-fits : (unit : ℕ → ℕ) (s : List ℕ) (k : Accounts) → Restorable unit s k → Fitted unit (read-ledger s k)
@@ -54,7 +55,7 @@ restored-fits unit s k r o m = sound-fits unit s k (r .sound) o (restored-agrees
 
 pub beginning-fits : (unit : ℕ → ℕ) (begun : Ledger) (s : List ℕ) (k : Accounts) → Begins unit begun s k → Fitted unit begun
 unfolding empty
-beginning-fits unit begun s k (Opening grants e o) = rw e (λ x m. absurd (List·Memᴰ·not-nil m))
+beginning-fits unit begun s k (Opening settings grants e o) = rw e (λ x m. absurd (List·Memᴰ·not-nil m))
 beginning-fits unit begun s k (Restoring e r) = rw e (restored-fits unit s k r)
 
 -- no change of holds adds an object, and an object that is added is the answered one
@@ -80,7 +81,7 @@ accepted-fits unit c l s k (suc n) done a z f = rw (ne-eqb (suc n) 0 (λ e. omeg
 
 module _ (unit : ℕ → ℕ) (units : Units unit) where
   pub step-fits : (c : Call) (l : Ledger) (s : List ℕ) (k : Accounts) → Fitted unit l → Fitted unit (record-call c (step unit c s k .values) l)
-  unfolding step record-accepted allocate allocate-array claim release free-all reallocate lend remaining-of can-release list-block clear
+  unfolding step record-accepted allocate allocate-array claim release free-all sweep reallocate lend remaining-of can-release list-block clear
   step-fits (Allocate q n) l s k f =
       accepted-fits unit (Allocate q n) l s k (first-refusal (allocate-lines unit s k q n)) _ f refl
       (λ e. added unit l f q _ (new-in-units unit units s k q n (allocate-passed unit s k q n (accepted-exactly (allocate-lines unit s k q n) (by-lines unit (Allocate q n) s k .numbered) .0 e))))
@@ -90,6 +91,7 @@ module _ (unit : ℕ → ℕ) (units : Units unit) where
   step-fits (Claim q h) l s k f = accepted-fits unit (Claim q h) l s k (first-refusal (claim-lines unit s k q h)) _ f refl (λ e. raised unit l f q (h .serial))
   step-fits (Release q h) l s k f = accepted-fits unit (Release q h) l s k (first-refusal (release-lines unit s k q h)) _ f refl (λ e. lowered unit l f q (h .serial))
   step-fits (FreeAll q) l s k f = accepted-fits unit (FreeAll q) l s k (first-refusal (free-all-lines unit s k q)) _ f refl (λ e. dropped unit l f q)
+  step-fits Sweep l s k f = accepted-fits unit Sweep l s k (first-refusal (check-lines unit s k)) _ f refl (λ e. f)
   step-fits (Reallocate q h n) l s k f =
       accepted-fits unit (Reallocate q h n) l s k (first-refusal (reallocate-lines unit s k q h n)) _ f refl
       (λ e. lowered unit _ (added unit l f q _ (new-in-units unit units s k q n (reallocate-passed unit s k q h n (accepted-exactly (reallocate-lines unit s k q h n) (by-lines unit (Reallocate q h n) s k .numbered) .0 e) .new))) q (h .serial))

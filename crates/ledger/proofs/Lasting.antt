@@ -5,23 +5,23 @@
 use Prim.Native.Nat.{ℕ, zero, suc, _+_, _-_, _*_}
 use native.Mathlib.Omega.{arith}
 use mathlib.Core.Path.{_≡_, refl, ap, sym, _∙_, subst}
-use mathlib.Core.List.{List, [], _∷_, _++_, map, List·Memᴰ, List·Memᴰ·cases-cons, Memᴰ·map, Memᴰ·of-map}
+use mathlib.Core.List.{List, map, List·Memᴰ, List·Memᴰ·cases-cons, Memᴰ·map, Memᴰ·of-map}
 use mathlib.Core.Bool.{Bool, true, false, cond}
 use mathlib.Core.Logic.{_⊎_, inl, inr, ⊎-elim}
 use lib.Dec.{eqb}
 use borrow.Author.Tests.{eq-eqb, ne-eqb}
 use Rattle.accounts.specs.declared.Accounts.{Accounts}
 use Rattle.model.specs.Lists.{keep}
-use Rattle.model.specs.Objects.{blocks-of, objects-of}
+use Rattle.model.specs.Objects.{objects-of}
 use Rattle.model.specs.Refusals.{first-refusal, quota-lines, free-all-lines, lend-lines, release-lines, claim-lines, check-lines, allocate-lines}
 use Rattle.model.specs.Refusals.{reallocate-lines}
 use Rattle.model.specs.Calls.{Outcome, unless, new-object, allocate, allocate-array, claim, release, free-all, reallocate, lend, remaining-of, can-release}
-use Rattle.model.specs.Calls.{list-block, clear}
+use Rattle.model.specs.Calls.{list-block, clear, sweep}
 use Rattle.model.specs.Step.{step}
 use Rattle.model.specs.declared.Handle.{Handle}
 use Rattle.model.specs.declared.Call.{Call}
 use Rattle.model.specs.declared.Call.the-variants.{Allocate, AllocateArray, Claim, Release, FreeAll, Reallocate, Lend, Remaining, CanRelease, ListBlock}
-use Rattle.model.specs.declared.Call.the-variants.{ClearPermissions}
+use Rattle.model.specs.declared.Call.the-variants.{ClearPermissions, Sweep}
 use Rattle.model.proofs.Consistent.{consistent-facts}
 use Rattle.model.proofs.Lookup.{same-serial}
 use Rattle.invariant.proofs.Members.{keep-exactly}
@@ -93,13 +93,14 @@ module _ (unit : ℕ → ℕ) (l : Ledger) (s : List ℕ) (k : Accounts) where
 
   -- each call adds at most an object with the next serial
   step-grown : (c : Call) → Grown k (record-call c (step unit c s k .values) l) l
-  unfolding step record-accepted allocate allocate-array claim release free-all reallocate lend remaining-of can-release list-block clear
+  unfolding step record-accepted allocate allocate-array claim release free-all sweep reallocate lend remaining-of can-release list-block clear
   step-grown (Allocate q n) = accepted-grown (Allocate q n) l s k (first-refusal (allocate-lines unit s k q n)) _ refl (new-grown q n)
   step-grown (AllocateArray q count size) =
       accepted-grown (AllocateArray q count size) l s k (first-refusal (allocate-lines unit s k q (count * size))) _ refl (new-grown q (count * size))
   step-grown (Claim q h) = accepted-grown (Claim q h) l s k (first-refusal (claim-lines unit s k q h)) _ refl (λ o m. inr (raised-from q l (h .serial) o m))
   step-grown (Release q h) = accepted-grown (Release q h) l s k (first-refusal (release-lines unit s k q h)) _ refl (λ o m. inr (lowered-from q l (h .serial) o m))
   step-grown (FreeAll q) = accepted-grown (FreeAll q) l s k (first-refusal (free-all-lines unit s k q)) _ refl (λ o m. inr (dropped-from q l o m))
+  step-grown Sweep = accepted-grown Sweep l s k (first-refusal (check-lines unit s k)) _ refl (λ o m. inr m)
   step-grown (Reallocate q h n) =
       accepted-grown (Reallocate q h n) l s k (first-refusal (reallocate-lines unit s k q h n)) _ refl
       (λ o m. new-grown q n o (lowered-from q (add-object q (new-object unit s k n) l) (h .serial) o m))

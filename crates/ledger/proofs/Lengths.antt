@@ -10,22 +10,23 @@ use Rattle.accounts.specs.declared.Accounts.{Accounts}
 use Rattle.rounding.specs.Rounding.{Units}
 use Rattle.layout.specs.Blocks.{Block, size, render}
 use Rattle.model.specs.Lists.{all, total}
-use Rattle.model.specs.Objects.{blocks-of, objects-of, lookup-whole, found}
+use Rattle.model.specs.Objects.{blocks-of, lookup-whole, found}
 use Rattle.model.specs.Consistent.{long-enough, free-apart, well-cut}
 use Rattle.model.specs.Space.{body-of}
 use Rattle.model.specs.Refusals.{first-refusal, quota-lines, free-all-lines, lend-lines, release-lines, claim-lines, check-lines, allocate-lines}
 use Rattle.model.specs.Refusals.{reallocate-lines}
 use Rattle.model.specs.Calls.{Outcome, State, unless, state-of, allocated, released, freed, copied, new-object, allocate, allocate-array, claim, release}
-use Rattle.model.specs.Calls.{free-all, reallocate, lend, remaining-of, can-release, list-block, clear}
+use Rattle.model.specs.Calls.{free-all, sweep, reallocate, lend, remaining-of, can-release, list-block, clear}
 use Rattle.model.specs.Step.{step}
 use Rattle.model.specs.declared.Handle.{Handle}
 use Rattle.model.specs.declared.Call.{Call}
 use Rattle.model.specs.declared.Call.the-variants.{Allocate, AllocateArray, Claim, Release, FreeAll, Reallocate, Lend, Remaining, CanRelease, ListBlock}
-use Rattle.model.specs.declared.Call.the-variants.{ClearPermissions}
+use Rattle.model.specs.declared.Call.the-variants.{ClearPermissions, Sweep}
 use Rattle.model.proofs.Bools.{and-right}
 use Rattle.model.proofs.Refusals.{accepted-exactly, by-lines}
 use Rattle.model.proofs.Carve.{carved, carved-total}
 use Rattle.model.proofs.Settle.{settle-total}
+use Rattle.model.proofs.Sweep.{swept-total}
 use Rattle.invariant.proofs.Good.{Good}
 use Rattle.invariant.proofs.Laid.{copy-total}
 use Rattle.invariant.proofs.Recorded.{good-laid}
@@ -48,11 +49,11 @@ allocated-total q o t g r =
 
 released-total : (q : ℕ) (o : Handle) (t : State) → total size (released q o t .blocks) ≡ total size (t .blocks)
 unfolding released
-released-total q o t = settle-total _ (t .blocks)
+released-total q o t = settle-total (t .accounts .kind) _ (t .blocks)
 
 freed-total : (q back : ℕ) (t : State) → total size (freed q back t .blocks) ≡ total size (t .blocks)
 unfolding freed
-freed-total q back t = settle-total _ (t .blocks)
+freed-total q back t = settle-total (t .accounts .kind) _ (t .blocks)
 
 copied-total : (old new : Handle) (t : State) → total size (copied old new t .blocks) ≡ total size (t .blocks)
 unfolding copied
@@ -73,7 +74,7 @@ module _ (unit : ℕ → ℕ) (units : Units unit) (l : Ledger) (s : List ℕ) (
   made-total q n p = allocated-total q (new-object unit s k n) (state-of s k) (good l s k a) (room unit units l s k a q n p)
 
   pub step-length : (c : Call) → length (step unit c s k .heap) ≡ length s
-  unfolding step allocate allocate-array claim release free-all reallocate lend remaining-of can-release list-block clear
+  unfolding step allocate allocate-array claim release free-all sweep reallocate lend remaining-of can-release list-block clear
   step-length (Allocate q n) =
       accepted-length s k (first-refusal (allocate-lines unit s k q n)) _
       (λ e.
@@ -87,6 +88,7 @@ module _ (unit : ℕ → ℕ) (units : Units unit) (l : Ledger) (s : List ℕ) (
   step-length (Claim q h) = accepted-length s k (first-refusal (claim-lines unit s k q h)) _ (λ e. refl)
   step-length (Release q h) = accepted-length s k (first-refusal (release-lines unit s k q h)) _ (λ e. as-long _ (released-total q _ (state-of s k)))
   step-length (FreeAll q) = accepted-length s k (first-refusal (free-all-lines unit s k q)) _ (λ e. as-long _ (freed-total q _ (state-of s k)))
+  step-length Sweep = accepted-length s k (first-refusal (check-lines unit s k)) _ (λ e. as-long _ (swept-total (blocks-of s)))
   step-length (Reallocate q h n) =
       accepted-length s k (first-refusal (reallocate-lines unit s k q h n)) _
       (λ e.

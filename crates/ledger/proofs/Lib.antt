@@ -1,11 +1,15 @@
+pub mod Recording
 pub mod Rows
 pub mod Wrong
 pub mod Agreement
 pub mod Matching
 pub mod Places
+pub mod Spans
+pub mod Waiting
 pub mod Writing
 pub mod LentParts
 pub mod Opening
+pub mod Tracking
 pub mod Steps
 pub mod Fields
 pub mod Space

@@ -1,6 +1,7 @@
 -- The ledger's changes match those of objects and records. A new entry stands for the new object. A change of holds keeps every entry's object
 -- and changes a quota's holds as the counts change. An entry has a hold exactly if some quota's count for its serial is above 0, which is exactly
--- if a record holds its object; so where entries without holds leave, the held objects are left.
+-- if a record holds its object; so where entries without holds leave, the held objects are left, and the blocks of the others are what the ledger has as
+-- quarantined from then on in a heap of the second kind.
 -- Assumes nothing.
 use Prim.Native.Nat.{ℕ, zero, suc, _+_, _-_, _<_}
 use native.Mathlib.Omega.{arith}
@@ -14,20 +15,26 @@ use lib.Dec.{eqb, ltb}
 use borrow.Author.Tests.{eqb-true, eqb-false, eq-eqb, ne-eqb, ltb-true, lt-ltb}
 use Rattle.accounts.specs.declared.Hold.{Hold}
 use Rattle.accounts.specs.Accounts.{QUOTAS}
+use Rattle.layout.specs.Blocks.{Block}
 use Rattle.model.specs.Lists.{any, keep}
 use Rattle.model.specs.Answers.{zero-handle}
 use Rattle.model.specs.Consistent.{has-serial, serials-differ}
 use Rattle.model.specs.Holds.{count-of}
+use Rattle.model.specs.Objects.{objects-from, objects}
+use Rattle.model.specs.Space.{settle}
 use Rattle.model.specs.declared.Handle.{Handle}
 use Rattle.model.proofs.Bools.{and-both}
 use Rattle.model.proofs.Lists.{any-member, member-any, none-exactly, getD-member, member-getD}
 use Rattle.model.proofs.Carve.{Added}
 use Rattle.model.proofs.Settle.{object-held}
-use Rattle.ledger.specs.Ledger.{Entry, Ledger, with-entries, holds-of, change-holds, at-serial, is-held, leave, add-object, add-hold, take-hold, take-all}
+use Rattle.ledger.specs.Ledger.{Entry, Span, Ledger, block-of, with-entries, holds-of, change-holds, at-serial, is-held, left-behind, leave, add-object}
+use Rattle.ledger.specs.Ledger.{add-hold, take-hold, take-all, spans-from}
 use Rattle.ledger.specs.Demand3.{objects-in}
 use Rattle.invariant.proofs.Members.{keep-exactly, differ-kept}
 use Rattle.invariant.proofs.Good.{Ordered}
-use Rattle.ledger.proofs.Agreement.{Matches}
+use Rattle.ledger.proofs.Agreement.{Matches, SameSpans}
+use Rattle.ledger.proofs.Spans.{behind, unheld}
+use Rattle.ledger.proofs.Waiting.{settled-waits}
 use Rattle.invariant.proofs.Counts.{counted-quota, held-counted}
 
 -- two tests are the same if each passes where the other does
@@ -49,6 +56,11 @@ kept-objects p r (e ∷ es) f = rw (← f e (List·Memᴰ·head refl)) (go (p e)
     go : (t : Bool) → objects-at (keep p es) ≡ keep r (objects-at es) → objects-at (cond t (e ∷ keep p es) (keep p es)) ≡ cond t (e .object ∷ keep r (objects-at es)) (keep r (objects-at es))
     go true ih = rw ih
     go false ih = ih
+
+-- the blocks of entries are those of their objects
+blocks-of-objects : (es : List Entry) → map (λ (e : Entry). block-of (e .object)) es ≡ map block-of (objects-at es)
+blocks-of-objects [] = refl
+blocks-of-objects (e ∷ es) = ap (λ (xs : List Span). block-of (e .object) ∷ xs) (blocks-of-objects es)
 
 -- entries without holds leave
 module _ (l : Ledger) (os : List Handle) (hs : List Hold) (m : Matches l os hs) (r : Ordered hs) where
@@ -86,6 +98,26 @@ module _ (l : Ledger) (os : List Handle) (hs : List Hold) (m : Matches l os hs) 
         widths = λ e i. m .widths e (keep-exactly is-held (l .entries) e .0 i .0);
         holds = λ e i. m .holds e (keep-exactly is-held (l .entries) e .0 i .0);
       }
+
+  -- and what the others leave are the blocks of the objects that are not
+  left-is : left-behind l ≡ behind (l .kind) (keep (unheld hs) (objects-in l))
+  unfolding left-behind behind
+  left-is =
+      ap (λ (xs : List Span). cond (eqb (l .kind) 0) [] xs)
+      (blocks-of-objects (keep (λ e. not (is-held e)) (l .entries))
+      ∙ ap (λ (os : List Handle). map block-of os) (kept-objects (λ e. not (is-held e)) (unheld hs) (l .entries) (λ e i. ap not (entry-held e i))))
+
+  waits-left : (bs : List Block) → os ≡ objects bs → SameSpans (spans-from 0 bs) (l .quarantined)
+      → SameSpans (spans-from 0 (settle (l .kind) hs bs)) (leave l .quarantined)
+  unfolding leave objects
+  waits-left bs e w =
+      let p = unheld hs in
+      rw left-is
+      (settled-waits (l .kind) hs bs (l .quarantined) w (keep p (objects-in l)) (differ-kept p (objects-in l) (m .once))
+      (λ o. (
+        λ i. (let k = keep-exactly p (objects-from 0 bs) o .0 i in keep-exactly p (objects-in l) o .1 (m .objects o .0 (rw e (k .0)), k .1)),
+        λ i. (let k = keep-exactly p (objects-in l) o .0 i in keep-exactly p (objects-from 0 bs) o .1 (rw e at (m .objects o .1 (k .0)), k .1)),
+      )))
 
 -- a change of entries that keeps their objects and makes their holds the counts of other records
 module _ (l : Ledger) (os : List Handle) (hs hs′ : List Hold) (m : Matches l os hs) (f : Entry → Entry) where
@@ -242,17 +274,32 @@ module _ (l : Ledger) (os : List Handle) (hs hs′ : List Hold) (m : Matches l o
   unfolding add-hold
   match-raised serial c = match-one serial (λ n. n + 1) c
 
+  lowered : (serial : ℕ) → ((u j : ℕ) → count-of u j hs′ ≡ cond (eqb serial u && eqb q j) (count-of u j hs - 1) (count-of u j hs))
+      → Matches (with-entries (at-serial serial (change-holds q (λ n. n - 1)) (l .entries)) l) os hs′
+  lowered serial c = match-one serial (λ n. n - 1) c
+
   pub match-lowered : (serial : ℕ) → Ordered hs′ → ((u j : ℕ) → count-of u j hs′ ≡ cond (eqb serial u && eqb q j) (count-of u j hs - 1) (count-of u j hs))
       → Matches (take-hold q serial l) (keep (object-held hs′) os) hs′
   unfolding take-hold
-  match-lowered serial r c =
-      match-left (with-entries (at-serial serial (change-holds q (λ n. n - 1)) (l .entries)) l) os hs′ (match-one serial (λ n. n - 1) c) r
+  match-lowered serial r c = match-left (with-entries (at-serial serial (change-holds q (λ n. n - 1)) (l .entries)) l) os hs′ (lowered serial c) r
+
+  pub waits-lowered : (serial : ℕ) → Ordered hs′ → ((u j : ℕ) → count-of u j hs′ ≡ cond (eqb serial u && eqb q j) (count-of u j hs - 1) (count-of u j hs))
+      → (bs : List Block) → os ≡ objects bs → SameSpans (spans-from 0 bs) (l .quarantined)
+      → SameSpans (spans-from 0 (settle (l .kind) hs′ bs)) (take-hold q serial l .quarantined)
+  unfolding take-hold
+  waits-lowered serial r c = waits-left (with-entries (at-serial serial (change-holds q (λ n. n - 1)) (l .entries)) l) os hs′ (lowered serial c) r
 
   -- no hold of the quota
+  dropped : ((u j : ℕ) → count-of u j hs′ ≡ cond (eqb q j) 0 (count-of u j hs)) → Matches (with-entries (map (change-holds q (λ n. 0)) (l .entries)) l) os hs′
+  dropped c =
+      match-changed l os hs hs′ m (change-holds q (λ n. 0)) (changed-object q (λ n. 0)) (changed-width q (λ n. 0))
+      (λ e i j. (let w = m .widths e i in changed-holds q j (λ n. 0) e (omega arith) ∙ rw (m .holds e i j, c (e .object .serial) j)))
+
   pub match-dropped : Ordered hs′ → ((u j : ℕ) → count-of u j hs′ ≡ cond (eqb q j) 0 (count-of u j hs)) → Matches (take-all q l) (keep (object-held hs′) os) hs′
   unfolding take-all
-  match-dropped r c =
-      match-left (with-entries (map (change-holds q (λ n. 0)) (l .entries)) l) os hs′
-      (match-changed l os hs hs′ m (change-holds q (λ n. 0)) (changed-object q (λ n. 0)) (changed-width q (λ n. 0))
-      (λ e i j. (let w = m .widths e i in changed-holds q j (λ n. 0) e (omega arith) ∙ rw (m .holds e i j, c (e .object .serial) j))))
-      r
+  match-dropped r c = match-left (with-entries (map (change-holds q (λ n. 0)) (l .entries)) l) os hs′ (dropped c) r
+
+  pub waits-dropped : Ordered hs′ → ((u j : ℕ) → count-of u j hs′ ≡ cond (eqb q j) 0 (count-of u j hs)) → (bs : List Block) → os ≡ objects bs
+      → SameSpans (spans-from 0 bs) (l .quarantined) → SameSpans (spans-from 0 (settle (l .kind) hs′ bs)) (take-all q l .quarantined)
+  unfolding take-all
+  waits-dropped r c = waits-left (with-entries (map (change-holds q (λ n. 0)) (l .entries)) l) os hs′ (dropped c) r

@@ -6,48 +6,55 @@ use native.Mathlib.Nat.{add-zero}
 use native.Mathlib.Omega.{arith}
 use mathlib.Core.Path.{_≡_, refl, ap, sym, _∙_}
 use mathlib.Core.List.{List, [], _∷_, map, List·Memᴰ·not-nil}
-use mathlib.Core.Bool.{Bool, true, false}
+use mathlib.Core.Bool.{Bool, true, false, _&&_}
 use lib.ListN.{length, getD, replicate, length-replicate, length-map}
-use lib.Dec.{leb, eqb, lit<}
+use lib.Dec.{leb, eqb, lit<, ltb}
 use borrow.Author.Tests.{leb-true, eqb-true}
 use Rattle.accounts.specs.declared.Quota.{Quota}
 use Rattle.accounts.specs.declared.Accounts.{Accounts}
-use Rattle.accounts.specs.Accounts.{QUOTAS, HOLDS, ALL-PERMISSIONS, permissible, zero-quota, zero-hold, permissions, granted, opened, used}
+use Rattle.accounts.specs.declared.Settings.{Settings}
+use Rattle.accounts.specs.Accounts.{QUOTAS, HOLDS, ALL-PERMISSIONS, permissible, zero-quota, zero-hold, permissions, granted, opened, used, kind-number}
+use Rattle.accounts.specs.declared.Kind.{Kind}
+use Rattle.accounts.specs.declared.Kind.the-variants.{Plain, Quarantine}
 use Rattle.layout.specs.Blocks.{render}
 use Rattle.model.specs.Lists.{all, total}
 use Rattle.model.specs.Answers.{accepted}
 use Rattle.model.specs.Objects.{objects-from, objects}
-use Rattle.model.specs.Consistent.{allowed, long-enough, starts-free, free-apart, well-cut, serials-differ, serials-given, record-valid, records-differ, charges}
+use Rattle.model.specs.Consistent.{allowed, long-enough, starts-free, free-apart, well-cut, serials-differ, serials-given, record-valid, records-differ}
+use Rattle.model.specs.Consistent.{charges, in-kind, in-range, greatest-serial}
 use Rattle.model.specs.Refusals.{first-refusal, line-1, open-lines}
 use Rattle.model.specs.Calls.{Outcome, unless, fresh, open-heap}
 use Rattle.model.proofs.Bools.{and-left, and-right}
-use Rattle.model.proofs.Consistent.{Tests, balance-exactly, sound-consistent, sound-permissible}
-use Rattle.ledger.specs.Ledger.{Ledger, empty, read-ledger}
+use Rattle.model.proofs.Consistent.{Tests, balance-exactly, sound-consistent, sound-permissible, sound-kinds, sound-range}
+use Rattle.ledger.specs.Ledger.{Ledger, empty, spans-from, read-ledger}
+use Rattle.ledger.specs.Demand3.{spans-differ}
 use Rattle.ledger.specs.History.{Opened, Restorable, Begins, Opening, Restoring}
 use Rattle.ledger.proofs.Reading.{consistent-agrees}
 use Rattle.invariant.proofs.Good.{Good}
-use Rattle.ledger.proofs.Agreement.{Agrees}
-use Rattle.invariant.proofs.Heaps.{good-heap}
+use Rattle.ledger.proofs.Agreement.{Tracks, Agrees}
+use Rattle.invariant.proofs.Kinded.{Kinded}
 use Rattle.ledger.proofs.Matching.{no-hold}
+use Rattle.ledger.proofs.Steps.{agrees-from}
 
 -- heap and accounts are the fresh ones of an allowed length
-record Fresh (grants s : List ℕ) (k : Accounts) : Type 0 where
+record Fresh (g : Settings) (grants s : List ℕ) (k : Accounts) : Type 0 where
   extent : ℕ
   fits : allowed extent ≡ true
-  heap : render (fresh extent grants .blocks) ≡ s
-  accounts : opened grants ≡ k
+  heap : render (fresh g extent grants .blocks) ≡ s
+  accounts : opened g grants ≡ k
 
 -- an accepted opening leaves these, since any other length is refused
-opened-fresh : (grants s : List ℕ) (k : Accounts) → Opened grants s k → Fresh grants s k
+opened-fresh : (t : Settings) (grants s : List ℕ) (k : Accounts) → Opened t grants s k → Fresh t grants s k
 unfolding open-heap open-lines line-1 first-refusal unless fresh
-opened-fresh grants s k o = go (allowed (length (o .before))) refl (o .opens)
+opened-fresh t grants s k o = go (allowed (length (o .before))) refl (o .opens)
   where
-    go : (t : Bool) → allowed (length (o .before)) ≡ t → open-heap (o .before) grants ≡ record { heap = s; accounts = k; values = accepted } → Fresh grants s k
-    go true t e =
-        let f = rw t at e in
-        record { extent = length (o .before); fits = t; heap = ap (λ (x : Outcome). x .heap) f; accounts = ap (λ (x : Outcome). x .accounts) f }
-    go false t e =
-        let f = rw t at e in
+    go : (x : Bool) → allowed (length (o .before)) ≡ x → open-heap t (o .before) grants ≡ record { heap = s; accounts = k; values = accepted }
+        → Fresh t grants s k
+    go true x e =
+        let f = rw x at e in
+        record { extent = length (o .before); fits = x; heap = ap (λ (x : Outcome). x .heap) f; accounts = ap (λ (x : Outcome). x .accounts) f }
+    go false x e =
+        let f = rw x at e in
         let z : _≡_ {A = ℕ} 1 0 = ap (λ (x : Outcome). x .values .refusal) f in
         absurd (omega arith)
 
@@ -68,7 +75,7 @@ unfolding all record-valid used
 unused-valid zero = refl
 unused-valid (suc n) = unused-valid n
 
-module _ (H : ℕ) (fits : allowed H ≡ true) (grants : List ℕ) where
+module _ (g : Settings) (H : ℕ) (fits : allowed H ≡ true) (grants : List ℕ) where
   -- the length is a multiple of 8, 64 to 32,768
   sized : (H % 8 ≡ 0) × (64 ≤ H) × (H ≤ 32768)
   unfolding allowed
@@ -81,7 +88,7 @@ module _ (H : ℕ) (fits : allowed H ≡ true) (grants : List ℕ) where
   fresh-size = let z = sized in rw length-replicate (omega arith)
 
   -- every test passes: no object, no used record, and each remainder is the grant
-  fresh-tests : Tests (fresh H grants .blocks) (opened grants)
+  fresh-tests : Tests (fresh g H grants .blocks) (opened g grants)
   unfolding fresh opened objects objects-from well-cut all long-enough free-apart starts-free serials-differ serials-given charges total
   fresh-tests =
       record {
@@ -97,7 +104,7 @@ module _ (H : ℕ) (fits : allowed H ≡ true) (grants : List ℕ) where
       }
 
   -- the fresh state is good
-  fresh-good : length grants ≡ QUOTAS → ((q : ℕ) → getD grants q 0 < 2 ^ 32) → Good (fresh H grants)
+  fresh-good : length grants ≡ QUOTAS → ((q : ℕ) → getD grants q 0 < 2 ^ 32) → Good (fresh g H grants)
   unfolding fresh opened total
   fresh-good n w =
       let z = sized in
@@ -117,53 +124,73 @@ grants-again : (grants : List ℕ) → map (λ (x : Quota). x .grant) (map grant
 grants-again [] = refl
 grants-again (g ∷ gs) = rw (grants-again gs)
 
+-- the kind is one of the two, and no block is quarantined
+fresh-range : (t : Settings) (grants : List ℕ) → in-range (opened t grants) ≡ true
+unfolding in-range opened
+fresh-range t grants = go (t .kind)
+  where
+    go : (x : Kind) → (leb 0 greatest-serial && ltb (kind-number x) 2) ≡ true
+    go Plain = refl
+    go Quarantine = refl
+
+fresh-kinds : (t : Settings) (H : ℕ) (grants : List ℕ) → Kinded (fresh t H grants)
+unfolding fresh all in-kind
+fresh-kinds t H grants = (refl, fresh-range t grants)
+
 -- the empty ledger agrees with the fresh heap
-fresh-agrees : (H : ℕ) → allowed H ≡ true → (grants : List ℕ) → length grants ≡ QUOTAS → ((q : ℕ) → getD grants q 0 < 2 ^ 32) → Agrees (empty grants) (render (fresh H grants .blocks)) (opened grants)
-unfolding empty fresh opened objects objects-from serials-differ
-fresh-agrees H f grants n w =
-    let g = fresh-good H f grants n w in
-    let h = good-heap (fresh H grants) g in
+fresh-tracked : (t : Settings) (H : ℕ) → allowed H ≡ true → (grants : List ℕ) → length grants ≡ QUOTAS → ((q : ℕ) → getD grants q 0 < 2 ^ 32)
+    → Tracks (empty t grants) (fresh t H grants)
+unfolding empty fresh opened objects objects-from spans-from serials-differ spans-differ
+fresh-tracked t H f grants n w =
     record {
-      extent = h .allowed;
-      octets = h .octets;
-      sound = h .sound;
-      quotas = g .quotas;
-      narrow = g .narrow;
-      serial = g .serial;
+      good = fresh-good t H f grants n w;
+      kinded = fresh-kinds t H grants;
+      kind = refl;
       grants = grants-again grants;
-      matches = rw (h .objects) (record { objects = λ o. (λ m. m, λ m. m); once = refl; quotas = n; widths = λ e m. absurd (List·Memᴰ·not-nil m); holds = λ e m. absurd (List·Memᴰ·not-nil m) });
+      matches =
+          record {
+            objects = λ o. (λ m. m, λ m. m);
+            once = refl;
+            quotas = n;
+            widths = λ e m. absurd (List·Memᴰ·not-nil m);
+            holds = λ e m. absurd (List·Memᴰ·not-nil m);
+          };
+      waits = record { both = λ x. (λ m. m, λ m. m); once = refl };
     }
 
 -- and so with every accepted opening
-opening-agrees : (grants : List ℕ) (s : List ℕ) (k : Accounts) → Opened grants s k → Agrees (empty grants) s k
-opening-agrees grants s k o =
-    let f = opened-fresh grants s k o in
-    rw (f .heap, f .accounts) at (fresh-agrees (f .extent) (f .fits) grants (o .quotas) (o .narrow))
+opening-agrees : (t : Settings) (grants : List ℕ) (s : List ℕ) (k : Accounts) → Opened t grants s k → Agrees (empty t grants) s k
+unfolding fresh
+opening-agrees t grants s k o =
+    let f = opened-fresh t grants s k o in
+    rw (f .heap, f .accounts) at (agrees-from _ _ (fresh-tracked t (f .extent) (f .fits) grants (o .quotas) (o .narrow)))
 
 -- every permission is set
 granted-permissions : (gs : List ℕ) → map (λ (x : Quota). x .permissions) (map granted gs) ≡ replicate (length gs) ALL-PERMISSIONS
 granted-permissions [] = refl
 granted-permissions (g ∷ gs) = ap (λ (ps : List ℕ). ALL-PERMISSIONS ∷ ps) (granted-permissions gs)
 
-pub opening-permissions : (grants s : List ℕ) (k : Accounts) → Opened grants s k → permissions k ≡ replicate QUOTAS ALL-PERMISSIONS
+pub opening-permissions : (t : Settings) (grants s : List ℕ) (k : Accounts) → Opened t grants s k → permissions k ≡ replicate QUOTAS ALL-PERMISSIONS
 unfolding opened
-opening-permissions grants s k o =
-    rw (← opened-fresh grants s k o .accounts) (granted-permissions grants ∙ ap (λ (n : ℕ). replicate n ALL-PERMISSIONS) (o .quotas))
+opening-permissions t grants s k o =
+    rw (← opened-fresh t grants s k o .accounts) (granted-permissions grants ∙ ap (λ (n : ℕ). replicate n ALL-PERMISSIONS) (o .quotas))
 
-opening-permissible : (grants s : List ℕ) (k : Accounts) → Opened grants s k → all permissible (permissions k) ≡ true
+opening-permissible : (t : Settings) (grants s : List ℕ) (k : Accounts) → Opened t grants s k → all permissible (permissions k) ≡ true
 unfolding all
-opening-permissible grants s k o = ap (all permissible) (opening-permissions grants s k o)
+opening-permissible t grants s k o = ap (all permissible) (opening-permissions t grants s k o)
 
 -- so every number is a quota's permissions at a beginning
 pub beginning-permissible : (unit : ℕ → ℕ) (begun : Ledger) (s : List ℕ) (k : Accounts) → Begins unit begun s k → all permissible (permissions k) ≡ true
-beginning-permissible unit begun s k (Opening grants e o) = opening-permissible grants s k o
+beginning-permissible unit begun s k (Opening t grants e o) = opening-permissible t grants s k o
 beginning-permissible unit begun s k (Restoring e r) = sound-permissible unit s k (r .sound)
 
 -- a state that is restored agrees with the ledger that is read off it
 pub restored-agrees : (unit : ℕ → ℕ) (s : List ℕ) (k : Accounts) → Restorable unit s k → Agrees (read-ledger s k) s k
-restored-agrees unit s k r = consistent-agrees s k (r .extent) (r .octets) (sound-consistent unit s k (r .sound)) (r .quotas) (r .narrow) (r .serial)
+restored-agrees unit s k r =
+    let e = r .sound in
+    consistent-agrees s k (r .extent) (r .octets) (sound-consistent unit s k e) (r .quotas) (r .narrow) (sound-kinds unit s k e, sound-range unit s k e)
 
 -- every beginning agrees with its ledger
 pub beginning-agrees : (unit : ℕ → ℕ) (begun : Ledger) (s : List ℕ) (k : Accounts) → Begins unit begun s k → Agrees begun s k
-beginning-agrees unit begun s k (Opening grants e o) = rw e (opening-agrees grants s k o)
+beginning-agrees unit begun s k (Opening t grants e o) = rw e (opening-agrees t grants s k o)
 beginning-agrees unit begun s k (Restoring e r) = rw e (restored-agrees unit s k r)

@@ -16,16 +16,19 @@ use Rattle.accounts.specs.declared.Hold.{Hold}
 use Rattle.accounts.specs.declared.Accounts.{Accounts}
 use Rattle.accounts.specs.Accounts.{QUOTAS, zero-quota}
 use Rattle.layout.specs.Bytes.{Octets}
-use Rattle.model.specs.Objects.{objects-of, objects}
+use Rattle.model.specs.Objects.{blocks-of, objects-of, objects}
 use Rattle.model.specs.Consistent.{allowed, consistent}
 use Rattle.model.specs.Holds.{count-of}
 use Rattle.model.specs.Calls.{state-of}
 use Rattle.model.specs.declared.Handle.{Handle}
-use Rattle.ledger.specs.Ledger.{Entry, holds-of, values-from, read-entry, read-ledger}
+use Rattle.ledger.specs.Ledger.{Entry, holds-of, values-from, quarantined-of, read-entry, read-ledger}
+use Rattle.model.proofs.Consistent.{range-serial}
 use Rattle.invariant.proofs.Good.{Ordered}
+use Rattle.invariant.proofs.Kinded.{Kinded}
 use Rattle.ledger.proofs.Agreement.{Agrees}
 use Rattle.invariant.proofs.Heaps.{heap-good, good-ordered}
 use Rattle.invariant.proofs.Counts.{counted-quota}
+use Rattle.ledger.proofs.Waiting.{spans-once}
 
 values-length : (f : ℕ → ℕ) (from n : ℕ) → length (values-from f from n) ≡ n
 unfolding values-from
@@ -78,10 +81,10 @@ read-member hs (o ∷ os) e m = go (List·Memᴰ·cases-cons m) (read-member hs 
     go (inr x) ih = ih x
 
 pub consistent-agrees : (s : List ℕ) (k : Accounts) → allowed (length s) ≡ true → Octets s → consistent s k ≡ true → length (k .quotas) ≡ QUOTAS
-    → ((q : ℕ) → getD (k .quotas) q zero-quota .grant < 2 ^ 32) → k .«last_serial» < 2 ^ 32 → Agrees (read-ledger s k) s k
-unfolding read-ledger read-entry objects-of
+    → ((q : ℕ) → getD (k .quotas) q zero-quota .grant < 2 ^ 32) → Kinded (state-of s k) → Agrees (read-ledger s k) s k
+unfolding read-ledger read-entry objects-of quarantined-of
 consistent-agrees s k e o c l n f =
-    let g = heap-good s k e o c l n f in
+    let g = heap-good s k e o c l n (range-serial k (f .1)) in
     let r = good-ordered (state-of s k) g in
     let same = read-objects (k .holds) (objects-of s) in
     record {
@@ -90,7 +93,8 @@ consistent-agrees s k e o c l n f =
       sound = c;
       quotas = l;
       narrow = n;
-      serial = f;
+      kinded = f;
+      kind = refl;
       grants = refl;
       matches =
           record {
@@ -103,4 +107,5 @@ consistent-agrees s k e o c l n f =
                 (let y = read-member (k .holds) (objects-of s) x m in
                 ap (holds-of q) (y .1) ∙ read-holds (k .holds) r (y .0) q ∙ ap (λ (z : Entry). count-of (z .object .serial) q (k .holds)) (sym (y .1)));
           };
+      waits = record { both = λ x. (λ m. m, λ m. m); once = spans-once 0 (blocks-of s) };
     }

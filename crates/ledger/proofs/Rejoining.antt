@@ -8,10 +8,9 @@ use mathlib.Core.Logic.{_↔_}
 use Prim.Native.Nat.{ℕ}
 use Rattle.accounts.specs.declared.Accounts.{Accounts}
 use Rattle.rounding.specs.Rounding.{Units}
-use Rattle.model.specs.Holds.{count-of}
 use Rattle.model.specs.Step.{step}
 use Rattle.model.specs.declared.Handle.{Handle}
-use Rattle.ledger.specs.Ledger.{Entry, Ledger, Event, Called, Wrote, Saved, Restored, holds-of, read-ledger, record-event, ledger-of}
+use Rattle.ledger.specs.Ledger.{Entry, Span, Ledger, Event, Called, Wrote, Saved, Restored, holds-of, read-ledger, record-event, ledger-of}
 use Rattle.ledger.specs.History.{Run, Restorable, History}
 use Rattle.ledger.specs.Demand3.{objects-in, Holds}
 use Rattle.ledger.proofs.Agreement.{Agrees}
@@ -38,19 +37,23 @@ module _ (unit : ℕ → ℕ) (run : Run) (begun : Ledger) (early : List Event) 
   rejoins mid (Saved s₂ k₂ ∷ since) s k h = (rejoins mid since s k (h .0), h .1, h .2)
   rejoins mid (Restored s₂ k₂ ∷ since) s k h = (h .0, h .1, rejoins mid since (h .0) (h .1) (h .2), h .3, h .4, h .5, h .6)
 
--- two ledgers say the same: grants, objects, and each quota's holds on each object
+-- two ledgers say the same: kind, grants, objects, each quota's holds on each object, and quarantined blocks
 pub record Same (l m : Ledger) : Type 0 where
+  pub kind : l .kind ≡ m .kind
   pub grants : l .grants ≡ m .grants
   pub objects : (o : Handle) → List·Memᴰ o (objects-in l) ↔ List·Memᴰ o (objects-in m)
   pub holds : (x y : Entry) → List·Memᴰ x (l .entries) → List·Memᴰ y (m .entries) → x .object .serial ≡ y .object .serial → (q : ℕ)
       → holds-of q x ≡ holds-of q y
+  pub quarantined : (x : Span) → List·Memᴰ x (l .quarantined) ↔ List·Memᴰ x (m .quarantined)
 
 agree-same : (l m : Ledger) (s : List ℕ) (k : Accounts) → Agrees l s k → Agrees m s k → Same l m
 agree-same l m s k a b =
     record {
+      kind = sym (a .kind) ∙ b .kind;
       grants = sym (a .grants) ∙ b .grants;
       objects = λ o. (λ i. b .matches .objects o .0 (a .matches .objects o .1 i), λ i. a .matches .objects o .0 (b .matches .objects o .1 i));
       holds = λ x y i j e q. a .matches .holds x i q ∙ rw e (sym (b .matches .holds y j q));
+      quarantined = λ x. (λ i. b .waits .both x .0 (a .waits .both x .1 i), λ i. a .waits .both x .0 (b .waits .both x .1 i));
     }
 
 module _ (unit : ℕ → ℕ) (units : Units unit) (begun : Ledger) where
@@ -59,7 +62,7 @@ module _ (unit : ℕ → ℕ) (units : Units unit) (begun : Ledger) where
   history-restorable es s k h =
       let a = history-agrees unit units begun es s k h in
       let sound = sound-of unit _ s k a (history-fits unit units begun es s k h) (history-permissible unit units begun es s k h) in
-      record { extent = a .extent; octets = a .octets; sound = sound; quotas = a .quotas; narrow = a .narrow; serial = a .serial }
+      record { extent = a .extent; octets = a .octets; sound = sound; quotas = a .quotas; narrow = a .narrow }
 
   -- and the ledger read off it says what its ledger says
   pub history-read : (es : List Event) (s : List ℕ) (k : Accounts) → History unit (step unit) begun es s k → Same (read-ledger s k) (ledger-of begun es)

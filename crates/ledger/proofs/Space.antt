@@ -5,9 +5,9 @@
 use Prim.Native.Nat.{ℕ, _+_, _*_, _%_}
 use native.Mathlib.Nat.{add-assoc}
 use native.Mathlib.Omega.{arith}
-use mathlib.Core.Path.{_≡_, refl, sym, _∙_}
+use mathlib.Core.Path.{_≡_, refl, sym, _∙_, ap}
 use mathlib.Core.List.{List, [], _∷_, _++_}
-use mathlib.Core.Bool.{Bool, true, false, cond, _&&_, _||_, true≢false}
+use mathlib.Core.Bool.{Bool, true, false, cond, _&&_, _||_, true≢false, not}
 use mathlib.Core.Option.{Option, none, some, Option·none-ne-some, Option·some-injective}
 use mathlib.Core.Logic.{_↔_}
 use lib.ListN.{length}
@@ -17,9 +17,9 @@ use Rattle.accounts.specs.declared.Accounts.{Accounts}
 use Rattle.accounts.specs.Accounts.{ALLOCATE}
 use Rattle.rounding.specs.Rounding.{Units, object-length, alignment}
 use Rattle.rounding.proofs.Rounding.{alignment-positive}
-use Rattle.layout.specs.Blocks.{Block, size, live}
+use Rattle.layout.specs.Blocks.{Block, size, occupied, quarantined}
 use Rattle.model.specs.Lists.{any, keep, is-none}
-use Rattle.model.specs.Objects.{objects-from, objects, blocks-of, objects-of, lookup-whole, found}
+use Rattle.model.specs.Objects.{object, objects-from, objects, blocks-of, objects-of, lookup-whole, found}
 use Rattle.model.specs.Space.{suitable}
 use Rattle.model.specs.Refusals.{Line, _when_, line-holds, first-refusal, line-1, line-2, line-3, line-4, line-5, line-6, line-8, line-9, line-10, line-11}
 use Rattle.model.specs.Refusals.{line-12, base-for, allocate-lines, reallocate-lines}
@@ -27,12 +27,14 @@ use Rattle.model.specs.Step.{step}
 use Rattle.model.specs.declared.Handle.{Handle}
 use Rattle.model.specs.declared.Call.{Call}
 use Rattle.model.specs.declared.Call.the-variants.{Allocate, AllocateArray, Claim, Release, FreeAll, Reallocate, Lend, Remaining, CanRelease, ListBlock}
-use Rattle.model.specs.declared.Call.the-variants.{ClearPermissions}
+use Rattle.model.specs.declared.Call.the-variants.{ClearPermissions, Sweep}
 use Rattle.model.proofs.Refusals.{lines-of, by-lines, refusal-of-lines}
+use Rattle.model.proofs.Sweep.{quarantined-occupied}
 use Rattle.model.proofs.Base.{in-occupied, lowest-some, lowest-none, suitable-bytes, bytes-suitable}
-use Rattle.ledger.specs.Demand3.{in-live-block, SuitableRun, Request, request-of, passes-others}
+use Rattle.ledger.specs.Ledger.{Span, spans-from, quarantined-of}
+use Rattle.ledger.specs.Demand3.{in-live-block, in-span, taken, SuitableRun, Request, request-of, passes-others}
 
--- a byte lies in the live block of an object exactly if it lies in a live block
+-- a byte lies in the live block of an object, or in a quarantined one, exactly if it lies in an occupied block
 leb-eights : (a i : ℕ) → leb (a + 8) (i + 8) ≡ leb a i
 leb-eights a i = go (leb a i) refl
   where
@@ -40,20 +42,41 @@ leb-eights a i = go (leb a i) refl
     go true e = let l = leb-true a i e in le-leb (a + 8) (i + 8) (omega arith)
     go false e = let l = leb-false a i e in lt-leb (a + 8) (i + 8) (omega arith)
 
-blocks-objects : (i at : ℕ) (bs : List Block) → in-live-block i (objects-from at bs) ≡ in-occupied i at bs
-unfolding in-live-block in-occupied objects-from any
-blocks-objects i at [] = refl
-blocks-objects i at (b ∷ bs) = go (live b) (blocks-objects i (at + size b) bs)
-  where
-    go : (x : Bool) → in-live-block i (objects-from (at + size b) bs) ≡ in-occupied i (at + size b) bs
-        → any (λ (o : Handle). leb (o .base) (i + 8) && ltb i (o .base + o .length))
-        (cond x (record { base = at + 8; length = length (b .body); serial = b .serial } ∷ objects-from (at + size b) bs) (objects-from (at + size b) bs))
-        ≡ ((x && (leb at i && ltb i (at + size b))) || in-occupied i (at + size b) bs)
-    go true e = rw (leb-eights at i, add-assoc at 8 (length (b .body)), e)
-    go false e = e
+-- tests in another order
+later : (p a b : Bool) → (a || (p || b)) ≡ (p || (a || b))
+later true true b = refl
+later true false b = refl
+later false a b = refl
 
-same-places : (i : ℕ) (s : List ℕ) → in-live-block i (objects-of s) ≡ in-occupied i 0 (blocks-of s)
-unfolding objects-of objects
+first : (p a b : Bool) → ((p || a) || b) ≡ (p || (a || b))
+first true a b = refl
+first false a b = refl
+
+blocks-objects : (i at : ℕ) (bs : List Block) → (in-live-block i (objects-from at bs) || in-span i (spans-from at bs)) ≡ in-occupied i at bs
+unfolding in-live-block in-span spans-from in-occupied objects-from any
+blocks-objects i at [] = refl
+blocks-objects i at (b ∷ bs) = go (occupied b) (quarantined b) refl refl (blocks-objects i (at + size b) bs)
+  where
+    here : Bool
+    here = leb at i && ltb i (at + size b)
+
+    os : List Handle
+    os = objects-from (at + size b) bs
+
+    xs : List Span
+    xs = spans-from (at + size b) bs
+
+    go : (x y : Bool) → occupied b ≡ x → quarantined b ≡ y → (in-live-block i os || in-span i xs) ≡ in-occupied i (at + size b) bs
+        → (in-live-block i (cond (x && not y) (object at b ∷ os) os) || in-span i (cond y (record { from = at; to = at + size b } ∷ xs) xs))
+        ≡ ((x && here) || in-occupied i (at + size b) bs)
+    go true true e f ih = later here (in-live-block i os) (in-span i xs) ∙ ap (λ (t : Bool). here || t) ih
+    go true false e f ih =
+        rw (leb-eights at i, add-assoc at 8 (length (b .body))) (first here (in-live-block i os) (in-span i xs) ∙ ap (λ (t : Bool). here || t) ih)
+    go false true e f ih = absurd (true≢false (sym (quarantined-occupied b f) ∙ e))
+    go false false e f ih = ih
+
+same-places : (i : ℕ) (s : List ℕ) → taken i s ≡ in-occupied i 0 (blocks-of s)
+unfolding taken objects-of objects quarantined-of
 same-places i s = blocks-objects i 0 (blocks-of s)
 
 -- a suitable run is a suitable multiple of the alignment
@@ -136,6 +159,7 @@ module _ (unit : ℕ → ℕ) (units : Units unit) (s : List ℕ) (k : Accounts)
   space-decided (Claim q h) r e p = absurd (Option·none-ne-some r e)
   space-decided (Release q h) r e p = absurd (Option·none-ne-some r e)
   space-decided (FreeAll q) r e p = absurd (Option·none-ne-some r e)
+  space-decided Sweep r e p = absurd (Option·none-ne-some r e)
   space-decided (Reallocate q h n) r e p = of-request (Reallocate q h n) _ r e p (reallocate-decided q h n)
   space-decided (Lend h) r e p = absurd (Option·none-ne-some r e)
   space-decided (Remaining q) r e p = absurd (Option·none-ne-some r e)

@@ -9,11 +9,13 @@ use lib.ListN.{length, take, drop, replicate}
 use lib.Dec.{eqb}
 use borrow.Author.Tests.{eqb-true, eqb-false}
 use Rattle.accounts.specs.declared.Hold.{Hold}
-use Rattle.layout.specs.Blocks.{Block, live}
+use Rattle.layout.specs.Blocks.{Block, quarantined, live}
 use Rattle.model.specs.Consistent.{held}
-use Rattle.model.specs.Space.{left-over, cut-block, vacate, vacate-unheld, join-front, join-free, settle, body-of, copy-into}
+use Rattle.model.specs.Space.{left-over, cut-block, vacate, changed, reclaim, join-front, join-free, settle, unquarantine, swept, body-of, copy-into}
 use Rattle.model.proofs.Carve.{Carved}
 use Rattle.model.proofs.Join.{joined, join-elim}
+use Rattle.model.proofs.Settle.{vacate-unheld, vacated-dead}
+use Rattle.model.proofs.Sweep.{unquarantine-all}
 
 -- a free block is not live
 free-not : {A : Type 0} (b c : Block) → live b ≡ true → live c ≡ false → b ≡ c → A
@@ -51,22 +53,39 @@ unfolding join-free
 joined-live [] b l m = m
 joined-live (c ∷ cs) b l m = ⊎-elim (λ x. List·Memᴰ·head x) (λ y. List·Memᴰ·tail (joined-live cs b l y)) (List·Memᴰ·cases-cons (join-live c (join-free cs) b l m))
 
-vacated-live : (hs : List Hold) (bs : List Block) (b : Block) → live b ≡ true → List·Memᴰ b (vacate-unheld hs bs) → List·Memᴰ b bs
-unfolding vacate-unheld vacate
-vacated-live hs [] b l m = m
-vacated-live hs (c ∷ cs) b l m = go (live c && not (held hs (c .serial))) (List·Memᴰ·cases-cons m) (vacated-live hs cs b l)
+vacated-live : (kind : ℕ) (hs : List Hold) (bs : List Block) (b : Block) → live b ≡ true → List·Memᴰ b (vacate-unheld kind hs bs) → List·Memᴰ b bs
+unfolding changed
+vacated-live kind hs [] b l m = m
+vacated-live kind hs (c ∷ cs) b l m = go (live c && not (held hs (c .serial))) (List·Memᴰ·cases-cons m) (vacated-live kind hs cs b l)
   where
-    go : (t : Bool) → (b ≡ cond t (record { serial = 0; body = replicate (length (c .body)) 0 }) c) ⊎ List·Memᴰ b (vacate-unheld hs cs)
-        → (List·Memᴰ b (vacate-unheld hs cs) → List·Memᴰ b cs) → List·Memᴰ b (c ∷ cs)
-    go true (inl e) ih = free-not b _ l refl e
+    go : (t : Bool) → (b ≡ cond t (vacate kind c) c) ⊎ List·Memᴰ b (vacate-unheld kind hs cs)
+        → (List·Memᴰ b (vacate-unheld kind hs cs) → List·Memᴰ b cs) → List·Memᴰ b (c ∷ cs)
+    go true (inl e) ih = free-not b (vacate kind c) l (vacated-dead kind c) e
     go true (inr x) ih = List·Memᴰ·tail (ih x)
     go false (inl e) ih = List·Memᴰ·head e
     go false (inr x) ih = List·Memᴰ·tail (ih x)
 
 -- settling: a live block was there
-pub settled-live : (hs : List Hold) (bs : List Block) (b : Block) → live b ≡ true → List·Memᴰ b (settle hs bs) → List·Memᴰ b bs
-unfolding settle
-settled-live hs bs b l m = vacated-live hs bs b l (joined-live (vacate-unheld hs bs) b l m)
+pub settled-live : (kind : ℕ) (hs : List Hold) (bs : List Block) (b : Block) → live b ≡ true → List·Memᴰ b (settle kind hs bs) → List·Memᴰ b bs
+unfolding settle reclaim
+settled-live kind hs bs b l m = vacated-live kind hs bs b l (joined-live (vacate-unheld kind hs bs) b l m)
+
+-- a sweep: a live block was there
+unquarantined-live : (bs : List Block) (b : Block) → live b ≡ true → List·Memᴰ b (unquarantine-all bs) → List·Memᴰ b bs
+unfolding changed
+unquarantined-live [] b l m = m
+unquarantined-live (c ∷ cs) b l m = go (quarantined c) (List·Memᴰ·cases-cons m) (unquarantined-live cs b l)
+  where
+    go : (t : Bool) → (b ≡ cond t (unquarantine c) c) ⊎ List·Memᴰ b (unquarantine-all cs)
+        → (List·Memᴰ b (unquarantine-all cs) → List·Memᴰ b cs) → List·Memᴰ b (c ∷ cs)
+    go true (inl e) ih = free-not b (unquarantine c) l refl e
+    go true (inr x) ih = List·Memᴰ·tail (ih x)
+    go false (inl e) ih = List·Memᴰ·head e
+    go false (inr x) ih = List·Memᴰ·tail (ih x)
+
+pub swept-live : (bs : List Block) (b : Block) → live b ≡ true → List·Memᴰ b (swept bs) → List·Memᴰ b bs
+unfolding swept reclaim
+swept-live bs b l m = unquarantined-live bs b l (joined-live (unquarantine-all bs) b l m)
 
 -- copying: a live block with another serial was there, and one with this serial has the bytes copied in front of its own
 pub copied-live : (serial : ℕ) (new : List ℕ) (bs : List Block) (b : Block) → live b ≡ true → List·Memᴰ b (copy-into serial new bs)

@@ -1,4 +1,4 @@
--- Demand 3 (rules 10.3 to 10.11), entire: it holds of `step`, for every table of units.
+-- Demand 3 (rules 10.3 to 10.11, 22.11 and 22.13), entire: it holds of `step`, for every table of units and both kinds of heaps.
 -- Along a history ledger, heap and accounts agree: an opening does, and each call and each write keeps it. What demand 3 says of a history is what
 -- agreement says of its end.
 -- Assumes nothing.
@@ -24,8 +24,9 @@ use Rattle.model.proofs.Permissions.{step-permissible}
 use Rattle.model.specs.Answers.{Values}
 use Rattle.model.specs.declared.Call.{Call}
 use Rattle.model.specs.declared.Call.the-variants.{Allocate, AllocateArray, Claim, Release, FreeAll, Reallocate, Lend, Remaining, CanRelease, ListBlock}
-use Rattle.model.specs.declared.Call.the-variants.{ClearPermissions}
-use Rattle.ledger.specs.Ledger.{Ledger, Event, Called, Wrote, Saved, Restored, leave, add-object, add-hold, take-hold, take-all, record-accepted, record-call, record-event, unrestored, ledger-of}
+use Rattle.model.specs.declared.Call.the-variants.{ClearPermissions, Sweep}
+use Rattle.ledger.specs.Ledger.{Ledger, Event, Called, Wrote, Saved, Restored, leave, add-object, add-hold, take-hold, take-all, record-accepted}
+use Rattle.ledger.specs.Ledger.{record-call, record-event, unrestored, ledger-of}
 use Rattle.ledger.specs.History.{History}
 use Rattle.ledger.specs.Demand3.{Within, objects-in, HeldIn, Holds, Demand3}
 use Rattle.ledger.proofs.Agreement.{Agrees}
@@ -48,33 +49,40 @@ apart-places l s k a i j i<j j<n at u v =
     let y = m .objects (getD os j zero-handle) .1 (getD-member zero-handle os j j<n) in
     serials-exactly os .0 (m .once) i j i<j j<n (ap (λ (o : Handle). o .serial) (apart-of l s k a (getD os i zero-handle) (getD os j zero-handle) x y at u v))
 
--- the ledger keeps the grants
-accepted-grants : (c : Call) (v : Values) (l : Ledger) → record-accepted c v l .grants ≡ l .grants
-unfolding record-accepted add-object add-hold take-hold take-all leave
-accepted-grants (Allocate q n) v l = refl
-accepted-grants (AllocateArray q count size) v l = refl
-accepted-grants (Claim q h) v l = refl
-accepted-grants (Release q h) v l = refl
-accepted-grants (FreeAll q) v l = refl
-accepted-grants (Reallocate q h n) v l = refl
-accepted-grants (Lend h) v l = refl
-accepted-grants (Remaining q) v l = refl
-accepted-grants (CanRelease q h) v l = refl
-accepted-grants (ListBlock at) v l = refl
-accepted-grants (ClearPermissions q n) v l = refl
+-- the ledger keeps the kind and the grants
+abbrev Kept : Ledger → Ledger → Type 0
+Kept m l = (m .kind ≡ l .kind) × (m .grants ≡ l .grants)
 
-recorded-grants : (t : Bool) (c : Call) (v : Values) (l : Ledger) → cond t (record-accepted c v l) l .grants ≡ l .grants
-recorded-grants true c v l = accepted-grants c v l
-recorded-grants false c v l = refl
+accepted-kept : (c : Call) (v : Values) (l : Ledger) → Kept (record-accepted c v l) l
+unfolding record-accepted add-object add-hold take-hold take-all leave
+accepted-kept (Allocate q n) v l = (refl, refl)
+accepted-kept (AllocateArray q count size) v l = (refl, refl)
+accepted-kept (Claim q h) v l = (refl, refl)
+accepted-kept (Release q h) v l = (refl, refl)
+accepted-kept (FreeAll q) v l = (refl, refl)
+accepted-kept Sweep v l = (refl, refl)
+accepted-kept (Reallocate q h n) v l = (refl, refl)
+accepted-kept (Lend h) v l = (refl, refl)
+accepted-kept (Remaining q) v l = (refl, refl)
+accepted-kept (CanRelease q h) v l = (refl, refl)
+accepted-kept (ListBlock at) v l = (refl, refl)
+accepted-kept (ClearPermissions q n) v l = (refl, refl)
+
+recorded-kept : (t : Bool) (c : Call) (v : Values) (l : Ledger) → Kept (cond t (record-accepted c v l) l) l
+recorded-kept true c v l = accepted-kept c v l
+recorded-kept false c v l = (refl, refl)
 
 -- so they are those of the beginning, where no image was read
-pub ledger-grants : (begun : Ledger) (es : List Event) → unrestored es ≡ true → ledger-of begun es .grants ≡ begun .grants
+ledger-kept : (begun : Ledger) (es : List Event) → unrestored es ≡ true → Kept (ledger-of begun es) begun
 unfolding ledger-of record-event record-call unrestored
-ledger-grants begun [] u = refl
-ledger-grants begun (Called c v ∷ es) u = recorded-grants (eqb (v .refusal) 0) c v (ledger-of begun es) ∙ ledger-grants begun es u
-ledger-grants begun (Wrote ∷ es) u = ledger-grants begun es u
-ledger-grants begun (Saved s k ∷ es) u = ledger-grants begun es u
-ledger-grants begun (Restored s k ∷ es) u = absurd (false≢true u)
+ledger-kept begun [] u = (refl, refl)
+ledger-kept begun (Called c v ∷ es) u =
+    let a = recorded-kept (eqb (v .refusal) 0) c v (ledger-of begun es) in
+    let b = ledger-kept begun es u in
+    (a .0 ∙ b .0, a .1 ∙ b .1)
+ledger-kept begun (Wrote ∷ es) u = ledger-kept begun es u
+ledger-kept begun (Saved s k ∷ es) u = ledger-kept begun es u
+ledger-kept begun (Restored s k ∷ es) u = absurd (false≢true u)
 
 -- a serial is held at every point since the front
 abbrev Since : Ledger → List Event → List Event → ℕ → Type 0
@@ -156,8 +164,13 @@ module _ (unit : ℕ → ℕ) (units : Units unit) where
         record-held = record-held-of l s k a;
         hold-recorded = hold-recorded-of l s k a;
         records-once = records-once-of l s k a;
+        quarantined-recorded = λ x. a .waits .both x .0;
+        recorded-quarantined = λ x. a .waits .both x .1;
+        quarantined-once = a .waits .once;
+        kind-kept = a .kind;
+        kind-begun = λ u. ledger-kept begun (back ++ front) u .0;
         grants-kept = a .grants;
-        grants-begun = ledger-grants begun (back ++ front);
+        grants-begun = λ u. ledger-kept begun (back ++ front) u .1;
         balanced = balanced-of l s k a;
         answered = answered-of l s k a unit (sound-of unit l s k a f p);
         no-space = λ c r e x. space-decided unit units s k c r e x .no-space;

@@ -7,7 +7,7 @@ use native.Mathlib.Nat.{zero-add}
 use native.Mathlib.Omega.{arith}
 use mathlib.Core.Path.{_≡_, refl, ap, sym, _∙_}
 use mathlib.Core.List.{List, [], _∷_, _++_, List·Memᴰ}
-use mathlib.Core.Bool.{true, false, _&&_}
+use mathlib.Core.Bool.{true, false, _&&_, Bool}
 use mathlib.Core.Option.{some}
 use mathlib.Core.Logic.{_↔_, _⊎_, inl, inr}
 use lib.ListN.{length, take, drop, getD, length-take, length-drop, take-append-drop, List·getD-append}
@@ -22,12 +22,12 @@ use Rattle.layout.proofs.Render.{written-length, written-behind}
 use Rattle.layout.proofs.Parse.{parse-is}
 use Rattle.model.specs.Lists.{all}
 use Rattle.model.specs.Objects.{object, objects-from, objects, blocks-of, objects-of}
-use Rattle.model.specs.Consistent.{long-enough, starts-free, free-apart, well-cut, consistent-blocks, consistent}
+use Rattle.model.specs.Consistent.{long-enough, starts-free, free-apart, well-cut, in-kind, consistent-blocks, consistent}
 use Rattle.model.specs.declared.Handle.{Handle}
 use Rattle.model.proofs.Bools.{and-left, and-right, and-both}
 use Rattle.model.proofs.Lists.{none-exactly}
 use Rattle.model.proofs.Consistent.{blocks-parsed, consistent-cut, consistent-exactly}
-use Rattle.ledger.specs.Ledger.{Ledger}
+use Rattle.ledger.specs.Ledger.{Ledger, spans-from, quarantined-of}
 use Rattle.ledger.specs.History.{in-object, Written}
 use Rattle.ledger.specs.Demand3.{Within}
 use Rattle.ledger.proofs.Agreement.{Agrees}
@@ -56,6 +56,8 @@ record Rewritten (at back : ℕ) (bs : List Block) (s : List ℕ) : Type 0 where
   long : all long-enough blocks ≡ all long-enough bs
   starts : starts-free blocks ≡ starts-free bs
   apart : free-apart blocks ≡ free-apart bs
+  kinds : (kind : ℕ) → all (in-kind kind) blocks ≡ all (in-kind kind) bs
+  spans : spans-from at blocks ≡ spans-from at bs
 
 module _ (at back : ℕ) (b : Block) (bs : List Block) (s : List ℕ) (k : Kept at back (b ∷ bs) s) where
   -- s is the first block and as much as the others take
@@ -98,7 +100,7 @@ module _ (at back : ℕ) (b : Block) (bs : List Block) (s : List ℕ) (k : Kept 
 
   -- the first block has its body out of s
   rewritten-cons : Writable b → Rewritten (at + size b) (units b) bs (drop (size b) s) → Rewritten at back (b ∷ bs) s
-  unfolding render-from objects-from all long-enough starts-free free-apart
+  unfolding render-from objects-from spans-from all long-enough starts-free free-apart in-kind
   rewritten-cons w r =
       let body = take (length (b .body)) (drop 8 s) in
       let l = kept-length in
@@ -111,12 +113,25 @@ module _ (at back : ℕ) (b : Block) (bs : List Block) (s : List ℕ) (k : Kept 
         long = rw (n, r .long);
         starts = refl;
         apart = rw (r .starts, r .apart);
+        kinds = λ kind. ap (λ (t : Bool). in-kind kind b && t) (r .kinds kind);
+        spans = rw (n, r .spans);
       }
 
 -- and so block after block
 rewritten : (at back : ℕ) (bs : List Block) (s : List ℕ) → AllWritable bs → Kept at back bs s → Rewritten at back bs s
-unfolding render-from
-rewritten at back [] [] w k = record { blocks = []; again = refl; writable = tt; objects = refl; long = refl; starts = refl; apart = refl }
+unfolding render-from all
+rewritten at back [] [] w k =
+    record {
+      blocks = [];
+      again = refl;
+      writable = tt;
+      objects = refl;
+      long = refl;
+      starts = refl;
+      apart = refl;
+      kinds = λ kind. refl;
+      spans = refl;
+    }
 rewritten at back [] (x ∷ s) w k = let e = k .extent in absurd (omega arith)
 rewritten at back (b ∷ bs) s w k =
     rewritten-cons at back b bs s k (w .0) (rewritten (at + size b) (units b) bs (drop (size b) s) (w .1) (kept-behind at back b bs s k))
@@ -148,6 +163,14 @@ module _ (s s′ : List ℕ) (k : Accounts) (o : Octets s) (c : consistent s k �
       let r = written-blocks in
       consistent-exactly s′ k .1 (r .blocks, written-parsed, rw (r .long, r .apart, r .objects) (consistent-cut s k c .1))
 
+  -- and quarantined blocks stand where they stood
+  written-kinds : (kind : ℕ) → all (in-kind kind) (blocks-of s′) ≡ all (in-kind kind) (blocks-of s)
+  written-kinds kind = ap (all (in-kind kind)) (blocks-parsed s′ (written-blocks .blocks) written-parsed) ∙ written-blocks .kinds kind
+
+  written-spans : quarantined-of s′ ≡ quarantined-of s
+  unfolding quarantined-of
+  written-spans = ap (spans-from 0) (blocks-parsed s′ (written-blocks .blocks) written-parsed) ∙ written-blocks .spans
+
 -- so ledger, heap and accounts agree after the write
 pub written-agrees : (l : Ledger) (s s′ : List ℕ) (k : Accounts) → Agrees l s k → Written s s′ → Agrees l s′ k
 written-agrees l s s′ k a w =
@@ -157,7 +180,9 @@ written-agrees l s s′ k a w =
       sound = written-consistent s s′ k (a .octets) (a .sound) w;
       quotas = a .quotas;
       narrow = a .narrow;
-      serial = a .serial;
+      kinded = (written-kinds s s′ k (a .octets) (a .sound) w (k .kind) ∙ a .kinded .0, a .kinded .1);
+      kind = a .kind;
       grants = a .grants;
       matches = rw (written-objects s s′ k (a .octets) (a .sound) w) (a .matches);
+      waits = rw (written-spans s s′ k (a .octets) (a .sound) w) (a .waits);
     }

@@ -1,8 +1,8 @@
--- Demand 3 (rules 10.3 to 10.11), as one statement about every list of calls: of every history of a run, and of every split of its events.
+-- Demand 3 (rules 10.3 to 10.11, 22.11 and 22.13), as one statement about every list of calls: of every history of a run, and of every split of its events.
 use Prim.Native.Nat.{ℕ, _+_, _*_, _%_, _≤_, _<_}
 use mathlib.Core.Path.{_≡_}
-use mathlib.Core.List.{List, _++_, map, List·Memᴰ}
-use mathlib.Core.Bool.{Bool, true, false, not, _&&_}
+use mathlib.Core.List.{List, [], _∷_, _++_, map, List·Memᴰ}
+use mathlib.Core.Bool.{Bool, true, false, not, _&&_, _||_}
 use mathlib.Core.Option.{Option, none, some}
 use mathlib.Core.Logic.{_↔_}
 use lib.ListN.{length, getD}
@@ -23,8 +23,8 @@ use Rattle.model.specs.declared.Handle.{Handle}
 use Rattle.model.specs.declared.ListedBlock.{ListedBlock}
 use Rattle.model.specs.declared.Call.{Call}
 use Rattle.model.specs.declared.Call.the-variants.{Allocate, AllocateArray, Claim, Release, FreeAll, Reallocate, Lend, Remaining, CanRelease, ListBlock}
-use Rattle.model.specs.declared.Call.the-variants.{ClearPermissions}
-use Rattle.ledger.specs.Ledger.{Entry, Ledger, Event, holds-of, cost-to, unrestored, ledger-of}
+use Rattle.model.specs.declared.Call.the-variants.{ClearPermissions, Sweep}
+use Rattle.ledger.specs.Ledger.{Entry, Span, Ledger, Event, holds-of, cost-to, quarantined-of, unrestored, ledger-of}
 use Rattle.ledger.specs.History.{Run, History}
 
 -- a byte of an object (rule 4.1)
@@ -35,6 +35,19 @@ Within i o = (o .base ≤ i) × (i < o .base + o .length)
 unfoldable pub in-live-block : ℕ → List Handle → Bool
 in-live-block i os = any (λ o. leb (o .base) (i + 8) && ltb i (o .base + o .length)) os
 
+-- a byte of one of these blocks
+unfoldable pub in-span : ℕ → List Span → Bool
+in-span i xs = any (λ x. leb (x .from) i && ltb i (x .to)) xs
+
+-- rule 22.13: a byte of a live block or of a quarantined one
+unfoldable pub taken : ℕ → List ℕ → Bool
+taken i s = in-live-block i (objects-of s) || in-span i (quarantined-of s)
+
+-- no two of these blocks start at one place
+unfoldable pub spans-differ : List Span → Bool
+spans-differ [] = true
+spans-differ (x ∷ xs) = not (any (λ y. eqb (y .from) (x .from)) xs) && spans-differ xs
+
 -- the objects of a ledger
 abbrev pub objects-in : Ledger → List Handle
 objects-in l = map (λ (e : Entry). e .object) (l .entries)
@@ -43,12 +56,12 @@ objects-in l = map (λ (e : Entry). e .object) (l .entries)
 abbrev pub HeldIn : ℕ → Ledger → Type 0
 HeldIn serial l = (e : Entry) × (q : ℕ) × List·Memᴰ e (l .entries) × (e .object .serial ≡ serial) × (0 < holds-of q e)
 
--- what rule 8.6 asks of a base b, for a request of n bytes
+-- what rules 8.6 and 22.13 ask of a base b, for a request of n bytes
 pub record SuitableRun (unit : ℕ → ℕ) (s : List ℕ) (n b : ℕ) : Type 0 where
   pub low : 8 ≤ b
   pub multiple : b % alignment unit n ≡ 0
   pub high : b + object-length unit n ≤ length s
-  pub outside : (i : ℕ) → b ≤ i + 8 → i < b + object-length unit n → in-live-block i (objects-of s) ≡ false
+  pub outside : (i : ℕ) → b ≤ i + 8 → i < b + object-length unit n → taken i s ≡ false
 
 -- rule 10.9, a call for a new object: its length, and the lines of its call
 pub record Request : Type 0 where
@@ -61,6 +74,7 @@ request-of unit (AllocateArray q count size) s k = some (record { asked = count 
 request-of unit (Claim q h) s k = none
 request-of unit (Release q h) s k = none
 request-of unit (FreeAll q) s k = none
+request-of unit Sweep s k = none
 request-of unit (Reallocate q h n) s k = some (record { asked = n; lines = reallocate-lines unit s k q h n })
 request-of unit (Lend h) s k = none
 request-of unit (Remaining q) s k = none
@@ -98,6 +112,13 @@ pub record Holds (unit : ℕ → ℕ) (run : Run) (begun : Ledger) (front back :
   pub hold-recorded : (e : Entry) (q : ℕ) → List·Memᴰ e (ledger-of begun (back ++ front) .entries) → 0 < holds-of q e
       → List·Memᴰ (record { serial = e .object .serial; quota = q; count = holds-of q e }) (k .holds)
   pub records-once : records-differ (k .holds) ≡ true
+  -- rule 22.11: the heap's quarantined blocks and the ledger's are the same, each once
+  pub quarantined-recorded : (x : Span) → List·Memᴰ x (quarantined-of s) → List·Memᴰ x (ledger-of begun (back ++ front) .quarantined)
+  pub recorded-quarantined : (x : Span) → List·Memᴰ x (ledger-of begun (back ++ front) .quarantined) → List·Memᴰ x (quarantined-of s)
+  pub quarantined-once : spans-differ (ledger-of begun (back ++ front) .quarantined) ≡ true
+  -- rule 22.1: the heap is of the ledger's kind, which is that of the beginning unless an image was read
+  pub kind-kept : k .kind ≡ ledger-of begun (back ++ front) .kind
+  pub kind-begun : unrestored (back ++ front) ≡ true → ledger-of begun (back ++ front) .kind ≡ begun .kind
   -- rule 10.8: the ledger's grants, which are those of the beginning unless an image was read, are remainders and costs, and remaining answers the remainder
   pub grants-kept : map (λ (x : Quota). x .grant) (k .quotas) ≡ ledger-of begun (back ++ front) .grants
   pub grants-begun : unrestored (back ++ front) ≡ true → ledger-of begun (back ++ front) .grants ≡ begun .grants

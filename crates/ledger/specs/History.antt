@@ -6,6 +6,7 @@ use mathlib.Core.Bool.{Bool, true, false, _&&_}
 use lib.ListN.{length, getD}
 use lib.Dec.{leb, ltb}
 use Rattle.accounts.specs.declared.Accounts.{Accounts}
+use Rattle.accounts.specs.declared.Settings.{Settings}
 use Rattle.accounts.specs.Accounts.{QUOTAS, zero-quota}
 use Rattle.layout.specs.Bytes.{Octets}
 use Rattle.model.specs.Lists.{any}
@@ -22,11 +23,11 @@ abbrev pub Run : Type 0
 Run = Call → List ℕ → Accounts → Outcome
 
 -- an accepted opening: any bytes of an allowed length, any 32-bit grants
-pub record Opened (grants : List ℕ) (s : List ℕ) (k : Accounts) : Type 0 where
+pub record Opened (settings : Settings) (grants : List ℕ) (s : List ℕ) (k : Accounts) : Type 0 where
   pub before : List ℕ
   pub quotas : length grants ≡ QUOTAS
   pub narrow : (q : ℕ) → getD grants q 0 < 2 ^ 32
-  pub opens : open-heap before grants ≡ record { heap = s; accounts = k; values = accepted }
+  pub opens : open-heap settings before grants ≡ record { heap = s; accounts = k; values = accepted }
 
 -- a heap and accounts that an image which is accepted may give back, whatever led to them
 pub record Restorable (unit : ℕ → ℕ) (s : List ℕ) (k : Accounts) : Type 0 where
@@ -35,11 +36,11 @@ pub record Restorable (unit : ℕ → ℕ) (s : List ℕ) (k : Accounts) : Type 
   pub sound : is-sound unit s k ≡ true
   pub quotas : length (k .quotas) ≡ QUOTAS
   pub narrow : (q : ℕ) → getD (k .quotas) q zero-quota .grant < 2 ^ 32
-  pub serial : k .«last_serial» < 2 ^ 32
 
--- how a history begins, and the ledger at its beginning: with an accepted opening and no entries, or with a state that was read and the ledger read off it
+-- how a history begins, and the ledger at its beginning: with an accepted opening and the empty ledger of its settings and grants, or with a state that was
+-- read and the ledger read off it
 pub data Begins (unit : ℕ → ℕ) (begun : Ledger) (s : List ℕ) (k : Accounts) : Type 0 where
-  Opening : (grants : List ℕ) → begun ≡ empty grants → Opened grants s k → Begins unit begun s k
+  Opening : (settings : Settings) (grants : List ℕ) → begun ≡ empty settings grants → Opened settings grants s k → Begins unit begun s k
   Restoring : begun ≡ read-ledger s k → Restorable unit s k → Begins unit begun s k
 
 -- a byte lies in one of these objects

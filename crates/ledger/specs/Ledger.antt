@@ -1,37 +1,54 @@
--- The ledger (rules, section 9), worked out from grants, arguments and answers alone (rule 9.1); an image that is read gives its own (rule 13.16).
+-- The ledger (rules, section 9), worked out from the opening's settings and grants, arguments and answers alone (rule 9.1); an image that is read gives its
+-- own (rule 13.16).
 use Prim.Native.Nat.{ℕ, zero, suc, _+_, _-_}
-use mathlib.Core.List.{List, [], _∷_, map}
-use mathlib.Core.Bool.{Bool, true, false, cond}
+use mathlib.Core.List.{List, [], _∷_, _++_, map}
+use mathlib.Core.Bool.{Bool, true, false, not, cond}
 use lib.ListN.{length, getD, set, replicate}
 use lib.Dec.{ltb, eqb}
 use Rattle.accounts.specs.declared.Quota.{Quota}
 use Rattle.accounts.specs.declared.Hold.{Hold}
 use Rattle.accounts.specs.declared.Accounts.{Accounts}
-use Rattle.accounts.specs.Accounts.{QUOTAS}
-use Rattle.model.specs.Objects.{objects-of}
+use Rattle.accounts.specs.declared.Settings.{Settings}
+use Rattle.accounts.specs.Accounts.{QUOTAS, kind-number}
+use Rattle.layout.specs.Blocks.{Block, size, quarantined}
+use Rattle.model.specs.Objects.{blocks-of, objects-of}
 use Rattle.model.specs.Holds.{count-of}
 use Rattle.model.specs.Lists.{any, keep}
 use Rattle.model.specs.Answers.{Values}
 use Rattle.model.specs.declared.Handle.{Handle}
 use Rattle.model.specs.declared.Call.{Call}
 use Rattle.model.specs.declared.Call.the-variants.{Allocate, AllocateArray, Claim, Release, FreeAll, Reallocate, Lend, Remaining, CanRelease, ListBlock}
-use Rattle.model.specs.declared.Call.the-variants.{ClearPermissions}
+use Rattle.model.specs.declared.Call.the-variants.{ClearPermissions, Sweep}
 
 -- an object of the ledger: its base, length and serial, and each quota's holds on it, by the quota's number
 pub record Entry : Type 0 where
   pub object : Handle
   pub holds : List ℕ
 
--- rule 9.2: the grants of the opening and the entries, none to begin with
+-- the bytes of a block, from one place up to another
+pub record Span : Type 0 where
+  pub from : ℕ
+  pub to : ℕ
+
+-- the block of an object, header included
+unfoldable pub block-of : Handle → Span
+block-of o = record { from = o .base - 8; to = o .base + o .length }
+
+-- rules 9.2 and 22.10: kind and grants of the opening, and the entries and the quarantined blocks, none to begin with
 pub record Ledger : Type 0 where
+  pub kind : ℕ
   pub grants : List ℕ
   pub entries : List Entry
+  pub quarantined : List Span
 
-unfoldable pub empty : List ℕ → Ledger
-empty grants = record { grants = grants; entries = [] }
+unfoldable pub empty : Settings → List ℕ → Ledger
+empty g grants = record { kind = kind-number (g .kind); grants = grants; entries = []; quarantined = [] }
 
 abbrev pub with-entries : List Entry → Ledger → Ledger
-with-entries es l = record { grants = l .grants; entries = es }
+with-entries es l = record { kind = l .kind; grants = l .grants; entries = es; quarantined = l .quarantined }
+
+abbrev pub with-quarantined : List Span → Ledger → Ledger
+with-quarantined xs l = record { kind = l .kind; grants = l .grants; entries = l .entries; quarantined = xs }
 
 abbrev pub holds-of : ℕ → Entry → ℕ
 holds-of q e = getD (e .holds) q 0
@@ -43,12 +60,15 @@ change-holds q f e = record { object = e .object; holds = set (e .holds) q (f (h
 unfoldable pub at-serial : ℕ → (Entry → Entry) → List Entry → List Entry
 at-serial serial f es = map (λ e. cond (eqb (e .object .serial) serial) (f e) e) es
 
--- rule 9.4: an entry without a hold is taken out
+-- rules 9.4 and 22.10: an entry without a hold is taken out, and in a heap of the second kind its block is quarantined
 unfoldable pub is-held : Entry → Bool
 is-held e = any (λ n. ltb 0 n) (e .holds)
 
+unfoldable pub left-behind : Ledger → List Span
+left-behind l = cond (eqb (l .kind) 0) [] (map (λ e. block-of (e .object)) (keep (λ e. not (is-held e)) (l .entries)))
+
 unfoldable pub leave : Ledger → Ledger
-leave l = with-entries (keep is-held (l .entries)) l
+leave l = with-quarantined (left-behind l ++ l .quarantined) (with-entries (keep is-held (l .entries)) l)
 
 -- rule 9.3, an allocation: a new entry for the handle answered, which the quota holds once
 unfoldable pub add-object : ℕ → Handle → Ledger → Ledger
@@ -65,13 +85,14 @@ take-hold q serial l = leave (with-entries (at-serial serial (change-holds q (λ
 unfoldable pub take-all : ℕ → Ledger → Ledger
 take-all q l = leave (with-entries (map (change-holds q (λ n. 0)) (l .entries)) l)
 
--- rules 9.3, 9.5 and 15.9: an accepted call with its answer
+-- rules 9.3, 9.5, 15.9 and 22.10: an accepted call with its answer; after a sweep nothing is quarantined
 unfoldable pub record-accepted : Call → Values → Ledger → Ledger
 record-accepted (Allocate q n) v l = add-object q (v .handle) l
 record-accepted (AllocateArray q count size) v l = add-object q (v .handle) l
 record-accepted (Claim q h) v l = add-hold q (h .serial) l
 record-accepted (Release q h) v l = take-hold q (h .serial) l
 record-accepted (FreeAll q) v l = take-all q l
+record-accepted Sweep v l = with-quarantined [] l
 record-accepted (Reallocate q h n) v l = take-hold q (h .serial) (add-object q (v .handle) l)
 record-accepted (Lend h) v l = l
 record-accepted (Remaining q) v l = l
@@ -88,12 +109,29 @@ unfoldable pub values-from : (ℕ → ℕ) → ℕ → ℕ → List ℕ
 values-from f from zero = []
 values-from f from (suc count) = f from ∷ values-from f (suc from) count
 
--- the ledger that is read off a state: an entry for each live object, with the counts of its records as holds, and the grants of the accounts
+-- the quarantined blocks of a heap, where the first block starts at a place
+unfoldable pub spans-from : ℕ → List Block → List Span
+spans-from at [] = []
+spans-from at (b ∷ bs) =
+    let rest = spans-from (at + size b) bs in
+    cond (quarantined b) (record { from = at; to = at + size b } ∷ rest) rest
+
+unfoldable pub quarantined-of : List ℕ → List Span
+quarantined-of s = spans-from 0 (blocks-of s)
+
+-- rules 13.16 and 22.12, the ledger that is read off a state: an entry for each live object, with the counts of its records as holds; kind and grants of the
+-- accounts; and the heap's quarantined blocks
 unfoldable pub read-entry : List Hold → Handle → Entry
 read-entry hs o = record { object = o; holds = values-from (λ q. count-of (o .serial) q hs) 0 QUOTAS }
 
 unfoldable pub read-ledger : List ℕ → Accounts → Ledger
-read-ledger s k = record { grants = map (λ (x : Quota). x .grant) (k .quotas); entries = map (read-entry (k .holds)) (objects-of s) }
+read-ledger s k =
+    record {
+      kind = k .kind;
+      grants = map (λ (x : Quota). x .grant) (k .quotas);
+      entries = map (read-entry (k .holds)) (objects-of s);
+      quarantined = quarantined-of s;
+    }
 
 -- an event: a call and its answer; a write of bytes inside live objects; an image written of a heap and its accounts; an image read, which gave back a
 -- heap and accounts

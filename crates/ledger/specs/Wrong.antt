@@ -1,10 +1,10 @@
--- The wrong heaps of rule 10.13: what each does instead of `step`. That demand 3 does not hold of them is `proofs/Wrong.antt`.
+-- The wrong heaps of rules 10.13 and 22.14: what each does instead of `step`. That demand 3 does not hold of them is `proofs/Wrong.antt`.
 use Prim.Native.Nat.{ℕ, _+_}
 use mathlib.Core.List.{List}
 use mathlib.Core.Bool.{cond}
 use lib.Dec.{eqb}
 use Rattle.accounts.specs.declared.Accounts.{Accounts}
-use Rattle.accounts.specs.Accounts.{remaining, refund}
+use Rattle.accounts.specs.Accounts.{remaining, refund, with-kind}
 use Rattle.rounding.specs.Rounding.{unit}
 use Rattle.model.specs.Answers.{refused, given, amount-of}
 use Rattle.model.specs.Calls.{Outcome, unchanged}
@@ -12,7 +12,7 @@ use Rattle.model.specs.Step.{step}
 use Rattle.model.specs.declared.Handle.{Handle}
 use Rattle.model.specs.declared.Call.{Call}
 use Rattle.model.specs.declared.Call.the-variants.{Allocate, AllocateArray, Claim, Release, FreeAll, Reallocate, Lend, Remaining, CanRelease, ListBlock}
-use Rattle.model.specs.declared.Call.the-variants.{ClearPermissions}
+use Rattle.model.specs.declared.Call.the-variants.{ClearPermissions, Sweep}
 
 -- every call is refused, for want of space
 unfoldable pub refuses-all : Call → List ℕ → Accounts → Outcome
@@ -25,6 +25,7 @@ at-allocate f (AllocateArray q count size) t = t
 at-allocate f (Claim q h) t = t
 at-allocate f (Release q h) t = t
 at-allocate f (FreeAll q) t = t
+at-allocate f Sweep t = t
 at-allocate f (Reallocate q h n) t = t
 at-allocate f (Lend h) t = t
 at-allocate f (Remaining q) t = t
@@ -38,6 +39,7 @@ at-release f (AllocateArray q count size) t = t
 at-release f (Claim q h) t = t
 at-release f (Release q h) t = f q h
 at-release f (FreeAll q) t = t
+at-release f Sweep t = t
 at-release f (Reallocate q h n) t = t
 at-release f (Lend h) t = t
 at-release f (Remaining q) t = t
@@ -51,12 +53,27 @@ at-remaining f (AllocateArray q count size) t = t
 at-remaining f (Claim q h) t = t
 at-remaining f (Release q h) t = t
 at-remaining f (FreeAll q) t = t
+at-remaining f Sweep t = t
 at-remaining f (Reallocate q h n) t = t
 at-remaining f (Lend h) t = t
 at-remaining f (Remaining q) t = f q
 at-remaining f (CanRelease q h) t = t
 at-remaining f (ListBlock at) t = t
 at-remaining f (ClearPermissions q n) t = t
+
+unfoldable pub at-sweep : Outcome → Call → Outcome → Outcome
+at-sweep u (Allocate q n) t = t
+at-sweep u (AllocateArray q count size) t = t
+at-sweep u (Claim q h) t = t
+at-sweep u (Release q h) t = t
+at-sweep u (FreeAll q) t = t
+at-sweep u Sweep t = u
+at-sweep u (Reallocate q h n) t = t
+at-sweep u (Lend h) t = t
+at-sweep u (Remaining q) t = t
+at-sweep u (CanRelease q h) t = t
+at-sweep u (ListBlock at) t = t
+at-sweep u (ClearPermissions q n) t = t
 
 -- every allocate answers the same handle
 unfoldable pub fixed-handle : Call → List ℕ → Accounts → Outcome
@@ -93,3 +110,15 @@ unfoldable pub frees-early : Call → List ℕ → Accounts → Outcome
 frees-early c s k =
     let t = step unit c s k in
     at-release (λ q h. (let u = step unit (FreeAll q) s k in record { heap = u .heap; accounts = u .accounts; values = t .values })) c t
+
+-- a heap of the second kind that frees a block at once, as a plain one does
+unfoldable pub frees-at-once : Call → List ℕ → Accounts → Outcome
+frees-at-once c s k =
+    let t = step unit c s (with-kind 0 k) in
+    record { heap = t .heap; accounts = with-kind (k .kind) (t .accounts); values = t .values }
+
+-- a sweep answers as it should and does nothing
+unfoldable pub never-sweeps : Call → List ℕ → Accounts → Outcome
+never-sweeps c s k =
+    let t = step unit c s k in
+    at-sweep (unchanged s k (t .values)) c t

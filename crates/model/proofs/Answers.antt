@@ -16,7 +16,7 @@ use Rattle.accounts.specs.declared.Accounts.{Accounts}
 use Rattle.model.specs.Lists.{all}
 use Rattle.model.specs.Refusals.{Line, _when_, line-number, first-refusal}
 use Rattle.model.specs.Calls.{Outcome, unless}
-use Rattle.model.specs.Calls.{allocate, allocate-array, claim, release, free-all, reallocate, lend, remaining-of, can-release, list-block, clear}
+use Rattle.model.specs.Calls.{allocate, allocate-array, claim, release, free-all, sweep, reallocate, lend, remaining-of, can-release, list-block, clear}
 use Rattle.model.specs.Step.{Answered, step, performed}
 use Rattle.model.specs.Answers.{Values, refusal-number, zero-handle, zero-range, refused, accepted, listed}
 use Rattle.model.specs.Answers.{verdict-values, handle-values, amount-values, range-values, block-values, answer-values}
@@ -41,7 +41,7 @@ use Rattle.model.specs.declared.Answer.{Answer}
 use Rattle.model.specs.declared.Answer.the-variants.{Verdict as OfVerdict, Handle as OfHandle, Amount as OfAmount, Range as OfRange, Block as OfBlock}
 use Rattle.model.specs.declared.Call.{Call}
 use Rattle.model.specs.declared.Call.the-variants.{Allocate, AllocateArray, Claim, Release, FreeAll, Reallocate, Lend, Remaining, CanRelease, ListBlock}
-use Rattle.model.specs.declared.Call.the-variants.{ClearPermissions}
+use Rattle.model.specs.declared.Call.the-variants.{ClearPermissions, Sweep}
 
 -- every number from 1 to 12 is a refusal's
 pub refusal-numbers : map refusal-number refusals ≡ 1 ∷ 2 ∷ 3 ∷ 4 ∷ 5 ∷ 6 ∷ 7 ∷ 8 ∷ 9 ∷ 10 ∷ 11 ∷ 12 ∷ []
@@ -125,6 +125,7 @@ pub answer-rows : (answer-of (Allocate 1 8) accepted ≡ OfHandle (Given zero-ha
     × (answer-of (Claim 1 zero-handle) accepted ≡ OfAmount (Amount 0))
     × (answer-of (Release 1 zero-handle) accepted ≡ OfAmount (Amount 0))
     × (answer-of (FreeAll 1) accepted ≡ OfAmount (Amount 0))
+    × (answer-of Sweep accepted ≡ OfAmount (Amount 0))
     × (answer-of (Reallocate 1 zero-handle 8) accepted ≡ OfHandle (Given zero-handle))
     × (answer-of (Lend zero-handle) accepted ≡ OfRange (Lent (record { start = 0; end = 0 })))
     × (answer-of (Remaining 1) accepted ≡ OfAmount (Amount 0))
@@ -136,7 +137,7 @@ pub answer-rows : (answer-of (Allocate 1 8) accepted ≡ OfHandle (Given zero-ha
     × (answer-of (Allocate 1 8) (refused 11) ≡ OfHandle (NotGiven NoSpace))
     × (answer-of (FreeAll 1) (refused 12) ≡ OfAmount (NoAmount NotPermitted))
 unfolding answer-of
-answer-rows = (refl, refl, refl, refl, refl, refl, refl, refl, refl, refl, refl, refl, refl, refl, refl)
+answer-rows = (refl, refl, refl, refl, refl, refl, refl, refl, refl, refl, refl, refl, refl, refl, refl, refl)
 
 -- a number of the table: the number of the refusal that it stands for
 abbrev pub is-refusal : ℕ → Bool
@@ -157,6 +158,7 @@ lines-are-refusals unit (AllocateArray q count size) s k = refl
 lines-are-refusals unit (Claim q h) s k = refl
 lines-are-refusals unit (Release q h) s k = refl
 lines-are-refusals unit (FreeAll q) s k = refl
+lines-are-refusals unit Sweep s k = refl
 lines-are-refusals unit (Reallocate q h n) s k = refl
 lines-are-refusals unit (Lend h) s k = refl
 lines-are-refusals unit (Remaining q) s k = refl
@@ -207,13 +209,14 @@ block-lists (some b) = refl
 -- the answer to what `step` gives has step's values
 pub answer-of-values : (unit : ℕ → ℕ) (c : Call) (s : List ℕ) (k : Accounts) → Faithful (answer-of c) (step unit c s k .values)
 unfolding answer-of answer-values verdict-values handle-values amount-values range-values
-    step allocate allocate-array claim release free-all reallocate lend remaining-of can-release list-block clear
+    step allocate allocate-array claim release free-all sweep reallocate lend remaining-of can-release list-block clear
 answer-of-values unit (Allocate q n) s k = faithful (λ v. OfHandle (handle-from v)) handle-refuses s k _ refl _ (lines-are-refusals unit (Allocate q n) s k)
 answer-of-values unit (AllocateArray q count size) s k =
     faithful (λ v. OfHandle (handle-from v)) handle-refuses s k _ refl _ (lines-are-refusals unit (AllocateArray q count size) s k)
 answer-of-values unit (Claim q h) s k = faithful (λ v. OfAmount (amount-from v)) amount-refuses s k _ refl _ (lines-are-refusals unit (Claim q h) s k)
 answer-of-values unit (Release q h) s k = faithful (λ v. OfAmount (amount-from v)) amount-refuses s k _ refl _ (lines-are-refusals unit (Release q h) s k)
 answer-of-values unit (FreeAll q) s k = faithful (λ v. OfAmount (amount-from v)) amount-refuses s k _ refl _ (lines-are-refusals unit (FreeAll q) s k)
+answer-of-values unit Sweep s k = faithful (λ v. OfAmount (amount-from v)) amount-refuses s k _ refl _ (lines-are-refusals unit Sweep s k)
 answer-of-values unit (Reallocate q h n) s k =
     faithful (λ v. OfHandle (handle-from v)) handle-refuses s k _ refl _ (lines-are-refusals unit (Reallocate q h n) s k)
 answer-of-values unit (Lend h) s k = faithful (λ v. OfRange (range-from v)) range-refuses s k _ refl _ (lines-are-refusals unit (Lend h) s k)

@@ -12,8 +12,8 @@ use mathlib.Core.Option.{Option, none, some, Option·none-ne-some}
 use mathlib.Core.Logic.{_↔_}
 use lib.Dec.{leb, ltb}
 use borrow.Author.Tests.{leb-true, leb-false, ltb-true, ltb-false, le-leb, lt-leb, lt-ltb, le-ltb}
-use Rattle.layout.specs.Blocks.{Block, size}
-use Rattle.model.specs.Space.{occupied, outside-occupied, suitable, first-candidate, lowest-base}
+use Rattle.layout.specs.Blocks.{Block, size, occupied}
+use Rattle.model.specs.Space.{outside-occupied, suitable, first-candidate, lowest-base}
 use Rattle.model.proofs.Bools.{and-left, and-right, and-both, and-no, or-neither, fails}
 
 -- b is so many steps behind the start, passes the test, and no earlier candidate does

@@ -11,7 +11,7 @@ use mathlib.Core.Bool.{Bool, true, false, not, cond, _||_, or-false}
 use mathlib.Core.Logic.{⊎-elim}
 use lib.Dec.{eqb}
 use borrow.Author.Tests.{eqb-true, eq-eqb}
-use Rattle.layout.specs.Blocks.{Block, size, live, total-size, AllWritable}
+use Rattle.layout.specs.Blocks.{Block, size, live, total-size, AllWritable, occupied, quarantined}
 use Rattle.model.specs.Lists.{all, total}
 use Rattle.model.specs.Objects.{object, objects-from}
 use Rattle.model.specs.Consistent.{starts-free, free-apart}
@@ -50,7 +50,15 @@ pub objects-live : (at : ℕ) (b : Block) (bs : List Block) → live b ≡ true 
 unfolding objects-from
 objects-live at b bs e = rw e
 
--- a free block has no object
+-- a free block is not live
+pub free-not-live : (b : Block) → occupied b ≡ false → live b ≡ false
+free-not-live b e = rw e
+
+-- and a live one is occupied
+pub live-occupied : (b : Block) → live b ≡ true → occupied b ≡ true
+live-occupied b e = and-left (occupied b) (not (quarantined b)) e
+
+-- a block that is not live has no object
 pub objects-free : (at : ℕ) (b : Block) (bs : List Block) → live b ≡ false → objects-from at (b ∷ bs) ≡ objects-from (at + size b) bs
 unfolding objects-from
 objects-free at b bs e = rw e
@@ -103,29 +111,29 @@ placed at (b ∷ bs) o m = go (live b) refl m (placed (at + size b) bs o)
     go false e x ih = placed-later at b bs o (ih x)
 
 -- where no two free blocks stand side by side, the first block is live or the next one is
-pub apart-head : (b : Block) (bs : List Block) → free-apart (b ∷ bs) ≡ true → (live b || not (starts-free bs)) ≡ true
+pub apart-head : (b : Block) (bs : List Block) → free-apart (b ∷ bs) ≡ true → (occupied b || not (starts-free bs)) ≡ true
 unfolding free-apart
-apart-head b bs a = and-left (live b || not (starts-free bs)) (free-apart bs) a
+apart-head b bs a = and-left (occupied b || not (starts-free bs)) (free-apart bs) a
 
 -- and no two of the others stand side by side
 pub apart-tail : (b : Block) (bs : List Block) → free-apart (b ∷ bs) ≡ true → free-apart bs ≡ true
 unfolding free-apart
-apart-tail b bs a = and-right (live b || not (starts-free bs)) (free-apart bs) a
+apart-tail b bs a = and-right (occupied b || not (starts-free bs)) (free-apart bs) a
 
 -- a block may stand in front of others if it is live or they do not start free
-pub apart-cons : (b : Block) (bs : List Block) → (live b || not (starts-free bs)) ≡ true → free-apart bs ≡ true → free-apart (b ∷ bs) ≡ true
+pub apart-cons : (b : Block) (bs : List Block) → (occupied b || not (starts-free bs)) ≡ true → free-apart bs ≡ true → free-apart (b ∷ bs) ≡ true
 unfolding free-apart
-apart-cons b bs h t = and-both (live b || not (starts-free bs)) (free-apart bs) h t
+apart-cons b bs h t = and-both (occupied b || not (starts-free bs)) (free-apart bs) h t
 
 -- in front of a free block stands no free one, so any blocks may take the place of that block
-replaced-head : (b : Block) (bs : List Block) (f : Block) (ys zs : List Block) → live f ≡ false → (live b || not (starts-free (bs ++ (f ∷ ys)))) ≡ true
-    → (live b || not (starts-free (bs ++ zs))) ≡ true
+replaced-head : (b : Block) (bs : List Block) (f : Block) (ys zs : List Block) → occupied f ≡ false → (occupied b || not (starts-free (bs ++ (f ∷ ys)))) ≡ true
+    → (occupied b || not (starts-free (bs ++ zs))) ≡ true
 unfolding starts-free
-replaced-head b [] f ys zs e a = or-left (live b) (not (starts-free zs)) (simp or-false at (rw e at a))
+replaced-head b [] f ys zs e a = or-left (occupied b) (not (starts-free zs)) (simp or-false at (rw e at a))
 replaced-head b (c ∷ cs) f ys zs e a = a
 
 -- where a free block and what follows it give way to others, no two free blocks stand side by side if no two of the others do
-pub apart-replaced : (xs : List Block) (f : Block) (ys zs : List Block) → live f ≡ false → free-apart (xs ++ (f ∷ ys)) ≡ true → free-apart zs ≡ true
+pub apart-replaced : (xs : List Block) (f : Block) (ys zs : List Block) → occupied f ≡ false → free-apart (xs ++ (f ∷ ys)) ≡ true → free-apart zs ≡ true
     → free-apart (xs ++ zs) ≡ true
 apart-replaced [] f ys zs e a h = h
 apart-replaced (b ∷ bs) f ys zs e a h =

@@ -13,15 +13,16 @@ use mathlib.Core.Logic.{_⊎_, inl, inr}
 use lib.ListN.{length, take, drop, replicate, length-replicate, length-take, length-drop}
 use lib.Dec.{leb}
 use borrow.Author.Tests.{le-leb, lt-leb, leb-true, leb-false, eqb-true, eq-eqb, ne-eqb, not-true}
-use Rattle.layout.specs.Blocks.{Block, size, live}
+use Rattle.layout.specs.Blocks.{Block, size, live, occupied, QUARANTINED}
 use Rattle.model.specs.Lists.{all, total}
 use Rattle.model.specs.Objects.{objects-from, objects}
 use Rattle.model.specs.Consistent.{long-enough, starts-free, free-apart, well-cut}
-use Rattle.model.specs.Space.{occupied, outside-occupied, suitable, left-over, cut-block, carve-from, carve}
+use Rattle.model.specs.Space.{outside-occupied, suitable, left-over, cut-block, carve-from, carve}
 use Rattle.model.specs.declared.Handle.{Handle}
 use Rattle.model.proofs.Bools.{and-left, and-right, and-both, and-no, or-right}
 use Rattle.model.proofs.Lists.{all-append, total-append}
-use Rattle.model.proofs.Blocks.{whole-size, Whole, whole-total, objects-live, objects-free, objects-append, apart-head, apart-tail, apart-cons, apart-replaced, apart-back}
+use Rattle.model.proofs.Blocks.{whole-size, Whole, whole-total, objects-live, objects-free, objects-append, apart-head, apart-tail, apart-cons}
+use Rattle.model.proofs.Blocks.{apart-replaced, apart-back, free-not-live}
 
 -- cs is bs with an object of n bytes cut out at base, in one free block that holds it and its header
 pub record Carved (base n serial at : ℕ) (bs cs : List Block) : Type 0 where
@@ -29,7 +30,7 @@ pub record Carved (base n serial at : ℕ) (bs cs : List Block) : Type 0 where
   pub block : Block
   pub back : List Block
   pub split : bs ≡ front ++ (block ∷ back)
-  pub free : live block ≡ false
+  pub free : occupied block ≡ false
   pub low : at + total size front + 8 ≤ base
   pub high : base + n ≤ at + total size front + size block
   pub now : cs ≡ front ++ (cut-block base n serial (at + total size front) block ++ back)
@@ -48,7 +49,7 @@ module _ (base n serial : ℕ) where
   outside-tail at b bs out = and-right (not (occupied b) || (leb (base + n) at || leb (at + size b) (base - 8))) _ out
 
   -- a live block that starts before the end of the run ends before the run
-  live-past : (at : ℕ) (b : Block) (bs : List Block) → live b ≡ true → at < base + n → 8 ≤ base → outside-occupied (base - 8) (base + n) at (b ∷ bs) ≡ true
+  live-past : (at : ℕ) (b : Block) (bs : List Block) → occupied b ≡ true → at < base + n → 8 ≤ base → outside-occupied (base - 8) (base + n) at (b ∷ bs) ≡ true
       → at + size b + 8 ≤ base
   unfolding outside-occupied
   live-past at b bs eb h first out =
@@ -57,17 +58,17 @@ module _ (base n serial : ℕ) where
       omega (arith, leb-true (at + size b) (base - 8) behind)
 
   -- a free block that does not hold the whole run ends before it, since the block behind it is live
-  free-past : (at : ℕ) (b : Block) (bs : List Block) → live b ≡ false → at + size b < base + n → 8 ≤ base → base + n ≤ at + total size (b ∷ bs)
+  free-past : (at : ℕ) (b : Block) (bs : List Block) → occupied b ≡ false → at + size b < base + n → 8 ≤ base → base + n ≤ at + total size (b ∷ bs)
       → free-apart (b ∷ bs) ≡ true → outside-occupied (base - 8) (base + n) (at + size b) bs ≡ true → at + size b + 8 ≤ base
   unfolding total starts-free
   free-past at b [] eb more first high apart out = absurd (omega arith)
-  free-past at b (c ∷ cs) eb more first high apart out = go (live c) refl
+  free-past at b (c ∷ cs) eb more first high apart out = go (occupied c) refl
     where
-      go : (x : Bool) → live c ≡ x → at + size b + 8 ≤ base
+      go : (x : Bool) → occupied c ≡ x → at + size b + 8 ≤ base
       go true ec = omega (arith, live-past (at + size b) c cs ec more first out)
       go false ec = absurd (false≢true (rw (eb, ec) at (apart-head b (c ∷ cs) apart)))
 
-  carve-here : (at : ℕ) (b : Block) (bs : List Block) → live b ≡ false → at + 8 ≤ base → base + n ≤ at + size b
+  carve-here : (at : ℕ) (b : Block) (bs : List Block) → occupied b ≡ false → at + 8 ≤ base → base + n ≤ at + size b
       → carve-from base n serial at (b ∷ bs) ≡ cut-block base n serial at b ++ bs
   unfolding carve-from
   carve-here at b bs eb low high = rw (eb, le-leb (at + 8) base low, le-leb (base + n) (at + size b) high)
@@ -95,7 +96,7 @@ module _ (base n serial : ℕ) where
   carved-cons : (at : ℕ) (b : Block) (bs : List Block) → at + 8 ≤ base → base + n ≤ at + total size (b ∷ bs) → free-apart (b ∷ bs) ≡ true
       → outside-occupied (base - 8) (base + n) at (b ∷ bs) ≡ true
       → (at + size b + 8 ≤ base → Carved base n serial (at + size b) bs (carve-from base n serial (at + size b) bs))
-      → (x y : Bool) → live b ≡ x → leb (base + n) (at + size b) ≡ y → Carved base n serial at (b ∷ bs) (carve-from base n serial at (b ∷ bs))
+      → (x y : Bool) → occupied b ≡ x → leb (base + n) (at + size b) ≡ y → Carved base n serial at (b ∷ bs) (carve-from base n serial at (b ∷ bs))
   unfolding total
   carved-cons at b bs low high apart out ih true y eb ey =
       let past = live-past at b bs eb (omega arith) (omega arith) out in
@@ -117,7 +118,7 @@ module _ (base n serial : ℕ) where
   carved-from at (b ∷ bs) low high apart out =
       carved-cons at b bs low high apart out
       (λ past. carved-from (at + size b) bs past (omega arith) (apart-tail b bs apart) (outside-tail at b bs out))
-      (live b) (leb (base + n) (at + size b)) refl refl
+      (occupied b) (leb (base + n) (at + size b)) refl refl
 
   -- a suitable run of a heap lies in one free block, where carving cuts it out
   pub carved : (bs : List Block) → free-apart bs ≡ true → suitable (total size bs) bs n base ≡ true → Carved base n serial 0 bs (carve base n serial bs)
@@ -155,8 +156,11 @@ abbrev pub new-block : ℕ → ℕ → Block
 new-block n serial = record { serial = serial; body = replicate n 0 }
 
 -- it is live, since its serial is not 0
-pub new-live : (n serial : ℕ) → 0 < serial → live (new-block n serial) ≡ true
-new-live n serial h = rw (ne-eqb serial 0 (λ e. omega arith))
+pub new-occupied : (n serial : ℕ) → 0 < serial → occupied (new-block n serial) ≡ true
+new-occupied n serial h = rw (ne-eqb serial 0 (λ e. omega arith))
+
+pub new-live : (n serial : ℕ) → 0 < serial → serial < QUARANTINED → live (new-block n serial) ≡ true
+new-live n serial h l = rw (ne-eqb serial 0 (λ e. omega arith), ne-eqb serial QUARANTINED (λ e. omega arith))
 
 module _ (base n serial at : ℕ) (b : Block) where
   -- what is left of a block in front of the new object
@@ -219,9 +223,12 @@ module _ (base n serial at : ℕ) (b : Block) where
 
   cut-long : 8 ≤ n → all long-enough (cut-block base n serial at b) ≡ true
   unfolding long-enough
-  cut-long h = cut-all long-enough (or-right (not (live (new-block n serial))) _ (le-leb 16 (size (new-block n serial)) (rw length-replicate (omega arith)))) (λ p. refl) (λ p. refl)
+  cut-long h =
+      cut-all long-enough (or-right (not (occupied (new-block n serial))) _ (le-leb 16 (size (new-block n serial)) (rw length-replicate (omega arith))))
+      (λ p. refl) (λ p. refl)
 
-  cut-apart : (bs : List Block) → live b ≡ false → live (new-block n serial) ≡ true → free-apart (b ∷ bs) ≡ true → free-apart (cut-block base n serial at b ++ bs) ≡ true
+  cut-apart : (bs : List Block) → occupied b ≡ false → occupied (new-block n serial) ≡ true → free-apart (b ∷ bs) ≡ true → free-apart
+      (cut-block base n serial at b ++ bs) ≡ true
   unfolding cut-block starts-free
   cut-apart bs eb new a =
       let apart : starts-free bs ≡ false = not-true (starts-free bs) (rw eb at (apart-head b bs a)) in
@@ -241,7 +248,7 @@ module _ {base n serial at : ℕ} {bs cs : List Block} (c : Carved base n serial
   carved-parts = rw append-assoc at (c .now)
 
   -- every live block stays
-  pub carved-keeps : (b : Block) → live b ≡ true → List·Memᴰ b bs → List·Memᴰ b cs
+  pub carved-keeps : (b : Block) → occupied b ≡ true → List·Memᴰ b bs → List·Memᴰ b cs
   carved-keeps b e m = rw (c .now) (go (List·Memᴰ·append-cases (c .front) (rw (c .split) at m)))
     where
       cut : List Block
@@ -279,7 +286,7 @@ module _ {base n serial at : ℕ} {bs cs : List Block} (c : Carved base n serial
       let here = apart-back (c .front) (c .block ∷ c .back) old in
       rw (c .now)
       (apart-replaced (c .front) (c .block) (c .back) (cut-block base n serial place (c .block) ++ c .back) (c .free) old
-      (cut-apart base n serial place (c .block) (c .back) (c .free) (new-live n serial new) here))
+      (cut-apart base n serial place (c .block) (c .back) (c .free) (new-occupied n serial new) here))
 
   -- rule 5.2: the blocks stay well cut
   pub carved-cut : 0 < serial → 8 ≤ n → well-cut bs ≡ true → well-cut cs ≡ true
@@ -312,22 +319,24 @@ module _ {base n serial at : ℕ} {bs cs : List Block} (c : Carved base n serial
         rw (c .now, c .split, total-append size (c .front) (cut ++ c .back), total-append size cut (c .back), total-append size (c .front) (c .block ∷ c .back), the-total)
 
     -- the objects are the old ones, in order, with the new one at one place
-    pub carved-objects : 0 < serial → Added (record { base = base; length = n; serial = serial }) (objects-from at bs) (objects-from at cs)
-    carved-objects new =
+    pub carved-objects : 0 < serial → serial < QUARANTINED → Added (record { base = base; length = n; serial = serial }) (objects-from at bs)
+        (objects-from at cs)
+    carved-objects new low =
         let cut = cut-block base n serial place (c .block) in
         let rest = objects-from (place + size (c .block)) (c .back) in
         let o : Handle = record { base = base; length = n; serial = serial } in
-        let the-cut = cut-objects base n serial place (c .block) place-whole block-whole aligned even (c .low) (c .high) (new-live n serial new) in
+        let the-cut = cut-objects base n serial place (c .block) place-whole block-whole aligned even (c .low) (c .high) (new-live n serial new low) in
         let between : objects-from place (cut ++ c .back) ≡ o ∷ rest = rw (objects-append place cut (c .back), the-cut, the-total) in
         record {
           front = objects-from at (c .front);
           back = rest;
-          old = rw (c .split, objects-append at (c .front) (c .block ∷ c .back), objects-free place (c .block) (c .back) (c .free));
+          old = rw (c .split, objects-append at (c .front) (c .block ∷ c .back), objects-free place (c .block) (c .back) (free-not-live (c .block) (c .free)));
           now = rw (c .now, objects-append at (c .front) (cut ++ c .back), between);
         }
 
 -- carving a suitable run out of a heap's blocks adds exactly the new object
-pub carve-objects : (base n serial : ℕ) (bs : List Block) → free-apart bs ≡ true → suitable (total size bs) bs n base ≡ true → Whole bs → base % 8 ≡ 0 → n % 8 ≡ 0 → 0 < serial
+pub carve-objects : (base n serial : ℕ) (bs : List Block) → free-apart bs ≡ true → suitable (total size bs) bs n base ≡ true → Whole bs → base % 8 ≡ 0
+    → n % 8 ≡ 0 → 0 < serial → serial < QUARANTINED
     → Added (record { base = base; length = n; serial = serial }) (objects bs) (objects (carve base n serial bs))
 unfolding objects
-carve-objects base n serial bs apart fits whole aligned even new = carved-objects (carved base n serial bs apart fits) refl whole aligned even new
+carve-objects base n serial bs apart fits whole aligned even new low = carved-objects (carved base n serial bs apart fits) refl whole aligned even new low

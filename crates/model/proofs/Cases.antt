@@ -4,9 +4,8 @@ use mathlib.Core.Path.{_≡_, refl}
 use mathlib.Core.List.{map}
 use Rattle.rounding.specs.Rounding.{unit}
 use Rattle.model.specs.Tables.{run, values-of, got, wanted, parts, accounts-of, written}
-use Rattle.model.specs.Cases.{opened-heap, block, with-gaps, used-heap, next-serial-last, shared, held-times, several, sixteen, copying}
-use Rattle.model.specs.Cases.{neighbours, narrowed}
-use Rattle.model.specs.Cases.{lengths, allocations, wide, claims, releases, reallocations, walks, clearings}
+use Rattle.model.specs.Cases.{opened-heap, block, with-gaps, used-heap, next-serial-last, shared, held-times, several, sixteen, copying, neighbours}
+use Rattle.model.specs.Cases.{narrowed, lengths, allocations, wide, claims, releases, reallocations, walks, clearings}
 use Rattle.model.proofs.Computing.{computing}
 
 pub lengths-run : map (got unit) lengths ≡ map wanted lengths

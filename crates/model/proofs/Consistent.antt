@@ -19,12 +19,15 @@ use Rattle.accounts.specs.declared.Hold.{Hold}
 use Rattle.accounts.specs.declared.Accounts.{Accounts}
 use Rattle.accounts.specs.Accounts.{QUOTAS, zero-quota, zero-hold, used, is-for, permissible, permissions}
 use Rattle.layout.specs.Bytes.{Octets}
-use Rattle.layout.specs.Blocks.{Block, size, live, render, parse, AllWritable}
+use Rattle.layout.specs.Blocks.{Block, size, QUARANTINED, live, occupied, render, parse, AllWritable}
 use Rattle.layout.proofs.Parse.{parse-is}
 use Rattle.model.specs.Lists.{all, any, or-else}
 use Rattle.model.specs.Answers.{zero-handle}
 use Rattle.model.specs.Objects.{objects, objects-of, blocks-of}
-use Rattle.model.specs.Consistent.{long-enough, starts-free, free-apart, well-cut, has-serial, serials-differ, serials-given, record-valid, records-differ, is-of, held, charges, balanced-from, consistent-blocks, consistent-parsed, consistent, sound, in-units}
+use Rattle.model.specs.Consistent.{long-enough, starts-free, free-apart, well-cut, has-serial, serials-differ, serials-given, record-valid}
+use Rattle.model.specs.Consistent.{records-differ, is-of, held, charges, balanced-from, consistent-blocks, consistent-parsed, consistent, sound}
+use Rattle.model.specs.Consistent.{in-units, in-kind}
+use Rattle.model.specs.Consistent.{in-range, greatest-serial}
 use Rattle.model.specs.declared.Handle.{Handle}
 use Rattle.model.proofs.Bools.{and-left, and-right, and-both, or-cases, or-left, or-right, implies, implied, fails}
 use Rattle.model.proofs.Lists.{all-member, member-all, none-member, all-exactly, any-exactly, any-and, unrelated, unrelated-places, places-unrelated}
@@ -49,8 +52,8 @@ Held hs serial = (h : Hold) × (List·Memᴰ h hs) × (used h ≡ true) × (h .s
 
 -- what they say
 pub record Facts (bs : List Block) (k : Accounts) : Type 0 where
-  pub long : (b : Block) → List·Memᴰ b bs → live b ≡ true → 16 ≤ size b
-  pub apart : (xs ys : List Block) (b c : Block) → bs ≡ xs ++ (b ∷ c ∷ ys) → live b ≡ false → live c ≡ false → ⊥
+  pub long : (b : Block) → List·Memᴰ b bs → occupied b ≡ true → 16 ≤ size b
+  pub apart : (xs ys : List Block) (b c : Block) → bs ≡ xs ++ (b ∷ c ∷ ys) → occupied b ≡ false → occupied c ≡ false → ⊥
   pub serials : (i j : ℕ) → i < j → j < length (objects bs) → getD (objects bs) i zero-handle .serial ≡ getD (objects bs) j zero-handle .serial → ⊥
   pub given : (o : Handle) → List·Memᴰ o (objects bs) → o .serial ≤ k .«last_serial»
   pub valid : (h : Hold) → List·Memᴰ h (k .holds) → used h ≡ true → Valid (objects bs) h
@@ -82,29 +85,33 @@ tests-exactly bs k = (there, λ t. rw (t .cut, t .differ, t .given, t .valid, t 
           balance = and-right (all (λ o. held (k .holds) (o .serial)) (objects bs)) _ e₅;
         }
 
--- rule 5.2, live blocks
-pub long-exactly : (bs : List Block) → (all long-enough bs ≡ true) ↔ ((b : Block) → List·Memᴰ b bs → live b ≡ true → 16 ≤ size b)
+-- rule 5.2, blocks that are not free
+pub long-exactly : (bs : List Block) → (all long-enough bs ≡ true) ↔ ((b : Block) → List·Memᴰ b bs → occupied b ≡ true → 16 ≤ size b)
 unfolding long-enough
 long-exactly =
-    all-exactly long-enough (λ b. live b ≡ true → 16 ≤ size b)
-    (λ b. (λ e l. leb-true 16 (size b) (implies (live b) (leb 16 (size b)) e l), λ f. implied (live b) (leb 16 (size b)) (λ l. le-leb 16 (size b) (f l))))
+    all-exactly long-enough (λ b. occupied b ≡ true → 16 ≤ size b)
+    (λ b. (
+      λ e l. leb-true 16 (size b) (implies (occupied b) (leb 16 (size b)) e l),
+      λ f. implied (occupied b) (leb 16 (size b))
+          (λ l. le-leb 16 (size b) (f l)),
+    ))
 
 -- rule 5.2, free blocks
 abbrev pub Apart : List Block → Type 0
-Apart bs = (xs ys : List Block) (b c : Block) → bs ≡ xs ++ (b ∷ c ∷ ys) → live b ≡ false → live c ≡ false → ⊥
+Apart bs = (xs ys : List Block) (b c : Block) → bs ≡ xs ++ (b ∷ c ∷ ys) → occupied b ≡ false → occupied c ≡ false → ⊥
 
-apart-at : (xs ys : List Block) (b c : Block) → free-apart (xs ++ (b ∷ c ∷ ys)) ≡ true → live b ≡ false → live c ≡ false → ⊥
+apart-at : (xs ys : List Block) (b c : Block) → free-apart (xs ++ (b ∷ c ∷ ys)) ≡ true → occupied b ≡ false → occupied c ≡ false → ⊥
 unfolding free-apart starts-free
 apart-at [] ys b c e eb ec = false≢true (rw (eb, ec) at e)
-apart-at (x ∷ xs) ys b c e eb ec = apart-at xs ys b c (and-right (live x || not (starts-free (xs ++ (b ∷ c ∷ ys)))) _ e) eb ec
+apart-at (x ∷ xs) ys b c e eb ec = apart-at xs ys b c (and-right (occupied x || not (starts-free (xs ++ (b ∷ c ∷ ys)))) _ e) eb ec
 
-apart-front : (b : Block) (bs : List Block) → Apart (b ∷ bs) → (x : Bool) → live b ≡ x → (live b || not (starts-free bs)) ≡ true
+apart-front : (b : Block) (bs : List Block) → Apart (b ∷ bs) → (x : Bool) → occupied b ≡ x → (occupied b || not (starts-free bs)) ≡ true
 unfolding starts-free
 apart-front b bs f true e = rw e
 apart-front b [] f false e = rw e
-apart-front b (c ∷ cs) f false e = rw e (go (live c) refl)
+apart-front b (c ∷ cs) f false e = rw e (go (occupied c) refl)
   where
-    go : (y : Bool) → live c ≡ y → not (not (live c)) ≡ true
+    go : (y : Bool) → occupied c ≡ y → not (not (occupied c)) ≡ true
     go true ec = rw ec
     go false ec = absurd (f [] cs b c refl e ec)
 
@@ -112,7 +119,7 @@ apart-all : (bs : List Block) → Apart bs → free-apart bs ≡ true
 unfolding free-apart
 apart-all [] f = refl
 apart-all (b ∷ bs) f =
-    and-both (live b || not (starts-free bs)) (free-apart bs) (apart-front b bs f (live b) refl)
+    and-both (occupied b || not (starts-free bs)) (free-apart bs) (apart-front b bs f (occupied b) refl)
     (apart-all bs (λ xs ys c d e. f (b ∷ xs) ys c d (ap (λ (l : List Block). b ∷ l) e)))
 
 pub apart-exactly : (bs : List Block) → (free-apart bs ≡ true) ↔ Apart bs
@@ -329,15 +336,47 @@ consistent-is s k o = (
   λ c. consistent-exactly s k .1 (c .blocks, parse-is s (c .blocks) o .1 (c .cut, c .writable), facts-exactly (c .blocks) k .1 (c .facts)),
 )
 
--- what is sound is consistent, each of its objects fits its unit, and each quota's permissions are such
-pub sound-consistent : (unit : ℕ → ℕ) (s : List ℕ) (k : Accounts) → sound unit s k ≡ true → consistent s k ≡ true
-unfolding sound
-sound-consistent unit s k e = and-left (consistent s k) _ e
+-- what is sound is consistent, each of its objects fits its unit, each quota's permissions are such, each block is of the kind, and the numbers are in range
+module _ (unit : ℕ → ℕ) (s : List ℕ) (k : Accounts) (e : sound unit s k ≡ true) where
+  pub sound-consistent : consistent s k ≡ true
+  unfolding sound
+  sound-consistent = and-left (consistent s k) _ e
 
-pub sound-fits : (unit : ℕ → ℕ) (s : List ℕ) (k : Accounts) → sound unit s k ≡ true → (o : Handle) → List·Memᴰ o (objects-of s) → in-units unit o ≡ true
-unfolding sound
-sound-fits unit s k e = all-member (in-units unit) (objects-of s) (and-left (all (in-units unit) (objects-of s)) _ (and-right (consistent s k) _ e))
+  sound-settings : all (in-units unit) (objects-of s) && (all permissible (permissions k) && (all (in-kind (k .kind)) (blocks-of s) && in-range k)) ≡ true
+  unfolding sound
+  sound-settings = and-right (consistent s k) _ e
 
-pub sound-permissible : (unit : ℕ → ℕ) (s : List ℕ) (k : Accounts) → sound unit s k ≡ true → all permissible (permissions k) ≡ true
-unfolding sound
-sound-permissible unit s k e = and-right (all (in-units unit) (objects-of s)) _ (and-right (consistent s k) _ e)
+  pub sound-fits : (o : Handle) → List·Memᴰ o (objects-of s) → in-units unit o ≡ true
+  sound-fits = all-member (in-units unit) (objects-of s) (and-left (all (in-units unit) (objects-of s)) _ sound-settings)
+
+  pub sound-permissible : all permissible (permissions k) ≡ true
+  sound-permissible = and-left (all permissible (permissions k)) _ (and-right (all (in-units unit) (objects-of s)) _ sound-settings)
+
+  pub sound-kinds : all (in-kind (k .kind)) (blocks-of s) ≡ true
+  sound-kinds =
+      and-left (all (in-kind (k .kind)) (blocks-of s)) _
+      (and-right (all permissible (permissions k)) _ (and-right (all (in-units unit) (objects-of s)) _ sound-settings))
+
+  pub sound-range : in-range k ≡ true
+  sound-range =
+      and-right (all (in-kind (k .kind)) (blocks-of s)) _
+      (and-right (all permissible (permissions k)) _ (and-right (all (in-units unit) (objects-of s)) _ sound-settings))
+
+-- accounts in range: the last serial and the kind; and others that are in range with them
+module _ (k : Accounts) (e : in-range k ≡ true) where
+  pub range-serial : k .«last_serial» < QUARANTINED
+  unfolding in-range
+  range-serial = omega (arith, leb-true (k .«last_serial») greatest-serial (and-left (leb (k .«last_serial») greatest-serial) _ e))
+
+  pub range-kind : k .kind < 2
+  unfolding in-range
+  range-kind = ltb-true (k .kind) 2 (and-right (leb (k .«last_serial») greatest-serial) _ e)
+
+  pub range-next : (r : Accounts) → r .kind ≡ k .kind → r .«last_serial» < QUARANTINED → in-range r ≡ true
+  unfolding in-range
+  range-next r same l =
+      and-both (leb (r .«last_serial») greatest-serial) _ (le-leb (r .«last_serial») greatest-serial (omega arith))
+      (rw same (and-right (leb (k .«last_serial») greatest-serial) _ e))
+
+  pub range-like : (r : Accounts) → r .kind ≡ k .kind → r .«last_serial» ≡ k .«last_serial» → in-range r ≡ true
+  range-like r same l = range-next r same (rw l range-serial)

@@ -59,7 +59,7 @@ module _ (s : List ℕ) (k : Accounts) (o : Octets s) (c : consistent s k ≡ tr
   freed-none =
       λ i.
       record {
-        blocks = settle-none q (k .holds) (blocks-of s) none stay (consistent-apart s k c) i;
+        blocks = settle-none (k .kind) q (k .holds) (blocks-of s) none stay (consistent-apart s k c) i;
         accounts = with-holds (drop-none q (k .holds) none i) (refund-nothing q k i);
       }
 

@@ -10,14 +10,14 @@ use mathlib.Core.Bool.{Bool, true, false, not, cond, _&&_, _||_, or-true, false�
 use lib.ListN.{replicate, length-append, length-replicate}
 use lib.Dec.{lit<}
 use borrow.Author.Tests.{eqb-true, eq-eqb}
-use Rattle.layout.specs.Blocks.{Block, size, live, Writable, AllWritable}
+use Rattle.layout.specs.Blocks.{Block, size, live, Writable, AllWritable, occupied}
 use Rattle.model.specs.Lists.{all, total}
 use Rattle.model.specs.Objects.{objects-from}
 use Rattle.model.specs.Consistent.{long-enough, starts-free, free-apart}
 use Rattle.model.specs.Space.{join-front, join-free}
 use Rattle.model.specs.Joining.{append-joined, join-neighbours}
 use Rattle.model.proofs.Bools.{and-left, and-right, and-both}
-use Rattle.model.proofs.Blocks.{whole-size, Whole, objects-free, apart-head, apart-tail, apart-cons}
+use Rattle.model.proofs.Blocks.{whole-size, Whole, objects-free, apart-head, apart-tail, apart-cons, free-not-live}
 
 -- two free blocks as one
 abbrev pub joined : Block → Block → Block
@@ -28,24 +28,24 @@ pub joined-size : (b c : Block) → size (joined b c) ≡ size b + size c
 joined-size b c = simp (length-append, length-replicate) (omega arith)
 
 -- what holds of a block in front of others as it is, and of two free blocks as one, holds once they are joined
-pub join-elim : (P : List Block → Type 0) (b : Block) (cs : List Block) → ((live b || not (starts-free cs)) ≡ true → P (b ∷ cs))
-    → ((d : Block) (ds : List Block) → live b ≡ false → live d ≡ false → cs ≡ d ∷ ds → P (joined b d ∷ ds)) → P (join-front b cs)
+pub join-elim : (P : List Block → Type 0) (b : Block) (cs : List Block) → ((occupied b || not (starts-free cs)) ≡ true → P (b ∷ cs))
+    → ((d : Block) (ds : List Block) → occupied b ≡ false → occupied d ≡ false → cs ≡ d ∷ ds → P (joined b d ∷ ds)) → P (join-front b cs)
 unfolding join-front starts-free
-join-elim P b [] f g = f (or-true (live b))
-join-elim P b (c ∷ cs) f g = go (live b) (live c) refl refl
+join-elim P b [] f g = f (or-true (occupied b))
+join-elim P b (c ∷ cs) f g = go (occupied b) (occupied c) refl refl
   where
-    go : (x y : Bool) → live b ≡ x → live c ≡ y → P (join-front b (c ∷ cs))
+    go : (x y : Bool) → occupied b ≡ x → occupied c ≡ y → P (join-front b (c ∷ cs))
     go true y eb ec = rw eb (f (rw eb))
     go false true eb ec = rw (eb, ec) (f (rw (eb, ec)))
     go false false eb ec = rw (eb, ec) (g c cs eb ec refl)
 
 -- a block stays as it is if it is live or what stands behind it does not start free
-pub join-apart : (b : Block) (cs : List Block) → (live b || not (starts-free cs)) ≡ true → join-front b cs ≡ b ∷ cs
+pub join-apart : (b : Block) (cs : List Block) → (occupied b || not (starts-free cs)) ≡ true → join-front b cs ≡ b ∷ cs
 unfolding starts-free
 join-apart b cs e = join-elim (λ l. l ≡ b ∷ cs) b cs (λ k. refl) (λ d ds eb ed k. absurd (false≢true (rw (eb, k, ed) at e)))
 
 -- two free blocks become one
-pub join-both : (b c : Block) (cs : List Block) → live b ≡ false → live c ≡ false → join-front b (c ∷ cs) ≡ joined b c ∷ cs
+pub join-both : (b c : Block) (cs : List Block) → occupied b ≡ false → occupied c ≡ false → join-front b (c ∷ cs) ≡ joined b c ∷ cs
 unfolding join-front
 join-both b c cs eb ec = rw (eb, ec)
 
@@ -53,10 +53,11 @@ front-objects : (at : ℕ) (b : Block) (cs : List Block) → objects-from at (jo
 front-objects at b cs =
     join-elim (λ l. objects-from at l ≡ objects-from at (b ∷ cs)) b cs (λ e. refl)
     (λ d ds eb ed e.
-    (rw (e, objects-free at b (d ∷ ds) eb, objects-free (at + size b) d ds ed, objects-free at (joined b d) ds refl)
+    (rw (e, objects-free at b (d ∷ ds) (free-not-live b eb), objects-free (at + size b) d ds (free-not-live d ed), objects-free at (joined b d) ds refl)
     (ap (λ (k : ℕ). objects-from k ds) (omega (arith, joined-size b d)))))
 
-objects-cong : (at : ℕ) (b : Block) (xs ys : List Block) → objects-from (at + size b) xs ≡ objects-from (at + size b) ys → objects-from at (b ∷ xs) ≡ objects-from at (b ∷ ys)
+pub objects-cong : (at : ℕ) (b : Block) (xs ys : List Block) → objects-from (at + size b) xs ≡ objects-from (at + size b) ys → objects-from at (b ∷ xs)
+    ≡ objects-from at (b ∷ ys)
 unfolding objects-from
 objects-cong at b xs ys e = rw e
 
@@ -150,23 +151,23 @@ join-same [] a = refl
 join-same (b ∷ bs) a = rw (join-same bs (apart-tail b bs a)) (join-apart b bs (apart-head b bs a))
 
 -- joining two blocks and then what stands behind them is joining it to the second and then to the first
-pub join-assoc : (b c : Block) (ds : List Block) → live b ≡ false → live c ≡ false → join-front (joined b c) ds ≡ join-front b (join-front c ds)
+pub join-assoc : (b c : Block) (ds : List Block) → occupied b ≡ false → occupied c ≡ false → join-front (joined b c) ds ≡ join-front b (join-front c ds)
 unfolding starts-free
-join-assoc b c [] eb ec = rw (join-apart (joined b c) [] refl, join-apart c [] (or-true (live c)), join-both b c [] eb ec)
-join-assoc b c (d ∷ ds) eb ec = go (live d) refl
+join-assoc b c [] eb ec = rw (join-apart (joined b c) [] refl, join-apart c [] (or-true (occupied c)), join-both b c [] eb ec)
+join-assoc b c (d ∷ ds) eb ec = go (occupied d) refl
   where
-    go : (x : Bool) → live d ≡ x → join-front (joined b c) (d ∷ ds) ≡ join-front b (join-front c (d ∷ ds))
+    go : (x : Bool) → occupied d ≡ x → join-front (joined b c) (d ∷ ds) ≡ join-front b (join-front c (d ∷ ds))
     go true ed = rw (join-apart (joined b c) (d ∷ ds) (rw ed), join-apart c (d ∷ ds) (rw (ec, ed)), join-both b c (d ∷ ds) eb ec)
     go false ed =
         rw (join-both (joined b c) d ds refl ed, join-both c d ds ec ed, join-both b (joined c d) ds eb refl)
         (ap (λ (l : List ℕ). record { serial = 0; body = l } ∷ ds) (simp append-assoc))
 
 -- what begins with a block begins free exactly if that block is free
-front-starts : (b : Block) (cs : List Block) → starts-free (join-front b cs) ≡ not (live b)
+front-starts : (b : Block) (cs : List Block) → starts-free (join-front b cs) ≡ not (occupied b)
 unfolding starts-free
-front-starts b cs = join-elim (λ l. starts-free l ≡ not (live b)) b cs (λ e. refl) (λ d ds eb ed e. rw eb)
+front-starts b cs = join-elim (λ l. starts-free l ≡ not (occupied b)) b cs (λ e. refl) (λ d ds eb ed e. rw eb)
 
-appended-starts : (x : Block) (xs ys : List Block) → starts-free (append-joined (x ∷ xs) ys) ≡ not (live x)
+appended-starts : (x : Block) (xs ys : List Block) → starts-free (append-joined (x ∷ xs) ys) ≡ not (occupied x)
 unfolding append-joined starts-free
 appended-starts x [] ys = front-starts x ys
 appended-starts x (y ∷ xs) ys = refl
@@ -185,7 +186,7 @@ join-replaced (x ∷ (y ∷ xs)) b v ys a =
 
 front-split : (x c : Block) (zs : List Block) → join-front x (c ∷ zs) ≡ join-front x (c ∷ []) ++ zs
 unfolding join-front
-front-split x c zs = go (live x || live c)
+front-split x c zs = go (occupied x || occupied c)
   where
     go : (t : Bool) → cond t (x ∷ c ∷ zs) (joined x c ∷ zs) ≡ cond t (x ∷ c ∷ []) (joined x c ∷ []) ++ zs
     go true = refl

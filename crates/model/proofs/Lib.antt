@@ -4,6 +4,7 @@ pub mod Cases
 pub mod Units
 pub mod Lines
 pub mod Inconsistent
+pub mod Quarantine
 pub mod Bools
 pub mod Lists
 pub mod Base
@@ -23,4 +24,5 @@ pub mod Narrowing
 pub mod Listing
 pub mod Same
 pub mod SettleBytes
+pub mod Sweep
 pub mod FreeAll

@@ -19,6 +19,7 @@ use Rattle.model.specs.Lists.{first}
 use Rattle.model.specs.Objects.{object, objects-from, objects, blocks-of, objects-of, whole, names, lookup, lookup-whole}
 use Rattle.model.specs.Consistent.{consistent, has-serial, serials-differ, records-differ}
 use Rattle.model.specs.declared.Handle.{Handle}
+use Rattle.model.proofs.Blocks.{live-occupied}
 use Rattle.model.proofs.Bools.{and-left, and-right, and-both}
 use Rattle.model.proofs.Lists.{first-some, first-none, first-found, member-any, search-some, search-none, unrelated-same}
 use Rattle.model.proofs.Consistent.{is-for-exactly, serials-unrelated, records-unrelated, same-hold, tests-exactly, consistent-cut, consistent-facts}
@@ -132,4 +133,4 @@ long-objects at (b ∷ bs) f o m = go (live b) refl (long-objects (at + size b) 
 
 pub consistent-byte : (s : List ℕ) (k : Accounts) → consistent s k ≡ true → (o : Handle) → List·Memᴰ o (objects-of s) → 1 ≤ o .length
 unfolding objects-of objects
-consistent-byte s k e = long-objects 0 (blocks-of s) (consistent-facts s k e .long)
+consistent-byte s k e = long-objects 0 (blocks-of s) (λ b m l. consistent-facts s k e .long b m (live-occupied b l))

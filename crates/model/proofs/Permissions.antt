@@ -27,12 +27,12 @@ use Rattle.model.specs.Holds.{take-record, raise-count}
 use Rattle.model.specs.Refusals.{first-refusal, claims-first, quota-lines, free-all-lines, release-lines, claim-lines, allocate-lines, reallocate-lines}
 use Rattle.model.specs.Refusals.{lend-lines, check-lines}
 use Rattle.model.specs.Calls.{Outcome, State, unless, state-of, allocated, claimed, given-back, released, freed, copied, new-object, allocate}
-use Rattle.model.specs.Calls.{allocate-array, claim, release, free-all, reallocate, lend, remaining-of, can-release, list-block, clear}
+use Rattle.model.specs.Calls.{allocate-array, claim, release, free-all, sweep, reallocate, lend, remaining-of, can-release, list-block, clear}
 use Rattle.model.specs.Step.{step}
 use Rattle.model.specs.declared.Handle.{Handle}
 use Rattle.model.specs.declared.Call.{Call}
 use Rattle.model.specs.declared.Call.the-variants.{Allocate, AllocateArray, Claim, Release, FreeAll, Reallocate, Lend, Remaining, CanRelease, ListBlock}
-use Rattle.model.specs.declared.Call.the-variants.{ClearPermissions}
+use Rattle.model.specs.declared.Call.the-variants.{ClearPermissions, Sweep}
 use Rattle.model.proofs.Bools.{and-both, and-left, and-right, and-no, and-yes}
 
 -- payments leave the permissions
@@ -88,6 +88,7 @@ clears (AllocateArray q count size) = false
 clears (Claim q h) = false
 clears (Release q h) = false
 clears (FreeAll q) = false
+clears Sweep = false
 clears (Reallocate q h n) = false
 clears (Lend h) = false
 clears (Remaining q) = false
@@ -98,7 +99,7 @@ clears (ClearPermissions q n) = true
 module _ (unit : ℕ → ℕ) where
   -- every other call keeps each quota's permissions
   pub step-permissions : (c : Call) (s : List ℕ) (k : Accounts) → clears c ≡ false → permissions (step unit c s k .accounts) ≡ permissions k
-  unfolding step allocate allocate-array claim release free-all reallocate lend remaining-of can-release list-block
+  unfolding step allocate allocate-array claim release free-all sweep reallocate lend remaining-of can-release list-block
   step-permissions (Allocate q n) s k e =
       unless-permissions (first-refusal (allocate-lines unit s k q n)) s k _ (allocated-permissions q (new-object unit s k n) (state-of s k))
   step-permissions (AllocateArray q count size) s k e =
@@ -109,6 +110,7 @@ module _ (unit : ℕ → ℕ) where
       unless-permissions (first-refusal (release-lines unit s k q h)) s k _ (released-permissions q (found (lookup h s)) (state-of s k))
   step-permissions (FreeAll q) s k e =
       unless-permissions (first-refusal (free-all-lines unit s k q)) s k _ (freed-permissions q (charges (k .holds) q (objects-of s)) (state-of s k))
+  step-permissions Sweep s k e = unless-permissions (first-refusal (check-lines unit s k)) s k _ refl
   step-permissions (Reallocate q h n) s k e =
       let old = found (lookup-whole h s) in
       let new = new-object unit s k n in
@@ -235,6 +237,7 @@ module _ (unit : ℕ → ℕ) where
   step-sets-none (Claim q h) s k j bit b e = sym (same-permits bit j k _ (step-permissions unit (Claim q h) s k refl)) ∙ e
   step-sets-none (Release q h) s k j bit b e = sym (same-permits bit j k _ (step-permissions unit (Release q h) s k refl)) ∙ e
   step-sets-none (FreeAll q) s k j bit b e = sym (same-permits bit j k _ (step-permissions unit (FreeAll q) s k refl)) ∙ e
+  step-sets-none Sweep s k j bit b e = sym (same-permits bit j k _ (step-permissions unit Sweep s k refl)) ∙ e
   step-sets-none (Reallocate q h n) s k j bit b e = sym (same-permits bit j k _ (step-permissions unit (Reallocate q h n) s k refl)) ∙ e
   step-sets-none (Lend h) s k j bit b e = sym (same-permits bit j k _ (step-permissions unit (Lend h) s k refl)) ∙ e
   step-sets-none (Remaining q) s k j bit b e = sym (same-permits bit j k _ (step-permissions unit (Remaining q) s k refl)) ∙ e
@@ -253,6 +256,7 @@ module _ (unit : ℕ → ℕ) where
       cleared-by (Claim q h) e = absurd (false≢true e)
       cleared-by (Release q h) e = absurd (false≢true e)
       cleared-by (FreeAll q) e = absurd (false≢true e)
+      cleared-by Sweep e = absurd (false≢true e)
       cleared-by (Reallocate q h n) e = absurd (false≢true e)
       cleared-by (Lend h) e = absurd (false≢true e)
       cleared-by (Remaining q) e = absurd (false≢true e)

@@ -12,6 +12,7 @@ use mathlib.Core.Logic.{_↔_}
 use lib.Dec.{leb}
 use borrow.Author.Tests.{leb-true}
 use Rattle.accounts.specs.declared.Accounts.{Accounts}
+use Rattle.accounts.specs.declared.Settings.{Settings}
 use Rattle.accounts.specs.Accounts.{zero-accounts}
 use Rattle.model.specs.Lists.{all, any}
 use Rattle.model.specs.Answers.{Values, refused}
@@ -19,12 +20,12 @@ use Rattle.model.specs.Refusals.{Line, _when_, line-number, line-holds, 
 use Rattle.model.specs.Refusals.{line-9, line-10, line-11, line-12, only-if, open-lines, check-lines, quota-lines, free-all-lines, lend-lines}
 use Rattle.model.specs.Refusals.{release-lines, claim-lines, allocate-lines, reallocate-lines}
 use Rattle.model.specs.Calls.{Outcome, unless, unchanged, open-heap, allocate, allocate-array, claim, release, free-all, reallocate, lend, remaining-of}
-use Rattle.model.specs.Calls.{can-release, check, list-block, clear}
+use Rattle.model.specs.Calls.{can-release, check, list-block, clear, sweep}
 use Rattle.model.specs.Step.{step}
 use Rattle.model.specs.declared.Handle.{Handle}
 use Rattle.model.specs.declared.Call.{Call}
 use Rattle.model.specs.declared.Call.the-variants.{Allocate, AllocateArray, Claim, Release, FreeAll, Reallocate, Lend, Remaining, CanRelease, ListBlock}
-use Rattle.model.specs.declared.Call.the-variants.{ClearPermissions}
+use Rattle.model.specs.declared.Call.the-variants.{ClearPermissions, Sweep}
 use Rattle.model.proofs.Bools.{and-left, and-right}
 
 -- no line has the number 0, which stands for no refusal
@@ -99,6 +100,7 @@ lines-of unit (AllocateArray q count size) s k = allocate-lines unit s k q (coun
 lines-of unit (Claim q h) s k = claim-lines unit s k q h
 lines-of unit (Release q h) s k = release-lines unit s k q h
 lines-of unit (FreeAll q) s k = free-all-lines unit s k q
+lines-of unit Sweep s k = check-lines unit s k
 lines-of unit (Reallocate q h n) s k = reallocate-lines unit s k q h n
 lines-of unit (Lend h) s k = lend-lines unit s k h
 lines-of unit (Remaining q) s k = quota-lines unit s k q
@@ -115,12 +117,13 @@ pub record ByLines (ls : List Line) (s : List ℕ) (k : Accounts) (t : Outcome) 
 
 -- every call is given by its lines
 pub by-lines : (unit : ℕ → ℕ) (c : Call) (s : List ℕ) (k : Accounts) → ByLines (lines-of unit c s k) s k (step unit c s k)
-unfolding all tables step allocate allocate-array claim release free-all reallocate lend remaining-of can-release list-block clear
+unfolding all tables step allocate allocate-array claim release free-all sweep reallocate lend remaining-of can-release list-block clear
 by-lines unit (Allocate q n) s k = record { done = _; outcome = refl; accepts = refl; numbered = refl }
 by-lines unit (AllocateArray q count size) s k = record { done = _; outcome = refl; accepts = refl; numbered = refl }
 by-lines unit (Claim q h) s k = record { done = _; outcome = refl; accepts = refl; numbered = refl }
 by-lines unit (Release q h) s k = record { done = _; outcome = refl; accepts = refl; numbered = refl }
 by-lines unit (FreeAll q) s k = record { done = _; outcome = refl; accepts = refl; numbered = refl }
+by-lines unit Sweep s k = record { done = _; outcome = refl; accepts = refl; numbered = refl }
 by-lines unit (Reallocate q h n) s k = record { done = _; outcome = refl; accepts = refl; numbered = refl }
 by-lines unit (Lend h) s k = record { done = _; outcome = refl; accepts = refl; numbered = refl }
 by-lines unit (Remaining q) s k = record { done = _; outcome = refl; accepts = refl; numbered = refl }
@@ -129,9 +132,9 @@ by-lines unit (ListBlock at) s k = record { done = _; outcome = refl; accepts = 
 by-lines unit (ClearPermissions q n) s k = record { done = _; outcome = refl; accepts = refl; numbered = refl }
 
 -- so are open, which hands back accounts of zeros, and the check
-pub open-by-lines : (s grants : List ℕ) → ByLines (open-lines s) s zero-accounts (open-heap s grants)
+pub open-by-lines : (g : Settings) (s grants : List ℕ) → ByLines (open-lines s) s zero-accounts (open-heap g s grants)
 unfolding all tables open-heap
-open-by-lines s grants = record { done = _; outcome = refl; accepts = refl; numbered = refl }
+open-by-lines g s grants = record { done = _; outcome = refl; accepts = refl; numbered = refl }
 
 pub check-by-lines : (unit : ℕ → ℕ) (s : List ℕ) (k : Accounts) → ByLines (check-lines unit s k) s k (check unit s k)
 unfolding all tables check
@@ -192,8 +195,9 @@ pub refused-changes-nothing : (unit : ℕ → ℕ) (c : Call) (s : List ℕ) (k 
     → step unit c s k ≡ unchanged s k (refused (suc n))
 refused-changes-nothing unit c s k = refused-unchanged (by-lines unit c s k)
 
-pub refused-open : (s grants : List ℕ) (n : ℕ) → open-heap s grants .values .refusal ≡ suc n → open-heap s grants ≡ unchanged s zero-accounts (refused (suc n))
-refused-open s grants = refused-unchanged (open-by-lines s grants)
+pub refused-open : (g : Settings) (s grants : List ℕ) (n : ℕ) → open-heap g s grants .values .refusal ≡ suc n → open-heap g s grants
+    ≡ unchanged s zero-accounts (refused (suc n))
+refused-open g s grants = refused-unchanged (open-by-lines g s grants)
 
 -- heap and accounts are the same as before
 abbrev pub Kept : List ℕ → Accounts → Outcome → Type 0

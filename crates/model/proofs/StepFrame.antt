@@ -17,12 +17,12 @@ use Rattle.model.specs.Holds.{take-record, raise-count}
 use Rattle.model.specs.Refusals.{first-refusal, claims-first, quota-lines, free-all-lines, release-lines, claim-lines, allocate-lines, reallocate-lines}
 use Rattle.model.specs.Refusals.{lend-lines, check-lines}
 use Rattle.model.specs.Calls.{Outcome, unless, state-of, allocated, claimed, given-back, released, freed, copied, new-object, allocate, allocate-array}
-use Rattle.model.specs.Calls.{claim, release, free-all, reallocate, lend, remaining-of, can-release, list-block, clear}
+use Rattle.model.specs.Calls.{claim, release, free-all, reallocate, lend, remaining-of, can-release, list-block, clear, sweep}
 use Rattle.model.specs.Step.{step}
 use Rattle.model.specs.declared.Handle.{Handle}
 use Rattle.model.specs.declared.Call.{Call}
 use Rattle.model.specs.declared.Call.the-variants.{Allocate, AllocateArray, Claim, Release, FreeAll, Reallocate, Lend, Remaining, CanRelease, ListBlock}
-use Rattle.model.specs.declared.Call.the-variants.{ClearPermissions}
+use Rattle.model.specs.declared.Call.the-variants.{ClearPermissions, Sweep}
 use Rattle.model.proofs.Frame.{Kept, kept-quotas, kept-same, beside-unused, beside-claim, beside-both, other-record, other-quota, allocated-keeps}
 use Rattle.model.proofs.Frame.{claimed-keeps, released-keeps, reallocated-keeps, freed-keeps, clear-keeps}
 
@@ -33,6 +33,7 @@ pays (AllocateArray q count size) j = eqb q j
 pays (Claim q h) j = eqb q j
 pays (Release q h) j = eqb q j
 pays (FreeAll q) j = eqb q j
+pays Sweep j = false
 pays (Reallocate q h n) j = eqb q j
 pays (Lend h) j = false
 pays (Remaining q) j = false
@@ -47,6 +48,7 @@ bystander (AllocateArray q count size) s k i = beside-unused (k .holds) i
 bystander (Claim q h) s k i = beside-claim q (found (lookup h s)) k i
 bystander (Release q h) s k i = other-record (found (lookup h s) .serial) q (k .holds) i
 bystander (FreeAll q) s k i = other-quota q (k .holds) i
+bystander Sweep s k i = true
 bystander (Reallocate q h n) s k i = beside-both q (found (lookup-whole h s)) k i
 bystander (Lend h) s k i = true
 bystander (Remaining q) s k i = true
@@ -62,7 +64,7 @@ unless-keeps w p (suc n) s k done a = kept-same w p k
 module _ (unit : ℕ → ℕ) where
   -- each call keeps every grant, every other quota, every record at another place, and how many quotas and records there are
   pub step-keeps : (c : Call) (s : List ℕ) (k : Accounts) → Kept (pays c) (bystander c s k) k (step unit c s k .accounts)
-  unfolding step allocate allocate-array claim release free-all reallocate lend remaining-of can-release list-block clear
+  unfolding step allocate allocate-array claim release free-all sweep reallocate lend remaining-of can-release list-block clear
   step-keeps (Allocate q n) s k =
       unless-keeps (eqb q) (beside-unused (k .holds)) (first-refusal (allocate-lines unit s k q n)) s k _
       (allocated-keeps q (new-object unit s k n) (state-of s k))
@@ -77,6 +79,7 @@ module _ (unit : ℕ → ℕ) where
   step-keeps (FreeAll q) s k =
       unless-keeps (eqb q) (other-quota q (k .holds)) (first-refusal (free-all-lines unit s k q)) s k _
       (freed-keeps q (charges (k .holds) q (objects-of s)) (state-of s k))
+  step-keeps Sweep s k = unless-keeps (λ j. false) (λ x. true) (first-refusal (check-lines unit s k)) s k _ (kept-same _ _ k)
   step-keeps (Reallocate q h n) s k =
       unless-keeps (eqb q) (beside-both q (found (lookup-whole h s)) k) (first-refusal (reallocate-lines unit s k q h n)) s k _
       (reallocated-keeps q (found (lookup-whole h s)) (new-object unit s k n) (state-of s k))
@@ -129,6 +132,7 @@ serials-given-by (AllocateArray q count size) r = one-if-accepted r
 serials-given-by (Claim q h) r = 0
 serials-given-by (Release q h) r = 0
 serials-given-by (FreeAll q) r = 0
+serials-given-by Sweep r = 0
 serials-given-by (Reallocate q h n) r = one-if-accepted r
 serials-given-by (Lend h) r = 0
 serials-given-by (Remaining q) r = 0
@@ -151,13 +155,14 @@ unless-next (suc n) s k done z e = sym (add-zero (k .«last_serial»))
 module _ (unit : ℕ → ℕ) where
   pub step-serial : (c : Call) (s : List ℕ) (k : Accounts)
       → step unit c s k .accounts .«last_serial» ≡ k .«last_serial» + serials-given-by c (step unit c s k .values .refusal)
-  unfolding step allocate allocate-array claim release free-all reallocate lend remaining-of can-release list-block clear
+  unfolding step allocate allocate-array claim release free-all sweep reallocate lend remaining-of can-release list-block clear
       allocated released freed copied new-object
   step-serial (Allocate q n) s k = unless-next (first-refusal (allocate-lines unit s k q n)) s k _ refl refl
   step-serial (AllocateArray q count size) s k = unless-next (first-refusal (allocate-lines unit s k q (count * size))) s k _ refl refl
   step-serial (Claim q h) s k = unless-same (first-refusal (claim-lines unit s k q h)) s k _ (claimed-serial q (found (lookup h s)) k)
   step-serial (Release q h) s k = unless-same (first-refusal (release-lines unit s k q h)) s k _ (refund-serial q (given-back q (found (lookup h s)) k) k)
   step-serial (FreeAll q) s k = unless-same (first-refusal (free-all-lines unit s k q)) s k _ (refund-serial q (charges (k .holds) q (objects-of s)) k)
+  step-serial Sweep s k = unless-same (first-refusal (check-lines unit s k)) s k _ refl
   step-serial (Reallocate q h n) s k =
       unless-next (first-refusal (reallocate-lines unit s k q h n)) s k _ refl (refund-serial q _ (allocated q (new-object unit s k n) (state-of s k) .accounts))
   step-serial (Lend h) s k = unless-same (first-refusal (lend-lines unit s k h)) s k _ refl

@@ -26,7 +26,7 @@ use Rattle.model.specs.declared.Answer.{Answer}
 use Rattle.model.specs.declared.Answer.the-variants.{Verdict as OfVerdict, Handle as OfHandle, Amount as OfAmount, Range as OfRange, Block as OfBlock}
 use Rattle.model.specs.declared.Call.{Call}
 use Rattle.model.specs.declared.Call.the-variants.{Allocate, AllocateArray, Claim, Release, FreeAll, Reallocate, Lend, Remaining, CanRelease, ListBlock}
-use Rattle.model.specs.declared.Call.the-variants.{ClearPermissions}
+use Rattle.model.specs.declared.Call.the-variants.{ClearPermissions, Sweep}
 
 -- rule 7.1
 abbrev pub refusal-number : Refusal → ℕ
@@ -147,6 +147,7 @@ answer-of (AllocateArray q count size) v = OfHandle (handle-from v)
 answer-of (Claim q h) v = OfAmount (amount-from v)
 answer-of (Release q h) v = OfAmount (amount-from v)
 answer-of (FreeAll q) v = OfAmount (amount-from v)
+answer-of Sweep v = OfAmount (amount-from v)
 answer-of (Reallocate q h n) v = OfHandle (handle-from v)
 answer-of (Lend h) v = OfRange (range-from v)
 answer-of (Remaining q) v = OfAmount (amount-from v)

@@ -5,15 +5,16 @@ use mathlib.Core.Bool.{cond}
 use lib.ListN.{length, replicate}
 use lib.Dec.{eqb}
 use Rattle.accounts.specs.declared.Accounts.{Accounts}
+use Rattle.accounts.specs.declared.Settings.{Settings}
 use Rattle.accounts.specs.Accounts.{zero-accounts, opened, with-holds, with-last-serial, charge, refund, remaining, drop-records, left-permissions}
 use Rattle.accounts.specs.Accounts.{clear-permissions}
-use Rattle.layout.specs.Blocks.{Block, size, render}
+use Rattle.layout.specs.Blocks.{Block, size, render, quarantined}
 use Rattle.rounding.specs.Rounding.{object-length}
-use Rattle.model.specs.Lists.{first, or-else}
+use Rattle.model.specs.Lists.{first, or-else, total, keep}
 use Rattle.model.specs.Answers.{Values, refused, accepted, given, amount-of, lent, listed}
 use Rattle.model.specs.Objects.{blocks-of, objects-of, lookup, lookup-whole, found}
 use Rattle.model.specs.Consistent.{charge-of, charges}
-use Rattle.model.specs.Space.{carve, settle, body-of, copy-into}
+use Rattle.model.specs.Space.{carve, settle, swept, body-of, copy-into}
 use Rattle.model.specs.Holds.{count-of, take-record, raise-count, lower-count}
 use Rattle.model.specs.Refusals.{first-refusal, open-lines, check-lines, quota-lines, free-all-lines, lend-lines, release-lines, claim-lines}
 use Rattle.model.specs.Refusals.{claims-first, base-for, allocate-lines, reallocate-lines}
@@ -44,12 +45,12 @@ abbrev pub leaves : State → Values → Outcome
 leaves t v = record { heap = render (t .blocks); accounts = t .accounts; values = v }
 
 -- Open, rules 8.2 and 8.3: a heap of zeros with the header of one free block. Refused, its accounts are zero (7.5)
-unfoldable pub fresh : ℕ → List ℕ → State
-fresh H grants = record { blocks = record { serial = 0; body = replicate (H - 8) 0 } ∷ []; accounts = opened grants }
+unfoldable pub fresh : Settings → ℕ → List ℕ → State
+fresh g H grants = record { blocks = record { serial = 0; body = replicate (H - 8) 0 } ∷ []; accounts = opened g grants }
 
-unfoldable pub open-heap : List ℕ → List ℕ → Outcome
-open-heap s grants =
-    let done = leaves (fresh (length s) grants) accepted in
+unfoldable pub open-heap : Settings → List ℕ → List ℕ → Outcome
+open-heap g s grants =
+    let done = leaves (fresh g (length s) grants) accepted in
     unless (first-refusal (open-lines s)) s zero-accounts done
 
 -- Allocate, rules 8.7 to 8.10: the object is carved out, the quota is charged, and the lowest unused record holds the new serial once
@@ -76,14 +77,14 @@ unfoldable pub released : ℕ → Handle → State → State
 released q o t =
     let k = t .accounts in
     let hs = lower-count (o .serial) q (k .holds) in
-    record { blocks = settle hs (t .blocks); accounts = with-holds hs (refund q (given-back q o k) k) }
+    record { blocks = settle (k .kind) hs (t .blocks); accounts = with-holds hs (refund q (given-back q o k) k) }
 
 -- Free-all, rules 8.20 and 8.21: every record of the quota is dropped, and all that it paid is given back
 unfoldable pub freed : ℕ → ℕ → State → State
 freed q back t =
     let k = t .accounts in
     let hs = drop-records q (k .holds) in
-    record { blocks = settle hs (t .blocks); accounts = with-holds hs (refund q back k) }
+    record { blocks = settle (k .kind) hs (t .blocks); accounts = with-holds hs (refund q back k) }
 
 -- Reallocate, rule 8.25: as many bytes of the old object as the new one has room for
 unfoldable pub copied : Handle → Handle → State → State
@@ -132,6 +133,12 @@ module _ (unit : ℕ → ℕ) where
       let back = charges (k .holds) q (objects-of s) in
       let done = leaves (freed q back (state-of s k)) (amount-of back) in
       unless (first-refusal (free-all-lines unit s k q)) s k done
+
+  -- Sweep, rules 22.6 to 22.8: every quarantined block becomes free and joins those beside it; the sum of their sizes is answered
+  unfoldable pub sweep : List ℕ → Accounts → Outcome
+  sweep s k =
+      let done = leaves (record { blocks = swept (blocks-of s); accounts = k }) (amount-of (total size (keep quarantined (blocks-of s)))) in
+      unless (first-refusal (check-lines unit s k)) s k done
 
   -- Reallocate, rules 8.23 and 8.24: allocate while the old object still counts, copy, then release once
   unfoldable pub reallocate : List ℕ → Accounts → ℕ → Handle → ℕ → Outcome

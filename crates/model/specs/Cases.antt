@@ -3,7 +3,7 @@ use Prim.Native.Nat.{ℕ, _-_}
 use mathlib.Core.List.{List, [], _∷_}
 use mathlib.Core.Option.{none, some}
 use lib.ListN.{replicate, take}
-use Rattle.accounts.specs.Accounts.{QUOTAS, zero-hold, with-holds}
+use Rattle.accounts.specs.Accounts.{QUOTAS, plain, zero-hold, with-holds}
 use Rattle.rounding.specs.Rounding.{unit}
 use Rattle.model.specs.Answers.{Values, refused, accepted, given, amount-of, lent, listed}
 use Rattle.model.specs.Calls.{Outcome, open-heap}
@@ -16,7 +16,7 @@ use Rattle.model.specs.declared.Call.the-variants.{ClearPermissions}
 -- a fresh heap of H bytes with two grants, and with as many records as the accounts of a case have
 unfoldable pub opened-heap : ℕ → ℕ → ℕ → Outcome
 opened-heap H g₀ g₁ =
-    let t = open-heap (replicate H 255) (g₀ ∷ g₁ ∷ replicate (QUOTAS - 2) 0) in
+    let t = open-heap plain (replicate H 255) (g₀ ∷ g₁ ∷ replicate (QUOTAS - 2) 0) in
     state (t .heap) (with-holds (take places (t .accounts .holds)) (t .accounts))
 
 -- a block of the listing
@@ -55,7 +55,7 @@ used-heap units n = state (parts (head units 0 0 ∷ replicate n 170 ∷ [])) (a
 
 -- no object may have a higher serial than the next
 unfoldable pub next-serial-last : Outcome
-next-serial-last = state (parts (head 8 0 0 ∷ zeros 56 ∷ [])) (accounts-of (quota 100 100 ∷ []) 4294967294 [])
+next-serial-last = state (parts (head 8 0 0 ∷ zeros 56 ∷ [])) (accounts-of (quota 100 100 ∷ []) 4294967293 [])
 
 unfoldable pub allocations : List Case
 allocations =
@@ -73,8 +73,8 @@ allocations =
     ∷ case (opened-heap 64 24 0) (Allocate 0 17 ∷ Allocate 0 16 ∷ Allocate 0 1 ∷ []) (refused 8 ∷ given (handle 8 16 1) ∷ refused 8 ∷ [])
     0 (head 3 0 1) (accounts-of (quota 24 0 ∷ []) 1 (hold 1 0 1 ∷ []))
     -- the last serial that there is
-    ∷ case next-serial-last (Allocate 0 64 ∷ Allocate 0 8 ∷ Allocate 0 8 ∷ []) (refused 11 ∷ given (handle 8 8 4294967295) ∷ refused 10 ∷ [])
-    0 (2 ∷ 0 ∷ 0 ∷ 0 ∷ 255 ∷ 255 ∷ 255 ∷ 255 ∷ []) (accounts-of (quota 100 84 ∷ []) 4294967295 (hold 4294967295 0 1 ∷ []))
+    ∷ case next-serial-last (Allocate 0 64 ∷ Allocate 0 8 ∷ Allocate 0 8 ∷ []) (refused 11 ∷ given (handle 8 8 4294967294) ∷ refused 10 ∷ [])
+    0 (2 ∷ 0 ∷ 0 ∷ 0 ∷ 254 ∷ 255 ∷ 255 ∷ 255 ∷ []) (accounts-of (quota 100 84 ∷ []) 4294967294 (hold 4294967294 0 1 ∷ []))
     ∷ []
 
 -- with a table of units in which each is 32: the base and the length are multiples of 32, and the bytes in front stay

@@ -8,9 +8,9 @@ use Rattle.accounts.specs.declared.Quota.{Quota}
 use Rattle.accounts.specs.declared.Hold.{Hold}
 use Rattle.accounts.specs.declared.Accounts.{Accounts}
 use Rattle.accounts.specs.Accounts.{QUOTAS, used, is-for, permissible, permissions}
-use Rattle.layout.specs.Blocks.{Block, size, live, parse, greatest-heap}
+use Rattle.layout.specs.Blocks.{Block, size, occupied, parse, greatest-heap, quarantined}
 use Rattle.model.specs.Lists.{all, any, total}
-use Rattle.model.specs.Objects.{objects, objects-of}
+use Rattle.model.specs.Objects.{objects, blocks-of, objects-of}
 use Rattle.model.specs.declared.Handle.{Handle}
 
 -- rule 2.1: a heap length that is allowed
@@ -19,16 +19,16 @@ allowed H = eqb (H % 8) 0 && (leb 64 H && leb H greatest-heap)
 
 -- rule 5.2, live blocks: 16 bytes or more
 unfoldable pub long-enough : Block → Bool
-long-enough b = not (live b) || leb 16 (size b)
+long-enough b = not (occupied b) || leb 16 (size b)
 
 -- rule 5.2, free blocks: no two neighbours
 unfoldable pub starts-free : List Block → Bool
 starts-free [] = false
-starts-free (b ∷ bs) = not (live b)
+starts-free (b ∷ bs) = not (occupied b)
 
 unfoldable pub free-apart : List Block → Bool
 free-apart [] = true
-free-apart (b ∷ bs) = (live b || not (starts-free bs)) && free-apart bs
+free-apart (b ∷ bs) = (occupied b || not (starts-free bs)) && free-apart bs
 
 -- rule 5.2; what 5.1 asks of sizes and back numbers is layout's `parse`
 unfoldable pub well-cut : List Block → Bool
@@ -108,7 +108,21 @@ fits-unit unit base length = eqb (length % unit length) 0 && eqb (base % unit le
 unfoldable pub in-units : (ℕ → ℕ) → Handle → Bool
 in-units unit o = fits-unit unit (o .base) (o .length)
 
--- what line 2 asks for: the state is consistent (5.1 to 5.8), every base and length fits its object's unit (5.10), and every quota's permissions are
--- such (15.2). Rules that speak of a table of units or of settings stand here, so that the laws of `consistent` know of none.
+-- rule 22.4: a quarantined block stands in a heap of the second kind only
+unfoldable pub in-kind : ℕ → Block → Bool
+in-kind kind b = not (quarantined b) || eqb kind 1
+
+-- rules 22.2 and 22.9: the greatest serial that an object has; the last serial is at most that, and the kind is one of two
+abbrev pub greatest-serial : ℕ
+greatest-serial = 4294967294
+
+unfoldable pub in-range : Accounts → Bool
+in-range k = leb (k .«last_serial») greatest-serial && ltb (k .kind) 2
+
+-- what line 2 asks for: the state is consistent (5.1 to 5.8), every base and length fits its object's unit (5.10), every quota's permissions are
+-- such (15.2), and blocks, last serial and kind are as section 22 wants them. Rules that speak of a table of units or of settings stand here, so that the
+-- laws of `consistent` know of none.
 unfoldable pub sound : (ℕ → ℕ) → List ℕ → Accounts → Bool
-sound unit s k = consistent s k && (all (in-units unit) (objects-of s) && all permissible (permissions k))
+sound unit s k =
+    consistent s k
+    && (all (in-units unit) (objects-of s) && (all permissible (permissions k) && (all (in-kind (k .kind)) (blocks-of s) && in-range k)))

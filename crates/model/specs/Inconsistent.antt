@@ -57,7 +57,7 @@ consistent-states =
     ∷ judged 0 (parts (head 8 0 1 ∷ zeros 56 ∷ [])) (accounts-of (quota 64 0 ∷ []) 1 (hold 1 0 1 ∷ []))
     -- records at any places; a last serial above every object's, a count of 255, and grants of 32 bits
     ∷ judged 0 good-heap (with-records (zero-hold ∷ hold 3 1 2 ∷ zero-hold ∷ hold 3 0 1 ∷ hold 1 0 1 ∷ []))
-    ∷ judged 0 good-heap (accounts-of (quota 100 68 ∷ quota 4294967295 4294967279 ∷ []) 4294967295 (hold 1 0 255 ∷ hold 3 0 1 ∷ hold 3 1 255 ∷ []))
+    ∷ judged 0 good-heap (accounts-of (quota 100 68 ∷ quota 4294967295 4294967279 ∷ []) 4294967294 (hold 1 0 255 ∷ hold 3 0 1 ∷ hold 3 1 255 ∷ []))
     -- the last record and the last quota
     ∷ judged 0 good-heap
     (accounts-of (quota 100 68 ∷ replicate (QUOTAS - 2) (quota 7 7) ++ (quota 16 0 ∷ [])) 3

@@ -13,4 +13,5 @@ pub mod Cases
 pub mod Units
 pub mod Lines
 pub mod Inconsistent
+pub mod Quarantine
 pub mod Joining

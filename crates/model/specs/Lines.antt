@@ -5,7 +5,7 @@ use lib.ListN.{replicate, take, drop}
 use Rattle.rounding.specs.Rounding.{unit}
 use Rattle.accounts.specs.declared.Hold.{Hold}
 use Rattle.accounts.specs.declared.Accounts.{Accounts}
-use Rattle.accounts.specs.Accounts.{QUOTAS, HOLDS}
+use Rattle.accounts.specs.Accounts.{QUOTAS, HOLDS, plain}
 use Rattle.model.specs.Answers.{Values, refused, accepted, amount-of, lent}
 use Rattle.model.specs.Calls.{Outcome, open-heap}
 use Rattle.model.specs.Marked.{handle}
@@ -19,7 +19,7 @@ use Rattle.model.specs.declared.Call.the-variants.{ClearPermissions}
 -- what open answers and leaves for a heap of H bytes: its first bytes and the accounts
 unfoldable pub opening : ℕ → Values × List ℕ × Accounts
 opening H =
-    let t = open-heap (replicate H 170) (5 ∷ 4294967295 ∷ replicate (QUOTAS - 2) 0) in
+    let t = open-heap plain (replicate H 170) (5 ∷ 4294967295 ∷ replicate (QUOTAS - 2) 0) in
     (t .values, take 64 (t .heap), t .accounts)
 
 -- a refused open leaves the bytes and gives accounts of zeros, which have no permission
@@ -87,7 +87,7 @@ full-heap = filled-from (common + 2) 0 1
 unfoldable pub full-accounts : ℕ → Accounts
 full-accounts n =
     let all = 16 * common in
-    accounts-of (quota (all + 15) 15 ∷ quota (all + 1000) 1000 ∷ (replicate (half - 2) (quota all 0) ++ replicate half (quota (all + 32) 0))) 4294967295
+    accounts-of (quota (all + 15) 15 ∷ quota (all + 1000) 1000 ∷ (replicate (half - 2) (quota all 0) ++ replicate half (quota (all + 32) 0))) 4294967294
     (hold 1 (QUOTAS - 1) n ∷ (holders 0 (QUOTAS - 1) 1 ++ (records-from 0 QUOTAS (common - 1) 2 ++ records-from half half 2 (common + 1))))
 
 -- the lines of calls on it, but 1 and 2, which ask nothing of a table that is full
@@ -113,14 +113,14 @@ unfoldable pub last-lines : List Case
 last-lines =
     let h = handle 8 8 1 in
     let missing = handle 8 8 9 in
-    case (four-objects 4294967295)
+    case (four-objects 4294967294)
     (Allocate 2 0 ∷ Allocate 2 32761 ∷ Allocate 2 8 ∷ Allocate 0 8 ∷ Allocate 1 8 ∷ AllocateArray 2 0 8 ∷ AllocateArray 2 1 8 ∷ AllocateArray 1 1 8
     ∷ Reallocate 2 missing 0 ∷ Reallocate 2 missing 32761 ∷ Reallocate 2 missing 8 ∷ Reallocate 2 h 8 ∷ Reallocate 0 h 8 ∷ Reallocate 1 h 8
     ∷ Claim 2 missing ∷ Claim 2 h ∷ [])
     (refused 4 ∷ refused 4 ∷ refused 8 ∷ refused 8 ∷ refused 10 ∷ refused 4 ∷ refused 8 ∷ refused 10
     ∷ refused 4 ∷ refused 4 ∷ refused 5 ∷ refused 6 ∷ refused 8 ∷ refused 10
     ∷ refused 5 ∷ refused 8 ∷ [])
-    0 (filled-from 4 0 1) (four-accounts 4294967295)
+    0 (filled-from 4 0 1) (four-accounts 4294967294)
     ∷ case (four-objects 4) (Allocate 1 8 ∷ AllocateArray 1 8 1 ∷ Reallocate 1 h 8 ∷ []) (replicate 3 (refused 11))
     0 (filled-from 4 0 1) (four-accounts 4)
     -- 5 before 6
@@ -141,7 +141,7 @@ last-lines =
 -- the same objects; quota 0 may not allocate, quota 1 not claim, quota 2 not free all, and quota 3 nothing
 unfoldable pub barred-accounts : Accounts
 barred-accounts =
-    accounts-of (quota-with 6 79 15 ∷ quota-with 5 1000 984 ∷ quota-with 3 8 8 ∷ quota-with 0 8 8 ∷ []) 4294967295 (hold 1 1 1 ∷ records-from 0 1 4 1)
+    accounts-of (quota-with 6 79 15 ∷ quota-with 5 1000 984 ∷ quota-with 3 8 8 ∷ quota-with 0 8 8 ∷ []) 4294967294 (hold 1 1 1 ∷ records-from 0 1 4 1)
 
 -- what a refused open hands back, over one free block
 unfoldable pub zero-state : Outcome

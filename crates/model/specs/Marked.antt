@@ -3,7 +3,7 @@ use Prim.Native.Nat.{ℕ, _-_}
 use mathlib.Core.List.{List, [], _∷_}
 use lib.ListN.{replicate}
 use Rattle.accounts.specs.declared.Accounts.{Accounts}
-use Rattle.accounts.specs.Accounts.{QUOTAS, remaining}
+use Rattle.accounts.specs.Accounts.{QUOTAS, plain, remaining}
 use Rattle.rounding.specs.Rounding.{unit}
 use Rattle.model.specs.Answers.{Values, refused, given, amount-of}
 use Rattle.model.specs.Calls.{Outcome, open-heap}
@@ -36,7 +36,7 @@ abbrev pub handle : ℕ → ℕ → ℕ → Handle
 handle b l s = record { base = b; length = l; serial = s }
 
 unfoldable pub after-open : Outcome
-after-open = open-heap (replicate 128 255) (100 ∷ 1000 ∷ replicate (QUOTAS - 2) 0)
+after-open = open-heap plain (replicate 128 255) (100 ∷ 1000 ∷ replicate (QUOTAS - 2) 0)
 
 unfoldable pub after-M1 : Outcome
 after-M1 = step unit (Allocate 0 10) (after-open .heap) (after-open .accounts)

@@ -10,7 +10,7 @@ use Rattle.accounts.specs.Accounts.{QUOTAS, ALLOCATE, CLAIM, FREE-ALL, used, re
 use Rattle.rounding.specs.Rounding.{object-length, alignment}
 use Rattle.model.specs.Lists.{all, is-none}
 use Rattle.model.specs.Objects.{blocks-of, lookup, lookup-whole, found}
-use Rattle.model.specs.Consistent.{allowed, sound, charge-of, has-record}
+use Rattle.model.specs.Consistent.{allowed, sound, greatest-serial, charge-of, has-record}
 use Rattle.model.specs.Space.{lowest-base}
 use Rattle.model.specs.Holds.{count-of}
 use Rattle.model.specs.declared.Handle.{Handle}
@@ -32,15 +32,12 @@ first-refusal [] = 0
 first-refusal ((n when true) ∷ ls) = n
 first-refusal ((n when false) ∷ ls) = first-refusal ls
 
--- the greatest length of a request, the greatest count of a record, and the greatest serial
+-- the greatest length of a request, and the greatest count of a record
 abbrev pub greatest-length : ℕ
 greatest-length = 32760
 
 abbrev pub greatest-count : ℕ
 greatest-count = 255
-
-abbrev pub greatest-serial : ℕ
-greatest-serial = 4294967295
 
 -- line 1: a heap of this length is not allowed (rule 2.1)
 unfoldable pub line-1 : List ℕ → Line

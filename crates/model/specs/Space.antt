@@ -6,12 +6,8 @@ use mathlib.Core.Option.{Option, none, some}
 use lib.ListN.{length, take, drop, replicate}
 use lib.Dec.{leb, eqb}
 use Rattle.accounts.specs.declared.Hold.{Hold}
-use Rattle.layout.specs.Blocks.{Block, size, live}
+use Rattle.layout.specs.Blocks.{Block, size, occupied, QUARANTINED, quarantined, live}
 use Rattle.model.specs.Consistent.{held}
-
--- a block whose bytes no new object may use
-abbrev pub occupied : Block → Bool
-occupied b = live b
 
 -- the bytes from start up to end lie outside every occupied block, where the first block starts at a place
 unfoldable pub outside-occupied : ℕ → ℕ → ℕ → List Block → Bool
@@ -60,24 +56,43 @@ carve base n serial bs = carve-from base n serial 0 bs
 unfoldable pub join-front : Block → List Block → List Block
 join-front b [] = b ∷ []
 join-front b (c ∷ cs) =
-    cond (live b || live c) (b ∷ c ∷ cs) (record { serial = 0; body = b .body ++ (replicate 8 0 ++ c .body) } ∷ cs)
+    cond (occupied b || occupied c) (b ∷ c ∷ cs) (record { serial = 0; body = b .body ++ (replicate 8 0 ++ c .body) } ∷ cs)
 
--- rule 8.18: what becomes of a block that nobody holds
-unfoldable pub vacate : Block → Block
-vacate b = record { serial = 0; body = replicate (length (b .body)) 0 }
+-- rules 8.18 and 22.3: what becomes of a block that nobody holds. In a plain heap it is free, in one of the second kind quarantined; its bytes are zero
+abbrev pub vacant : ℕ → ℕ
+vacant kind = cond (eqb kind 0) 0 QUARANTINED
 
-unfoldable pub vacate-unheld : List Hold → List Block → List Block
-vacate-unheld hs [] = []
-vacate-unheld hs (b ∷ bs) = cond (live b && not (held hs (b .serial))) (vacate b) b ∷ vacate-unheld hs bs
+unfoldable pub vacate : ℕ → Block → Block
+vacate kind b = record { serial = vacant kind; body = replicate (length (b .body)) 0 }
+
+-- a block that is vacated: it is live, and no record holds it
+abbrev pub vacates : List Hold → Block → Bool
+vacates hs b = live b && not (held hs (b .serial))
+
+-- each block that passes a test becomes another
+unfoldable pub changed : (Block → Bool) → (Block → Block) → List Block → List Block
+changed p f [] = []
+changed p f (b ∷ bs) = cond (p b) (f b) b ∷ changed p f bs
 
 -- every free block joins those beside it
 unfoldable pub join-free : List Block → List Block
 join-free [] = []
 join-free (b ∷ bs) = join-front b (join-free bs)
 
+-- and what is free then joins
+unfoldable pub reclaim : (Block → Bool) → (Block → Block) → List Block → List Block
+reclaim p f bs = join-free (changed p f bs)
+
 -- the blocks once only these records are left
-unfoldable pub settle : List Hold → List Block → List Block
-settle hs bs = join-free (vacate-unheld hs bs)
+unfoldable pub settle : ℕ → List Hold → List Block → List Block
+settle kind hs bs = reclaim (vacates hs) (vacate kind) bs
+
+-- a sweep: every quarantined block is free and joins those beside it; its bytes stay
+abbrev pub unquarantine : Block → Block
+unquarantine b = record { serial = 0; body = b .body }
+
+unfoldable pub swept : List Block → List Block
+swept bs = reclaim quarantined unquarantine bs
 
 -- the body of the block with a serial; another body in its place
 unfoldable pub body-of : ℕ → List Block → List ℕ

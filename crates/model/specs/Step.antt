@@ -3,11 +3,12 @@ use Prim.Native.Nat.{ℕ}
 use mathlib.Core.List.{List}
 use Rattle.accounts.specs.declared.Accounts.{Accounts}
 use Rattle.model.specs.Answers.{answer-of}
-use Rattle.model.specs.Calls.{Outcome, allocate, allocate-array, claim, release, free-all, reallocate, lend, remaining-of, can-release, list-block, clear}
+use Rattle.model.specs.Calls.{Outcome, allocate, allocate-array, claim, release, free-all, reallocate, lend, remaining-of, can-release, list-block}
+use Rattle.model.specs.Calls.{clear, sweep}
 use Rattle.model.specs.declared.Answer.{Answer}
 use Rattle.model.specs.declared.Call.{Call}
 use Rattle.model.specs.declared.Call.the-variants.{Allocate, AllocateArray, Claim, Release, FreeAll, Reallocate, Lend, Remaining, CanRelease, ListBlock}
-use Rattle.model.specs.declared.Call.the-variants.{ClearPermissions}
+use Rattle.model.specs.declared.Call.the-variants.{ClearPermissions, Sweep}
 
 -- what a call leaves, and its answer
 pub record Answered : Type 0 where
@@ -22,6 +23,7 @@ module _ (unit : ℕ → ℕ) where
   step (Claim q h) s k = claim unit s k q h
   step (Release q h) s k = release unit s k q h
   step (FreeAll q) s k = free-all unit s k q
+  step Sweep s k = sweep unit s k
   step (Reallocate q h n) s k = reallocate unit s k q h n
   step (Lend h) s k = lend unit s k h
   step (Remaining q) s k = remaining-of unit s k q

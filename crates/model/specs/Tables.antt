@@ -71,6 +71,7 @@ accounts-to n qs last hs =
       quotas = qs ++ replicate (QUOTAS - length qs) (quota 0 0);
       «last_serial» = last;
       holds = hs ++ replicate (n - length hs) zero-hold;
+      kind = 0;
     }
 
 unfoldable pub accounts-of : List Quota → ℕ → List Hold → Accounts

@@ -5,7 +5,7 @@ use mathlib.Core.Bool.{cond}
 use lib.Dec.{leb}
 use lib.ListN.{replicate}
 use Rattle.accounts.specs.declared.Accounts.{Accounts}
-use Rattle.accounts.specs.Accounts.{QUOTAS, HOLDS, zero-quota, zero-hold}
+use Rattle.accounts.specs.Accounts.{QUOTAS, HOLDS, plain, zero-quota, zero-hold}
 use Rattle.layout.specs.Blocks.{Block, render}
 use Rattle.rounding.specs.Rounding.{unit}
 use Rattle.model.specs.Calls.{open-heap, allocate, check}
@@ -27,6 +27,7 @@ accounts-with (placed base length behind) =
       quotas = record { grant = length + 8; remainder = 0; permissions = 7 } ∷ replicate (QUOTAS - 1) zero-quota;
       «last_serial» = 1;
       holds = record { serial = 1; quota = 0; count = 1 } ∷ replicate (HOLDS - 1) zero-hold;
+      kind = 0;
     }
 
 -- the refusal that the check gives with a table of units
@@ -54,5 +55,5 @@ wide-unfitting = placed 8 32 24 ∷ placed 48 32 0 ∷ placed 32 40 0 ∷ placed
 -- the base that a request gets in a fresh heap of H bytes, 0 where it is refused
 unfoldable pub base-in : ℕ → ℕ → ℕ
 base-in H n =
-    let t = open-heap (replicate H 0) (100000 ∷ replicate (QUOTAS - 1) 0) in
+    let t = open-heap plain (replicate H 0) (100000 ∷ replicate (QUOTAS - 1) 0) in
     allocate unit (t .heap) (t .accounts) 0 n .values .handle .base

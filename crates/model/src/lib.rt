@@ -9,8 +9,8 @@ pub const GREATEST_LENGTH: u32 = 32760;
 // The greatest count of a record (rule 3.5).
 pub const GREATEST_COUNT: u8 = 255;
 
-// The greatest serial (rule 7.1, line 10).
-pub const GREATEST_SERIAL: u32 = 4294967295;
+// The greatest serial of an object (rule 7.1, line 10).
+pub const GREATEST_SERIAL: u32 = 4294967294;
 
 // A range and a serial. They name the object that has the serial and the whole range in it (rule 4.3). A handle that a call answers has the whole object.
 #[repr(C)]
@@ -63,7 +63,7 @@ pub enum HandleAnswer {
     Refused(Refusal),
 }
 
-// The answer of claim (the object's length), release and free-all (quota given back) and remaining.
+// The answer of claim (the object's length), release and free-all (quota given back), sweep (bytes of blocks) and remaining.
 pub enum AmountAnswer {
     Amount(u32),
     Refused(Refusal),
@@ -113,6 +113,7 @@ pub enum Call {
     FreeAll {
         quota: u32,
     },
+    Sweep,
     Reallocate {
         quota: u32,
         handle: Handle,

@@ -33,7 +33,7 @@ use Rattle.invariant.proofs.Counts.{record-counted, held-counted, lower-ordered
 use Rattle.invariant.proofs.Payments.{themselves}
 use Rattle.invariant.proofs.Transitions.{claimed-counts, released-objects}
 use Rattle.invariant.proofs.Passed.{Claimable, claim-passed, Releasable, release-passed}
-use Rattle.invariant.proofs.Releasing.{Possible, Fitting, possible-good, does}
+use Rattle.invariant.proofs.Releasing.{sound-fitting, Possible, Fitting, possible-good, does}
 use Rattle.ledger.specs.Ledger.{Ledger, Event, Called, ledger-of}
 use Rattle.ledger.specs.History.{History}
 use Rattle.ledger.proofs.Agreement.{Agrees}
@@ -101,10 +101,8 @@ module _ (unit : ℕ → ℕ) (units : Units unit) (begun : Ledger) (es : List E
   held-good = good (ledger-of begun claimed-events) s (claimed to object k) held-agrees
 
   held-fitting : Fitting unit held
-  unfolding sound objects-of
   held-fitting =
-      and-right (consistent s (claimed to object k)) _
-      (demand-3-of unit units .always begun claimed-events [] s (claimed to object k) claimed-past .kept-sound)
+      sound-fitting unit s (claimed to object k) (demand-3-of unit units .always begun claimed-events [] s (claimed to object k) claimed-past .kept-sound)
 
   held-ordered : Ordered (claimed to object k .holds)
   held-ordered = good-ordered held held-good

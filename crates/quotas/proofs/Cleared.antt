@@ -9,6 +9,7 @@ use lib.Dec.{leb, eqb}
 use lib.ListN.{length, replicate, length-replicate, replicate-append-replicate}
 use borrow.Author.Tests.{leb-true}
 use Rattle.accounts.specs.declared.Accounts.{Accounts}
+use Rattle.accounts.specs.declared.Settings.{Settings}
 use Rattle.accounts.specs.Accounts.{zero-accounts, opened}
 use Rattle.layout.specs.Bytes.{overwrite, zero-part}
 use Rattle.layout.specs.Blocks.{header-bytes, write-header, render-from, render}
@@ -47,15 +48,17 @@ cleared s h =
     rw (k, z ∙ p, append-nil, u)
     (overwrite-at [] (replicate 8 0) (replicate n 0) b 0 refl (header-length (record { size = length s / 8; back = 0; serial = 0 }) ∙ sym (length-replicate {A = ℕ} 8 0)))
 
-module _ (s gs : List ℕ) (k : Accounts) where
-  pub open-refused : k ≡ zero-accounts → allowed (length s) ≡ false → outcome s k (verdict-values (Refused HeapLength)) ≡ open-heap s gs
+module _ (g : Settings) (s gs : List ℕ) (k : Accounts) where
+  pub open-refused : k ≡ zero-accounts → allowed (length s) ≡ false → outcome s k (verdict-values (Refused HeapLength)) ≡ open-heap g s gs
   unfolding open-heap open-lines line-1 verdict-values
   open-refused e f =
-      rw e (refused-is (first-refusal (open-lines s)) s zero-accounts (leaves (fresh (length s) gs) accepted) HeapLength (line-refuses 1 (not (allowed (length s))) [] (rw f)))
+      rw e (refused-is (first-refusal (open-lines s)) s zero-accounts (leaves (fresh g (length s) gs) accepted) HeapLength
+      (line-refuses 1 (not (allowed (length s))) [] (rw f)))
 
-  pub open-accepted : (t : List ℕ) → k ≡ opened gs → t ≡ write-header 0 (record { size = length s / 8; back = 0; serial = 0 }) (zero-part 0 (length s) s)
-      → allowed (length s) ≡ true → outcome t k (verdict-values Accepted) ≡ open-heap s gs
+  pub open-accepted : (t : List ℕ) → k ≡ opened g gs → t ≡ write-header 0 (record { size = length s / 8; back = 0; serial = 0 }) (zero-part 0 (length s) s)
+      → allowed (length s) ≡ true → outcome t k (verdict-values Accepted) ≡ open-heap g s gs
   unfolding open-heap open-lines line-1 verdict-values fresh first-refusal
-  open-accepted t e f g =
-      rw (e, f, cleared s (allowed-long (length s) g .0))
-      (accepted-is (first-refusal (open-lines s)) s zero-accounts (leaves (fresh (length s) gs) accepted) (line-passes 1 (not (allowed (length s))) [] (rw g)))
+  open-accepted t e f a =
+      rw (e, f, cleared s (allowed-long (length s) a .0))
+      (accepted-is (first-refusal (open-lines s)) s zero-accounts (leaves (fresh g (length s) gs) accepted)
+      (line-passes 1 (not (allowed (length s))) [] (rw a)))

@@ -6,7 +6,7 @@ use Prim.Native.Nat.{ℕ, zero, suc, _+_, _*_, _≤_, _<_}
 use native.Mathlib.Omega.{arith}
 use mathlib.Core.Path.{_≡_, refl, ap, sym, _∙_}
 use mathlib.Core.List.{List, [], _∷_, map}
-use mathlib.Core.Bool.{Bool, true, false, cond}
+use mathlib.Core.Bool.{Bool, true, false, cond, not, _&&_}
 use lib.ListN.{length, getD, set, replicate, length-set, length-replicate}
 use lib.Seq.{getD-set-same, getD-set-other, set-out}
 use lib.Dec.{eqb}
@@ -14,7 +14,7 @@ use borrow.Author.Tests.{not-true, not-false}
 use Rattle.accounts.specs.declared.Hold.{Hold}
 use Rattle.accounts.specs.declared.Accounts.{Accounts}
 use Rattle.accounts.specs.Accounts.{HOLDS}
-use Rattle.layout.specs.Blocks.{Block, size, units, live, start-at}
+use Rattle.layout.specs.Blocks.{Block, size, units, QUARANTINED, live, start-at}
 use Rattle.layout.specs.declared.Header.{Header}
 use Rattle.layout.specs.declared.Start.the-variants.{Block as Starts, Nothing}
 use Rattle.layout.proofs.Starts.{start-found}
@@ -32,17 +32,17 @@ use Rattle.quotas.specs.Emptying.{counted, filled, live-serials, Flagged
 -- a free block does not count, and a live one does
 pub counted-free : (b : Block) → live b ≡ false → counted (b .serial) ≡ 0
 unfolding counted
-counted-free b e = rw (not-false (eqb (b .serial) 0) e)
+counted-free b e = rw e
 
 counted-live : (b : Block) → live b ≡ true → counted (b .serial) ≡ 1
 unfolding counted
-counted-live b e = rw (not-true (eqb (b .serial) 0) e)
+counted-live b e = rw e
 
 pub counted-few : (n : ℕ) → counted n ≤ 1
 unfolding counted
-counted-few n = go (eqb n 0)
+counted-few n = go (not (eqb n 0) && not (eqb n QUARANTINED))
   where
-    go : (x : Bool) → cond x 0 1 ≤ 1
+    go : (x : Bool) → cond x 1 0 ≤ 1
     go true = omega arith
     go false = omega arith
 

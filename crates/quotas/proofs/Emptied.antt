@@ -22,16 +22,16 @@ use Rattle.model.specs.Space.{vacate, join-front, settle}
 use Rattle.model.specs.Joining.{append-joined, join-neighbours}
 use Rattle.model.proofs.Bools.{and-both}
 use Rattle.model.proofs.Lists.{all-append}
-use Rattle.model.proofs.Blocks.{total-is}
+use Rattle.model.proofs.Blocks.{total-is, free-not-live, live-occupied}
 use Rattle.model.proofs.Join.{join-elim, appended-all, appended-split, appended-total}
 use Rattle.model.proofs.Settle.{stays, settle-same, freed-apart, freed-total, freed-writable, freed-settles}
 use Rattle.finder.specs.declared.Met.{Met}
 use Rattle.finder.specs.Walk.{headed}
 use Rattle.finder.proofs.Parsed.{placed}
-use Rattle.writer.specs.Freeing.{room-at, free-block, free-end, free-in, free-end-in}
-use Rattle.writer.proofs.FreeBytes.{free-behind, behind-joined}
-use Rattle.writer.proofs.Rooms.{room-behind, freed-blocks, freed-inside}
-use Rattle.writer.proofs.Guards.{inside-test, frees}
+use Rattle.writer.specs.Freeing.{vacate-block, vacate-end, vacate-in, vacate-end-in}
+use Rattle.writer.proofs.FreeBytes.{vacant-behind, behind-vacated}
+use Rattle.writer.proofs.Rooms.{vacated-blocks, vacated-ends, freed-inside}
+use Rattle.writer.proofs.Guards.{inside-test, vacates}
 use Rattle.quotas.proofs.Collected.{counted-free}
 use Rattle.quotas.specs.Emptying.{counted, passed, passed-end, Flagged, Emptying}
 
@@ -53,7 +53,7 @@ module _ (hs : List Hold) (kept : List Bool) where
   flags-joined i v ys c zs e f =
       rw e at
       (join-elim (λ l. Flagged hs kept i (behind l)) v ys (λ a. f)
-      (λ d ds ev ed q. flags-behind i d ds ed (rw q at f)))
+      (λ d ds ev ed q. flags-behind i d ds (free-not-live d ed) (rw q at f)))
 
   -- where there is no flag left, no live block is left
   flags-full : (i : ℕ) (ys : List Block) → HOLDS ≤ i → Flagged hs kept i ys → all (stays hs) ys ≡ true
@@ -66,18 +66,20 @@ module _ (hs : List Hold) (kept : List Bool) where
       go false l = rw l
 
 -- the walk may start on blocks that can be written, with no two free ones side by side, whose flags are told
-pub emptying-start : (hs : List Hold) (bs : List Block) (kept : List Bool) (s : List ℕ) → s ≡ render bs → AllWritable bs → free-apart bs ≡ true → total-size bs ≤ 32768
-    → Flagged hs kept 0 bs → Emptying hs bs kept 0 0 s
+pub emptying-start : (kind : ℕ) (hs : List Hold) (bs : List Block) (kept : List Bool) (s : List ℕ) → s ≡ render bs → AllWritable bs → free-apart bs ≡ true
+    → total-size bs ≤ 32768
+    → Flagged hs kept 0 bs → Emptying kind hs bs kept 0 0 s
 unfolding total-size all
-emptying-start hs bs kept s e w a l f =
+emptying-start kind hs bs kept s e w a l f =
     record { front = []; todo = bs; bytes = e; place = refl; writable = w; apart = a; short = l; settled = refl; same = refl; flags = f }
 
 -- the walk gets on behind a block, whatever the flag, and passes it by its own flag
-abbrev pub Passing : List Hold → List Block → List Bool → ℕ → ℕ → List ℕ → ℕ → Met → Type 0
-Passing hs bs kept i at s count m =
-    ((x : Bool) → at < passed-end x m s) × Emptying hs bs kept (i + count) (passed-end (getD kept i false) m s) (passed (getD kept i false) m s)
+abbrev pub Passing : ℕ → List Hold → List Block → List Bool → ℕ → ℕ → List ℕ → ℕ → Met → Type 0
+Passing kind hs bs kept i at s count m =
+    ((x : Bool) → at < passed-end kind x m s) × Emptying kind hs bs kept (i + count) (passed-end kind (getD kept i false) m s)
+    (passed kind (getD kept i false) m s)
 
-module _ (hs : List Hold) (bs : List Block) (kept : List Bool) (i at : ℕ) (s : List ℕ) (e : Emptying hs bs kept i at s) where
+module _ (kind : ℕ) (hs : List Hold) (bs : List Block) (kept : List Bool) (i at : ℕ) (s : List ℕ) (e : Emptying kind hs bs kept i at s) where
   -- the heap has at most the greatest length
   pub emptying-short : length s ≤ 32768
   emptying-short =
@@ -85,13 +87,13 @@ module _ (hs : List Hold) (bs : List Block) (kept : List Bool) (i at : ℕ) (s :
       omega (arith, ap length (e .bytes), e .short)
 
   -- where what is left stays, the bytes are those of the settled blocks
-  done : all (stays hs) (e .todo) ≡ true → s ≡ render (settle hs bs)
+  done : all (stays hs) (e .todo) ≡ true → s ≡ render (settle kind hs bs)
   done a =
       let whole : all (stays hs) (e .front ++ e .todo) ≡ true = all-append (stays hs) (e .front) (e .todo) ∙ and-both _ _ (e .settled) a in
-      e .bytes ∙ ap render (sym (settle-same hs (e .front ++ e .todo) whole (e .apart)) ∙ e .same)
+      e .bytes ∙ ap render (sym (settle-same kind hs (e .front ++ e .todo) whole (e .apart)) ∙ e .same)
 
   -- so it is where there is no flag left
-  pub emptying-full : HOLDS ≤ i → s ≡ render (settle hs bs)
+  pub emptying-full : HOLDS ≤ i → s ≡ render (settle kind hs bs)
   emptying-full h = done (flags-full hs kept i (e .todo) h (e .flags))
 
   -- behind the last block nothing starts
@@ -113,7 +115,7 @@ module _ (hs : List Hold) (bs : List Block) (kept : List Bool) (i at : ℕ) (s :
         rw (e .place, bytes, render-is) (start-stands 0 (e .front) b ys (all-right Writable (e .front) (b ∷ ys) writable .0) narrow)
 
     -- if it stays, it joins those in front
-    stays-on : stays hs b ≡ true → Emptying hs bs kept (i + counted (b .serial)) (at + size b) s
+    stays-on : stays hs b ≡ true → Emptying kind hs bs kept (i + counted (b .serial)) (at + size b) s
     unfolding all total-size Flagged
     stays-on t =
         let split : (e .front ++ (b ∷ [])) ++ ys ≡ e .front ++ e .todo = append-assoc (e .front) (b ∷ []) ys ∙ ap (λ (l : List Block). e .front ++ l) (sym q) in
@@ -141,74 +143,73 @@ module _ (hs : List Hold) (bs : List Block) (kept : List Bool) (i at : ℕ) (s :
       short : total size (e .front ++ (b ∷ ys)) ≤ 32768
       short = rw (total-is, q) at (e .short)
 
-      freed : (free-block m s ≡ free-in m s) × (free-end m s ≡ free-end-in m s)
+      freed : (vacate-block kind m s ≡ vacate-in kind m s) × (vacate-end kind m s ≡ vacate-end-in kind m s)
       freed =
-          let inside = freed-inside (e .front) b ys writable lv m (e .place) refl refl (rw (← bytes) emptying-short) in
-          frees m s (inside-test m s (rw (← bytes) at inside))
+          let inside = freed-inside (e .front) b ys writable (live-occupied b lv) m (e .place) refl refl (rw (← bytes) emptying-short) in
+          vacates kind m s (inside-test m s (rw (← bytes) at inside))
 
-      -- up to the end of the free block behind it, if there is one
-      ends : free-end-in m s ≡ at + size b + free-behind ys
-      unfolding free-end
-      ends =
-          sym (freed .1) ∙ ap (λ (x : List ℕ). at + size b + room-at (at + size b) x .free) bytes
-          ∙ ap (λ (x : ℕ). at + size b + x) (rw (← e .place) at (room-behind (e .front) b ys writable))
+      -- up to the end of the free block behind it, if there is one and it joins
+      ends : vacate-end-in kind m s ≡ at + size b + vacant-behind kind ys
+      ends = sym (freed .1) ∙ ap (vacate-end kind m) bytes ∙ vacated-ends (e .front) b ys writable (live-occupied b lv) m (e .place) refl refl kind
 
-      -- and if no record holds it, the free block that it becomes joins those in front
-      frees-on : held hs (b .serial) ≡ false → Emptying hs bs kept (i + counted (b .serial)) (free-end-in m s) (free-in m s)
-      unfolding all total Flagged join-neighbours vacate
+      -- and if no record holds it, what it becomes joins those in front
+      frees-on : held hs (b .serial) ≡ false → Emptying kind hs bs kept (i + counted (b .serial)) (vacate-end-in kind m s) (vacate-in kind m s)
+      unfolding all total Flagged join-neighbours
       frees-on u =
-          let j = behind-joined (vacate b) ys refl in
+          let j = behind-vacated kind b ys in
           let front = append-joined (e .front) (j .0 ∷ []) in
-          let split : join-neighbours (e .front) (vacate b) ys ≡ front ++ j .1 = ap (append-joined (e .front)) (j .2) ∙ appended-split (e .front) (j .0) (j .1) in
-          let v : size (vacate b) ≡ size b = rw length-replicate in
+          let split : join-neighbours (e .front) (vacate kind b) ys ≡ front ++ j .1 =
+          ap (append-joined (e .front)) (j .2) ∙ appended-split (e .front) (j .0) (j .1) in
           record {
             front = front;
             todo = j .1;
-            bytes = sym (freed .0) ∙ ap (free-block m) bytes ∙ freed-blocks (e .front) b ys writable lv m (e .place) refl refl ∙ ap render split;
-            place = omega (arith, ends, e .place, j .4, v, total-is front, total-is (e .front), appended-total (e .front) (j .0 ∷ []));
-            writable = rw split at (freed-writable (e .front) b ys apart writable short);
-            apart = rw split at (freed-apart (e .front) b ys apart);
-            short = rw (total-is, ← split, freed-total (e .front) b ys apart) short;
+            bytes =
+                sym (freed .0) ∙ ap (vacate-block kind m) bytes ∙ vacated-blocks (e .front) b ys writable (live-occupied b lv) m (e .place) refl refl kind
+                ∙ ap render split;
+            place = omega (arith, ends, e .place, j .4, total-is front, total-is (e .front), appended-total (e .front) (j .0 ∷ []));
+            writable = rw split at (freed-writable kind (e .front) b ys apart writable short);
+            apart = rw split at (freed-apart kind (e .front) b ys apart);
+            short = rw (total-is, ← split, freed-total kind (e .front) b ys apart) short;
             settled = appended-all (stays hs) (λ c d x y. refl) (e .front) (j .0 ∷ []) (e .settled) (rw (j .3));
-            same = (rw split at (freed-settles (e .front) b ys apart hs lv u)) ∙ (rw q at (e .same));
-            flags = flags-joined hs kept (i + counted (b .serial)) (vacate b) ys (j .0) (j .1) (j .2) ((rw q at (e .flags)) .1);
+            same = (rw split at (freed-settles kind (e .front) b ys apart hs lv u)) ∙ (rw q at (e .same));
+            flags = flags-joined hs kept (i + counted (b .serial)) (vacate kind b) ys (j .0) (j .1) (j .2) ((rw q at (e .flags)) .1);
           }
 
     -- so the walk gets on, whatever the flag
-    gets-on : (x : Bool) → at < passed-end x m s
+    gets-on : (x : Bool) → at < passed-end kind x m s
     unfolding passed-end
-    gets-on x = go (eqb (b .serial) 0) x refl
+    gets-on x = go (live b) x refl
       where
-        go : (f x : Bool) → eqb (b .serial) 0 ≡ f → at < passed-end x m s
-        go true x f = rw f (omega arith)
-        go false true f = rw f (omega arith)
-        go false false f = rw f (omega (arith, ends (rw f)))
+        go : (f x : Bool) → live b ≡ f → at < passed-end kind x m s
+        go false x f = rw f (omega arith)
+        go true true f = rw f (omega arith)
+        go true false f = rw f (omega (arith, ends f))
 
     -- and passes it by its own flag
-    passes : Emptying hs bs kept (i + counted (b .serial)) (passed-end (getD kept i false) m s) (passed (getD kept i false) m s)
+    passes : Emptying kind hs bs kept (i + counted (b .serial)) (passed-end kind (getD kept i false) m s) (passed kind (getD kept i false) m s)
     unfolding passed passed-end Flagged
-    passes = go (eqb (b .serial) 0) (held hs (b .serial)) refl refl
+    passes = go (live b) (held hs (b .serial)) refl refl
       where
-        go : (x y : Bool) → eqb (b .serial) 0 ≡ x → held hs (b .serial) ≡ y
-            → Emptying hs bs kept (i + counted (b .serial)) (passed-end (getD kept i false) m s) (passed (getD kept i false) m s)
-        go true y f u = rw f (stays-on (rw f))
-        go false true f u = rw (f, (rw q at (e .flags)) .0 (rw f) .1 ∙ u) (stays-on (rw (f, u)))
-        go false false f u = rw (f, (rw q at (e .flags)) .0 (rw f) .1 ∙ u) (frees-on (rw f) u)
+        go : (x y : Bool) → live b ≡ x → held hs (b .serial) ≡ y
+            → Emptying kind hs bs kept (i + counted (b .serial)) (passed-end kind (getD kept i false) m s) (passed kind (getD kept i false) m s)
+        go false y f u = rw f (stays-on (rw f))
+        go true true f u = rw (f, (rw q at (e .flags)) .0 f .1 ∙ u) (stays-on (rw (f, u)))
+        go true false f u = rw (f, (rw q at (e .flags)) .0 f .1 ∙ u) (frees-on f u)
 
   -- where nothing starts at the walk's place, all is done
-  pub emptying-ended : start-at at s ≡ Nothing → s ≡ render (settle hs bs)
+  pub emptying-ended : start-at at s ≡ Nothing → s ≡ render (settle kind hs bs)
   unfolding all
   emptying-ended n = go (e .todo) refl
     where
-      go : (l : List Block) → e .todo ≡ l → s ≡ render (settle hs bs)
+      go : (l : List Block) → e .todo ≡ l → s ≡ render (settle kind hs bs)
       go [] q = done (rw q)
       go (b ∷ ys) q = let z : _≡_ {A = ℕ} 0 1 = cc (starts b ys q) in absurd (omega arith)
 
   -- the walk passes the block that starts at its place, and gets on
-  pub emptying-on : (h : Header) → start-at at s ≡ Starts h → Passing hs bs kept i at s (counted (h .serial)) (headed at h)
+  pub emptying-on : (h : Header) → start-at at s ≡ Starts h → Passing kind hs bs kept i at s (counted (h .serial)) (headed at h)
   emptying-on h n = go (e .todo) refl
     where
-      go : (l : List Block) → e .todo ≡ l → Passing hs bs kept i at s (counted (h .serial)) (headed at h)
+      go : (l : List Block) → e .todo ≡ l → Passing kind hs bs kept i at s (counted (h .serial)) (headed at h)
       go [] q = let z : _≡_ {A = ℕ} 0 1 = cc (starts-none q) in absurd (omega arith)
       go (b ∷ ys) q =
           let p : header-of (back-after 0 (e .front)) b ≡ h = cc (starts b ys q) in

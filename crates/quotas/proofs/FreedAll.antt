@@ -89,22 +89,24 @@ module _ (unit : ℕ → ℕ) (s : List ℕ) (k : Accounts) (o : Octets s) (shor
         ap (λ (l : List Bool). getD l j false) (ke ∙ ap (λ (hs : List Hold). held-each hs serials) left-holds)
         ∙ each-at (drop-records q (k .holds)) (drop-well q (k .holds) (consistent-well s k ok)) serials j
 
-    emptying : Emptying (drop-records q (k .holds)) (blocks-of s) kept 0 0 s
+    emptying : Emptying (k .kind) (drop-records q (k .holds)) (blocks-of s) kept 0 0 s
     emptying =
         let cut = consistent-cut s k ok .0 in
         let bytes = parse-is s (blocks-of s) o .0 cut in
-        emptying-start (drop-records q (k .holds)) (blocks-of s) kept s (sym (bytes .0)) (bytes .1) (consistent-apart s k ok)
+        emptying-start (k .kind) (drop-records q (k .holds)) (blocks-of s) kept s (sym (bytes .0)) (bytes .1) (consistent-apart s k ok)
         (omega (arith, total-parsed s (blocks-of s) cut))
         (flagged (drop-records q (k .holds)) kept serials told s k ok (sized .holds-long) se)
 
     -- so the walk may start, and what it leaves is the definition's
     pub all-freed : first-refusal (free-all-lines unit s k q) ≡ 0
-        → Emptiable kept s
-        × ((s′ : List ℕ) → Emptied kept s s′ → (r : AmountResult) → r ≡ record { accounts = k₂; answer = Amount back } → amount-outcome s′ r ≡ free-all unit s k q)
+        → Emptiable (k .kind) kept s
+        × ((s′ : List ℕ) → Emptied (k .kind) kept s s′ → (r : AmountResult) → r ≡ record { accounts = k₂; answer = Amount back } → amount-outcome s′ r
+        ≡ free-all unit s k q)
     unfolding free-all freed
     all-freed z = ((drop-records q (k .holds), blocks-of s, emptying), leaves-all)
       where
-        leaves-all : (s′ : List ℕ) → Emptied kept s s′ → (r : AmountResult) → r ≡ record { accounts = k₂; answer = Amount back } → amount-outcome s′ r ≡ free-all unit s k q
+        leaves-all : (s′ : List ℕ) → Emptied (k .kind) kept s s′ → (r : AmountResult) → r ≡ record { accounts = k₂; answer = Amount back }
+            → amount-outcome s′ r ≡ free-all unit s k q
         leaves-all s′ f r re =
-            let heap : s′ ≡ render (settle (drop-records q (k .holds)) (blocks-of s)) = f (drop-records q (k .holds)) (blocks-of s) emptying in
+            let heap : s′ ≡ render (settle (k .kind) (drop-records q (k .holds)) (blocks-of s)) = f (drop-records q (k .holds)) (blocks-of s) emptying in
             gives s′ k₂ back r re ∙ (λ i. outcome (heap i) (left i) (amount-of (paid i))) ∙ accepted-is (first-refusal (free-all-lines unit s k q)) s k _ z

@@ -5,3 +5,5 @@ pub mod Cleared
 pub mod Collected
 pub mod Emptied
 pub mod FreedAll
+pub mod Unquarantined
+pub mod SweptAll

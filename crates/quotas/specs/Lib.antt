@@ -1,3 +1,4 @@
 pub mod Results
 pub mod Claims
 pub mod Emptying
+pub mod Sweeping

@@ -6,6 +6,7 @@ use accounts::FREE_ALL;
 use accounts::HOLDS;
 use accounts::QUOTAS;
 use finder::Met;
+use layout::QUARANTINED;
 use layout::Start;
 use model::Refusal;
 use model::Verdict;
@@ -21,6 +22,9 @@ fn counted(serial: u32) -> usize
     ensures { λ r. ⌜ r ≡ counted serial ⌝ }
 {
     if serial == 0 {
+        return 0;
+    }
+    if serial == QUARANTINED {
         return 0;
     }
     1
@@ -44,26 +48,29 @@ fn live_serials(heap: &[u8]) -> [u32; HOLDS]
     serials
 }
 
-// A block is passed: a live one that is not kept becomes free. The place behind what is left of it is given.
-fn pass_block(heap: &mut [u8], block: Met, kept: bool) -> usize
+// A block is passed: a live one that is not kept is vacated. The place behind what is left of it is given.
+fn pass_block(heap: &mut [u8], kind: u8, block: Met, kept: bool) -> usize
     requires { ⌜ Bounded block ⌝ }
-    ensures leaves { λ _. ⌜ now (heap .exit) ≡ passed kept block (now (heap .entry)) ⌝ }
-    ensures ends { λ r. ⌜ r ≡ passed-end kept block (now (heap .entry)) ⌝ }
+    ensures leaves { λ _. ⌜ now (heap .exit) ≡ passed kind kept block (now (heap .entry)) ⌝ }
+    ensures ends { λ r. ⌜ r ≡ passed-end kind kept block (now (heap .entry)) ⌝ }
 {
     let end = block.at + block.size;
     if block.serial == 0 {
         return end;
     }
+    if block.serial == QUARANTINED {
+        return end;
+    }
     if kept {
         return end;
     }
-    writer::free_block(heap, block)
+    writer::vacate_block(heap, block, kind)
 }
 
-// The live blocks that are not kept become free, the flags taken in the order of the live blocks.
-fn free_unkept(heap: &mut [u8], kept: [bool; HOLDS])
-    requires { ⌜ Emptiable kept (now heap) ⌝ }
-    ensures { λ _. ⌜ Emptied kept (now (heap .entry)) (now (heap .exit)) ⌝ }
+// The live blocks that are not kept are vacated, the flags taken in the order of the live blocks.
+fn free_unkept(heap: &mut [u8], kind: u8, kept: [bool; HOLDS])
+    requires { ⌜ Emptiable kind kept (now heap) ⌝ }
+    ensures { λ _. ⌜ Emptied kind kept (now (heap .entry)) (now (heap .exit)) ⌝ }
 {
     let mut i: usize = 0;
     let mut at: usize = 0;
@@ -77,7 +84,7 @@ fn free_unkept(heap: &mut [u8], kept: [bool; HOLDS])
             back: header.back,
             serial: header.serial,
         };
-        at = pass_block(heap, block, kept[i]);
+        at = pass_block(heap, kind, block, kept[i]);
         i += counted(header.serial);
     }
 }
@@ -99,6 +106,6 @@ pub fn free_all(heap: &mut [u8], accounts: Accounts, quota: u32) -> AmountResult
     let left = accounts.refund(quota, back).drop_holds(quota as u8);
     let holds = left.holds;
     let kept = checker::held_each(holds, live_serials(heap));
-    free_unkept(heap, kept);
+    free_unkept(heap, accounts.kind, kept);
     AmountResult::given(left, back)
 }

@@ -1,5 +1,5 @@
-// The calls that change what quotas hold or may do and make no object: open, claim, free-all and clear permissions. Each checks heap and accounts for itself
-// and answers, or gives one refusal and changes nothing.
+// The calls that change what quotas hold or may do, or what waits in quarantine, and make no object: open, claim, free-all, clear permissions and sweep. Each
+// checks heap and accounts for itself and answers, or gives one refusal and changes nothing.
 use accounts::Accounts;
 use model::AmountAnswer;
 use model::Refusal;
@@ -10,11 +10,14 @@ mod claiming;
 mod freeing;
 mod opening;
 mod permissions;
+mod sweeping;
 
 pub use claiming::claim;
 pub use freeing::free_all;
 pub use opening::open;
+pub use opening::open_plain;
 pub use permissions::clear_permissions;
+pub use sweeping::sweep;
 
 // What open gives: the accounts, all zero where it is refused, and the verdict.
 pub struct Opened {

@@ -1,12 +1,15 @@
 // Opening a heap (rules 8.2 to 8.4): its bytes are cleared, and its accounts begin.
 use crate::Opened;
 use accounts::Accounts;
+use accounts::Kind;
 use accounts::QUOTAS;
+use accounts::Settings;
 use layout::Header;
 use model::Refusal;
 use model::Verdict;
 ghost use mathlib.Core.Path.{_≡_};
 ghost use Prim.Native.Nat.{_/_};
+ghost use Rattle.accounts.specs.Accounts.{plain};
 ghost use Rattle.layout.specs.Bytes.{zero-part};
 ghost use Rattle.layout.specs.Blocks.{write-header};
 ghost use Rattle.model.specs.Calls.{open-heap};
@@ -27,8 +30,8 @@ fn clear(heap: &mut [u8], len: usize)
 }
 
 // One free block covers the heap, and every quota has its grant; or the length is not allowed, and nothing changes.
-pub fn open(heap: &mut [u8], grants: [u32; QUOTAS]) -> Opened
-    ensures { λ r. ⌜ opened-outcome (now (heap .exit)) r ≡ open-heap (now (heap .entry)) grants ⌝ }
+pub fn open(heap: &mut [u8], grants: [u32; QUOTAS], settings: Settings) -> Opened
+    ensures { λ r. ⌜ opened-outcome (now (heap .exit)) r ≡ open-heap settings (now (heap .entry)) grants ⌝ }
 {
     let len = heap.len();
     if !checker::is_allowed(len) {
@@ -39,7 +42,15 @@ pub fn open(heap: &mut [u8], grants: [u32; QUOTAS]) -> Opened
     }
     clear(heap, len);
     Opened {
-        accounts: Accounts::open(grants),
+        accounts: Accounts::open(grants, settings),
         verdict: Verdict::Accepted,
     }
+}
+
+// A plain heap is opened.
+pub fn open_plain(heap: &mut [u8], grants: [u32; QUOTAS]) -> Opened
+    ensures { λ r. ⌜ opened-outcome (now (heap .exit)) r ≡ open-heap plain (now (heap .entry)) grants ⌝ }
+{
+    let settings = Settings { kind: Kind::Plain };
+    open(heap, grants, settings)
 }

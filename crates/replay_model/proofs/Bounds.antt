@@ -17,7 +17,8 @@ use Rattle.finder.proofs.Parsed.{total-parsed}
 use Rattle.model.specs.Lists.{total, or-else}
 use Rattle.model.specs.Answers.{Values}
 use Rattle.model.specs.Objects.{blocks-of}
-use Rattle.model.specs.Calls.{listing-from, open-heap}
+use Rattle.accounts.specs.Accounts.{plain}
+use Rattle.model.specs.Calls.{Outcome, listing-from, open-heap}
 use Rattle.model.specs.Step.{step}
 use Rattle.model.specs.declared.ListedBlock.{ListedBlock}
 use Rattle.model.specs.declared.Call.{Call}
@@ -228,16 +229,18 @@ ok-short : length (ok-line []) ≡ 3
 unfolding ok-line tail-of
 ok-short = refl
 
-opened-most : (s grants : List ℕ) (ls : List (List ℕ)) → Granted grants → length (run-opened (open-heap s grants) ls) ≤ 6 * spans ls + list-most + 14
+opened-most : (s grants : List ℕ) (ls : List (List ℕ)) → Granted grants → length (run-opened (open-heap plain s grants) ls) ≤ 6 * spans ls + list-most + 14
 unfolding run-opened
-opened-most s grants ls g = go (eqb (open-heap s grants .values .refusal) 0) refl
+opened-most s grants ls g = go (eqb (open-heap plain s grants .values .refusal) 0) refl
   where
-    go : (t : Bool) → eqb (open-heap s grants .values .refusal) 0 ≡ t
-        → length (cond t (ok-line [] ++ run-lines ls (open-heap s grants .heap) (open-heap s grants .accounts)) (no-line (open-heap s grants .values .refusal))) ≤ 6 * spans ls + list-most + 14
+    o : Outcome
+    o = open-heap plain s grants
+
+    go : (t : Bool) → eqb (o .values .refusal) 0 ≡ t
+        → length (cond t (ok-line [] ++ run-lines ls (o .heap) (o .accounts)) (no-line (o .values .refusal))) ≤ 6 * spans ls + list-most + 14
     go true e =
-        let o = open-heap s grants in
         omega (arith, length-append (ok-line []) (run-lines ls (o .heap) (o .accounts)), ok-short, run-most ls (o .heap) (o .accounts) (opened-by s grants g (eqb-true (o .values .refusal) 0 e)))
-    go false e = omega (arith, no-most (open-heap s grants .values .refusal))
+    go false e = omega (arith, no-most (o .values .refusal))
 
 input-most : (ls : List (List ℕ)) → length (run-input ls) ≤ 6 * spans ls + list-most + 14
 unfolding run-input run-opening total

@@ -10,6 +10,7 @@ use borrow.Author.Tests.{le-ltb, eq-eqb}
 use lib.ListN.{length, replicate}
 use Rattle.accounts.specs.declared.Accounts.{Accounts}
 use Rattle.rounding.specs.Rounding.{unit}
+use Rattle.accounts.specs.Accounts.{plain}
 use Rattle.model.specs.Calls.{Outcome, open-heap}
 use Rattle.model.specs.Step.{step}
 use Rattle.model.specs.declared.Call.{Call}
@@ -24,8 +25,8 @@ use Rattle.replay_model.proofs.Openings.{opening-granted, begins}
 
 -- the lines of a history lead to a history
 module _ (grants : List ℕ) where
-  ran-history : (ls : List (List ℕ)) (s : List ℕ) (k : Accounts) (es : List Event) → History unit (step unit) (empty grants) es s k
-      → History unit (step unit) (empty grants) (ran-lines ls s k es .events) (ran-lines ls s k es .heap) (ran-lines ls s k es .accounts)
+  ran-history : (ls : List (List ℕ)) (s : List ℕ) (k : Accounts) (es : List Event) → History unit (step unit) (empty plain grants) es s k
+      → History unit (step unit) (empty plain grants) (ran-lines ls s k es .events) (ran-lines ls s k es .heap) (ran-lines ls s k es .accounts)
   unfolding ran-lines ran-call
   ran-history [] s k es h = h
   ran-history (l ∷ []) s k es h = h
@@ -38,10 +39,11 @@ module _ (grants : List ℕ) where
       stopped = record { heap = s; accounts = k; events = es; last = bad-line }
 
       go : (o : Option Call)
-          → ((s′ : List ℕ) (k′ : Accounts) (es′ : List Event) → History unit (step unit) (empty grants) es′ s′ k′
-          → History unit (step unit) (empty grants) (ran-lines (m ∷ ls) s′ k′ es′ .events) (ran-lines (m ∷ ls) s′ k′ es′ .heap)
+          → ((s′ : List ℕ) (k′ : Accounts) (es′ : List Event) → History unit (step unit) (empty plain grants) es′ s′ k′
+          → History unit (step unit) (empty plain grants) (ran-lines (m ∷ ls) s′ k′ es′ .events) (ran-lines (m ∷ ls) s′ k′ es′ .heap)
           (ran-lines (m ∷ ls) s′ k′ es′ .accounts))
-          → History unit (step unit) (empty grants) (ran-call o stopped after .events) (ran-call o stopped after .heap) (ran-call o stopped after .accounts)
+          → History unit (step unit) (empty plain grants) (ran-call o stopped after .events) (ran-call o stopped after .heap)
+          (ran-call o stopped after .accounts)
       go none ih = h
       go (some c) ih =
           let t = step unit c s k in
@@ -77,7 +79,7 @@ unfolding run-opened
 begun-printed o ls z = rw (eq-eqb (o .values .refusal) 0 z)
 
 whole-printed : (s l m : List ℕ) (ls : List (List ℕ)) (o : Opening) → length s ≤ LONGEST → lines s ≡ l ∷ (m ∷ ls) → line-opening l ≡ some o
-    → replay s ≡ run-opened (open-heap (replicate (o .heap) 0) (o .grants)) (m ∷ ls)
+    → replay s ≡ run-opened (open-heap plain (replicate (o .heap) 0) (o .grants)) (m ∷ ls)
 unfolding replay run-input run-opening
 whole-printed s l m ls o h e q =
     ap (λ (t : Bool). cond t bad-line (run-input (lines s))) (le-ltb LONGEST (length s) h)
@@ -86,12 +88,12 @@ whole-printed s l m ls o h e q =
 
 -- THE THEOREM
 pub replay-history : (s l m : List ℕ) (ls : List (List ℕ)) (o : Opening) → length s ≤ LONGEST → lines s ≡ l ∷ (m ∷ ls) → line-opening l ≡ some o
-    → open-heap (replicate (o .heap) 0) (o .grants) .values .refusal ≡ 0
+    → open-heap plain (replicate (o .heap) 0) (o .grants) .values .refusal ≡ 0
     → Historical s (o .grants)
-    (ran-lines (m ∷ ls) (open-heap (replicate (o .heap) 0) (o .grants) .heap) (open-heap (replicate (o .heap) 0) (o .grants) .accounts) [])
+    (ran-lines (m ∷ ls) (open-heap plain (replicate (o .heap) 0) (o .grants) .heap) (open-heap plain (replicate (o .heap) 0) (o .grants) .accounts) [])
 unfolding answer-lines
 replay-history s l m ls o h e q z =
-    let b = open-heap (replicate (o .heap) 0) (o .grants) in
+    let b = open-heap plain (replicate (o .heap) 0) (o .grants) in
     let r = ran-lines (m ∷ ls) (b .heap) (b .accounts) [] in
     let leads = ran-history (o .grants) (m ∷ ls) (b .heap) (b .accounts) [] (begins (replicate (o .heap) 0) (o .grants) (opening-granted l o q) z) in
     record {
@@ -99,6 +101,6 @@ replay-history s l m ls o h e q z =
       history = leads;
       holds =
           λ front back d.
-          demand-3 .always (empty (o .grants)) front back (r .heap) (r .accounts)
-          (subst (λ (es : List Event). History unit (step unit) (empty (o .grants)) es (r .heap) (r .accounts)) d leads);
+          demand-3 .always (empty plain (o .grants)) front back (r .heap) (r .accounts)
+          (subst (λ (es : List Event). History unit (step unit) (empty plain (o .grants)) es (r .heap) (r .accounts)) d leads);
     }

@@ -12,7 +12,7 @@ use lib.ListN.{length, drop, getD, length-drop}
 use lib.Seq.{getD-drop}
 use Rattle.rounding.specs.Rounding.{unit}
 use Rattle.accounts.specs.declared.Accounts.{Accounts}
-use Rattle.accounts.specs.Accounts.{QUOTAS, zero-accounts}
+use Rattle.accounts.specs.Accounts.{QUOTAS, zero-accounts, plain}
 use Rattle.model.specs.Answers.{Values, accepted}
 use Rattle.model.specs.Refusals.{first-refusal, open-lines}
 use Rattle.model.specs.Calls.{Outcome, unless, leaves, fresh, open-heap}
@@ -117,17 +117,20 @@ unfolding unless
 unless-accepted zero s k done e z = e
 unless-accepted (suc n) s k done e z = absurd (omega arith)
 
-pub begins : (s grants : List ℕ) → Granted grants → open-heap s grants .values .refusal ≡ 0
-    → Begins unit (empty grants) (open-heap s grants .heap) (open-heap s grants .accounts)
+pub begins : (s grants : List ℕ) → Granted grants → open-heap plain s grants .values .refusal ≡ 0
+    → Begins unit (empty plain grants) (open-heap plain s grants .heap) (open-heap plain s grants .accounts)
 unfolding open-heap
 begins s grants g z =
-    let o = open-heap s grants in
-    Begun grants refl (record {
+    let o = open-heap plain s grants in
+    Begun plain grants refl (record {
       before = s;
       quotas = g .quotas;
       narrow = g .narrow;
-      opens = ap (λ (x : Values). record { heap = o .heap; accounts = o .accounts; values = x }) (unless-accepted (first-refusal (open-lines s)) s zero-accounts (leaves (fresh (length s) grants) accepted) refl z);
+      opens =
+          ap (λ (x : Values). record { heap = o .heap; accounts = o .accounts; values = x })
+          (unless-accepted (first-refusal (open-lines s)) s zero-accounts (leaves (fresh plain (length s) grants) accepted) refl z);
     })
 
-pub opened-by : (s grants : List ℕ) → Granted grants → open-heap s grants .values .refusal ≡ 0 → Reached (open-heap s grants .heap) (open-heap s grants .accounts)
+pub opened-by : (s grants : List ℕ) → Granted grants → open-heap plain s grants .values .refusal ≡ 0
+    → Reached (open-heap plain s grants .heap) (open-heap plain s grants .accounts)
 opened-by s grants g z = record { grants = grants; events = []; history = begins s grants g z }

@@ -8,6 +8,7 @@ use lib.Dec.{leb, eqb}
 use lib.ListN.{length}
 use borrow.Author.Tests.{leb-true}
 use Rattle.accounts.specs.declared.Accounts.{Accounts}
+use Rattle.accounts.specs.Accounts.{plain}
 use Rattle.rounding.specs.Rounding.{unit}
 use Rattle.model.specs.Answers.{Values}
 use Rattle.model.specs.Consistent.{allowed}
@@ -22,8 +23,8 @@ use Rattle.replay_model.specs.Events.{Reached}
 
 -- what demand 3 says of a state that a history leads to: the check accepts it, and its length is allowed
 module _ (s : List ℕ) (k : Accounts) (r : Reached s k) where
-  reached-holds : Holds unit (step unit) (empty (r .grants)) (r .events) [] s k
-  reached-holds = demand-3 .always (empty (r .grants)) (r .events) [] s k (r .history)
+  reached-holds : Holds unit (step unit) (empty plain (r .grants)) (r .events) [] s k
+  reached-holds = demand-3 .always (empty plain (r .grants)) (r .events) [] s k (r .history)
 
   pub reached-checked : first-refusal (check-lines unit s k) ≡ 0
   unfolding first-refusal check-lines line-1 line-2

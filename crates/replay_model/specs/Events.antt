@@ -8,7 +8,7 @@ use Rattle.accounts.specs.declared.Accounts.{Accounts}
 use Rattle.rounding.specs.Rounding.{unit}
 use Rattle.model.specs.Step.{step}
 use Rattle.model.specs.declared.Call.{Call}
-use Rattle.accounts.specs.Accounts.{QUOTAS}
+use Rattle.accounts.specs.Accounts.{QUOTAS, plain}
 use Rattle.ledger.specs.Ledger.{Event, Called, Wrote, Saved, Restored, empty}
 use Rattle.ledger.specs.History.{History}
 use Rattle.ledger.specs.Demand3.{Holds}
@@ -43,18 +43,18 @@ answer-lines (Wrote ∷ es) = answer-lines es
 answer-lines (Saved s k ∷ es) = answer-lines es
 answer-lines (Restored s k ∷ es) = answer-lines es
 
--- the input s, opened with these grants, leads to this: what it prints, that its events are a history, and what demand 3 says of it at every split of
+-- the input s, opened plain with these grants, leads to this: what it prints, that its events are a history, and what demand 3 says of it at every split of
 -- the events into a front and a back
 pub record Historical (s grants : List ℕ) (r : Ran) : Type 0 where
   pub printed : replay s ≡ ok-line [] ++ (answer-lines (r .events) ++ r .last)
-  pub history : History unit (step unit) (empty grants) (r .events) (r .heap) (r .accounts)
-  pub holds : (front back : List Event) → r .events ≡ back ++ front → Holds unit (step unit) (empty grants) front back (r .heap) (r .accounts)
+  pub history : History unit (step unit) (empty plain grants) (r .events) (r .heap) (r .accounts)
+  pub holds : (front back : List Event) → r .events ≡ back ++ front → Holds unit (step unit) (empty plain grants) front back (r .heap) (r .accounts)
 
--- a heap and its accounts that a history leads to, from an accepted opening
+-- a plain heap and its accounts that a history leads to, from an accepted opening
 pub record Reached (s : List ℕ) (k : Accounts) : Type 0 where
   pub grants : List ℕ
   pub events : List Event
-  pub history : History unit (step unit) (empty grants) events s k
+  pub history : History unit (step unit) (empty plain grants) events s k
 
 -- grants as an opening takes them: one for each quota, of 32 bits
 pub record Granted (grants : List ℕ) : Type 0 where

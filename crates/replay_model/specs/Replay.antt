@@ -9,13 +9,14 @@ use Rattle.accounts.specs.declared.Accounts.{Accounts}
 use Rattle.rounding.specs.Rounding.{unit}
 use Rattle.model.specs.Answers.{Values}
 use Rattle.model.specs.Objects.{blocks-of}
+use Rattle.accounts.specs.Accounts.{plain}
 use Rattle.model.specs.Calls.{Outcome, open-heap, listing-from}
 use Rattle.model.specs.Step.{step}
 use Rattle.model.specs.declared.Handle.{Handle}
 use Rattle.model.specs.declared.ListedBlock.{ListedBlock}
 use Rattle.model.specs.declared.Call.{Call}
 use Rattle.model.specs.declared.Call.the-variants.{Allocate, AllocateArray, Claim, Release, FreeAll, Reallocate, Lend, Remaining, CanRelease, ListBlock}
-use Rattle.model.specs.declared.Call.the-variants.{ClearPermissions}
+use Rattle.model.specs.declared.Call.the-variants.{ClearPermissions, Sweep}
 use Rattle.replay_model.specs.Text.{text, decimal, SPACE, LINE-FEED}
 use Rattle.replay_model.specs.Lines.{lines}
 use Rattle.replay_model.specs.Commands.{Opening, line-opening, line-call}
@@ -46,6 +47,7 @@ gives-handle (AllocateArray q count size) = true
 gives-handle (Claim q h) = false
 gives-handle (Release q h) = false
 gives-handle (FreeAll q) = false
+gives-handle Sweep = false
 gives-handle (Reallocate q h n) = true
 gives-handle (Lend h) = false
 gives-handle (Remaining q) = false
@@ -101,7 +103,7 @@ run-opened o ls =
 -- an opening: of a heap of so many bytes, all zero before it as after it
 unfoldable pub run-opening : Option Opening → List (List ℕ) → List ℕ
 run-opening none ls = bad-line
-run-opening (some o) ls = run-opened (open-heap (replicate (o .heap) 0) (o .grants)) ls
+run-opening (some o) ls = run-opened (open-heap plain (replicate (o .heap) 0) (o .grants)) ls
 
 -- rules 11.5 and 11.11, the lines of an input: the first opens the heap; where no line ends there is none
 unfoldable pub run-input : List (List ℕ) → List ℕ

@@ -11,6 +11,7 @@ use borrow.Author.Tests.{lt-ltb, le-ltb}
 use lib.ListN.{length, drop, replicate, length-append}
 use lib.Seq.{slice, take-length}
 use Rattle.layout.proofs.Overwrite.{overwrite-fits}
+use Rattle.accounts.specs.Accounts.{plain}
 use Rattle.model.specs.Calls.{open-heap}
 use Rattle.replay_model.specs.Text.{LINE-FEED}
 use Rattle.replay_model.specs.Lines.{lines}
@@ -46,7 +47,7 @@ module _ (input : List ℕ) (end : ℕ) (m : FirstMark LINE-FEED 0 (length input
     input-bad e = sym (first-line ∙ rw e)
 
     pub input-opens : (o : Opening) → line-opening (slice 0 end input) ≡ some o
-        → run-opened (open-heap (replicate (o .heap) 0) (o .grants)) (lines (slice (end + 1) (length input) input)) ≡ run-input (lines input)
+        → run-opened (open-heap plain (replicate (o .heap) 0) (o .grants)) (lines (slice (end + 1) (length input) input)) ≡ run-input (lines input)
     unfolding run-opening
     input-opens o e = sym (first-line ∙ rw e)
 

@@ -14,6 +14,7 @@ use Rattle.accounts.specs.declared.Accounts.{Accounts}
 use Rattle.model.specs.Answers.{Values, accepted, verdict-values}
 use Rattle.model.specs.Consistent.{allowed}
 use Rattle.model.specs.Refusals.{first-refusal, line-1, open-lines}
+use Rattle.accounts.specs.Accounts.{plain}
 use Rattle.model.specs.Calls.{Outcome, unless, open-heap}
 use Rattle.model.specs.declared.Verdict.{Verdict}
 use Rattle.model.specs.declared.Verdict.the-variants.{Accepted, Refused}
@@ -40,8 +41,9 @@ verdict-accepted (Refused r) e =
     absurd (omega arith)
 
 -- an opening that gave this verdict
-module _ (s grants s′ : List ℕ) (k : Accounts) (v : Verdict) (told : outcome s′ k (verdict-values v) ≡ open-heap s grants) (n : ℕ) (e : n ≡ verdict-refusal v) where
-  pub opened-refused : (ls : List (List ℕ)) → (n ≡ 0 → ⊥) → no-line n ≡ run-opened (open-heap s grants) ls
+module _ (s grants s′ : List ℕ) (k : Accounts) (v : Verdict) (told : outcome s′ k (verdict-values v) ≡ open-heap plain s grants) (n : ℕ)
+    (e : n ≡ verdict-refusal v) where
+  pub opened-refused : (ls : List (List ℕ)) → (n ≡ 0 → ⊥) → no-line n ≡ run-opened (open-heap plain s grants) ls
   unfolding run-opened
   opened-refused ls h =
       let q : n ≡ verdict-values v .refusal = e ∙ verdict-is v in
@@ -49,7 +51,7 @@ module _ (s grants s′ : List ℕ) (k : Accounts) (v : Verdict) (told : outcome
       ∙ sym (ap (λ (t : Bool). cond t (ok-line [] ++ run-lines ls s′ k) (no-line (verdict-values v .refusal))) (ne-eqb (verdict-values v .refusal) 0 (λ z. h (q ∙ z))))
       ∙ ap (λ (o : Outcome). run-opened o ls) told
 
-  pub opened-runs : (ls : List (List ℕ)) → n ≡ 0 → ok-line [] ++ run-lines ls s′ k ≡ run-opened (open-heap s grants) ls
+  pub opened-runs : (ls : List (List ℕ)) → n ≡ 0 → ok-line [] ++ run-lines ls s′ k ≡ run-opened (open-heap plain s grants) ls
   unfolding run-opened
   opened-runs ls z =
       let q : n ≡ verdict-values v .refusal = e ∙ verdict-is v in
@@ -62,7 +64,7 @@ module _ (s grants s′ : List ℕ) (k : Accounts) (v : Verdict) (told : outcome
         grants = grants;
         events = [];
         history =
-            Begun grants refl (record {
+            Begun plain grants refl (record {
               before = s;
               quotas = g .quotas;
               narrow = g .narrow;
@@ -75,11 +77,11 @@ too-long : (n : ℕ) → 32768 < n → allowed n ≡ false
 unfolding allowed
 too-long n h = and-no (eqb (n % 8) 0) (leb 64 n && leb n 32768) (and-no (leb 64 n) (leb n 32768) (lt-leb n 32768 h))
 
-refused-first : (s grants : List ℕ) (ls : List (List ℕ)) → allowed (length s) ≡ false → no-line 1 ≡ run-opened (open-heap s grants) ls
+refused-first : (s grants : List ℕ) (ls : List (List ℕ)) → allowed (length s) ≡ false → no-line 1 ≡ run-opened (open-heap plain s grants) ls
 unfolding run-opened open-heap unless first-refusal open-lines line-1
 refused-first s grants ls e = rw e
 
-pub opening-too-long : (n : ℕ) (grants : List ℕ) (ls : List (List ℕ)) → 32768 < n → no-line 1 ≡ run-opened (open-heap (replicate n 0) grants) ls
+pub opening-too-long : (n : ℕ) (grants : List ℕ) (ls : List (List ℕ)) → 32768 < n → no-line 1 ≡ run-opened (open-heap plain (replicate n 0) grants) ls
 opening-too-long n grants ls h = refused-first (replicate n 0) grants ls (rw (length-replicate {A = ℕ} n 0) (too-long n h))
 
 -- the first of zeros are zeros

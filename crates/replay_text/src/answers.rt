@@ -163,6 +163,7 @@ fn answers_handle(call: Call) -> bool
             handle: _,
         } => false,
         Call::FreeAll { quota: _ } => false,
+        Call::Sweep => false,
         Call::Reallocate {
             quota: _,
             handle: _,

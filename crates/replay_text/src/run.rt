@@ -10,6 +10,7 @@ use model::BlockAnswer;
 ghost use Prim.Native.Nat.{_≤_};
 ghost use lib.ListN.{length, replicate};
 ghost use lib.Seq.{slice};
+ghost use Rattle.accounts.specs.Accounts.{plain};
 ghost use Rattle.layout.specs.Blocks.{greatest-heap};
 ghost use Rattle.model.specs.Calls.{open-heap};
 ghost use Rattle.replay_model.specs.Lines.{lines};
@@ -91,10 +92,10 @@ fn run_opened(
     grants: [u32; QUOTAS],
     output: &mut [u8],
 ) -> usize
-    requires { ⌜ (from ≤ length (now input)) × Granted grants × Room 0 (run-opened (open-heap (now heap) grants) (lines (slice from (length (now input)) (now input)))) (now output) ⌝ }
-    ensures { λ r. ⌜ Put 0 (run-opened (open-heap (now (heap .entry)) grants) (lines (slice from (length (now (input .entry))) (now (input .entry))))) (now (output .entry)) (now (output .exit)) r ⌝ }
+    requires { ⌜ (from ≤ length (now input)) × Granted grants × Room 0 (run-opened (open-heap plain (now heap) grants) (lines (slice from (length (now input)) (now input)))) (now output) ⌝ }
+    ensures { λ r. ⌜ Put 0 (run-opened (open-heap plain (now (heap .entry)) grants) (lines (slice from (length (now (input .entry))) (now (input .entry))))) (now (output .entry)) (now (output .exit)) r ⌝ }
 {
-    let opened = heap::open(heap, grants);
+    let opened = heap::open_plain(heap, grants);
     let verdict = opened.verdict;
     let refusal = answers::verdict_refusal(verdict);
     if refusal != 0 {
@@ -120,8 +121,8 @@ fn run_opening(
     grants: [u32; QUOTAS],
     output: &mut [u8],
 ) -> usize
-    requires { ⌜ (from ≤ length (now input)) × Granted grants × Room 0 (run-opened (open-heap (replicate size 0) grants) (lines (slice from (length (now input)) (now input)))) (now output) ⌝ }
-    ensures { λ r. ⌜ Put 0 (run-opened (open-heap (replicate size 0) grants) (lines (slice from (length (now (input .entry))) (now (input .entry))))) (now (output .entry)) (now (output .exit)) r ⌝ }
+    requires { ⌜ (from ≤ length (now input)) × Granted grants × Room 0 (run-opened (open-heap plain (replicate size 0) grants) (lines (slice from (length (now input)) (now input)))) (now output) ⌝ }
+    ensures { λ r. ⌜ Put 0 (run-opened (open-heap plain (replicate size 0) grants) (lines (slice from (length (now (input .entry))) (now (input .entry))))) (now (output .entry)) (now (output .exit)) r ⌝ }
 {
     let len = size as usize;
     if GREATEST_HEAP < len {

@@ -14,7 +14,7 @@ use lib.Seq.{drop-drop, take-append-add}
 use lib.Dec.{ltb, eqb}
 use borrow.Author.Tests.{lt-ltb, le-ltb, eqb-true, not-false}
 use Rattle.layout.specs.Bytes.{bytes, overwrite, zero-part, write-number}
-use Rattle.layout.specs.Blocks.{Block, size, units, live, total-size, back-after, header-of, header-bytes, write-header, render-from, render}
+use Rattle.layout.specs.Blocks.{Block, size, units, occupied, total-size, back-after, header-of, header-bytes, write-header, render-from, render}
 use Rattle.layout.proofs.Numbers.{bytes-length}
 use Rattle.layout.proofs.Overwrite.{overwrite-at}
 use Rattle.layout.proofs.Fields.{header-length, header-behind}
@@ -220,7 +220,7 @@ untouched at end base n i e =
     (one .0, two .0, two .1)
 
 -- a free block's serial is 0
-pub free-serial : (b : Block) → live b ≡ false → b .serial ≡ 0
+pub free-serial : (b : Block) → occupied b ≡ false → b .serial ≡ 0
 free-serial b e = eqb-true (b .serial) 0 (not-false (eqb (b .serial) 0) e)
 
 -- the bytes of the old blocks, with the block that is cut

@@ -1,21 +1,21 @@
 -- Copying into an object, on bytes: the block with the new serial is the only one that changes, and only the first bytes of its body, so its
 -- bytes are the old ones with the copied bytes over them. Where what is copied is the body of another block, the two bodies lie in different
 -- blocks and do not meet, so copying inside the heap does the same.
--- A serial that is a live block's is no other block's where live serials differ, because a free block has serial 0.
+-- A serial that is a live block's is no other block's where live serials differ, because no other block has the serial of a live one.
 -- Assumes nothing.
 use mathlib.Core.Path.{_≡_, refl, ap, sym, _∙_}
 use Prim.Native.Nat.{ℕ, _+_, _≤_, min}
 use native.Mathlib.Nat.{zero-add}
 use native.Mathlib.Omega.{arith}
 use mathlib.Core.List.{List, [], _∷_, _++_, append-assoc, List·Memᴰ}
-use mathlib.Core.Bool.{Bool, true, false, not, _||_}
+use mathlib.Core.Bool.{Bool, true, false, not, _&&_, _||_, true≢false}
 use mathlib.Core.Logic.{_⊎_, inl, inr}
 use lib.ListN.{length, take, drop, length-append, length-take, length-drop, take-append-drop}
 use lib.Seq.{take-all, take-take}
 use lib.Dec.{leb, eqb}
 use borrow.Author.Tests.{le-leb, leb-true, leb-false, eqb-false, eq-eqb, ne-eqb, not-true}
 use Rattle.layout.specs.Bytes.{overwrite, copy-part}
-use Rattle.layout.specs.Blocks.{Block, size, units, live, total-size, back-after, header-of, header-bytes, render-from, render}
+use Rattle.layout.specs.Blocks.{Block, size, units, QUARANTINED, live, total-size, back-after, header-of, header-bytes, render-from, render}
 use Rattle.layout.proofs.Overwrite.{overwrite-at}
 use Rattle.layout.proofs.Fields.{header-length}
 use Rattle.layout.proofs.Parts.{copy-all}
@@ -28,7 +28,6 @@ use Rattle.model.specs.declared.Handle.{Handle}
 use Rattle.model.proofs.Bools.{and-left, and-right, or-neither, or-left, or-right}
 use Rattle.model.proofs.Blocks.{total-is, objects-live, objects-free, Placed, placed}
 use Rattle.model.proofs.Lists.{total-append}
-use Rattle.writer.proofs.CarveBytes.{free-serial}
 use Rattle.writer.proofs.FreeBytes.{render-at, place-length}
 
 -- a block with this serial
@@ -39,8 +38,12 @@ of-serial serial b = eqb (b .serial) serial
 abbrev pub filled : List ℕ → Block → Block
 filled new b = record { serial = b .serial; body = take (length (b .body)) new ++ drop (length new) (b .body) }
 
--- a serial other than 0 is that of an object exactly if it is that of a block
-serial-any : (serial at : ℕ) (bs : List Block) → (serial ≡ 0 → ⊥) → any (has-serial serial) (objects-from at bs) ≡ any (of-serial serial) bs
+-- the serial of a live block
+abbrev living : ℕ → Bool
+living serial = not (eqb serial 0) && not (eqb serial QUARANTINED)
+
+-- it is that of an object exactly if it is that of a block
+serial-any : (serial at : ℕ) (bs : List Block) → living serial ≡ true → any (has-serial serial) (objects-from at bs) ≡ any (of-serial serial) bs
 unfolding any objects-from
 serial-any serial at [] n = refl
 serial-any serial at (b ∷ bs) n = go (live b) refl (serial-any serial (at + size b) bs n)
@@ -49,11 +52,8 @@ serial-any serial at (b ∷ bs) n = go (live b) refl (serial-any serial (at + si
         → any (has-serial serial) (objects-from at (b ∷ bs)) ≡ any (of-serial serial) (b ∷ bs)
     go true e ih = rw (e, ih)
     go false e ih =
-        let other : of-serial serial b ≡ false = ne-eqb (b .serial) serial (λ k. n (sym k ∙ free-serial b e)) in
+        let other : of-serial serial b ≡ false = ne-eqb (b .serial) serial (λ k. true≢false (sym n ∙ sym (ap living k) ∙ e)) in
         rw (e, other) ih
-
-live-serial : (b : Block) → live b ≡ true → b .serial ≡ 0 → ⊥
-live-serial b e = eqb-false (b .serial) 0 (not-true (eqb (b .serial) 0) e)
 
 -- a test that holds of no block does not hold of one in the middle
 none-there : (p : Block → Bool) (xs : List Block) (b : Block) (ys : List Block) → any p (xs ++ (b ∷ ys)) ≡ false → p b ≡ false
@@ -68,7 +68,7 @@ unfolding any serials-differ
 others-differ at [] b ys eb d =
     let os = objects-from (at + size b) ys in
     let n = not-true _ (and-left (not (any (has-serial (b .serial)) os)) (serials-differ os) (rw (objects-live at b ys eb) at d)) in
-    (refl, sym (serial-any (b .serial) (at + size b) ys (live-serial b eb)) ∙ n)
+    (refl, sym (serial-any (b .serial) (at + size b) ys eb) ∙ n)
 others-differ at (x ∷ xs) b ys eb d = go (live x) refl (others-differ (at + size x) xs b ys eb)
   where
     bs : List Block
@@ -86,11 +86,11 @@ others-differ at (x ∷ xs) b ys eb d = go (live x) refl (others-differ (at + si
     go true e ih =
         let d′ = rw (objects-live at x bs e) at d in
         let n = not-true _ (and-left (not (any (has-serial (x .serial)) os)) (serials-differ os) d′) in
-        let m = none-there (of-serial (x .serial)) xs b ys (sym (serial-any (x .serial) (at + size x) bs (live-serial x e)) ∙ n) in
+        let m = none-there (of-serial (x .serial)) xs b ys (sym (serial-any (x .serial) (at + size x) bs e) ∙ n) in
         both (ne-eqb (x .serial) (b .serial) (λ k. eqb-false (b .serial) (x .serial) m (sym k)))
         (ih (and-right (not (any (has-serial (x .serial)) os)) (serials-differ os) d′))
     go false e ih =
-        both (ne-eqb (x .serial) (b .serial) (λ k. live-serial b eb (sym k ∙ free-serial x e))) (ih (rw (objects-free at x bs e) at d))
+        both (ne-eqb (x .serial) (b .serial) (λ k. true≢false (sym eb ∙ sym (ap living k) ∙ e))) (ih (rw (objects-free at x bs e) at d))
 
 -- the body of the first block with a serial
 pub body-found : (ws : List Block) (c : Block) (zs : List Block) → any (of-serial (c .serial)) ws ≡ false → body-of (c .serial) (ws ++ (c ∷ zs)) ≡ c .body

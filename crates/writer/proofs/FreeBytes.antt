@@ -11,26 +11,26 @@ use mathlib.Core.List.{List, [], _∷_, _++_, append-assoc}
 use mathlib.Core.Bool.{Bool, true, false, cond, _&&_, or-true, and-false}
 use mathlib.Core.Logic.{_⊎_, inl, inr}
 use lib.ListN.{length, replicate, length-append, length-replicate}
-use lib.Dec.{ltb}
+use lib.Dec.{ltb, eqb}
 use borrow.Author.Tests.{lt-ltb, le-ltb}
 use Rattle.layout.specs.Bytes.{overwrite, zero-part}
-use Rattle.layout.specs.Blocks.{Block, size, units, live, back-after, header-of, header-bytes, write-header, render-from, render}
+use Rattle.layout.specs.Blocks.{Block, size, units, occupied, QUARANTINED, live, back-after, header-of, header-bytes, write-header, render-from, render}
 use Rattle.layout.proofs.Overwrite.{overwrite-at}
 use Rattle.layout.proofs.Fields.{header-length}
 use Rattle.layout.proofs.Render.{length-render, render-append, render-cons}
 use Rattle.model.specs.Lists.{total}
 use Rattle.model.specs.Consistent.{starts-free}
-use Rattle.model.specs.Space.{vacate, join-front}
+use Rattle.model.specs.Space.{vacate, unquarantine, join-front}
 use Rattle.model.specs.Joining.{append-joined, join-neighbours}
-use Rattle.model.proofs.Blocks.{total-is}
+use Rattle.model.proofs.Blocks.{total-is, free-not-live}
 use Rattle.model.proofs.Lists.{total-append}
 use Rattle.model.proofs.Join.{joined, joined-size, join-apart, join-both}
-use Rattle.writer.specs.Writes.{write-object, write-next, join-bytes, free-bytes}
+use Rattle.writer.specs.Writes.{write-object, write-next, join-bytes, free-bytes, unquarantine-bytes}
 use Rattle.writer.proofs.CarveBytes.{zero-written, object-written, next-written}
 
 -- the bytes of a block if it is free, else 0; so of the first of some blocks, and of the last
 abbrev pub free-size : Block → ℕ
-free-size b = cond (live b) 0 (size b)
+free-size b = cond (occupied b) 0 (size b)
 
 unfoldable pub free-behind : List Block → ℕ
 free-behind [] = 0
@@ -48,10 +48,10 @@ back-before back (x ∷ []) = back
 back-before back (x ∷ (y ∷ xs)) = back-before (units x) (y ∷ xs)
 
 -- the bytes of a block that is live, and of one that is free
-pub size-live : (b : Block) → live b ≡ true → free-size b ≡ 0
+pub size-live : (b : Block) → occupied b ≡ true → free-size b ≡ 0
 size-live b e = rw e
 
-pub size-free : (b : Block) → live b ≡ false → free-size b ≡ size b
+pub size-free : (b : Block) → occupied b ≡ false → free-size b ≡ size b
 size-free b e = rw e
 
 -- some blocks are none, or blocks in front of a last one
@@ -111,17 +111,22 @@ render-at xs b ys = render-append 0 xs (b ∷ ys) ∙ ap (λ (l : List ℕ). ren
 pub place-length : (xs : List Block) → length (render-from 0 xs) ≡ total size xs
 place-length xs = length-render 0 xs ∙ total-is xs
 
--- vacating a block writes an object of zero bytes with serial 0
-pub vacate-writes : (xs : List Block) (b : Block) (ys : List Block)
-    → render (xs ++ (vacate b ∷ ys)) ≡ write-object (total size xs + 8) (length (b .body)) (back-after 0 xs) 0 (render (xs ++ (b ∷ ys)))
-unfolding vacate
-vacate-writes xs b ys =
+-- a block with another serial whose bytes are zero
+abbrev pub cleared : ℕ → Block → Block
+cleared serial b = record { serial = serial; body = replicate (length (b .body)) 0 }
+
+-- vacating a block writes an object of zero bytes with that serial
+pub vacate-writes : (serial : ℕ) (xs : List Block) (b : Block) (ys : List Block)
+    → render (xs ++ (cleared serial b ∷ ys)) ≡ write-object (total size xs + 8) (length (b .body)) (back-after 0 xs) serial (render (xs ++ (b ∷ ys)))
+vacate-writes serial xs b ys =
     let u = back-after 0 xs in
     let n = length (b .body) in
     let e : length (render-from 0 xs) + 8 ≡ total size xs + 8 = rw (place-length xs) in
-    let w = object-written (total size xs + 8) n u 0 (render-from 0 xs) (header-bytes (header-of u b)) (b .body) (render-from (units b) ys) e (header-length (header-of u b)) refl in
+    let w =
+    object-written (total size xs + 8) n u serial (render-from 0 xs) (header-bytes (header-of u b)) (b .body) (render-from (units b) ys) e
+    (header-length (header-of u b)) refl in
     let k : (n + 8) / 8 ≡ (8 + n) / 8 = omega arith in
-    rw (render-at xs (vacate b) ys, render-at xs b ys, w, length-replicate, k)
+    rw (render-at xs (cleared serial b) ys, render-at xs b ys, w, length-replicate, k)
 
 -- where one of two blocks has no bytes, nothing is written
 pub join-none : (start mid stop back : ℕ) (s : List ℕ) → (mid ≤ start) ⊎ (stop ≤ mid) → join-bytes start mid stop back s ≡ s
@@ -170,16 +175,16 @@ join-writes xs c d ys =
     ∙ (simp append-assoc at third))))
 
 -- a free block joins the one behind it, if that is free
-pub behind-writes : (xs : List Block) (v : Block) (ys : List Block) → live v ≡ false
+pub behind-writes : (xs : List Block) (v : Block) (ys : List Block) → occupied v ≡ false
     → render (xs ++ join-front v ys)
     ≡ join-bytes (total size xs) (total size xs + size v) (total size xs + size v + free-behind ys) (back-after 0 xs) (render (xs ++ (v ∷ ys)))
 unfolding free-behind starts-free
 behind-writes xs v [] ev =
-    rw (join-apart v [] (or-true (live v)))
+    rw (join-apart v [] (or-true (occupied v)))
     (sym (join-none (total size xs) (total size xs + size v) (total size xs + size v + 0) (back-after 0 xs) (render (xs ++ (v ∷ []))) (inr (omega arith))))
-behind-writes xs v (d ∷ ds) ev = go (live d) refl
+behind-writes xs v (d ∷ ds) ev = go (occupied d) refl
   where
-    go : (x : Bool) → live d ≡ x → render (xs ++ join-front v (d ∷ ds))
+    go : (x : Bool) → occupied d ≡ x → render (xs ++ join-front v (d ∷ ds))
         ≡ join-bytes (total size xs) (total size xs + size v) (total size xs + size v + free-size d) (back-after 0 xs) (render (xs ++ (v ∷ d ∷ ds)))
     go true e =
         rw (e, join-apart v (d ∷ ds) (rw (e, or-true)))
@@ -187,24 +192,25 @@ behind-writes xs v (d ∷ ds) ev = go (live d) refl
     go false e = rw (e, join-both v d ds ev e) (join-writes xs v d ds)
 
 -- what the block becomes is a free block still, as long as both
-pub behind-joined : (v : Block) (ys : List Block) → live v ≡ false
-    → (c : Block) × (zs : List Block) × (join-front v ys ≡ c ∷ zs) × (live c ≡ false) × (size c ≡ size v + free-behind ys)
+pub behind-joined : (v : Block) (ys : List Block) → occupied v ≡ false
+    → (c : Block) × (zs : List Block) × (join-front v ys ≡ c ∷ zs) × (occupied c ≡ false) × (size c ≡ size v + free-behind ys)
 unfolding free-behind starts-free
-behind-joined v [] ev = (v, [], join-apart v [] (or-true (live v)), ev, omega arith)
-behind-joined v (d ∷ ds) ev = go (live d) refl
+behind-joined v [] ev = (v, [], join-apart v [] (or-true (occupied v)), ev, omega arith)
+behind-joined v (d ∷ ds) ev = go (occupied d) refl
   where
-    go : (x : Bool) → live d ≡ x → (c : Block) × (zs : List Block) × (join-front v (d ∷ ds) ≡ c ∷ zs) × (live c ≡ false) × (size c ≡ size v + free-size d)
+    go : (x : Bool) → occupied d ≡ x → (c : Block) × (zs : List Block) × (join-front v (d ∷ ds) ≡ c ∷ zs) × (occupied c ≡ false)
+        × (size c ≡ size v + free-size d)
     go true e = (v, d ∷ ds, join-apart v (d ∷ ds) (rw (e, or-true)), ev, rw e (omega arith))
     go false e = (joined v d, ds, join-both v d ds ev e, refl, rw e (joined-size v d))
 
 -- a free block joins the last one in front of it, if that is free
-pub front-writes : (xs : List Block) (c : Block) (zs : List Block) → live c ≡ false
+pub front-writes : (xs : List Block) (c : Block) (zs : List Block) → occupied c ≡ false
     → render (append-joined xs (c ∷ zs))
     ≡ join-bytes (total size xs - free-in-front xs) (total size xs) (total size xs + size c) (back-before 0 xs) (render (xs ++ (c ∷ zs)))
 unfolding append-joined free-in-front total
 front-writes xs c zs ec = go (last-of xs)
   where
-    at-last : (ws : List Block) (f : Block) → xs ≡ ws ++ (f ∷ []) → (x : Bool) → live f ≡ x
+    at-last : (ws : List Block) (f : Block) → xs ≡ ws ++ (f ∷ []) → (x : Bool) → occupied f ≡ x
         → render (append-joined xs (c ∷ zs))
         ≡ join-bytes (total size xs - free-in-front xs) (total size xs) (total size xs + size c) (back-before 0 xs) (render (xs ++ (c ∷ zs)))
     at-last ws f e true ef =
@@ -220,21 +226,76 @@ front-writes xs c zs ec = go (last-of xs)
     go : (xs ≡ []) ⊎ ((ws : List Block) × (f : Block) × (xs ≡ ws ++ (f ∷ []))) → render (append-joined xs (c ∷ zs))
         ≡ join-bytes (total size xs - free-in-front xs) (total size xs) (total size xs + size c) (back-before 0 xs) (render (xs ++ (c ∷ zs)))
     go (inl e) = rw e (sym (join-none (total size [] - 0) (total size []) (total size [] + size c) (back-before 0 []) (render (c ∷ zs)) (inl (omega arith))))
-    go (inr r) = at-last (r .0) (r .1) (r .2) (live (r .1)) refl
+    go (inr r) = at-last (r .0) (r .1) (r .2) (occupied (r .1)) refl
 
--- freeing a block: what is left of the object's block and its free neighbours goes from where the last block in front starts, if it is free, up to
--- where the first one behind ends, if it is free
+-- a free block joins both: what is left goes from where the last block in front starts, if it is free, up to where the first one behind ends, if it is free
+pub joined-writes : (xs : List Block) (v : Block) (ys : List Block) → occupied v ≡ false
+    → render (join-neighbours xs v ys)
+    ≡ join-bytes (total size xs - free-in-front xs) (total size xs) (total size xs + size v + free-behind ys) (back-before 0 xs)
+    (join-bytes (total size xs) (total size xs + size v) (total size xs + size v + free-behind ys) (back-after 0 xs) (render (xs ++ (v ∷ ys))))
+unfolding join-neighbours
+joined-writes xs v ys ev =
+    let at = total size xs in
+    let j = behind-joined v ys ev in
+    let stop : at + size (j .0) ≡ at + size v + free-behind ys = omega (arith, j .4) in
+    rw (← behind-writes xs v ys ev, j .2, ← stop) (front-writes xs (j .0) (j .1) (j .3))
+
+-- freeing a block
 pub free-writes : (xs : List Block) (b : Block) (ys : List Block)
-    → render (join-neighbours xs (vacate b) ys)
+    → render (join-neighbours xs (cleared 0 b) ys)
     ≡ free-bytes (total size xs + 8) (length (b .body)) (total size xs - free-in-front xs) (total size xs + size b + free-behind ys) (back-after 0 xs)
     (back-before 0 xs) (render (xs ++ (b ∷ ys)))
-unfolding join-neighbours free-bytes vacate
+unfolding free-bytes
 free-writes xs b ys =
     let at = total size xs in
-    let j = behind-joined (vacate b) ys refl in
-    let v : size (vacate b) ≡ size b = rw length-replicate in
+    let v : size (cleared 0 b) ≡ size b = rw length-replicate in
     let start : at + 8 - 8 ≡ at = omega arith in
     let end : at + 8 + length (b .body) ≡ at + size b = omega arith in
-    let stop : at + size (j .0) ≡ at + size b + free-behind ys = omega (arith, j .4, v) in
-    let behind = rw v at (behind-writes xs (vacate b) ys refl) in
-    rw (start, end, ← vacate-writes xs b ys, ← behind, j .2, ← stop) (front-writes xs (j .0) (j .1) (j .3))
+    rw (start, end, ← vacate-writes 0 xs b ys) (rw v at (joined-writes xs (cleared 0 b) ys refl))
+
+-- unquarantining a block writes a header with serial 0
+unquarantine-header : (xs : List Block) (b : Block) (ys : List Block)
+    → render (xs ++ (unquarantine b ∷ ys)) ≡ write-header (total size xs) (record { size = size b / 8; back = back-after 0 xs; serial = 0 })
+    (render (xs ++ (b ∷ ys)))
+unfolding write-header
+unquarantine-header xs b ys =
+    let u = back-after 0 xs in
+    let h = header-bytes (header-of u (unquarantine b)) in
+    rw (render-at xs (unquarantine b) ys, render-at xs b ys)
+    (sym (overwrite-at (render-from 0 xs) (header-bytes (header-of u b)) (b .body ++ render-from (units b) ys) h (total size xs) (place-length xs)
+    (header-length (header-of u (unquarantine b)) ∙ sym (header-length (header-of u b)))))
+
+pub unquarantine-writes : (xs : List Block) (b : Block) (ys : List Block)
+    → render (join-neighbours xs (unquarantine b) ys)
+    ≡ unquarantine-bytes (total size xs) (size b) (total size xs - free-in-front xs) (total size xs + size b + free-behind ys) (back-after 0 xs)
+    (back-before 0 xs) (render (xs ++ (b ∷ ys)))
+unfolding unquarantine-bytes
+unquarantine-writes xs b ys = rw (← unquarantine-header xs b ys) (joined-writes xs (unquarantine b) ys refl)
+
+-- an occupied block joins nothing
+append-occupied : (xs : List Block) (v : Block) (ys : List Block) → occupied v ≡ true → append-joined xs (v ∷ ys) ≡ xs ++ (v ∷ ys)
+unfolding append-joined starts-free
+append-occupied [] v ys e = refl
+append-occupied (x ∷ []) v ys e = join-apart x (v ∷ ys) (rw (e, or-true))
+append-occupied (x ∷ (y ∷ xs)) v ys e = ap (λ (l : List Block). x ∷ l) (append-occupied (y ∷ xs) v ys e)
+
+pub occupied-alone : (xs : List Block) (v : Block) (ys : List Block) → occupied v ≡ true → join-neighbours xs v ys ≡ xs ++ (v ∷ ys)
+unfolding join-neighbours
+occupied-alone xs v ys e = ap (append-joined xs) (join-apart v ys (rw e)) ∙ append-occupied xs v ys e
+
+-- what a vacated block becomes with the block behind it, by the kind
+unfoldable pub vacant-behind : ℕ → List Block → ℕ
+vacant-behind kind ys = cond (eqb kind 0) (free-behind ys) 0
+
+pub behind-vacated : (kind : ℕ) (b : Block) (ys : List Block)
+    → (c : Block) × (zs : List Block) × (join-front (vacate kind b) ys ≡ c ∷ zs) × (live c ≡ false) × (size c ≡ size b + vacant-behind kind ys)
+unfolding vacate vacant-behind
+behind-vacated kind b ys = go (eqb kind 0)
+  where
+    v : size (cleared 0 b) ≡ size b
+    v = rw length-replicate
+
+    go : (t : Bool) → (c : Block) × (zs : List Block) × (join-front (cleared (cond t 0 QUARANTINED) b) ys ≡ c ∷ zs) × (live c ≡ false)
+        × (size c ≡ size b + cond t (free-behind ys) 0)
+    go true = let j = behind-joined (cleared 0 b) ys refl in (j .0, j .1, j .2, free-not-live (j .0) (j .3), omega (arith, j .4, v))
+    go false = (cleared QUARANTINED b, ys, join-apart (cleared QUARANTINED b) ys refl, refl, omega (arith, v))

@@ -8,12 +8,13 @@ use mathlib.Core.List.{List}
 use mathlib.Core.Bool.{Bool, true, false, _&&_}
 use lib.ListN.{length}
 use lib.Dec.{leb}
-use borrow.Author.Tests.{leb-true, le-leb}
+use borrow.Author.Tests.{leb-true, le-leb, eq-eqb, ne-eqb}
 use Rattle.model.proofs.Bools.{and-left, and-right, and-both, fails}
 use Rattle.finder.specs.declared.Met.{Met}
 use Rattle.writer.specs.Writes.{carve-bytes}
 use Rattle.writer.specs.Carving.{Room, has-room, carve-in}
-use Rattle.writer.specs.Freeing.{room-at, free-block, free-end, Inside, is-inside, free-in, free-end-in}
+use Rattle.writer.specs.Freeing.{room-at, free-block, free-end, quarantine-block, Inside, is-inside, vacate-block, vacate-end, vacate-in, vacate-end-in}
+use Rattle.writer.specs.Freeing.{unquarantine-block, unquarantine-in, free-end-in}
 
 -- a test that both tests imply of each other is the same
 pub same-test : (a b : Bool) → (a ≡ true → b ≡ true) → (b ≡ true → a ≡ true) → a ≡ b
@@ -93,11 +94,29 @@ module _ (m : Met) (s : List ℕ) where
       (λ t. inside-test (record { header = h; before = b; front = rw (sym is) (leb-true x (m .at) t); end = e; allowed = a }))
       (λ t. le-leb x (m .at) (rw is (inside-of-test t .front)))
 
-  -- where it lies in the heap the block is freed, and else nothing is written
-  pub frees : is-inside m s ≡ true → (free-block m s ≡ free-in m s) × (free-end m s ≡ free-end-in m s)
-  unfolding free-in free-end-in
-  frees e = (rw e, rw e)
+  -- where it lies in the heap the block is unquarantined, and else nothing is written
+  pub unquarantines : is-inside m s ≡ true → (unquarantine-block m s ≡ unquarantine-in m s) × (free-end m s ≡ free-end-in m s)
+  unfolding unquarantine-in free-end-in
+  unquarantines e = (rw e, rw e)
 
-  pub frees-nothing : is-inside m s ≡ false → (s ≡ free-in m s) × (0 ≡ free-end-in m s)
-  unfolding free-in free-end-in
-  frees-nothing e = (rw e, rw e)
+  pub unquarantines-nothing : is-inside m s ≡ false → (s ≡ unquarantine-in m s) × (0 ≡ free-end-in m s)
+  unfolding unquarantine-in free-end-in
+  unquarantines-nothing e = (rw e, rw e)
+
+-- so with a block that is vacated
+module _ (kind : ℕ) (m : Met) (s : List ℕ) where
+  pub vacates-plain : kind ≡ 0 → (free-block m s ≡ vacate-block kind m s) × (free-end m s ≡ vacate-end kind m s)
+  unfolding vacate-block vacate-end
+  vacates-plain e = (rw (eq-eqb kind 0 e), rw (eq-eqb kind 0 e))
+
+  pub vacates-quarantined : (kind ≡ 0 → ⊥) → (quarantine-block m s ≡ vacate-block kind m s) × (m .at + m .size ≡ vacate-end kind m s)
+  unfolding vacate-block vacate-end
+  vacates-quarantined e = (rw (ne-eqb kind 0 e), rw (ne-eqb kind 0 e))
+
+  pub vacates : is-inside m s ≡ true → (vacate-block kind m s ≡ vacate-in kind m s) × (vacate-end kind m s ≡ vacate-end-in kind m s)
+  unfolding vacate-in vacate-end-in
+  vacates e = (rw e, rw e)
+
+  pub vacates-nothing : is-inside m s ≡ false → (s ≡ vacate-in kind m s) × (0 ≡ vacate-end-in kind m s)
+  unfolding vacate-in vacate-end-in
+  vacates-nothing e = (rw e, rw e)

@@ -2,29 +2,31 @@
 -- neighbours, so the bytes that are written are those of the blocks with this one vacated and joined to its free neighbours.
 -- Assumes nothing.
 use mathlib.Core.Path.{_≡_, refl, ap, sym, _∙_}
-use Prim.Native.Nat.{ℕ, _+_, _*_, _-_, _≤_}
+use Prim.Native.Nat.{ℕ, _+_, _*_, _-_, _/_, _≤_}
 use native.Mathlib.Omega.{arith}
 use mathlib.Core.List.{List, [], _∷_, _++_, append-assoc}
 use mathlib.Core.Bool.{Bool, true, false, not, cond}
 use mathlib.Core.Logic.{_⊎_, inl, inr}
 use lib.ListN.{length}
 use lib.Dec.{eqb, lit<}
-use Rattle.layout.specs.Blocks.{Block, size, units, live, total-size, back-after, header-of, start-at, render, Writable, AllWritable}
+use Rattle.layout.specs.Blocks.{Block, size, units, occupied, QUARANTINED, total-size, back-after, header-of, start-at, write-header, render, Writable}
+use Rattle.layout.specs.Blocks.{AllWritable}
 use Rattle.layout.specs.declared.Header.{Header}
 use Rattle.layout.specs.declared.Start.{Start}
 use Rattle.layout.specs.declared.Start.the-variants.{Block as Starts, Nothing}
 use Rattle.layout.proofs.Starts.{start-found}
 use Rattle.layout.proofs.Render.{start-stands, start-ends, length-render, all-left, all-right, back-small, size-append}
 use Rattle.layout.proofs.Parse.{render-is}
-use Rattle.model.specs.Space.{vacate}
+use Rattle.model.specs.Space.{vacate, unquarantine}
 use Rattle.model.specs.Joining.{join-neighbours}
 use Rattle.model.proofs.Blocks.{total-is}
 use Rattle.writer.specs.Writes.{write-object}
-use Rattle.writer.specs.Writes.{join-bytes, free-bytes}
-use Rattle.writer.proofs.FreeBytes.{free-size, free-behind, free-in-front, back-before, size-live, last-of, front-last, back-last, before-last, free-writes}
+use Rattle.writer.specs.Writes.{join-bytes, free-bytes, unquarantine-bytes}
+use Rattle.writer.proofs.FreeBytes.{free-size, free-behind, free-in-front, back-before, size-live, last-of, front-last, back-last, before-last}
+use Rattle.writer.proofs.FreeBytes.{cleared, vacate-writes, free-writes, unquarantine-writes, occupied-alone, vacant-behind}
 use Rattle.finder.specs.declared.Met.{Met}
 use Rattle.writer.specs.declared.freeing.Room.{Room}
-use Rattle.writer.specs.Freeing.{room-of, room-at, free-block, Inside}
+use Rattle.writer.specs.Freeing.{room-of, room-at, free-block, free-end, quarantine-block, vacate-block, vacate-end, unquarantine-block, Inside}
 
 -- the room at a place, by what starts there
 pub room-nothing : (at : ℕ) (s : List ℕ) → start-at at s ≡ Nothing → room-at at s ≡ record { free = 0; back = 0 }
@@ -60,6 +62,15 @@ freed-is m s l front behind p q s₁ s₂ s₃ e₁ e₂ e₃ =
     let end : m .at + 8 + (m .size - 8) ≡ m .at + m .size = omega arith in
     rw (start, end, ← p, ← q, ← e₁, ← e₂) e₃
 
+-- and of unquarantining one
+pub unquarantined-is : (m : Met) (s : List ℕ) → 8 ≤ m .size → (front behind : Room) → front ≡ room-at (m .at - 8 * m .back) s → behind ≡ room-at
+    (m .at + m .size) s
+    → (s₁ s₂ s₃ : List ℕ) → s₁ ≡ write-header (m .at) (record { size = m .size / 8; back = m .back; serial = 0 }) s
+    → s₂ ≡ join-bytes (m .at) (m .at + m .size) (m .at + m .size + behind .free) (m .back) s₁
+    → s₃ ≡ join-bytes (m .at - front .free) (m .at) (m .at + m .size + behind .free) (front .back) s₂ → s₃ ≡ unquarantine-block m s
+unfolding unquarantine-block unquarantine-bytes
+unquarantined-is m s l front behind p q s₁ s₂ s₃ e₁ e₂ e₃ = rw (← p, ← q, ← e₁, ← e₂) e₃
+
 -- the room of a block among blocks
 same-free : (x : Bool) (m n : ℕ) → m ≡ n → cond x m 0 ≡ cond (not x) 0 n
 same-free true m n e = e
@@ -94,7 +105,7 @@ pub record InFront (xs : List Block) (b : Block) (ys : List Block) : Type 0 wher
   pub back-fits : 8 * back-after 0 xs ≤ total-size xs
   pub free-fits : free-in-front xs ≤ total-size xs
 
-pub in-front : (xs : List Block) (b : Block) (ys : List Block) → AllWritable (xs ++ (b ∷ ys)) → live b ≡ true → InFront xs b ys
+pub in-front : (xs : List Block) (b : Block) (ys : List Block) → AllWritable (xs ++ (b ∷ ys)) → occupied b ≡ true → InFront xs b ys
 unfolding total-size back-after free-in-front back-before
 in-front xs b ys w lv = go (last-of xs)
   where
@@ -113,10 +124,10 @@ in-front xs b ys w lv = go (last-of xs)
         record {
           room = rw (u, t, p, append-assoc ws (f ∷ []) (b ∷ ys), front-last ws f, before-last 0 ws f) (room-stands ws f (b ∷ ys) v′);
           back-fits = rw (u, t) (omega arith);
-          free-fits = rw (front-last ws f, t) (omega (arith, small f (live f) refl));
+          free-fits = rw (front-last ws f, t) (omega (arith, small f (occupied f) refl));
         }
       where
-        small : (f : Block) (x : Bool) → live f ≡ x → free-size f ≤ size f
+        small : (f : Block) (x : Bool) → occupied f ≡ x → free-size f ≤ size f
         small f true e = rw e (omega arith)
         small f false e = rw e (omega arith)
 
@@ -125,15 +136,52 @@ in-front xs b ys w lv = go (last-of xs)
     go (inr r) = rw (r .2) (later (r .0) (r .1) (rw (r .2) at w))
 
 -- a live block b behind the blocks xs and in front of ys, met by its place, size and back size
-module _ (xs : List Block) (b : Block) (ys : List Block) (w : AllWritable (xs ++ (b ∷ ys))) (lv : live b ≡ true) (m : Met) (place : m .at ≡ total-size xs) (sized : m .size ≡ size b)
+module _ (xs : List Block) (b : Block) (ys : List Block) (w : AllWritable (xs ++ (b ∷ ys))) (lv : occupied b ≡ true) (m : Met)
+    (place : m .at ≡ total-size xs) (sized : m .size ≡ size b)
     (back : m .back ≡ back-after 0 xs) where
   -- freeing it in place is freeing it among the blocks
-  pub freed-blocks : free-block m (render (xs ++ (b ∷ ys))) ≡ render (join-neighbours xs (vacate b) ys)
+  freed-blocks : free-block m (render (xs ++ (b ∷ ys))) ≡ render (join-neighbours xs (cleared 0 b) ys)
   unfolding free-block
   freed-blocks =
       let f = in-front xs b ys w lv .room in
       let n : 8 + length (b .body) - 8 ≡ length (b .body) = omega arith in
       rw (place, sized, back, f, room-behind xs b ys w, n, total-is xs) (sym (free-writes xs b ys))
+
+  -- in the other kind it is cleared where it stands
+  quarantined-blocks : quarantine-block m (render (xs ++ (b ∷ ys))) ≡ render (join-neighbours xs (cleared QUARANTINED b) ys)
+  unfolding quarantine-block
+  quarantined-blocks =
+      let n : 8 + length (b .body) - 8 ≡ length (b .body) = omega arith in
+      rw (occupied-alone xs (cleared QUARANTINED b) ys refl, place, sized, back, n, total-is xs) (sym (vacate-writes QUARANTINED xs b ys))
+
+  -- so with both kinds
+  pub vacated-blocks : (kind : ℕ) → vacate-block kind m (render (xs ++ (b ∷ ys))) ≡ render (join-neighbours xs (vacate kind b) ys)
+  unfolding vacate-block vacate
+  vacated-blocks kind = go (eqb kind 0)
+    where
+      go : (t : Bool) → cond t (free-block m (render (xs ++ (b ∷ ys)))) (quarantine-block m (render (xs ++ (b ∷ ys)))) ≡ render
+          (join-neighbours xs (cleared (cond t 0 QUARANTINED) b) ys)
+      go true = freed-blocks
+      go false = quarantined-blocks
+
+  pub vacated-ends : (kind : ℕ) → vacate-end kind m (render (xs ++ (b ∷ ys))) ≡ m .at + size b + vacant-behind kind ys
+  unfolding vacate-end vacant-behind free-end
+  vacated-ends kind = rw (place, sized, room-behind xs b ys w) (go (eqb kind 0))
+    where
+      go : (t : Bool) → cond t (total-size xs + size b + free-behind ys) (total-size xs + size b) ≡ total-size xs + size b + cond t (free-behind ys) 0
+      go true = refl
+      go false = omega arith
+
+  -- unquarantining it in place is unquarantining it among the blocks
+  pub unquarantined-blocks : unquarantine-block m (render (xs ++ (b ∷ ys))) ≡ render (join-neighbours xs (unquarantine b) ys)
+  unfolding unquarantine-block
+  unquarantined-blocks =
+      let f = in-front xs b ys w lv .room in
+      rw (place, sized, back, f, room-behind xs b ys w, total-is xs) (sym (unquarantine-writes xs b ys))
+
+  pub unquarantined-ends : free-end m (render (xs ++ (b ∷ ys))) ≡ m .at + size b + free-behind ys
+  unfolding free-end
+  unquarantined-ends = rw (place, sized, room-behind xs b ys w)
 
   -- it lies in the heap
   pub freed-inside : length (render (xs ++ (b ∷ ys))) ≤ 32768 → Inside m (render (xs ++ (b ∷ ys)))

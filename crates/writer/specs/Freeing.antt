@@ -4,11 +4,11 @@ use mathlib.Core.List.{List}
 use mathlib.Core.Bool.{Bool, cond, _&&_}
 use lib.Dec.{leb, eqb}
 use lib.ListN.{length}
-use Rattle.layout.specs.Blocks.{start-at, greatest-heap}
+use Rattle.layout.specs.Blocks.{start-at, greatest-heap, QUARANTINED}
 use Rattle.layout.specs.declared.Header.{Header}
 use Rattle.layout.specs.declared.Start.{Start}
 use Rattle.layout.specs.declared.Start.the-variants.{Block as Starts, Nothing}
-use Rattle.writer.specs.Writes.{free-bytes}
+use Rattle.writer.specs.Writes.{write-object, free-bytes, unquarantine-bytes}
 use Rattle.finder.specs.declared.Met.{Met}
 use Rattle.writer.specs.declared.freeing.Room.{Room}
 
@@ -50,8 +50,32 @@ is-inside m s =
     && (leb (8 * m .back) (m .at) && (leb (room-at (m .at - 8 * m .back) s .free) (m .at)
     && (leb (m .at + m .size) (length s) && leb (length s) greatest-heap)))
 
-unfoldable pub free-in : Met → List ℕ → List ℕ
-free-in m s = cond (is-inside m s) (free-block m s) s
+-- in a heap of the second kind the block waits: its object's bytes are zero, and it joins nothing
+unfoldable pub quarantine-block : Met → List ℕ → List ℕ
+quarantine-block m s = write-object (m .at + 8) (m .size - 8) (m .back) QUARANTINED s
+
+-- what becomes of a block that nobody holds, by the kind, and the end of the block that this makes
+unfoldable pub vacate-block : ℕ → Met → List ℕ → List ℕ
+vacate-block kind m s = cond (eqb kind 0) (free-block m s) (quarantine-block m s)
+
+unfoldable pub vacate-end : ℕ → Met → List ℕ → ℕ
+vacate-end kind m s = cond (eqb kind 0) (free-end m s) (m .at + m .size)
+
+unfoldable pub vacate-in : ℕ → Met → List ℕ → List ℕ
+vacate-in kind m s = cond (is-inside m s) (vacate-block kind m s) s
+
+unfoldable pub vacate-end-in : ℕ → Met → List ℕ → ℕ
+vacate-end-in kind m s = cond (is-inside m s) (vacate-end kind m s) 0
+
+-- a quarantined block becomes free with the bytes that it has, and joins its free neighbours
+unfoldable pub unquarantine-block : Met → List ℕ → List ℕ
+unquarantine-block m s =
+    let front = room-at (m .at - 8 * m .back) s in
+    let behind = room-at (m .at + m .size) s in
+    unquarantine-bytes (m .at) (m .size) (m .at - front .free) (m .at + m .size + behind .free) (m .back) (front .back) s
+
+unfoldable pub unquarantine-in : Met → List ℕ → List ℕ
+unquarantine-in m s = cond (is-inside m s) (unquarantine-block m s) s
 
 unfoldable pub free-end-in : Met → List ℕ → ℕ
 free-end-in m s = cond (is-inside m s) (free-end m s) 0

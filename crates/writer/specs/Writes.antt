@@ -48,3 +48,8 @@ join-bytes start mid stop back s =
 unfoldable pub free-bytes : ℕ → ℕ → ℕ → ℕ → ℕ → ℕ → List ℕ → List ℕ
 free-bytes base n start stop back before s =
     join-bytes start (base - 8) stop before (join-bytes (base - 8) (base + n) stop back (write-object base n back 0 s))
+
+-- all writes that unquarantine the block of n bytes at a place, in the same way
+unfoldable pub unquarantine-bytes : ℕ → ℕ → ℕ → ℕ → ℕ → ℕ → List ℕ → List ℕ
+unquarantine-bytes at n start stop back before s =
+    join-bytes start at stop before (join-bytes at (at + n) stop back (write-header at (record { size = n / 8; back = back; serial = 0 }) s))

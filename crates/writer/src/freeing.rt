@@ -4,11 +4,12 @@ use crate::writing::put_object;
 use finder::Met;
 use layout::GREATEST_HEAP;
 use layout::Header;
+use layout::QUARANTINED;
 use layout::Start;
 ghost use mathlib.Core.Path.{_≡_};
 ghost use Prim.Native.Nat.{_^_, _<_};
 ghost use Rattle.writer.specs.Writes.{join-bytes};
-ghost use Rattle.writer.specs.Freeing.{Inside, room-at, free-block, free-end, is-inside, free-in, free-end-in};
+ghost use Rattle.writer.specs.Freeing.{Inside, room-at, free-block, free-end, is-inside, vacate-block, vacate-end, vacate-in, vacate-end-in, unquarantine-block, unquarantine-in, free-end-in};
 
 // What a header says of a block: its bytes if it is free, else 0, and the units of the block before it.
 struct Room {
@@ -105,14 +106,64 @@ fn is_inside(heap: &[u8], block: Met) -> bool
     front.free <= block.at
 }
 
-// A live block becomes free and joins its free neighbours, and the end of the free block that this makes is given; nothing is written, and 0 is given,
-// where the block does not lie in the heap.
-pub fn free_block(heap: &mut [u8], block: Met) -> usize
-    ensures frees { λ _. ⌜ now (heap .exit) ≡ free-in block (now (heap .entry)) ⌝ }
+// Rules 8.18 and 22.3, what becomes of a live block that nobody holds: in a plain heap it is free and joins, else it waits. The end of the block that this makes is given.
+fn make_vacant(heap: &mut [u8], block: Met, kind: u8) -> usize
+    requires { ⌜ Inside block (now heap) ⌝ }
+    ensures leaves { λ _. ⌜ now (heap .exit) ≡ vacate-block kind block (now (heap .entry)) ⌝ }
+    ensures ends { λ r. ⌜ r ≡ vacate-end kind block (now (heap .entry)) ⌝ }
+{
+    if kind == 0 {
+        return make_free(heap, block);
+    }
+    let at = block.at;
+    let size = block.size;
+    put_object(heap, at + 8, size - 8, block.back, QUARANTINED);
+    at + size
+}
+
+// The same; nothing is written, and 0 is given, where the block does not lie in the heap.
+pub fn vacate_block(heap: &mut [u8], block: Met, kind: u8) -> usize
+    ensures leaves { λ _. ⌜ now (heap .exit) ≡ vacate-in kind block (now (heap .entry)) ⌝ }
+    ensures ends { λ r. ⌜ r ≡ vacate-end-in kind block (now (heap .entry)) ⌝ }
+{
+    if !is_inside(heap, block) {
+        return 0;
+    }
+    make_vacant(heap, block, kind)
+}
+
+// Rule 22.6: a quarantined block becomes free with the bytes that it has, and joins its free neighbours; the end of the free block that this makes is given.
+fn make_unquarantined(heap: &mut [u8], block: Met) -> usize
+    requires { ⌜ Inside block (now heap) ⌝ }
+    ensures frees { λ _. ⌜ now (heap .exit) ≡ unquarantine-block block (now (heap .entry)) ⌝ }
+    ensures ends { λ r. ⌜ r ≡ free-end block (now (heap .entry)) ⌝ }
+{
+    let at = block.at;
+    let size = block.size;
+    let back = block.back;
+    let end = at + size;
+    let front = room_at(heap, at - 8 * back);
+    let behind = room_at(heap, end);
+    let start = at - front.free;
+    let stop = end + behind.free;
+    let header = Header {
+        size: size / 8,
+        back: back,
+        serial: 0,
+    };
+    layout::write_header(heap, at, header);
+    join(heap, at, end, stop, back);
+    join(heap, start, at, stop, front.back);
+    stop
+}
+
+// The same; nothing is written, and 0 is given, where the block does not lie in the heap.
+pub fn unquarantine_block(heap: &mut [u8], block: Met) -> usize
+    ensures frees { λ _. ⌜ now (heap .exit) ≡ unquarantine-in block (now (heap .entry)) ⌝ }
     ensures ends { λ r. ⌜ r ≡ free-end-in block (now (heap .entry)) ⌝ }
 {
     if !is_inside(heap, block) {
         return 0;
     }
-    make_free(heap, block)
+    make_unquarantined(heap, block)
 }

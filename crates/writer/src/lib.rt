@@ -4,4 +4,5 @@ mod freeing;
 mod writing;
 
 pub use carving::carve;
-pub use freeing::free_block;
+pub use freeing::unquarantine_block;
+pub use freeing::vacate_block;

@@ -1,6 +1,6 @@
 //! The ledger of a list of calls: it is fed arguments and answers only.
 
-use lokhazim_reference::{Block, Handle, HOLDS, QUOTAS};
+use lokhazim_reference::{Block, Handle, Kind, Options, HOLDS, QUOTAS};
 
 use crate::state::{Answer, Call};
 
@@ -26,10 +26,24 @@ impl Object {
     pub fn charge(&self) -> u32 {
         self.handle.length + 8
     }
+
+    /// Tells whether any quota has holds on the object.
+    fn is_held(&self) -> bool {
+        self.holds.iter().any(|holds| *holds > 0)
+    }
+
+    /// Gives the object's block, with this serial in its header.
+    fn block(&self, serial: u32) -> Block {
+        Block {
+            offset: self.start(),
+            size: self.charge(),
+            serial,
+        }
+    }
 }
 
 /// The ledger: heap length and grants as opened, the permissions that are left, the last
-/// serial answered, and the objects.
+/// serial answered, the objects, and the blocks of objects that left and wait for a sweep.
 #[derive(Clone, Debug)]
 pub struct Ledger {
     pub heap_length: u32,
@@ -38,6 +52,8 @@ pub struct Ledger {
     pub permissions: [[bool; 3]; QUOTAS],
     pub last_serial: u32,
     pub objects: Vec<Object>,
+    pub options: Options,
+    pub quarantine: Vec<Block>,
 }
 
 /// The unit of a requested length, or none if the length is not allowed.
@@ -88,10 +104,15 @@ impl Ledger {
                     *permission &= bits & 1 << bit == 0;
                 }
             }
+            (Call::Sweep, _) => self.quarantine.clear(),
             _ => {}
         }
-        let held = |object: &Object| object.holds.iter().any(|holds| *holds > 0);
-        self.objects.retain(held);
+        if self.options.kind == Kind::Quarantine {
+            let leaving = self.objects.iter().filter(|object| !object.is_held());
+            let blocks = leaving.map(|object| object.block(0xFFFF_FFFF));
+            self.quarantine.extend(blocks);
+        }
+        self.objects.retain(Object::is_held);
     }
 
     /// Adds an object with one hold of the quota.
@@ -150,11 +171,19 @@ impl Ledger {
         records
     }
 
-    /// Tells for each byte of the heap whether it lies in a live block.
+    /// Gives the live and the quarantined blocks in order.
+    fn taken_blocks(&self) -> Vec<Block> {
+        let live = self.objects.iter().map(|o| o.block(o.handle.serial));
+        let mut blocks: Vec<Block> = live.chain(self.quarantine.iter().copied()).collect();
+        blocks.sort_by_key(|block| block.offset);
+        blocks
+    }
+
+    /// Tells for each byte of the heap whether it lies in a live or a quarantined block.
     fn taken(&self) -> Vec<bool> {
         let mut taken = vec![false; self.heap_length as usize];
-        for object in &self.objects {
-            taken[object.start() as usize..object.end() as usize].fill(true);
+        for block in self.taken_blocks() {
+            taken[block.offset as usize..(block.offset + block.size) as usize].fill(true);
         }
         taken
     }
@@ -170,20 +199,14 @@ impl Ledger {
         })
     }
 
-    /// Gives the blocks that the objects cut the heap into.
+    /// Gives the blocks that the objects and the quarantine cut the heap into.
     pub fn blocks(&self) -> Vec<Block> {
-        let mut objects: Vec<&Object> = self.objects.iter().collect();
-        objects.sort_by_key(|object| object.handle.base);
         let mut blocks = Vec::new();
         let mut at = 0;
-        for object in objects {
-            push_free(&mut blocks, at, object.start());
-            blocks.push(Block {
-                offset: object.start(),
-                size: object.charge(),
-                serial: object.handle.serial,
-            });
-            at = object.end();
+        for taken in self.taken_blocks() {
+            push_free(&mut blocks, at, taken.offset);
+            blocks.push(taken);
+            at = taken.offset + taken.size;
         }
         push_free(&mut blocks, at, self.heap_length);
         blocks
@@ -219,6 +242,7 @@ impl Ledger {
                 let left = weights.filter(|(weight, set)| *set && bits & weight == 0);
                 Ok(Answer::Number(left.map(|(weight, _)| weight).sum()))
             }
+            Call::Sweep => Ok(Answer::Number(self.quarantine.iter().map(|b| b.size).sum())),
             Call::Step(place) => {
                 let mut blocks = self.blocks().into_iter();
                 let block = blocks.find(|block| block.offset as usize == place);
@@ -280,7 +304,10 @@ impl Ledger {
         }
         let length = object_length(request, unit);
         self.payable(quota, length + 8)?;
-        let serial = self.last_serial.checked_add(1).ok_or(10)?;
+        if self.last_serial == 4_294_967_294 {
+            return Err(10);
+        }
+        let serial = self.last_serial + 1;
         let base = self.lowest_run(length).ok_or(11)?;
         Ok(Answer::Object(Handle {
             base,

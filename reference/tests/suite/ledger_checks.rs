@@ -15,6 +15,7 @@ pub type Contents = BTreeMap<u32, Vec<u8>>;
 pub fn check_all(state: &State, ledger: &Ledger, contents: &Contents) {
     heap_and_accounts_are_sound(state);
     live_objects_are_the_ledgers(state, ledger);
+    quarantined_blocks_are_the_ledgers(state, ledger);
     used_records_are_the_holds(state, ledger);
     grants_are_the_grants(state, ledger);
     remainders_are_grants_less_charges(state, ledger);
@@ -36,7 +37,7 @@ fn heap_and_accounts_are_sound(state: &State) {
 
 /// Rule 10.4: live objects are the ledger's.
 fn live_objects_are_the_ledgers(state: &State, ledger: &Ledger) {
-    let live = blocks(state).into_iter().filter(|block| block.serial != 0);
+    let live = blocks(state).into_iter().filter(|block| block.is_live());
     let mut in_heap: Vec<(u32, u32, u32)> = live
         .map(|block| (block.offset + 8, block.size - 8, block.serial))
         .collect();
@@ -46,6 +47,14 @@ fn live_objects_are_the_ledgers(state: &State, ledger: &Ledger) {
         objects.map(|h| (h.base, h.length, h.serial)).collect();
     in_ledger.sort_unstable();
     assert_eq!(in_heap, in_ledger);
+}
+
+/// Quarantined blocks are those of the objects that left since the last sweep.
+fn quarantined_blocks_are_the_ledgers(state: &State, ledger: &Ledger) {
+    let in_heap = blocks(state).into_iter().filter(|b| b.serial == u32::MAX);
+    let mut in_ledger = ledger.quarantine.clone();
+    in_ledger.sort_by_key(|block| block.offset);
+    assert_eq!(in_heap.collect::<Vec<Block>>(), in_ledger);
 }
 
 /// Rule 10.7: used records are the ledger's holds.

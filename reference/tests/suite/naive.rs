@@ -1,4 +1,4 @@
-//! The heap walked and rules 5.1 to 5.8 judged a second time, by plain loops.
+//! The heap walked and its soundness judged a second time, by plain loops.
 
 use lokhazim_reference::{Accounts, Block, QUOTAS};
 
@@ -42,8 +42,17 @@ pub fn is_sound(heap: &[u8], accounts: &Accounts) -> bool {
     let Some(blocks) = blocks(heap) else {
         return false;
     };
-    let live: Vec<Block> = blocks.into_iter().filter(|b| b.serial != 0).collect();
-    serials_are_sound(&live, accounts)
+    let quarantined = |block: &Block| block.serial == 0xFFFF_FFFF;
+    let kind_is_sound = match accounts.kind {
+        0 => !blocks.iter().any(quarantined),
+        1 => true,
+        _ => false,
+    };
+    let live = |block: &Block| block.serial != 0 && !quarantined(block);
+    let live: Vec<Block> = blocks.into_iter().filter(live).collect();
+    kind_is_sound
+        && accounts.last_serial <= 0xFFFF_FFFE
+        && serials_are_sound(&live, accounts)
         && records_are_sound(&live, accounts)
         && sums_are_sound(&live, accounts)
         && live.iter().all(fits_its_unit)

@@ -9,6 +9,7 @@ use lokhazim_reference::*;
 fn any_accounts(prng: &mut Prng) -> Accounts {
     let mut accounts = Accounts {
         last_serial: prng.odd_word(),
+        kind: prng.pick(&[0, 0, 1, 1, 2, 255]),
         ..Accounts::default()
     };
     for quota in &mut accounts.quotas {
@@ -106,7 +107,12 @@ fn plausible_pieces(prng: &mut Prng) -> Vec<Piece> {
         let size = (8 * (1 + prng.below(6))).min(left);
         let may_be_live = size > 8 || prng.percent(2);
         let free = !may_be_live || (!free_before && prng.percent(40));
-        pieces.push((size, if free { 0 } else { 1 + prng.below(60) }));
+        let serial = if prng.percent(10) {
+            QUARANTINED_SERIAL
+        } else {
+            1 + prng.below(60)
+        };
+        pieces.push((size, if free { 0 } else { serial }));
         free_before = free;
         left -= size;
     }
@@ -116,7 +122,9 @@ fn plausible_pieces(prng: &mut Prng) -> Vec<Piece> {
 /// Gives records that mostly fit the pieces.
 fn plausible_records(prng: &mut Prng, pieces: &[Piece]) -> Vec<Hold> {
     let mut holds = Vec::new();
-    for &(_, serial) in pieces.iter().filter(|(_, serial)| *serial != 0) {
+    let hold_all = prng.percent(5);
+    let live = |serial: u32| serial != 0 && (serial != QUARANTINED_SERIAL || hold_all);
+    for &(_, serial) in pieces.iter().filter(|(_, serial)| live(*serial)) {
         let quota = prng.below(3) as u8;
         let count = prng.pick(&[1, 1, 2, 255]);
         holds.push(hold(serial, quota, count));
@@ -144,11 +152,12 @@ fn plausible_heaps_are_judged_alike_and_stay_sound() {
     for _ in 0..3_000 {
         let pieces = plausible_pieces(&mut prng);
         let holds = plausible_records(&mut prng, &pieces);
-        let last_serial = prng.pick(&[60, 60, 60, 61, 50, u32::MAX]);
+        let last_serial = prng.pick(&[60, 60, 60, 61, 50, u32::MAX - 1, u32::MAX]);
         let mut state = State {
             heap: heap_of(&pieces),
             accounts: accounts_of(&pieces, &holds, grants(&[0, 100, 1_000]), last_serial),
         };
+        state.accounts.kind = prng.pick(&[0, 1, 1, 1, 1, 2]);
         let sound = naive::is_sound(&state.heap, &state.accounts);
         assert_eq!(check(&state.heap, &state.accounts).is_ok(), sound);
         sounds += usize::from(sound);

@@ -57,7 +57,7 @@ fn state_for(lines: Lines) -> State {
     pieces.push((if lines.has(11) { 8 } else { 16 }, 0));
     let mut remainders = [1_000; QUOTAS];
     remainders[usize::from(CALLER)] = if lines.has(8) { CHARGE - 1 } else { CHARGE };
-    let last_serial = if lines.has(10) { u32::MAX } else { objects };
+    let last_serial = if lines.has(10) { u32::MAX - 1 } else { objects };
     let mut state = State {
         heap: heap_of(&pieces),
         accounts: accounts_of(&pieces, &records(lines, objects), remainders, last_serial),
@@ -100,6 +100,7 @@ fn calls_for(lines: Lines) -> Vec<(Call, Vec<u8>)> {
         (Call::Remaining(quota), vec![1, 2, 3]),
         (Call::CanRelease(quota, object), vec![1, 2, 3, 5, 6]),
         (Call::ClearPermissions(quota, 7), vec![1, 2, 3]),
+        (Call::Sweep, vec![1, 2]),
         (Call::Step(0), vec![1, 2]),
     ]
 }
@@ -108,13 +109,21 @@ fn calls_for(lines: Lines) -> Vec<(Call, Vec<u8>)> {
 fn every_set_of_lines_gives_the_first_that_the_call_lists_or_is_accepted() {
     for set in (0..1 << 13).step_by(2) {
         let lines = Lines(set);
-        let state = state_for(lines);
-        for (call, numbers) in calls_for(lines) {
-            let mut after = state.clone();
-            match lines.first_of(&numbers) {
-                Some(number) => after.refused(call, number),
-                None => assert!(after.perform(call).is_ok(), "{call:?} with {set:b}"),
-            }
+        let mut state = state_for(lines);
+        for kind in KINDS {
+            state.accounts.kind = kind.number();
+            each_call_gives_its_first(lines, &state);
+        }
+    }
+}
+
+/// Checks that each call gives the first of its lines that holds.
+fn each_call_gives_its_first(lines: Lines, state: &State) {
+    for (call, numbers) in calls_for(lines) {
+        let mut after = state.clone();
+        match lines.first_of(&numbers) {
+            Some(number) => after.refused(call, number),
+            None => assert!(after.perform(call).is_ok(), "{call:?} with {:b}", lines.0),
         }
     }
 }
@@ -174,7 +183,7 @@ fn quota_numbers_above_one_byte_are_refused() {
     let object = state.allocated(0, 16);
     for quota in [QUOTAS as u32, 255, 256, 1 << 16, 1 << 31, u32::MAX] {
         for call in one_of_each(quota, object, 8) {
-            if !matches!(call, Call::Lend(_) | Call::Step(_)) {
+            if !matches!(call, Call::Lend(_) | Call::Sweep | Call::Step(_)) {
                 state.refused(call, 3);
             }
         }
@@ -209,13 +218,18 @@ fn charge_equal_to_the_remainder_is_accepted() {
 
 #[test]
 fn last_serial_may_be_given_once() {
-    let mut state = opened(64, &[100]);
-    state.accounts.last_serial = u32::MAX - 1;
-    assert_eq!(state.allocated(0, 8), handle(8, 8, u32::MAX));
-    state.refused(Call::Allocate(0, 8), 10);
-    state.refused(Call::Reallocate(0, handle(8, 8, u32::MAX), 8), 10);
-    assert_eq!(state.number(Call::FreeAll(0)), 16);
-    state.refused(Call::Allocate(0, 8), 10);
+    for kind in KINDS {
+        let mut state = opened_with(64, &[100], Options { kind });
+        state.accounts.last_serial = u32::MAX - 2;
+        let last = handle(8, 8, u32::MAX - 1);
+        assert_eq!(state.allocated(0, 8), last);
+        state.refused(Call::Allocate(0, 8), 10);
+        state.refused(Call::Reallocate(0, last, 8), 10);
+        assert_eq!(state.number(Call::FreeAll(0)), 16);
+        state.refused(Call::Allocate(0, 8), 10);
+        state.number(Call::Sweep);
+        state.refused(Call::Allocate(0, 8), 10);
+    }
 }
 
 #[test]

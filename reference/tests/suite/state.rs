@@ -93,10 +93,18 @@ pub fn accounts_of(
     accounts
 }
 
-/// Opens a zeroed heap that is expected to be accepted.
+/// Both kinds of heaps.
+pub const KINDS: [Kind; 2] = [Kind::Plain, Kind::Quarantine];
+
+/// Opens a plain heap that is expected to be accepted.
 pub fn opened(length: usize, first_grants: &[u32]) -> State {
+    opened_with(length, first_grants, Options::default())
+}
+
+/// Opens a heap with options that is expected to be accepted.
+pub fn opened_with(length: usize, first_grants: &[u32], options: Options) -> State {
     let mut heap = vec![0xA5; length];
-    let (accounts, answer) = open(&mut heap, grants(first_grants));
+    let (accounts, answer) = open_with(&mut heap, grants(first_grants), options);
     assert_eq!(answer, Ok(()));
     State { heap, accounts }
 }
@@ -114,6 +122,7 @@ pub enum Call {
     Remaining(u32),
     CanRelease(u32, Handle),
     ClearPermissions(u32, u32),
+    Sweep,
     Step(usize),
 }
 
@@ -144,6 +153,7 @@ impl State {
             Call::ClearPermissions(q, bits) => {
                 clear_permissions(heap, accounts, q, bits).map(Answer::Number)
             }
+            Call::Sweep => sweep(heap, accounts).map(Answer::Number),
             Call::Step(place) => block_at(heap, accounts, place).map(Answer::Listed),
         }
     }
@@ -191,6 +201,7 @@ pub fn one_of_each(quota: u32, handle: Handle, length: u32) -> Vec<Call> {
         Call::Remaining(quota),
         Call::CanRelease(quota, handle),
         Call::ClearPermissions(quota, 1),
+        Call::Sweep,
         Call::Step(0),
     ]
 }

@@ -159,6 +159,7 @@ fn difference(kind: u32, at: usize, length: usize) -> Option<Difference> {
         (2, number, 0) => Some(Difference::Quota(number)),
         (3, place, 0) => Some(Difference::Record(place)),
         (4, offset, length) => Some(Difference::Bytes(offset, length)),
+        (5, 0, 0) => Some(Difference::Kind),
         other => panic!("the numbers {other:?} name no difference"),
     }
 }

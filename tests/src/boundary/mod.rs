@@ -37,6 +37,7 @@ struct CAccounts {
     quotas: [CQuota; QUOTAS],
     last_serial: u32,
     holds: [CHold; HOLDS],
+    kind: u8,
 }
 
 /// A handle as it crosses the boundary.
@@ -104,7 +105,7 @@ struct BlockReply {
 }
 
 extern "C" {
-    fn lokhazim_open(heap: *mut u8, length: usize, grants: CGrants) -> OpenReply;
+    fn lokhazim_open(heap: *mut u8, length: usize, grants: CGrants, kind: u32) -> OpenReply;
     fn lokhazim_allocate(
         heap: *mut u8,
         heap_length: usize,
@@ -155,6 +156,7 @@ extern "C" {
         handle: CHandle,
         length: u32,
     ) -> HandleReply;
+    fn lokhazim_sweep(heap: *mut u8, heap_length: usize, accounts: CAccounts) -> AmountReply;
     fn lokhazim_lend(
         heap: *const u8,
         heap_length: usize,
@@ -205,6 +207,7 @@ impl From<&Accounts> for CAccounts {
                 quota: hold.quota,
                 count: hold.count,
             }),
+            kind: accounts.kind,
         }
     }
 }
@@ -223,6 +226,7 @@ impl From<CAccounts> for Accounts {
                 quota: hold.quota,
                 count: hold.count,
             }),
+            kind: accounts.kind,
         }
     }
 }
@@ -283,7 +287,7 @@ pub fn perform(heap: &mut [u8], accounts: &Accounts, call: Call) -> (Accounts, A
     // layout of the boundary, and the functions accept any bytes and any numbers.
     unsafe {
         match call {
-            Call::Open(values) => lokhazim_open(p, len, CGrants { values }).parts(),
+            Call::Open(values, kind) => lokhazim_open(p, len, CGrants { values }, kind).parts(),
             Call::Allocate(q, n) => lokhazim_allocate(p, len, c, q, n).parts(),
             Call::Array(q, n, s) => lokhazim_allocate_array(p, len, c, q, n, s).parts(),
             Call::Claim(q, h) => lokhazim_claim(p, len, c, q, h.into()).parts(),
@@ -291,6 +295,7 @@ pub fn perform(heap: &mut [u8], accounts: &Accounts, call: Call) -> (Accounts, A
             Call::FreeAll(q) => lokhazim_free_all(p, len, c, q).parts(),
             Call::Reallocate(q, h, n) => lokhazim_reallocate(p, len, c, q, h.into(), n).parts(),
             Call::ClearPermissions(q, n) => lokhazim_clear_permissions(p, len, c, q, n).parts(),
+            Call::Sweep => lokhazim_sweep(p, len, c).parts(),
             asking => (accounts.clone(), ask(p, len, c, asking)),
         }
     }

@@ -5,14 +5,16 @@ mod written;
 
 use plan::{
     add_record, base_by_the_request, change_record, further_high_quota, no_record_at_all,
-    object_without_record, record_of_no_object, record_twice, serial_above_last, serial_twice,
-    short_live_block, two_free_blocks, unfitting_base, unfitting_length,
+    object_without_record, quarantined_in_plain, quarantined_with_records, record_of_no_object,
+    record_twice, serial_above_last, serial_twice, short_live_block, short_quarantined_block,
+    two_free_blocks, unfitting_base, unfitting_length,
 };
 use written::{
     add_to_quota, charge_each_count, charge_without_header, first_back_size, last_size,
-    moved_amount, set_back, set_permissions, set_size, wrapped_sum,
+    moved_amount, set_back, set_kind, set_permissions, set_size, wrapped_sum,
 };
 
+use crate::cut::QUARANTINED;
 use crate::judge::{broken, Sentence};
 use crate::seed::Seed;
 use crate::state::State;
@@ -46,7 +48,7 @@ const fn kind(name: &'static str, sentence: Sentence, way: Way) -> Damage {
 }
 
 /// Every kind of damage.
-pub const DAMAGES: [Damage; 39] = [
+pub const DAMAGES: [Damage; 44] = [
     kind(
         "a live block of 8 bytes",
         Sentence::Cut,
@@ -233,6 +235,34 @@ pub const DAMAGES: [Damage; 39] = [
         "permissions that are none of a quota's",
         Sentence::Permissions,
         Way::State(|s, n| set_permissions(s, n, |_, high| high)),
+    ),
+    kind(
+        "a quarantined block of 8 bytes",
+        Sentence::Cut,
+        Way::Plan(short_quarantined_block),
+    ),
+    kind(
+        "records of a quarantined block",
+        Sentence::Records,
+        Way::Plan(quarantined_with_records),
+    ),
+    kind(
+        "a quarantined block in a plain heap",
+        Sentence::Kind,
+        Way::Plan(quarantined_in_plain),
+    ),
+    kind(
+        "a kind that there is not",
+        Sentence::Kind,
+        Way::State(set_kind),
+    ),
+    kind(
+        "a last serial that no object can have",
+        Sentence::LastSerial,
+        Way::Plan(|p, _| {
+            p.last_serial = QUARANTINED;
+            Some(())
+        }),
     ),
 ];
 

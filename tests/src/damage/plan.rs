@@ -2,12 +2,55 @@
 
 use lokhazim_reference::{Hold, QUOTAS};
 
+use crate::cut::{is_live, QUARANTINED};
+use crate::pieces::Piece;
 use crate::seed::Seed;
-use crate::states::{Piece, Plan};
+use crate::states::Plan;
 
-/// Cuts a live block down to its header and gives the rest to a free block behind it.
+/// Cuts a live block down to its header.
 pub(super) fn short_live_block(plan: &mut Plan, seed: &mut Seed) -> Option<()> {
     let place = seed.any_of(&plan.live())?;
+    cut_down(plan, place)
+}
+
+/// Gives the places of the quarantined pieces.
+fn quarantined(plan: &Plan) -> Vec<usize> {
+    let places = 0..plan.pieces.len();
+    places
+        .filter(|place| plan.pieces[*place].serial == QUARANTINED)
+        .collect()
+}
+
+/// Cuts a quarantined block down to its header.
+pub(super) fn short_quarantined_block(plan: &mut Plan, seed: &mut Seed) -> Option<()> {
+    let place = seed.any_of(&quarantined(plan))?;
+    cut_down(plan, place)
+}
+
+/// Makes a free block of at least 16 bytes quarantined where none is, and the heap plain.
+pub(super) fn quarantined_in_plain(plan: &mut Plan, seed: &mut Seed) -> Option<()> {
+    plan.kind = 0;
+    if quarantined(plan).is_empty() {
+        let place = seed.any_of(&long_free(plan))?;
+        plan.pieces[place].serial = QUARANTINED;
+    }
+    Some(())
+}
+
+/// Gives a live block and its records the serial of quarantine.
+pub(super) fn quarantined_with_records(plan: &mut Plan, seed: &mut Seed) -> Option<()> {
+    let place = seed.any_of(&plan.live())?;
+    let old = plan.pieces[place].serial;
+    plan.kind = 1;
+    plan.pieces[place].serial = QUARANTINED;
+    for record in plan.records.iter_mut().filter(|h| h.serial == old) {
+        record.serial = QUARANTINED;
+    }
+    Some(())
+}
+
+/// Cuts a block down to its header and gives the rest to a free block behind it.
+fn cut_down(plan: &mut Plan, place: usize) -> Option<()> {
     let rest = plan.pieces[place].size - 8;
     plan.pieces[place].size = 8;
     let behind = plan.pieces.get_mut(place + 1);
@@ -76,12 +119,16 @@ pub(super) fn base_by_the_request(plan: &mut Plan, seed: &mut Seed) -> Option<()
     Some(())
 }
 
+/// Gives the places of the free pieces of 16 bytes or more.
+fn long_free(plan: &Plan) -> Vec<usize> {
+    (0..plan.pieces.len())
+        .filter(|p| plan.pieces[*p].serial == 0 && plan.pieces[*p].size >= 16)
+        .collect()
+}
+
 /// Splits a free block in two.
 pub(super) fn two_free_blocks(plan: &mut Plan, seed: &mut Seed) -> Option<()> {
-    let places: Vec<usize> = (0..plan.pieces.len())
-        .filter(|p| plan.pieces[*p].serial == 0 && plan.pieces[*p].size >= 16)
-        .collect();
-    let place = seed.any_of(&places)?;
+    let place = seed.any_of(&long_free(plan))?;
     let units = plan.pieces[place].size / 8;
     let first = 8 * seed.between(1, units - 1);
     let rest = Piece {
@@ -106,7 +153,8 @@ pub(super) fn serial_twice(plan: &mut Plan, seed: &mut Seed) -> Option<()> {
 
 /// Lowers the last serial below the highest live one.
 pub(super) fn serial_above_last(plan: &mut Plan, seed: &mut Seed) -> Option<()> {
-    let highest = plan.pieces.iter().map(|piece| piece.serial).max()?;
+    let given = plan.pieces.iter().map(|piece| piece.serial);
+    let highest = given.filter(|serial| is_live(*serial)).max()?;
     plan.last_serial = highest.checked_sub(1)? - seed.below(highest.min(3));
     Some(())
 }
@@ -134,7 +182,7 @@ pub(super) fn record_of_no_object(plan: &mut Plan, seed: &mut Seed) -> Option<()
         .serial
         .wrapping_add(1);
     let serial = seed.pick(&[near, plan.last_serial, u32::MAX, 1, seed.clone().word()]);
-    let live = plan.pieces.iter().any(|piece| piece.serial == serial);
+    let live = is_live(serial) && plan.pieces.iter().any(|piece| piece.serial == serial);
     let quota = seed.below(QUOTAS as u32) as u8;
     (!live).then(|| add_record(plan, seed, serial, quota, 1))?
 }

@@ -1,4 +1,5 @@
-//! Damage to a written state: sizes and back sizes of headers, grants, remainders and permissions.
+//! Damage to a written state: sizes and back sizes of headers, grants, remainders, permissions, the
+//! kind.
 
 use lokhazim_reference::{Hold, QUOTAS};
 
@@ -76,6 +77,13 @@ pub(super) fn set_permissions(
     let quota = &mut state.accounts.quotas[seed.place(QUOTAS)];
     let (one, any) = (8 << seed.below(5), seed.between(8, 255) as u8);
     quota.permissions = change(quota.permissions, seed.pick(&[one, any]));
+    Some(())
+}
+
+/// Sets the kind to a number that is none's.
+pub(super) fn set_kind(state: &mut State, seed: &mut Seed) -> Option<()> {
+    let any = seed.between(2, 255) as u8;
+    state.accounts.kind = seed.pick(&[2, 3, 128, 129, 255, any]);
     Some(())
 }
 

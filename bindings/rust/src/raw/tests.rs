@@ -21,6 +21,7 @@ fn distinct() -> Accounts {
             quota: (2 * i) as u8,
             count: (2 * i + 1) as u8,
         }),
+        kind: 171,
     }
 }
 
@@ -58,6 +59,7 @@ fn each_call_hands_back_every_field_that_it_refuses() {
         release(&mut heap, &accounts, 0, handle),
         free_all(&mut heap, &accounts, 0),
         clear_permissions(&heap, &accounts, 0, 7),
+        sweep(&mut heap, &accounts),
     ];
     for reply in amounts {
         assert_eq!(
@@ -91,7 +93,7 @@ fn a_send_hands_back_every_field_that_it_refuses() {
 #[test]
 fn each_grant_reaches_its_quota() {
     let values = core::array::from_fn(|i| (i as u32 + 1).wrapping_mul(0x9E37_79B1));
-    let reply = open(&mut [7; 64], Grants { values });
+    let reply = open(&mut [7; 64], Grants { values }, 0);
     assert_eq!(reply.refusal, 0);
     assert_eq!(reply.accounts.quotas.map(|quota| quota.grant), values);
     assert_eq!(reply.accounts.quotas.map(|quota| quota.remainder), values);
@@ -101,4 +103,18 @@ fn each_grant_reaches_its_quota() {
     );
     assert_eq!(reply.accounts.last_serial, 0);
     assert_eq!(reply.accounts.holds, [Hold::default(); HOLDS]);
+}
+
+/// Any number but 0 opens a heap with quarantine.
+#[test]
+fn each_kind_reaches_the_accounts() {
+    let grants = Grants {
+        values: [1; QUOTAS],
+    };
+    for (number, kind) in [(0, 0), (1, 1), (2, 1), (255, 1), (256, 1), (u32::MAX, 1)] {
+        let reply = open(&mut [7; 64], grants, number);
+        assert_eq!((reply.refusal, reply.accounts.kind), (0, kind), "{number}");
+        let refused = open(&mut [7; 63], grants, number);
+        assert_eq!((refused.refusal, refused.accounts.kind), (1, 0), "{number}");
+    }
 }

@@ -86,6 +86,7 @@ static void visit_accounts(struct lokhazim_accounts *it)
     for (int i = 0; i < LOKHAZIM_HOLDS; i++) {
         visit_hold(&it->holds[i]);
     }
+    visit8(&it->kind);
 }
 
 static void visit_handle(struct lokhazim_handle *it)

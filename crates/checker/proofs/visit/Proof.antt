@@ -6,10 +6,12 @@ use Prim.Native.Nat.{ℕ}
 use native.Mathlib.Omega.{arith}
 use borrow.Author.Needs.{needs}
 use borrow.Author.Tests.{not-true, not-false}
-use mathlib.Core.Path.{ap, sym, _∙_}
+use mathlib.Core.Path.{ap, sym, subst, _∙_}
+use mathlib.Core.Bool.{Bool}
 use lib.ListN.{getD}
 use Rattle.rounding.specs.Rounding.{unit}
-use Rattle.checker.proofs.Visiting.{visit-behind, visit-apart, visit-late, visit-unfit, payable, visit-settled}
+use Rattle.checker.specs.Contracts.{Visited}
+use Rattle.checker.proofs.Visiting.{visit-behind, visit-apart, visit-waits, visit-late, visit-unfit, payable, visit-settled}
 use Rattle.checker.proofs.visit.Statement.{statement}
 use Rattle.checker.proofs.visit.Tie as tie
 
@@ -17,29 +19,45 @@ returns : tie.Need-returns
 returns c =
     let s = c .before .before in
     let a = s .args in
-    visit-behind unit (a .last) (a .serial) (a .size) (a .end) (a .before) (s .pre .0) (c .before .if1 .taken) (c .if2 .taken)
+    visit-behind unit (a .kind) (a .last) (a .serial) (a .size) (a .end) (a .before) (s .pre .0) (c .before .if1 .taken) (c .if2 .taken)
 
 returns-2 : tie.Need-returns-2
 returns-2 c =
     let s = c .before .before in
     let a = s .args in
-    visit-apart unit (a .last) (a .serial) (a .size) (a .end) (a .before) (s .pre .0) (c .before .if1 .taken) (c .if2 .left)
+    visit-apart unit (a .kind) (a .last) (a .serial) (a .size) (a .end) (a .before) (s .pre .0) (c .before .if1 .taken) (c .if2 .left)
+
+is-waiting-requires : tie.Need-is-waiting-requires
+is-waiting-requires c κs = search needs
 
 returns-3 : tie.Need-returns-3
 returns-3 c =
-    let s = c .before .before in
+    let f = c .before in
+    let s = f .before .before in
     let a = s .args in
-    visit-late unit (a .last) (a .serial) (a .size) (a .end) (a .before) (s .pre .0) (c .before .if1 .left) (omega arith)
-
-is-fitting-requires : tie.Need-is-fitting-requires
-is-fitting-requires c κs = let p = c .before .before .pre in (p .1, p .2, p .3, p .4)
+    subst (λ (r : Bool). Visited unit (a .kind) (a .last) (a .serial) (a .size) (a .end) (a .before) (a .next .now) (a .heads .now) (a .keys .now)
+    (a .owed .now) r (a .keys .now) (a .owed .now))
+    (sym (c .is-waiting .ensures))
+    (visit-waits unit (a .kind) (a .last) (a .serial) (a .size) (a .end) (a .before) (s .pre .0) (f .before .if1 .left) (f .if3 .taken))
 
 returns-4 : tie.Need-returns-4
 returns-4 c =
-    let f = c .before in
-    let s = f .before .before .before in
+    let s = c .before .before .before in
     let a = s .args in
-    visit-unfit unit (a .last) (a .serial) (a .size) (a .end) (a .before) (s .pre .0) (f .before .before .if1 .left) (sym (f .is-fitting .ensures) ∙ not-true _ (c .if4 .taken))
+    visit-late unit (a .kind) (a .last) (a .serial) (a .size) (a .end) (a .before) (s .pre .0) (c .before .before .if1 .left) (c .before .if3 .left)
+    (omega arith)
+
+is-fitting-requires : tie.Need-is-fitting-requires
+is-fitting-requires c κs = let p = c .before .before .before .pre in (p .1, p .2, p .3, p .4)
+
+returns-5 : tie.Need-returns-5
+returns-5 c =
+    let f = c .before in
+    let s = f .before .before .before .before in
+    let a = s .args in
+    visit-unfit unit (a .kind) (a .last) (a .serial) (a .size) (a .end) (a .before) (s .pre .0) (f .before .before .before .if1 .left)
+    (f .before .before .if3 .left)
+    (sym (f .is-fitting .ensures) ∙ not-true _ (c .if5 .taken))
 
 slot-of-requires : tie.Need-slot-of-requires
 slot-of-requires c κs = search needs
@@ -56,19 +74,21 @@ place-requires c κs = search needs
 settle-requires : tie.Need-settle-requires
 settle-requires c κs =
     let g = c .before .before .before .before .before in
-    let s = g .before .before .before .before in
+    let s = g .before .before .before .before .before in
     let a = s .args in
-    payable (s .pre .0) (a .serial) (g .before .before .before .if1 .left)
+    payable (s .pre .0) (a .serial) (g .before .before .before .before .if1 .left)
     (c .before .before .place .ensures ∙ ap (λ (x : ℕ). getD (a .heads .now) x 0) (c .before .before .before .before .slot-of .ensures .0))
 
-returns-5 : tie.Need-returns-5
-returns-5 c =
+returns-6 : tie.Need-returns-6
+returns-6 c =
     let g = c .before .before .before .before .before .before in
     let f = g .before in
-    let s = f .before .before .before in
+    let s = f .before .before .before .before in
     let a = s .args in
-    visit-settled unit (a .last) (a .serial) (a .size) (a .end) (a .before) (s .pre .0) (f .before .before .if1 .left)
-    (sym (f .is-fitting .ensures) ∙ not-false _ (g .if4 .left)) (omega arith) (c .settle .result) (c .settle .last .0) (c .settle .last .1 .1 .0) (c .settle .ensures)
+    visit-settled unit (a .kind) (a .last) (a .serial) (a .size) (a .end) (a .before) (s .pre .0) (f .before .before .before .if1 .left)
+    (f .before .before .if3 .left)
+    (sym (f .is-fitting .ensures) ∙ not-false _ (g .if5 .left)) (omega arith) (c .settle .result) (c .settle .last .0) (c .settle .last .1 .1 .0)
+    (c .settle .ensures)
 
 pub visit-spec : {M : Type 1} → statement M
 visit-spec =
@@ -76,12 +96,14 @@ visit-spec =
     (tie.spec
     returns
     returns-2
+    is-waiting-requires
     returns-3
-    is-fitting-requires
     returns-4
+    is-fitting-requires
+    returns-5
     slot-of-requires
     mul-place
     element-copy-out-place
     place-requires
     settle-requires
-    returns-5)
+    returns-6)

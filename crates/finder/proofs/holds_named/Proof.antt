@@ -7,6 +7,7 @@ use native.Mathlib.Omega.{arith}
 use lib.Dec.{leb, eqb}
 use borrow.Author.Needs.{needs}
 use borrow.Author.Tests.{eq-eqb, ne-eqb, le-leb, lt-leb}
+use Rattle.layout.specs.Blocks.{QUARANTINED}
 use Rattle.model.specs.Objects.{names}
 use Rattle.model.proofs.Bools.{and-no}
 use Rattle.model.specs.declared.Handle.{Handle}
@@ -21,6 +22,10 @@ module _ (h : Handle) (m : Met) where
   unfolding holds-named
   free e = rw (eq-eqb (m .serial) 0 e)
 
+  quarantined : m .serial ≡ QUARANTINED → holds-named h m ≡ false
+  unfolding holds-named
+  quarantined e = rw e
+
   other-serial : (h .serial ≡ m .serial → ⊥) → holds-named h m ≡ false
   unfolding holds-named names
   other-serial e = and-no (live-met m) _ (rw (ne-eqb (h .serial) (m .serial) e))
@@ -29,12 +34,19 @@ module _ (h : Handle) (m : Met) where
   unfolding holds-named names
   no-byte e = and-no (live-met m) _ (and-no (eqb (h .serial) (m .serial)) _ (rw (lt-leb 1 (h .length) (omega (arith, e)))))
 
-  by-end : (m .serial ≡ 0 → ⊥) → h .serial ≡ m .serial → (h .length ≡ 0 → ⊥) → m .at + 8 ≤ h .base → 8 ≤ m .size
+  by-end : (m .serial ≡ 0 → ⊥) → (m .serial ≡ QUARANTINED → ⊥) → h .serial ≡ m .serial → (h .length ≡ 0 → ⊥) → m .at + 8 ≤ h .base → 8 ≤ m .size
       → leb (h .base + h .length) (m .at + m .size) ≡ holds-named h m
   unfolding holds-named names
-  by-end e s l b z =
+  by-end e y s l b z =
       let d : m .at + m .size ≡ m .at + 8 + (m .size - 8) = omega (arith, z) in
-      rw (ne-eqb (m .serial) 0 e, eq-eqb (h .serial) (m .serial) s, le-leb 1 (h .length) (omega (arith, l)), le-leb (m .at + 8) (h .base) b)
+      rw (
+        ne-eqb (m .serial) 0 e,
+        ne-eqb (m .serial) QUARANTINED y,
+        eq-eqb (h .serial) (m .serial) s,
+        le-leb 1 (h .length) (omega (arith, l)),
+        le-leb
+            (m .at + 8) (h .base) b,
+      )
       (ap (leb (h .base + h .length)) d)
 
 cast-base : tie.Need-cast-base
@@ -57,28 +69,34 @@ returns-2 c =
 returns-3 : tie.Need-returns-3
 returns-3 c =
     let a = c .before .before .before .before .before .before .before .before .before .args in
-    sym (no-byte (a .handle) (a .block) (omega (arith, c .if3 .taken)))
-
-add-if4 : tie.Need-add-if4
-add-if4 c = search needs
+    sym (quarantined (a .handle) (a .block) (c .if3 .taken))
 
 returns-4 : tie.Need-returns-4
 returns-4 c =
     let a = c .before .before .before .before .before .before .before .before .before .before .before .args in
-    sym (before-block (a .handle) (a .block) (omega (arith, c .if4 .taken)))
+    sym (no-byte (a .handle) (a .block) (omega (arith, c .if4 .taken)))
+
+add-if5 : tie.Need-add-if5
+add-if5 c = search needs
+
+returns-5 : tie.Need-returns-5
+returns-5 c =
+    let a = c .before .before .before .before .before .before .before .before .before .before .before .before .before .args in
+    sym (before-block (a .handle) (a .block) (omega (arith, c .if5 .taken)))
 
 add-result : tie.Need-add-result
 add-result c = search needs
 
-returns-5 : tie.Need-returns-5
-returns-5 c =
+returns-6 : tie.Need-returns-6
+returns-6 c =
     let p = c .before in
     let q = p .before .before in
-    let r = q .before .before in
+    let y = q .before .before in
+    let r = y .before .before in
     let t = r .before .before .before in
     let a = t .before .before .before .before .args in
-    by-end (a .handle) (a .block) (λ e. omega (arith, t .if1 .left)) (omega (arith, r .if2 .left)) (λ e. omega (arith, q .if3 .left))
-    (omega (arith, p .if4 .left)) (t .before .before .before .before .pre .header)
+    by-end (a .handle) (a .block) (λ e. omega (arith, t .if1 .left)) (y .if3 .left) (omega (arith, r .if2 .left)) (λ e. omega (arith, q .if4 .left))
+    (omega (arith, p .if5 .left)) (t .before .before .before .before .pre .header)
 
 pub holds-named-spec : {M : Type 1} → statement M
 holds-named-spec =
@@ -90,7 +108,8 @@ holds-named-spec =
     returns
     returns-2
     returns-3
-    add-if4
     returns-4
+    add-if5
+    returns-5
     add-result
-    returns-5)
+    returns-6)

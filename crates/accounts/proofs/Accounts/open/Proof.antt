@@ -1,83 +1,27 @@
--- `accounts::Accounts::open` meets its contract. The loop's invariant: each quota before place `i` holds its grant whole. The rest is as
--- `Accounts::zero` gives it. The measure is what is left of the table.
+-- `accounts::Accounts::open` meets its contract: the accounts of a plain heap, with the number of the kind.
 -- Assumes nothing.
-use Prim.Native.Nat.{ℕ, _≤_, _<_, _-_}
-use native.Mathlib.Omega.{arith}
 use borrow.Author.Needs.{needs}
-use borrow.Author.Count.{below-none}
-use mathlib.Core.Path.{_≡_, refl, sym, ap, _∙_}
-use mathlib.Core.List.{List}
-use lib.ListN.{length, getD, length-set}
-use Rattle.accounts.specs.declared.Quota.{Quota}
-use Rattle.accounts.specs.declared.Accounts.{Accounts}
-use Rattle.accounts.specs.Accounts.{QUOTAS, zero-accounts, with-quotas, granted, opened}
-use Rattle.accounts.proofs.Laws.{sized-zero, mapped-more, mapped-all}
+use Rattle.accounts.specs.Accounts.{opened}
 use Rattle.accounts.proofs.Accounts.open.Statement.{statement}
 use Rattle.accounts.proofs.Accounts.open.Tie as tie
 
-abbrev Inv-loop : tie.InvT-loop
-Inv-loop grants accounts quotas₀ i₀ quotas i =
-    (i ≤ QUOTAS) × (length quotas ≡ QUOTAS) × ((j : ℕ) → j < i → getD quotas j (granted 0) ≡ granted (getD grants j 0))
+begin-requires : tie.Need-begin-requires
+begin-requires c κs = search needs
 
-abbrev μ-loop : tie.MeasureT-loop
-μ-loop grants accounts quotas₀ i₀ quotas i = QUOTAS - i
+number-requires : tie.Need-number-requires
+number-requires c κs = search needs
 
-zero-requires : tie.Need-zero-requires Inv-loop μ-loop
-zero-requires c κs = search needs
-
-loop-holds : tie.Need-loop-holds Inv-loop μ-loop
-loop-holds c = (search needs, ap (λ (k : Accounts). length (k .quotas)) (c .before .zero .ensures) ∙ sized-zero .quotas-long, below-none _)
-
-mul-grant : tie.Need-mul-grant Inv-loop μ-loop
-mul-grant c = search needs
-
-array-read-grant : tie.Need-array-read-grant Inv-loop μ-loop
-array-read-grant c = search needs
-
-mul-quotas : tie.Need-mul-quotas Inv-loop μ-loop
-mul-quotas c = search needs
-
-array-set-from-quotas : tie.Need-array-set-from-quotas Inv-loop μ-loop
-array-set-from-quotas c = search needs
-
-add-i : tie.Need-add-i Inv-loop μ-loop
-add-i c = search needs
-
-loop-less : tie.Need-loop-less Inv-loop μ-loop
-loop-less c = search needs
-
-loop-again : tie.Need-loop-again Inv-loop μ-loop
-loop-again c =
-    let at = c .before in (
-      search needs,
-      simp length-set (at .loop .inv .1),
-      mapped-more granted 0 (granted 0) refl (at .before .before .before .args .t1) (at .loop .quotas) (at .loop .i) (at .loop .inv .2) (omega arith) _ refl,
-    )
-
-returns : tie.Need-returns Inv-loop μ-loop
+returns : tie.Need-returns
 unfolding opened
 returns c =
-    let at = c .before in
-    let start = at .before .before .before in
-    let gs = start .args .t1 in
-    let given : length gs ≡ QUOTAS = start .good .0 .1 .0 .1 in
-    ap (with-quotas (at .loop .quotas)) (at .before .before .zero .ensures)
-    ∙ ap (λ (qs : List Quota). with-quotas qs zero-accounts)
-    (mapped-all granted 0 (granted 0) refl gs (at .loop .quotas) (at .loop .i) (at .loop .inv .2) (at .loop .inv .1 ∙ sym given) (omega arith))
+    let b = c .before in
+    λ i.
+    record {
+      quotas = b .begin .ensures i .quotas;
+      «last_serial» = b .begin .ensures i .«last_serial»;
+      holds = b .begin .ensures i .holds;
+      kind = c .number .ensures i;
+    }
 
 pub open-spec : {M : Type 1} → statement M
-open-spec =
-    tie.close
-    (tie.spec
-    Inv-loop
-    μ-loop
-    zero-requires
-    loop-holds
-    mul-grant
-    array-read-grant
-    mul-quotas
-    array-set-from-quotas
-    add-i
-    loop-less
-    loop-again
-    returns)
+open-spec = tie.close (tie.spec begin-requires number-requires returns)

@@ -1,9 +1,14 @@
 -- `c_api::lokhazim_open` meets its contract: the reply makes, with the heap at exit, the outcome that the result of the call makes.
 -- Assumes nothing.
-use mathlib.Core.Path.{_∙_}
+use mathlib.Core.Path.{ap, _∙_}
 use borrow.Author.Needs.{needs}
+use Rattle.accounts.specs.declared.Settings.{Settings}
+use Rattle.model.specs.Calls.{open-heap}
 use Rattle.c_api.proofs.changes.lokhazim_open.Statement.{statement}
 use Rattle.c_api.proofs.changes.lokhazim_open.Tie as tie
+
+settings-of-requires : tie.Need-settings-of-requires
+settings-of-requires c κs = search needs
 
 open-requires : tie.Need-open-requires
 open-requires c κs = search needs
@@ -15,8 +20,13 @@ same-length : tie.Need-same-length
 same-length c = search needs
 
 returns : tie.Need-returns
-returns c = c .reply-of-opened .ensures (c .before .before .before .«open» .last .0) ∙ c .before .before .before .«open» .ensures
+returns c =
+    let o = c .before .before .before in
+    let g = o .before .before in
+    let a = g .before .before .before .args in
+    c .reply-of-opened .ensures (o .«open» .last .0) ∙ o .«open» .ensures ∙ ap (λ (x : Settings). open-heap x (a .heap .now) (a .grants .values))
+    (g .settings-of .ensures)
 
 pub lokhazim-open-spec : {M : Type 1} → statement M
 lokhazim-open-spec =
-    tie.close (tie.spec open-requires reply-of-opened-requires same-length returns)
+    tie.close (tie.spec settings-of-requires open-requires reply-of-opened-requires same-length returns)

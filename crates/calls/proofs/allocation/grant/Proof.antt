@@ -13,6 +13,7 @@ use Rattle.finder.specs.Walk.{find-fit}
 use Rattle.writer.specs.Carving.{Room}
 use Rattle.calls.proofs.Placed.{the-room}
 use Rattle.calls.proofs.Granted.{refused-8, refused-9, refused-10, refused-11, granted}
+use Rattle.calls.proofs.Ready.{checked-serial}
 use borrow.Author.Needs.{needs}
 use Rattle.calls.proofs.allocation.grant.Statement.{statement}
 use Rattle.calls.proofs.allocation.grant.Tie as tie
@@ -84,7 +85,8 @@ returns-3 c =
     let e = z .before .before in
     let a = e .args in
     refused-10 unit unit-is (a .heap .now) (a .t2) (a .quota) (a .length) (e .pre) (c .refused3 .result) (omega (arith, x .if1 .left, z .object-length .ensures))
-    (p .place .given .0 .0) (sym (u .lowest-unused .ensures) ∙ p .place .given .1) (omega (arith, c .before .if2 .taken, e .good .1 .0 .1 .1 .1 .0 .1)) (c .refused3 .ensures)
+    (p .place .given .0 .0) (sym (u .lowest-unused .ensures) ∙ p .place .given .1)
+    (omega (arith, c .before .if2 .taken, checked-serial unit (a .heap .now) (a .t2) (a .quota) (e .pre .checked))) (c .refused3 .ensures)
 
 object-unit-requires : tie.Need-object-unit-requires
 object-unit-requires c κs = search needs

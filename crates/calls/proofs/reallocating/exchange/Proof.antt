@@ -23,6 +23,7 @@ use Rattle.finder.specs.Walk.{object-met, find-object, find-whole}
 use Rattle.finder.proofs.Reached.{whole-found}
 use Rattle.writer.specs.Freeing.{Inside}
 use Rattle.invariant.proofs.Recorded.{Limits}
+use Rattle.calls.proofs.Ready.{checked-serial}
 use Rattle.calls.proofs.Typed.{grants-narrow}
 use Rattle.calls.specs.Ready.{Checked}
 use Rattle.calls.specs.Results.{handle-outcome}
@@ -42,7 +43,12 @@ octets c i = c .slice-known .given i .fits
 limits : (c : tie.Start) → Limits (c .args .accounts)
 limits c =
     let quotas = c .good .1 .0 .1 .1 .0 in
-    record { quotas = simp length-map at (quotas .1 .0 .1); narrow = grants-narrow (c .args .accounts .quotas) (quotas .0) (quotas .1 .1); serial = c .good .1 .0 .1 .1 .1 .0 .1 }
+    record {
+      quotas = simp length-map at (quotas .1 .0 .1);
+      narrow = grants-narrow (c .args .accounts .quotas) (quotas .0)
+          (quotas .1 .1);
+      serial = checked-serial unit (c .args .heap .now) (c .args .accounts) (c .args .quota) (c .pre .checked);
+    }
 
 find-whole-requires : tie.Need-find-whole-requires
 find-whole-requires c κs = search needs

@@ -114,8 +114,8 @@ loop-again c =
     let at = c .before .before in
     (search needs, below-more _ _ (at .loop .inv .1) (c .if2 .left))
 
-free-block-requires : tie.Need-free-block-requires Inv-loop μ-loop
-free-block-requires c κs = search needs
+vacate-block-requires : tie.Need-vacate-block-requires Inv-loop μ-loop
+vacate-block-requires c κs = search needs
 
 given-requires-3 : tie.Need-given-requires-3 Inv-loop μ-loop
 given-requires-3 c κs = search needs
@@ -134,7 +134,8 @@ returns-3 c =
     let k = e .before .before .before in
     let a = k .before .args in
     freed-result unit (a .heap .now) (a .t2) (octets k) (a .quota) (a .block) (a .place) (k .before .pre) (omega (arith, e .if1 .left)) (left .before .refund .result) (left .drop-hold .result) (left .before .refund .ensures)
-    (left .drop-hold .ensures) (at .loop .at) (c .given3 .result) (c .given3 .ensures) (at .loop .inv .1) (omega (arith, long (k .before), end .loop-test .left)) _ (f .free-block .ensures .0)
+    (left .drop-hold .ensures) (at .loop .at) (c .given3 .result) (c .given3 .ensures) (at .loop .inv .1)
+    (omega (arith, long (k .before), end .loop-test .left)) _ (f .vacate-block .ensures .0)
 
 pub drop-claim-spec : {M : Type 1} → statement M
 drop-claim-spec =
@@ -161,7 +162,7 @@ drop-claim-spec =
     add-at
     loop-less
     loop-again
-    free-block-requires
+    vacate-block-requires
     given-requires-3
     same-length
     returns-3)

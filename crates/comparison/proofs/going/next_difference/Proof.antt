@@ -14,6 +14,12 @@ enum-told c = search needs
 from-start-requires : tie.Need-from-start-requires
 from-start-requires c κs = search needs
 
+enum-told-2 : tie.Need-enum-told-2
+enum-told-2 c = search needs
+
+from-kind-requires : tie.Need-from-kind-requires
+from-kind-requires c κs = search needs
+
 enum-known-from : tie.Need-enum-known-from
 enum-known-from c = search needs
 
@@ -41,18 +47,24 @@ returns c =
 returns-2 : tie.Need-returns-2
 unfolding next-of differences-from
 returns-2 c =
-    let a = c .before .before .before .before .before .before .args in
-    c .from-quota .ensures ∙ sym (ap (λ (p : Position). next-of p (state-in (a .first .now)) (state-in (a .second .now))) (c .before .before .from .given .1))
+    let a = c .before .before .before .before .before .args in
+    c .from-kind .ensures ∙ sym (ap (λ (p : Position). next-of p (state-in (a .first .now)) (state-in (a .second .now))) (c .before .enum-told2 .given .1))
 
 returns-3 : tie.Need-returns-3
 unfolding next-of differences-from
 returns-3 c =
     let a = c .before .before .before .before .before .before .args in
-    c .from-record .ensures ∙ sym (ap (λ (p : Position). next-of p (state-in (a .first .now)) (state-in (a .second .now))) (c .before .before .from2 .given .1))
+    c .from-quota .ensures ∙ sym (ap (λ (p : Position). next-of p (state-in (a .first .now)) (state-in (a .second .now))) (c .before .before .from .given .1))
 
 returns-4 : tie.Need-returns-4
 unfolding next-of differences-from
 returns-4 c =
+    let a = c .before .before .before .before .before .before .args in
+    c .from-record .ensures ∙ sym (ap (λ (p : Position). next-of p (state-in (a .first .now)) (state-in (a .second .now))) (c .before .before .from2 .given .1))
+
+returns-5 : tie.Need-returns-5
+unfolding next-of differences-from
+returns-5 c =
     let a = c .before .before .before .before .before .before .args in
     c .from-byte .ensures ∙ sym (ap (λ (p : Position). next-of p (state-in (a .first .now)) (state-in (a .second .now))) (c .before .before .from3 .given .1))
 
@@ -62,6 +74,8 @@ next-difference-spec =
     (tie.spec
     enum-told
     from-start-requires
+    enum-told-2
+    from-kind-requires
     enum-known-from
     from-quota-requires
     enum-known-from-2
@@ -71,4 +85,5 @@ next-difference-spec =
     returns
     returns-2
     returns-3
-    returns-4)
+    returns-4
+    returns-5)

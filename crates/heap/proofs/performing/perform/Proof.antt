@@ -55,6 +55,15 @@ free-all-requires c κs = search needs
 of-amount-requires-3 : tie.Need-of-amount-requires-3
 of-amount-requires-3 c κs = search needs
 
+enum-told : tie.Need-enum-told
+enum-told c = search needs
+
+sweep-requires : tie.Need-sweep-requires
+sweep-requires c κs = search needs
+
+of-amount-requires-4 : tie.Need-of-amount-requires-4
+of-amount-requires-4 c κs = search needs
+
 enum-known-call-6 : tie.Need-enum-known-call-6
 enum-known-call-6 c = search needs
 
@@ -106,8 +115,8 @@ enum-known-call-11 c = search needs
 clear-permissions-requires : tie.Need-clear-permissions-requires
 clear-permissions-requires c κs = search needs
 
-of-amount-requires-4 : tie.Need-of-amount-requires-4
-of-amount-requires-4 c κs = search needs
+of-amount-requires-5 : tie.Need-of-amount-requires-5
+of-amount-requires-5 c κs = search needs
 
 same-length : tie.Need-same-length
 same-length c = search needs
@@ -171,9 +180,9 @@ returns-6 : tie.Need-returns-6
 unfolding step performed answer-of
 returns-6 c =
     let made = c .before .before .before in
-    let a = made .before .before .before .before .before .before .args in
-    by-call (a .heap .now) (a .accounts) _ _ _ (made .before .before .before .call6 .given .1)
-    (by-handle _ _ _ _ (c .of-handle3 .ensures) (made .reallocate .ensures))
+    let a = made .before .before .before .before .before .args in
+    by-call (a .heap .now) (a .accounts) _ _ _ (made .before .before .enum-told .given .1)
+    (by-amount _ _ _ _ (c .of-amount4 .ensures) (made .sweep .ensures))
 
 same-length-7 : tie.Need-same-length-7
 same-length-7 c = search needs
@@ -181,11 +190,10 @@ same-length-7 c = search needs
 returns-7 : tie.Need-returns-7
 unfolding step performed answer-of
 returns-7 c =
-    let made = c .before in
+    let made = c .before .before .before in
     let a = made .before .before .before .before .before .before .args in
-    by-call (a .heap .now) (a .accounts) _ _ _ (made .before .before .before .call7 .given .1)
-    (by-answer _ _ _ (λ v. OfRange (range-from v)) _ _ _
-    (c .unchanged .ensures) (ap OfRange (range-back (made .object-range .result))) (made .object-range .ensures))
+    by-call (a .heap .now) (a .accounts) _ _ _ (made .before .before .before .call6 .given .1)
+    (by-handle _ _ _ _ (c .of-handle3 .ensures) (made .reallocate .ensures))
 
 same-length-8 : tie.Need-same-length-8
 same-length-8 c = search needs
@@ -195,9 +203,9 @@ unfolding step performed answer-of
 returns-8 c =
     let made = c .before in
     let a = made .before .before .before .before .before .before .args in
-    by-call (a .heap .now) (a .accounts) _ _ _ (made .before .before .before .call8 .given .1)
-    (by-answer _ _ _ (λ v. OfAmount (amount-from v)) _ _ _
-    (c .unchanged2 .ensures) (ap OfAmount (amount-back (made .remaining .result))) (made .remaining .ensures))
+    by-call (a .heap .now) (a .accounts) _ _ _ (made .before .before .before .call7 .given .1)
+    (by-answer _ _ _ (λ v. OfRange (range-from v)) _ _ _
+    (c .unchanged .ensures) (ap OfRange (range-back (made .object-range .result))) (made .object-range .ensures))
 
 same-length-9 : tie.Need-same-length-9
 same-length-9 c = search needs
@@ -207,9 +215,9 @@ unfolding step performed answer-of
 returns-9 c =
     let made = c .before in
     let a = made .before .before .before .before .before .before .args in
-    by-call (a .heap .now) (a .accounts) _ _ _ (made .before .before .before .call9 .given .1)
-    (by-answer _ _ _ (λ v. OfVerdict (verdict-from v)) _ _ _
-    (c .unchanged3 .ensures) (ap OfVerdict (verdict-back (made .can-release .result))) (made .can-release .ensures))
+    by-call (a .heap .now) (a .accounts) _ _ _ (made .before .before .before .call8 .given .1)
+    (by-answer _ _ _ (λ v. OfAmount (amount-from v)) _ _ _
+    (c .unchanged2 .ensures) (ap OfAmount (amount-back (made .remaining .result))) (made .remaining .ensures))
 
 same-length-10 : tie.Need-same-length-10
 same-length-10 c = search needs
@@ -219,9 +227,9 @@ unfolding step performed answer-of
 returns-10 c =
     let made = c .before in
     let a = made .before .before .before .before .before .before .args in
-    by-call (a .heap .now) (a .accounts) _ _ _ (made .before .before .before .call10 .given .1)
-    (by-answer _ _ _ (λ v. OfBlock (block-from v)) _ _ _
-    (c .unchanged4 .ensures) (ap OfBlock (block-back (made .list-from .result))) (made .list-from .ensures))
+    by-call (a .heap .now) (a .accounts) _ _ _ (made .before .before .before .call9 .given .1)
+    (by-answer _ _ _ (λ v. OfVerdict (verdict-from v)) _ _ _
+    (c .unchanged3 .ensures) (ap OfVerdict (verdict-back (made .can-release .result))) (made .can-release .ensures))
 
 same-length-11 : tie.Need-same-length-11
 same-length-11 c = search needs
@@ -231,8 +239,20 @@ unfolding step performed answer-of
 returns-11 c =
     let made = c .before in
     let a = made .before .before .before .before .before .before .args in
+    by-call (a .heap .now) (a .accounts) _ _ _ (made .before .before .before .call10 .given .1)
+    (by-answer _ _ _ (λ v. OfBlock (block-from v)) _ _ _
+    (c .unchanged4 .ensures) (ap OfBlock (block-back (made .list-from .result))) (made .list-from .ensures))
+
+same-length-12 : tie.Need-same-length-12
+same-length-12 c = search needs
+
+returns-12 : tie.Need-returns-12
+unfolding step performed answer-of
+returns-12 c =
+    let made = c .before in
+    let a = made .before .before .before .before .before .before .args in
     by-call (a .heap .now) (a .accounts) _ _ _ (made .before .before .before .call11 .given .1)
-    (by-amount _ _ _ _ (c .of-amount4 .ensures) (made .clear-permissions .ensures))
+    (by-amount _ _ _ _ (c .of-amount5 .ensures) (made .clear-permissions .ensures))
 
 pub perform-spec : {M : Type 1} → statement M
 perform-spec =
@@ -253,6 +273,9 @@ perform-spec =
     enum-known-call-5
     free-all-requires
     of-amount-requires-3
+    enum-told
+    sweep-requires
+    of-amount-requires-4
     enum-known-call-6
     reallocate-requires
     of-handle-requires-3
@@ -270,7 +293,7 @@ perform-spec =
     unchanged-requires-4
     enum-known-call-11
     clear-permissions-requires
-    of-amount-requires-4
+    of-amount-requires-5
     same-length
     returns
     same-length-2
@@ -292,4 +315,6 @@ perform-spec =
     same-length-10
     returns-10
     same-length-11
-    returns-11)
+    returns-11
+    same-length-12
+    returns-12)

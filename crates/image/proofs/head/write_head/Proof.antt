@@ -5,16 +5,20 @@ use mathlib.Core.Path.{_≡_, refl, ap, _∙_}
 use borrow.Author.Needs.{needs}
 use Prim.Native.Nat.{ℕ}
 use lib.ListN.{length, take, length-map}
-use Rattle.layout.specs.Bytes.{overwrite}
+use Rattle.layout.specs.Bytes.{bytes, overwrite}
 use Rattle.image_model.specs.Items.{many}
 use Rattle.image_model.specs.Stream.{tail-width, record-bytes, head-length}
 use Rattle.accounts.specs.Accounts.{QUOTAS, HOLDS}
 use Rattle.image.proofs.Heads.{head-written}
+use Rattle.image.proofs.Marked.{marks-written}
 use Rattle.image.proofs.head.write_head.Statement.{statement}
 use Rattle.image.proofs.head.write_head.Tie as tie
 
 write-u16-requires : tie.Need-write-u16-requires
 write-u16-requires c κs = search needs
+
+marks-requires : tie.Need-marks-requires
+marks-requires c κs = search needs
 
 write-u16-requires-2 : tie.Need-write-u16-requires-2
 write-u16-requires-2 c κs = search needs
@@ -47,7 +51,8 @@ returns c =
     let w₄ = w₅ .before .before .before .before in
     let w₃ = w₄ .before .before .before .before in
     let w₂ = w₃ .before .before .before .before in
-    let w₁ = w₂ .before .before .before .before in
+    let m = w₂ .before in
+    let w₁ = m .before .before .before .before in
     let start = w₁ .before .before .before .before .before in
     let a = start .args in
     let k = a .accounts in
@@ -56,7 +61,8 @@ returns c =
     head-written (a .form) (start .pre .0) (a .size) k qs hs (a .head .now) (w₁ .write-u16 .last .0) (w₂ .write-u162 .last .0) (w₃ .write-u32 .last .0)
     (w₄ .write-u322 .last .0)
     (w₅ .write-entries .last .0) (w₆ .write-records .last .0) (start .pre .1)
-    (w₁ .write-u16 .ensures) (w₂ .write-u162 .ensures) (w₃ .write-u32 .ensures) (w₄ .write-u322 .ensures) (w₅ .write-entries .ensures (a .form) refl)
+    (w₁ .write-u16 .ensures) (m .marks .result) (ap (bytes 2) (m .marks .ensures .0) ∙ marks-written (a .form) k)
+    (w₂ .write-u162 .ensures) (w₃ .write-u32 .ensures) (w₄ .write-u322 .ensures) (w₅ .write-entries .ensures (a .form) refl)
     (w₆ .write-records .ensures
     ∙ ap (λ (x : ℕ). overwrite x (many record-bytes (take (a .form .records) (k .holds))) (w₅ .write-entries .last .0)) (w₆ .before .entry-at .ensures .0))
 
@@ -65,6 +71,7 @@ write-head-spec =
     tie.close
     (tie.spec
     write-u16-requires
+    marks-requires
     write-u16-requires-2
     write-u32-requires
     write-u32-requires-2

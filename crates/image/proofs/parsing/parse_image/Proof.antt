@@ -1,6 +1,6 @@
 -- The tests are the lines, in their order; what they leave are the parts (`Parses`).
 -- Assumes nothing.
-use mathlib.Core.Path.{_≡_, ap, sym, _∙_}
+use mathlib.Core.Path.{_≡_, refl, ap, sym, _∙_}
 use borrow.Author.Needs.{needs}
 use mathlib.Core.Option.{some}
 use lib.ListN.{take}
@@ -93,8 +93,8 @@ returns-4 c =
     (not-false _ (n .before .before .if3 .left))
     (sym (ap form-numbered (n .before .read-pair .ensures .0)) ∙ sym (n .form-numbered .ensures) ∙ ap known-form (c .before .enum-told .given .1)))
 
-read-pair-requires-2 : tie.Need-read-pair-requires-2
-read-pair-requires-2 c κs = search needs
+marks-right-requires : tie.Need-marks-right-requires
+marks-right-requires c κs = search needs
 
 refused-requires-5 : tie.Need-refused-requires-5
 refused-requires-5 c κs = search needs
@@ -108,7 +108,7 @@ returns-5 c =
     refused-parts i (c .refused5 .result) FormNumber (c .refused5 .ensures)
     (refused-marks i (r .before .before .if1 .left) (r .before .if2 .left) (r .all-right .result) (r .all-right .ensures)
     (not-false _ (f .before .before .before .before .if3 .left)) (f .form .given .0 .0) (known f)
-    (λ e. c .before .if4 .taken (m .read-pair2 .ensures .0 ∙ e)))
+    (m .marks-right .result) (m .marks-right .ensures (f .form .given .0 .0) refl) (not-true _ (c .before .if4 .taken)))
 
 read-quad-requires : tie.Need-read-quad-requires
 read-quad-requires c κs = search needs
@@ -134,7 +134,8 @@ returns-6 c =
     refused-parts i (c .refused6 .result) Contents (c .refused6 .ensures)
     (refused-contents i (r .before .before .if1 .left) (r .before .if2 .left) (r .all-right .result) (r .all-right .ensures)
     (not-false _ (f .before .before .before .before .if3 .left)) (f .form .given .0 .0) (known f)
-    (sym (m .read-pair2 .ensures .0) ∙ q .before .before .if4 .left) (q .contents-right .result) (q .contents-right .ensures)
+    (m .marks-right .result) (m .marks-right .ensures (f .form .given .0 .0) refl) (not-false _ (q .before .before .if4 .left))
+    (q .contents-right .result) (q .contents-right .ensures)
     (not-true _ (c .before .if5 .taken)))
 
 read-accounts-requires : tie.Need-read-accounts-requires
@@ -151,7 +152,8 @@ returns-7 c =
     let none =
     refused-none i (r .before .before .if1 .left) (r .before .if2 .left) (r .all-right .result) (r .all-right .ensures)
     (not-false _ (f .before .before .before .before .if3 .left)) (f .form .given .0 .0) (known f)
-    (sym (m .read-pair2 .ensures .0) ∙ q .before .before .if4 .left) (q .contents-right .result) (q .contents-right .ensures)
+    (m .marks-right .result) (m .marks-right .ensures (f .form .given .0 .0) refl) (not-false _ (q .before .before .if4 .left))
+    (q .contents-right .result) (q .contents-right .ensures)
     (not-false _ (c .before .if5 .left)) in
     found-parts i (f .form .given .0 .0) (q .before .read-quad .result) (c .read-accounts .result)
     (record {
@@ -178,7 +180,7 @@ parse-image-spec =
     enum-told
     refused-requires-4
     returns-4
-    read-pair-requires-2
+    marks-right-requires
     refused-requires-5
     returns-5
     read-quad-requires

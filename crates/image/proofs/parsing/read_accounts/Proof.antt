@@ -1,6 +1,8 @@
--- The quotas, the last serial and the records stand where the definition reads them.
+-- The quotas, the last serial, the records and the kind stand where the definition reads them.
 -- Assumes nothing.
-use mathlib.Core.Path.{refl, ap, _∙_}
+use native.Mathlib.Omega.{arith}
+use mathlib.Core.Path.{refl, ap, sym, _∙_}
+use mathlib.Core.Bool.{cond}
 use borrow.Author.Needs.{needs}
 use Prim.Native.Nat.{ℕ}
 use mathlib.Core.List.{_++_}
@@ -9,6 +11,7 @@ use Rattle.framing.specs.Frames.{stream-of}
 use Rattle.image_model.specs.Items.{each}
 use Rattle.image_model.specs.Stream.{tail-width, with-marks, record-width, blank}
 use Rattle.image_model.specs.Reading.{record-of, accounts-of}
+use Rattle.image.proofs.Marked.{mark-at}
 use Rattle.image.proofs.parsing.read_accounts.Statement.{statement}
 use Rattle.image.proofs.parsing.read_accounts.Tie as tie
 
@@ -24,17 +27,22 @@ entry-at-requires c κs = search needs
 read-records-requires : tie.Need-read-records-requires
 read-records-requires c κs = search needs
 
+read-kind-requires : tie.Need-read-kind-requires
+read-kind-requires c κs = search needs
+
 returns : tie.Need-returns
 unfolding accounts-of with-marks tail-width
 returns c =
-    let e = c .before .before .before in
+    let r = c .before in
+    let e = r .before .before .before in
     let a = e .before .before .args in
     let f = a .form in
     let t = stream-of (a .image .now) in
     let hs =
-    c .read-records .ensures f
-    ∙ ap (λ (n : ℕ). each record-of record-width (f .records) (drop n t) ++ drop (f .records) (blank f .holds)) (c .before .entry-at .ensures .0) in
-    λ i. record { quotas = e .read-entries .ensures f refl i; «last_serial» = c .before .before .read-quad .ensures i; holds = hs i }
+    r .read-records .ensures f
+    ∙ ap (λ (n : ℕ). each record-of record-width (f .records) (drop n t) ++ drop (f .records) (blank f .holds)) (r .before .entry-at .ensures .0) in
+    let kind = c .read-kind .ensures ∙ ap (λ (b : ℕ). cond (f .full) b 0) (sym (mark-at t 1 (omega arith))) in
+    λ i. record { quotas = e .read-entries .ensures f refl i; «last_serial» = r .before .before .read-quad .ensures i; holds = hs i; kind = kind i }
 
 pub read-accounts-spec : {M : Type 1} → statement M
 read-accounts-spec =
@@ -44,4 +52,5 @@ read-accounts-spec =
     read-quad-requires
     entry-at-requires
     read-records-requires
+    read-kind-requires
     returns)

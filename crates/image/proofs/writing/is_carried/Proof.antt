@@ -2,7 +2,7 @@
 -- Assumes nothing.
 use borrow.Author.Needs.{needs}
 use borrow.Author.Tests.{not-true, not-false}
-use Rattle.image.proofs.Puts.{carried-full, carried-grants, carried-records, carried-permissions}
+use Rattle.image.proofs.Puts.{carried-full, carried-grants, carried-records, carried-permissions, carried-marks}
 use Rattle.image.proofs.writing.is_carried.Statement.{statement}
 use Rattle.image.proofs.writing.is_carried.Tie as tie
 
@@ -34,11 +34,26 @@ are-permitted-requires c κs = search needs
 
 returns-4 : tie.Need-returns-4
 returns-4 c =
-    let u = c .before .before in
+    let p = c .before in
+    let u = p .before .before in
     let g = u .before .before in
     let a = g .before .before .before .before .args in
     carried-permissions (a .form) (a .accounts) (g .before .if1 .left) (g .no-grants .result) (g .no-grants .ensures) (not-false _ (u .before .if2 .left))
-    (u .none-used .result) (u .none-used .ensures) (not-false _ (c .before .if3 .left)) (c .are-permitted .result) (c .are-permitted .ensures)
+    (u .none-used .result) (u .none-used .ensures) (not-false _ (p .before .if3 .left)) (p .are-permitted .result) (p .are-permitted .ensures)
+    (not-true _ (c .if4 .taken))
+
+marks-requires : tie.Need-marks-requires
+marks-requires c κs = search needs
+
+returns-5 : tie.Need-returns-5
+returns-5 c =
+    let p = c .before .before in
+    let u = p .before .before in
+    let g = u .before .before in
+    let a = g .before .before .before .before .args in
+    carried-marks (a .form) (a .accounts) (g .before .if1 .left) (g .no-grants .result) (g .no-grants .ensures) (not-false _ (u .before .if2 .left))
+    (u .none-used .result) (u .none-used .ensures) (not-false _ (p .before .if3 .left)) (p .are-permitted .result) (p .are-permitted .ensures)
+    (not-false _ (c .before .if4 .left)) (c .marks .result) (c .marks .ensures .0) (c .marks .ensures .1)
 
 pub is-carried-spec : {M : Type 1} → statement M
 is-carried-spec =
@@ -50,4 +65,6 @@ is-carried-spec =
     none-used-requires
     returns-3
     are-permitted-requires
-    returns-4)
+    returns-4
+    marks-requires
+    returns-5)

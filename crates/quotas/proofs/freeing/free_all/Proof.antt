@@ -112,8 +112,8 @@ abbrev start : tie.After-held-each → tie.Start
 start c = c .before .before .before .before .before .before .before .before .before .before .before .before .before .before
 
 walked : (c : tie.After-held-each)
-    → Emptiable (c .held-each .result) (start c .args .heap .now)
-    × ((s : List ℕ) → Emptied (c .held-each .result) (start c .args .heap .now) s
+    → Emptiable (start c .args .t2 .kind) (c .held-each .result) (start c .args .heap .now)
+    × ((s : List ℕ) → Emptied (start c .args .t2 .kind) (c .held-each .result) (start c .args .heap .now) s
     → (r : AmountResult) → r ≡ record { accounts = c .before .before .before .before .drop-holds .result; answer = Amount (c .before .before .before .before .before .before .spent .result) }
     → amount-outcome s r ≡ free-all unit (start c .args .heap .now) (start c .args .t2) (start c .args .quota))
 walked c =

@@ -19,11 +19,11 @@ use Rattle.quotas.proofs.freeing.free_unkept.Statement.{statement}
 use Rattle.quotas.proofs.freeing.free_unkept.Tie as tie
 
 abbrev Inv-loop : tie.InvT-loop
-Inv-loop heap₀ kept i₀ at₀ heap i at =
-    (length heap ≡ length heap₀) × ((hs : List Hold) (bs : List Block) → Emptying hs bs kept 0 0 heap₀ → Emptying hs bs kept i at heap)
+Inv-loop heap₀ kind kept i₀ at₀ heap i at =
+    (length heap ≡ length heap₀) × ((hs : List Hold) (bs : List Block) → Emptying kind hs bs kept 0 0 heap₀ → Emptying kind hs bs kept i at heap)
 
 abbrev μ-loop : tie.MeasureT-loop
-μ-loop heap₀ kept i₀ at₀ heap i at = 32768 - at
+μ-loop heap₀ kind kept i₀ at₀ heap i at = 32768 - at
 
 -- where a header was found, that header, and what is known of its size
 abbrev place : tie.After-header Inv-loop μ-loop → ℕ
@@ -40,11 +40,15 @@ fits c = let w = start-found (place c) (bytes c) (c .header .given .0 .0) (found
 
 -- the walk passes its block
 passing : (c : tie.After-header Inv-loop μ-loop) (hs : List Hold) (bs : List Block)
-    → Emptying hs bs (c .before .before .before .before .before .before .before .args .t2) 0 0 (c .before .before .before .before .before .before .before .args .heap .now)
-    → Passing hs bs (c .before .before .before .before .before .before .before .args .t2) (c .before .before .before .before .before .loop .i) (place c) (bytes c) (counted (c .header .given .0 .0 .serial)) (headed (place c) (c .header .given .0 .0))
+    → Emptying (c .before .before .before .before .before .before .before .args .kind) hs bs
+    (c .before .before .before .before .before .before .before .args .t3) 0 0 (c .before .before .before .before .before .before .before .args .heap .now)
+    → Passing (c .before .before .before .before .before .before .before .args .kind) hs bs
+    (c .before .before .before .before .before .before .before .args .t3) (c .before .before .before .before .before .loop .i) (place c) (bytes c)
+    (counted (c .header .given .0 .0 .serial)) (headed (place c) (c .header .given .0 .0))
 passing c hs bs e =
     let l = c .before .before .before .before .before in
-    emptying-on hs bs (l .before .before .args .t2) (l .loop .i) (l .loop .at) (l .loop .heap) (l .loop .inv .1 hs bs e) (c .header .given .0 .0) (found c)
+    emptying-on (l .before .before .args .kind) hs bs (l .before .before .args .t3) (l .loop .i) (l .loop .at) (l .loop .heap) (l .loop .inv .1 hs bs e)
+    (c .header .given .0 .0) (found c)
 
 loop-holds : tie.Need-loop-holds Inv-loop μ-loop
 loop-holds c = (refl, λ hs bs e. e)
@@ -64,7 +68,8 @@ same-length c = search needs
 returns : tie.Need-returns Inv-loop μ-loop
 returns c hs bs e =
     let l = c .before .before .before .before .before in
-    emptying-ended hs bs (l .before .before .args .t2) (l .loop .i) (l .loop .at) (l .loop .heap) (l .loop .inv .1 hs bs e) (sym (c .before .before .start-at .ensures) ∙ c .enum-told .given .1)
+    emptying-ended (l .before .before .args .kind) hs bs (l .before .before .args .t3) (l .loop .i) (l .loop .at) (l .loop .heap) (l .loop .inv .1 hs bs e)
+    (sym (c .before .before .start-at .ensures) ∙ c .enum-told .given .1)
 
 mul-i : tie.Need-mul-i Inv-loop μ-loop
 mul-i c = let f = fits (c .before .before) in omega arith
@@ -86,7 +91,9 @@ loop-less c =
     let h = c .before .before .before .before .before .before .before in
     let l = h .before .before .before .before .before in
     let p = l .before .before .pre in
-    let w = emptying-short (p .0) (p .1) (l .before .before .args .t2) (l .loop .i) (l .loop .at) (l .loop .heap) (l .loop .inv .1 (p .0) (p .1) (p .2)) in
+    let w =
+    emptying-short (l .before .before .args .kind) (p .0) (p .1) (l .before .before .args .t3) (l .loop .i) (l .loop .at) (l .loop .heap)
+    (l .loop .inv .1 (p .0) (p .1) (p .2)) in
     let f = fits h in
     let r = c .before .before .before .pass-block in
     let on : l .loop .at < r .result = rw (r .ensures .1) (passing h (p .0) (p .1) (p .2) .0 _) in
@@ -104,7 +111,8 @@ same-length-2 c = search needs
 returns-2 : tie.Need-returns-2 Inv-loop μ-loop
 returns-2 c hs bs e =
     let l = c .before in
-    emptying-full hs bs (l .before .before .args .t2) (l .loop .i) (l .loop .at) (l .loop .heap) (l .loop .inv .1 hs bs e) (omega arith)
+    emptying-full (l .before .before .args .kind) hs bs (l .before .before .args .t3) (l .loop .i) (l .loop .at) (l .loop .heap) (l .loop .inv .1 hs bs e)
+    (omega arith)
 
 pub free-unkept-spec : {M : Type 1} → statement M
 free-unkept-spec =

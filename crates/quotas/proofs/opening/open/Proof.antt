@@ -17,7 +17,8 @@ returns : tie.Need-returns
 returns c =
     let k = c .before .before in
     let a = k .before .before .args in
-    open-refused (a .heap .now) (a .grants) (c .zero .result) (c .zero .ensures) (sym (k .is-allowed .ensures) ∙ not-true (k .is-allowed .result) (c .before .if1 .taken))
+    open-refused (a .settings) (a .heap .now) (a .grants) (c .zero .result) (c .zero .ensures)
+    (sym (k .is-allowed .ensures) ∙ not-true (k .is-allowed .result) (c .before .if1 .taken))
 
 clear-requires : tie.Need-clear-requires
 clear-requires c κs = search needs
@@ -34,7 +35,7 @@ returns-2 c =
     let e = w .before .before in
     let k = e .before in
     let a = k .before .before .args in
-    open-accepted (a .heap .now) (a .grants) (c .«open» .result) (w .clear .last .0) (c .«open» .ensures) (w .clear .ensures)
+    open-accepted (a .settings) (a .heap .now) (a .grants) (c .«open» .result) (w .clear .last .0) (c .«open» .ensures) (w .clear .ensures)
     (sym (k .is-allowed .ensures) ∙ not-false (k .is-allowed .result) (e .if1 .left))
 
 pub open-spec : {M : Type 1} → statement M

@@ -14,8 +14,8 @@ use Rattle.replay_text.proofs.Openings.{opened-refused, opened-runs, op
 use Rattle.replay_text.proofs.run.run_opened.Statement.{statement}
 use Rattle.replay_text.proofs.run.run_opened.Tie as tie
 
-open-requires : tie.Need-open-requires
-open-requires c κs = search needs
+open-plain-requires : tie.Need-open-plain-requires
+open-plain-requires c κs = search needs
 
 verdict-refusal-requires : tie.Need-verdict-refusal-requires
 verdict-refusal-requires c κs = search needs
@@ -28,7 +28,9 @@ put-refusal-requires c κs =
     let e = o .before .before .before .before .before in
     let a = e .args in
     let ls = lines (slice (a .from) (length (a .input .now)) (a .input .now)) in
-    subst (λ (x : List ℕ). Room 0 x (a .output .now)) (sym (opened-refused (a .heap .now) (a .grants) (o .«open» .last .0) (o .«open» .result .accounts) (o .«open» .result .verdict) (o .«open» .ensures) (v .verdict-refusal .result) (v .verdict-refusal .ensures) ls (t .if1 .taken))) (e .pre .2)
+    subst (λ (x : List ℕ). Room 0 x (a .output .now))
+    (sym (opened-refused (a .heap .now) (a .grants) (o .open-plain .last .0) (o .open-plain .result .accounts) (o .open-plain .result .verdict)
+    (o .open-plain .ensures) (v .verdict-refusal .result) (v .verdict-refusal .ensures) ls (t .if1 .taken))) (e .pre .2)
 
 same-length : tie.Need-same-length
 same-length c = search needs
@@ -45,7 +47,9 @@ returns c =
     let e = o .before .before .before .before .before in
     let a = e .args in
     let ls = lines (slice (a .from) (length (a .input .now)) (a .input .now)) in
-    subst (λ (x : List ℕ). Put 0 x (a .output .now) (p .put-refusal .last .0) (p .put-refusal .result)) (opened-refused (a .heap .now) (a .grants) (o .«open» .last .0) (o .«open» .result .accounts) (o .«open» .result .verdict) (o .«open» .ensures) (v .verdict-refusal .result) (v .verdict-refusal .ensures) ls (t .if1 .taken)) (p .put-refusal .ensures)
+    subst (λ (x : List ℕ). Put 0 x (a .output .now) (p .put-refusal .last .0) (p .put-refusal .result))
+    (opened-refused (a .heap .now) (a .grants) (o .open-plain .last .0) (o .open-plain .result .accounts) (o .open-plain .result .verdict)
+    (o .open-plain .ensures) (v .verdict-refusal .result) (v .verdict-refusal .ensures) ls (t .if1 .taken)) (p .put-refusal .ensures)
 
 put-ok-requires : tie.Need-put-ok-requires
 put-ok-requires c κs =
@@ -55,8 +59,10 @@ put-ok-requires c κs =
     let e = o .before .before .before .before .before in
     let a = e .args in
     let ls = lines (slice (a .from) (length (a .input .now)) (a .input .now)) in
-    room-first 0 (ok-line []) (run-lines ls (o .«open» .last .0) (o .«open» .result .accounts)) (a .output .now)
-    (subst (λ (x : List ℕ). Room 0 x (a .output .now)) (sym (opened-runs (a .heap .now) (a .grants) (o .«open» .last .0) (o .«open» .result .accounts) (o .«open» .result .verdict) (o .«open» .ensures) (v .verdict-refusal .result) (v .verdict-refusal .ensures) ls (x .if1 .left))) (e .pre .2))
+    room-first 0 (ok-line []) (run-lines ls (o .open-plain .last .0) (o .open-plain .result .accounts)) (a .output .now)
+    (subst (λ (x : List ℕ). Room 0 x (a .output .now))
+    (sym (opened-runs (a .heap .now) (a .grants) (o .open-plain .last .0) (o .open-plain .result .accounts) (o .open-plain .result .verdict)
+    (o .open-plain .ensures) (v .verdict-refusal .result) (v .verdict-refusal .ensures) ls (x .if1 .left))) (e .pre .2))
 
 run-calls-requires : tie.Need-run-calls-requires
 run-calls-requires c κs =
@@ -68,9 +74,13 @@ run-calls-requires c κs =
     let a = e .args in
     let ls = lines (slice (a .from) (length (a .input .now)) (a .input .now)) in (
       e .pre .0,
-      opened-reached (a .heap .now) (a .grants) (o .«open» .last .0) (o .«open» .result .accounts) (o .«open» .result .verdict) (o .«open» .ensures) (v .verdict-refusal .result) (v .verdict-refusal .ensures) (e .pre .1) (x .if1 .left),
-      room-next 0 (ok-line []) (run-lines ls (o .«open» .last .0) (o .«open» .result .accounts)) (a .output .now) (p .put-ok .last .0) (p .put-ok .result)
-          (subst (λ (x : List ℕ). Room 0 x (a .output .now)) (sym (opened-runs (a .heap .now) (a .grants) (o .«open» .last .0) (o .«open» .result .accounts) (o .«open» .result .verdict) (o .«open» .ensures) (v .verdict-refusal .result) (v .verdict-refusal .ensures) ls (x .if1 .left))) (e .pre .2)) (p .put-ok .ensures),
+      opened-reached (a .heap .now) (a .grants) (o .open-plain .last .0) (o .open-plain .result .accounts) (o .open-plain .result .verdict)
+          (o .open-plain .ensures) (v .verdict-refusal .result) (v .verdict-refusal .ensures) (e .pre .1) (x .if1 .left),
+      room-next 0 (ok-line []) (run-lines ls (o .open-plain .last .0) (o .open-plain .result .accounts)) (a .output .now) (p .put-ok .last .0)
+          (p .put-ok .result)
+          (subst (λ (x : List ℕ). Room 0 x (a .output .now))
+          (sym (opened-runs (a .heap .now) (a .grants) (o .open-plain .last .0) (o .open-plain .result .accounts) (o .open-plain .result .verdict)
+          (o .open-plain .ensures) (v .verdict-refusal .result) (v .verdict-refusal .ensures) ls (x .if1 .left))) (e .pre .2)) (p .put-ok .ensures),
     )
 
 same-length-3 : tie.Need-same-length-3
@@ -89,16 +99,19 @@ returns-2 c =
     let e = o .before .before .before .before .before in
     let a = e .args in
     let ls = lines (slice (a .from) (length (a .input .now)) (a .input .now)) in
-    let runs = opened-runs (a .heap .now) (a .grants) (o .«open» .last .0) (o .«open» .result .accounts) (o .«open» .result .verdict) (o .«open» .ensures) (v .verdict-refusal .result) (v .verdict-refusal .ensures) ls (x .if1 .left) in
+    let runs =
+    opened-runs (a .heap .now) (a .grants) (o .open-plain .last .0) (o .open-plain .result .accounts) (o .open-plain .result .verdict)
+    (o .open-plain .ensures) (v .verdict-refusal .result) (v .verdict-refusal .ensures) ls (x .if1 .left) in
     subst (λ (x : List ℕ). Put 0 x (a .output .now) (q .run-calls .last .1 .1 .1 .1 .0) (q .run-calls .result)) runs
-    (put-two 0 (ok-line []) (run-lines ls (o .«open» .last .0) (o .«open» .result .accounts)) (a .output .now) (p .put-ok .last .0) (q .run-calls .last .1 .1 .1 .1 .0) (p .put-ok .result) (q .run-calls .result)
+    (put-two 0 (ok-line []) (run-lines ls (o .open-plain .last .0) (o .open-plain .result .accounts)) (a .output .now) (p .put-ok .last .0)
+    (q .run-calls .last .1 .1 .1 .1 .0) (p .put-ok .result) (q .run-calls .result)
     (subst (λ (x : List ℕ). Room 0 x (a .output .now)) (sym runs) (e .pre .2)) (p .put-ok .ensures) (q .run-calls .ensures))
 
 pub run-opened-spec : {M : Type 1} → statement M
 run-opened-spec =
     tie.close
     (tie.spec
-    open-requires
+    open-plain-requires
     verdict-refusal-requires
     put-refusal-requires
     same-length

@@ -7,6 +7,7 @@ use mathlib.Core.List.{List}
 use lib.ListN.{length}
 use lib.Seq.{slice}
 use Rattle.replay_model.specs.Lines.{lines}
+use Rattle.accounts.specs.Accounts.{plain}
 use Rattle.model.specs.Calls.{open-heap}
 use Rattle.replay_model.specs.Replay.{run-opened}
 use Rattle.replay_text.specs.Contracts.{Room, Put}
@@ -54,7 +55,7 @@ run-opened-requires c κs =
     let a = e .args in
     let ls = lines (slice (a .from) (length (a .input .now)) (a .input .now)) in
     let front = zeros-front (a .size) 32768 (z .zero-bytes .result) (search needs) (z .zero-bytes .ensures) in
-    (e .pre .0, e .pre .1, subst (λ (s : List ℕ). Room 0 (run-opened (open-heap s (a .grants)) ls) (a .output .now)) (sym front) (e .pre .2))
+    (e .pre .0, e .pre .1, subst (λ (s : List ℕ). Room 0 (run-opened (open-heap plain s (a .grants)) ls) (a .output .now)) (sym front) (e .pre .2))
 
 same-length-2 : tie.Need-same-length-2
 same-length-2 c = search needs
@@ -68,7 +69,8 @@ returns-2 c =
     let a = e .args in
     let ls = lines (slice (a .from) (length (a .input .now)) (a .input .now)) in
     let front = zeros-front (a .size) 32768 (z .zero-bytes .result) (search needs) (z .zero-bytes .ensures) in
-    subst (λ (s : List ℕ). Put 0 (run-opened (open-heap s (a .grants)) ls) (a .output .now) (q .run-opened .last .1 .1 .1 .1 .0) (q .run-opened .result)) front (q .run-opened .ensures)
+    subst (λ (s : List ℕ). Put 0 (run-opened (open-heap plain s (a .grants)) ls) (a .output .now) (q .run-opened .last .1 .1 .1 .1 .0)
+    (q .run-opened .result)) front (q .run-opened .ensures)
 
 pub run-opening-spec : {M : Type 1} → statement M
 run-opening-spec =
