@@ -100,7 +100,7 @@ int main(void)
 {
     const struct lokhazim_grants grants = { { 96, 100 } };
     struct lokhazim_handle none;
-    expect(lokhazim_heap_open(heap, sizeof heap, &accounts, grants, LOKHAZIM_PLAIN), LOKHAZIM_ACCEPTED);
+    expect(lokhazim_heap_open(heap, sizeof heap, &accounts, grants, LOKHAZIM_PLAIN, LOKHAZIM_EDITION_1), LOKHAZIM_ACCEPTED);
     queue = lokhazim_queue_new(RADIO, LOGGER);
     printf("The heap is open: 96 for the radio, 100 for the logger. A packet costs 32.\n");
 

@@ -73,7 +73,7 @@ static uint32_t release(enum part part, struct lokhazim_handle handle)
 static void open_heap(void)
 {
     const struct lokhazim_grants grants = { { 48, 120, 64 } };
-    expect(lokhazim_heap_open(heap, sizeof heap, &accounts, grants, LOKHAZIM_PLAIN), LOKHAZIM_ACCEPTED);
+    expect(lokhazim_heap_open(heap, sizeof heap, &accounts, grants, LOKHAZIM_PLAIN, LOKHAZIM_EDITION_1), LOKHAZIM_ACCEPTED);
     printf("The heap is open: 48 for the valve, 120 for the logger, 64 for the radio.\n");
 }
 

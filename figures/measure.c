@@ -37,7 +37,7 @@ static enum lokhazim_refusal refusal;
         refusal = lokhazim_heap_##name(heap, sizeof heap, &accounts, __VA_ARGS__);  \
     }
 
-CALL(open, grants, kind)
+CALL(open, grants, kind, LOKHAZIM_EDITION_1)
 CALL(allocate, 0, 40, &given)
 CALL(allocate_array, 0, 5, 8, &given)
 CALL(claim, 1, middle, &amount)

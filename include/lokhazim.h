@@ -1,10 +1,10 @@
 /*
  * Lokhazim: a heap that parts of a firmware share without trusting each other.
  *
- * Each part has a quota. A request is rounded up: to a multiple of 8, from 8,192
- * on of 16, from 16,384 on of 32. An object costs its rounded length plus
- * LOKHAZIM_HEADER, and a part may hold an object that another part made. Every
- * call but open checks the whole heap and its accounts for itself, on any bytes
+ * Each part has a quota. A request's length is rounded up, by the edition of the
+ * rounding table with which the heap was opened (below). An object costs its rounded
+ * length plus LOKHAZIM_HEADER, and a part may hold an object that another part made.
+ * Every call but open checks the whole heap and its accounts for itself, on any bytes
  * and any numbers. A call answers, or gives one of twelve refusals and changes
  * nothing; only a refused open sets the accounts to zero.
  *
@@ -19,9 +19,8 @@
  *     handle, a block or an object; one that takes a number may be null.
  *   - The heap begins at an address that is a multiple of LOKHAZIM_ALIGNMENT:
  *         static _Alignas(LOKHAZIM_ALIGNMENT) uint8_t heap[4096];
- *     An object's base, counted from the heap's first byte, is a multiple of 8;
- *     of 16 if the object has 8,192 bytes or more, and of 32 from 16,384 on. Only
- *     in an aligned heap is its address one too.
+ *     An object's base, counted from the heap's first byte, is a multiple of the
+ *     unit of its length. Only in an aligned heap is its address one too.
  *   - A quota's number is an argument, and lend and write ask for a handle only.
  *     One trusted place keeps heap and accounts, and fills in each part's number.
  *
@@ -55,8 +54,11 @@ extern "C" {
  *   3  32 quotas and 512 hold records, where there were 8 and 128; images of form 2
  *   4  a heap has a kind: struct lokhazim_accounts has 4488 bytes, lokhazim_open and
  *      lokhazim_heap_open take the kind, and there is lokhazim_sweep
+ *   5  a heap has an edition of the rounding table: struct lokhazim_accounts has it
+ *      behind the kind, lokhazim_open and lokhazim_heap_open take it, and
+ *      LOKHAZIM_ALIGNMENT is 64, where it was 32
  */
-#define LOKHAZIM_INTERFACE 4
+#define LOKHAZIM_INTERFACE 5
 
 /* ---- Numbers ---- */
 
@@ -69,8 +71,11 @@ extern "C" {
 /* What an object costs beyond its length: the bytes of its block's header. */
 #define LOKHAZIM_HEADER 8
 
-/* The address of a heap is a multiple of this. */
-#define LOKHAZIM_ALIGNMENT 32
+/*
+ * The address of a heap is a multiple of this: the greatest unit of an object that fits a heap. Edition 2 gives it to lengths
+ * up to 32,704; with edition 1 a multiple of 32 is enough.
+ */
+#define LOKHAZIM_ALIGNMENT 64
 
 /* The shortest and the longest heap; a heap's length is a multiple of 8. */
 #define LOKHAZIM_HEAP_MIN 64
@@ -97,6 +102,18 @@ extern "C" {
 #define LOKHAZIM_PLAIN 0
 #define LOKHAZIM_QUARANTINE 1
 
+/*
+ * The editions of the rounding table, chosen at the opening. A request gets an object of the next multiple of its unit
+ * (itself, if it is one), at a base that is a multiple of the unit of that length. The units, by length:
+ *   unit              8         16         32         64        128
+ *   edition 1  to 8,191  to 16,383  to 32,767      above
+ *   edition 2  to 4,088   to 8,176  to 16,352  to 32,704      above
+ * An object of 32,768 bytes fits no heap, so no request above 32,736 is accepted in edition 1, and none above 32,704 in
+ * edition 2.
+ */
+#define LOKHAZIM_EDITION_1 0
+#define LOKHAZIM_EDITION_2 1
+
 /* The serial of a quarantined block, which no object has. */
 #define LOKHAZIM_QUARANTINED UINT32_MAX
 
@@ -110,9 +127,10 @@ enum lokhazim_refusal {
     /* The heap's length is not allowed. */
     LOKHAZIM_HEAP_LENGTH = 1,
     /* Heap and accounts don't agree: not opened, another heap's, or something else has written to them.
-     * Also a heap of an earlier version in which a long object's base is no such multiple as above,
-     * permissions above LOKHAZIM_MAY_ALL, a last serial above LOKHAZIM_SERIAL_MAX, a kind above
-     * LOKHAZIM_QUARANTINE, and a quarantined block in a plain heap. */
+     * Also an object whose base or length is no multiple of its unit in the heap's own edition, as a heap of an earlier
+     * version or of the other edition may have it, permissions above LOKHAZIM_MAY_ALL, a last serial above
+     * LOKHAZIM_SERIAL_MAX, a kind above LOKHAZIM_QUARANTINE, an edition above LOKHAZIM_EDITION_2, and a quarantined block
+     * in a plain heap. */
     LOKHAZIM_INCONSISTENT = 2,
     /* There is no quota of this number. */
     LOKHAZIM_QUOTA_NUMBER = 3,
@@ -154,8 +172,9 @@ struct lokhazim_hold {
 
 /*
  * The accounts of a heap: to be kept with it, and changed by the calls alone.
- * The kind is LOKHAZIM_PLAIN or LOKHAZIM_QUARANTINE, as it was opened.
- * A quota has three bytes of padding, a hold two, and three stand behind the kind,
+ * The kind is LOKHAZIM_PLAIN or LOKHAZIM_QUARANTINE and the edition
+ * LOKHAZIM_EDITION_1 or LOKHAZIM_EDITION_2, as it was opened.
+ * A quota has three bytes of padding, a hold two, and two stand behind the edition,
  * so compare accounts field by field.
  */
 struct lokhazim_accounts {
@@ -163,6 +182,7 @@ struct lokhazim_accounts {
     uint32_t last_serial;
     struct lokhazim_hold holds[LOKHAZIM_HOLDS];
     uint8_t kind;
+    uint8_t edition;
 };
 
 /*
@@ -256,6 +276,7 @@ LOKHAZIM_OFFSET(lokhazim_accounts, quotas, 0);
 LOKHAZIM_OFFSET(lokhazim_accounts, last_serial, 384);
 LOKHAZIM_OFFSET(lokhazim_accounts, holds, 388);
 LOKHAZIM_OFFSET(lokhazim_accounts, kind, 4484);
+LOKHAZIM_OFFSET(lokhazim_accounts, edition, 4485);
 
 LOKHAZIM_SIZE(lokhazim_handle, 12);
 LOKHAZIM_OFFSET(lokhazim_handle, base, 0);
@@ -300,9 +321,12 @@ LOKHAZIM_OFFSET(lokhazim_block_reply, serial, 24);
 
 /* ---- The library's functions: accounts by value ---- */
 
-/* Clears the heap, gives each quota its grant and sets the kind: plain for LOKHAZIM_PLAIN, with quarantine for any other number. */
+/*
+ * Clears the heap, gives each quota its grant and sets kind and edition: plain for LOKHAZIM_PLAIN, with quarantine for any
+ * other number; edition 1 for LOKHAZIM_EDITION_1, edition 2 for any other number.
+ */
 struct lokhazim_open_reply lokhazim_open(
-    uint8_t *heap, size_t length, struct lokhazim_grants grants, uint32_t kind);
+    uint8_t *heap, size_t length, struct lokhazim_grants grants, uint32_t kind, uint32_t edition);
 
 /* Makes an object of at least `bytes` bytes, all zero, that the quota holds once. */
 struct lokhazim_handle_reply lokhazim_allocate(
@@ -392,13 +416,15 @@ static inline struct lokhazim_handle lokhazim_handle_narrowed(
  */
 
 /*
- * Clears the heap, gives each quota its grant and sets the kind, LOKHAZIM_PLAIN or LOKHAZIM_QUARANTINE; any other number
- * opens a heap with quarantine too. Where it is refused, the accounts become all zero.
+ * Clears the heap, gives each quota its grant and sets the kind, LOKHAZIM_PLAIN or LOKHAZIM_QUARANTINE, and the edition,
+ * LOKHAZIM_EDITION_1 or LOKHAZIM_EDITION_2; any other number opens a heap with quarantine, or of edition 2, too. Where it is
+ * refused, the accounts become all zero.
  */
 static inline enum lokhazim_refusal lokhazim_heap_open(
-    uint8_t *heap, size_t length, struct lokhazim_accounts *accounts, struct lokhazim_grants grants, uint32_t kind)
+    uint8_t *heap, size_t length, struct lokhazim_accounts *accounts, struct lokhazim_grants grants, uint32_t kind,
+    uint32_t edition)
 {
-    const struct lokhazim_open_reply reply = lokhazim_open(heap, length, grants, kind);
+    const struct lokhazim_open_reply reply = lokhazim_open(heap, length, grants, kind, edition);
     *accounts = reply.accounts;
     return (enum lokhazim_refusal)reply.refusal;
 }

@@ -6,9 +6,9 @@
  *
  * There are two forms. Form 2 carries every state; it is what is written. Form 1
  * is that of earlier versions, with LOKHAZIM_FORM_1_QUOTAS quotas,
- * LOKHAZIM_FORM_1_HOLDS hold records, no permissions and plain heaps alone; it is
- * written for boards that read nothing else. Both are read, by the number that they
- * begin with.
+ * LOKHAZIM_FORM_1_HOLDS hold records, no permissions and plain heaps of edition 1
+ * alone; it is written for boards that read nothing else. Both are read, by the
+ * number that they begin with.
  *
  * The functions keep no pointer and take any bytes. Reading and moving need room
  * for a whole heap on the stack (see README): a refused image must not have
@@ -57,7 +57,8 @@ enum lokhazim_image_refusal {
     /* A frame's check, number or count is wrong: damaged, cut short, or longer than it was written. */
     LOKHAZIM_IMAGE_FRAME = 22,
     /* Another form of image than this library reads, or than is moved this way; or a byte behind the form's number that is not
-     * zero, but that form 2 has the kind of the heap there, LOKHAZIM_PLAIN or LOKHAZIM_QUARANTINE. */
+     * zero, but that form 2 has the edition and then the kind of the heap there, LOKHAZIM_EDITION_1 or LOKHAZIM_EDITION_2,
+     * LOKHAZIM_PLAIN or LOKHAZIM_QUARANTINE. */
     LOKHAZIM_IMAGE_FORM = 23,
     /* A heap length that is not allowed or needs another number of frames, a spare byte that is not zero, or permissions
      * above LOKHAZIM_MAY_ALL. */
@@ -69,7 +70,7 @@ enum lokhazim_image_refusal {
     /* Comparing: the heaps of the two images have different lengths. */
     LOKHAZIM_IMAGE_HEAP_LENGTHS = 27,
     /* Writing form 1 or moving to it, which can't carry the accounts: a grant of a quota that it doesn't have, a used record at a place that
-     * it doesn't have, a quota without all permissions, or a heap with quarantine. */
+     * it doesn't have, a quota without all permissions, or a heap with quarantine or of edition 2. */
     LOKHAZIM_IMAGE_NOT_CARRIED = 28,
     /* Comparing: the two images are of different forms. */
     LOKHAZIM_IMAGE_FORMS_DIFFER = 29
@@ -88,7 +89,9 @@ enum lokhazim_difference {
     /* `length` heap bytes from offset `place` on. */
     LOKHAZIM_BYTES_DIFFER = 4,
     /* The kind of the heap; it is listed right behind the last serial. */
-    LOKHAZIM_KIND_DIFFERS = 5
+    LOKHAZIM_KIND_DIFFERS = 5,
+    /* The edition of the heap; it is listed right behind the kind. */
+    LOKHAZIM_EDITION_DIFFERS = 6
 };
 
 /* The reply of writing or moving an image; length is 0 where it is refused. */
@@ -166,7 +169,7 @@ struct lokhazim_image_reply lokhazim_image_write_form_1(
 
 /*
  * Reads an image of either form into a heap of the same length, and gives its accounts. What form 1 lacks is zero, the heap
- * plain, and every quota then has all permissions.
+ * plain and of edition 1, and every quota then has all permissions.
  */
 struct lokhazim_restore_reply lokhazim_image_read(
     const uint8_t *image, size_t image_length, uint8_t *heap, size_t length);
@@ -190,8 +193,9 @@ struct lokhazim_image_reply lokhazim_image_move_down(
     const uint8_t *image, size_t image_length, uint8_t *out, size_t out_length);
 
 /*
- * Tells the n-th difference of two images, from 0, in this order: last serial, kind, quotas, records, runs of heap bytes. Link
- * liblokhazim_compare.a. Refusals 21 to 24 and 26 of either image, the first one's before the second's, then 29 and 27.
+ * Tells the n-th difference of two images, from 0, in this order: last serial, kind, edition, quotas, records, runs of heap
+ * bytes. Link liblokhazim_compare.a. Refusals 21 to 24 and 26 of either image, the first one's before the second's, then 29
+ * and 27.
  */
 struct lokhazim_compare_reply lokhazim_image_compare(
     const uint8_t *first, size_t first_length, const uint8_t *second, size_t second_length, size_t n);
@@ -232,8 +236,8 @@ static inline enum lokhazim_image_refusal lokhazim_heap_save_form_1(
 
 /*
  * Reads an image of either form into heap and accounts. Handles from before the image are good again, handles that were given
- * out after it mean nothing. Form 1 gives all permissions to every quota, and a plain heap. Where it is refused, heap and accounts stay as they
- * were, and calls go on with them. Refusals 21 to 26.
+ * out after it mean nothing. Form 1 gives all permissions to every quota, and a plain heap of edition 1. Where it is refused,
+ * heap and accounts stay as they were, and calls go on with them. Refusals 21 to 26.
  */
 static inline enum lokhazim_image_refusal lokhazim_heap_restore(
     uint8_t *heap, size_t length, struct lokhazim_accounts *accounts,

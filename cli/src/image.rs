@@ -4,8 +4,8 @@ use std::fmt::Write;
 
 use lokhazim::{
     compare_images, examine_image, image_length, image_length_form_1, move_image_down,
-    move_image_up, Block, Difference, Heap, Hold, ImageRefusal, Kind, Permissions, Quota, Which,
-    IMAGE_MAX,
+    move_image_up, Block, Difference, Edition, Heap, Hold, ImageRefusal, Kind, Permissions, Quota,
+    Which, IMAGE_MAX,
 };
 
 use crate::failure::Failure;
@@ -66,6 +66,14 @@ const fn kind_word(kind: Kind) -> &'static str {
     }
 }
 
+/// The number by which an edition is named, from 1.
+const fn edition_number(edition: Edition) -> u8 {
+    match edition {
+        Edition::First => 1,
+        Edition::Second => 2,
+    }
+}
+
 /// What is shown for the serial of a block: a word for one in quarantine, which has none.
 fn serial_word(block: &Block) -> String {
     match block.is_quarantined() {
@@ -88,6 +96,7 @@ pub fn show(name: &str) -> Result<(), Failure> {
         facts.form, facts.heap_length, accounts.last_serial
     );
     let _ = writeln!(text, "kind {}", kind_word(heap.kind()));
+    let _ = writeln!(text, "edition {}", edition_number(heap.edition()));
     for (number, quota) in accounts.quotas.iter().enumerate() {
         if *quota != UNGRANTED {
             let _ = writeln!(
@@ -135,6 +144,7 @@ pub fn compare(first: &str, second: &str) -> Result<(), Failure> {
         let _ = match difference {
             Difference::LastSerial => writeln!(text, "serial"),
             Difference::Kind => writeln!(text, "kind"),
+            Difference::Edition => writeln!(text, "edition"),
             Difference::Quota(number) => writeln!(text, "quota {number}"),
             Difference::Record(place) => writeln!(text, "record {place}"),
             Difference::Bytes { offset, length } => writeln!(text, "bytes {offset} {length}"),

@@ -37,16 +37,17 @@ lokhazim: a heap that parts of a firmware share, by its proved library
     lokhazim image save SCRIPT OUT    run a script and write an image of the heap that it leaves;
                                       'save --form 1 SCRIPT OUT' writes the form of earlier versions
     lokhazim image show FILE          print what an image holds: form, length and last serial;
-                                      kind plain or quarantine;
+                                      kind plain or quarantine; edition 1 or 2;
                                       quota NUMBER GRANT REMAINDER PERMISSIONS (1 allocate, 2 claim,
                                       4 free-all, added); hold PLACE SERIAL QUOTA COUNT;
                                       block OFFSET SIZE SERIAL, with 0 for a free block and
                                       'quarantined' for one that waits for a sweep
     lokhazim image compare A B        print what differs between two images, a line each: serial,
-                                      kind, quota NUMBER, record PLACE, bytes OFFSET LENGTH; status 0 where
-                                      nothing does, 1 where something does, 2 where one is refused
+                                      kind, edition, quota NUMBER, record PLACE, bytes OFFSET LENGTH;
+                                      status 0 where nothing does, 1 where something does, 2 where one
+                                      is refused
     lokhazim image move up IN OUT     write an image of form 1 in form 2; 'move down' writes form 2 in
-                                      form 1, where that can carry it: not with quarantine
+                                      form 1, where that can carry it: not with quarantine or edition 2
     lokhazim report import FILE       print the grants in an audit report, to stand behind 'open H': FILE
                                       has a line for each quota, or is the linker's JSON
     lokhazim report export G..        print grants as a report of 32 lines; missing ones are 0
@@ -59,8 +60,8 @@ lokhazim: a heap that parts of a firmware share, by its proved library
     lokhazim help | version
 
 A script begins with 'open H' and {QUOTAS} grants, then has a call to a line: alloc q n, array q n s,
-claim q b l s, free q b l s, all q, realloc q b l s n. Its heap is plain. SCRIPT, FILE and IN can be -
-for standard input.
+claim q b l s, free q b l s, all q, realloc q b l s n. Its heap is plain and of edition 1. SCRIPT, FILE
+and IN can be - for standard input.
 A file of settings holds the used bytes of a store; an empty one is a store without entries. NAME is
 0 to 255, VERSION 0 to 65535; with --hex a value is two hexadecimal digits for each byte.
 Status 0: done. 1: refused, with the number and the reason. 2: wrong words, or a file that can't be

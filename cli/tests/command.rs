@@ -7,7 +7,7 @@ use std::path::Path;
 
 use support::{expect, folder, lokhazim, names};
 
-use lokhazim::{grants, Heap, Kind, Settings, FORM_1_QUOTAS, QUOTAS};
+use lokhazim::{grants, Edition, Heap, Kind, Settings, FORM_1_QUOTAS, QUOTAS};
 
 /// The line of an opening with these grants, and 0 for every other quota.
 fn open(length: u32, first: &[u32]) -> String {
@@ -64,7 +64,7 @@ fn an_image_is_saved_and_shown() {
     ] {
         expect(&lokhazim(&folder, words), 0, &format!("ok {length}\n"), "");
         assert_eq!(names(&folder), ["a", "a.image"]);
-        let shown = format!("ok {form} 128 1\nkind plain\n{blank}");
+        let shown = format!("ok {form} 128 1\nkind plain\nedition 1\n{blank}");
         let run = lokhazim(&folder, &["image", "show", "a.image"]);
         expect(&run, 0, &shown, "");
     }
@@ -150,7 +150,7 @@ fn permissions_are_shown() {
     expect(
         &run,
         0,
-        "ok 2 64 0\nkind plain\nquota 0 9 9 5\nquota 31 0 0 0\nblock 0 64 0\n",
+        "ok 2 64 0\nkind plain\nedition 1\nquota 0 9 9 5\nquota 31 0 0 0\nblock 0 64 0\n",
         "",
     );
 }
@@ -165,7 +165,10 @@ fn quarantined_images(folder: &Path) {
     ];
     for (name, kind) in kinds {
         let mut memory = [0; 64];
-        let settings = Settings { kind };
+        let settings = Settings {
+            kind,
+            ..Settings::default()
+        };
         let mut heap = Heap::open_with(&mut memory, grants([100]), settings).unwrap();
         let first = heap.allocate(0, 16).unwrap();
         heap.allocate(0, 8).unwrap();
@@ -190,7 +193,7 @@ fn quarantined_blocks_are_shown_and_compared() {
         ("swept", "quarantine", "0"),
     ] {
         let blocks = format!("block 0 24 {first}\nblock 24 16 2\nblock 40 24 0\n");
-        let shown = format!("ok 2 64 2\nkind {kind}\n{rest}{blocks}");
+        let shown = format!("ok 2 64 2\nkind {kind}\nedition 1\n{rest}{blocks}");
         expect(&lokhazim(&folder, &["image", "show", name]), 0, &shown, "");
     }
     let compare = |a: &str, b: &str, listed: &str| {
@@ -206,6 +209,39 @@ fn quarantined_blocks_are_shown_and_compared() {
         expect(&run, 1, "", &format!("{name}: refusal 28:"));
     }
     assert_eq!(names(&folder), ["plain", "swept", "waiting"]);
+}
+
+#[test]
+fn editions_are_shown_and_compared() {
+    let folder = folder("editions");
+    let image_of = |name: &str, kind, edition| {
+        let mut memory = [0; 64];
+        let settings = Settings { kind, edition };
+        let heap = Heap::open_with(&mut memory, grants([100]), settings).unwrap();
+        let mut image = [0; 5_120];
+        heap.save(&mut image).unwrap();
+        fs::write(folder.join(name), image).unwrap();
+    };
+    image_of("first", Kind::Plain, Edition::First);
+    image_of("second", Kind::Plain, Edition::Second);
+    image_of("both", Kind::Quarantine, Edition::Second);
+    let rest = "quota 0 100 100 7\nblock 0 64 0\n";
+    for (name, marks) in [
+        ("first", "kind plain\nedition 1\n"),
+        ("second", "kind plain\nedition 2\n"),
+        ("both", "kind quarantine\nedition 2\n"),
+    ] {
+        let shown = format!("ok 2 64 0\n{marks}{rest}");
+        expect(&lokhazim(&folder, &["image", "show", name]), 0, &shown, "");
+    }
+    for (other, listed) in [("second", "edition\n"), ("both", "kind\nedition\n")] {
+        let run = lokhazim(&folder, &["image", "compare", "first", other]);
+        assert_eq!(String::from_utf8_lossy(&run.stdout), listed);
+        assert_eq!((run.status.code(), run.stderr.len()), (Some(1), 0));
+        let run = lokhazim(&folder, &["image", "move", "down", other, "out"]);
+        expect(&run, 1, "", &format!("{other}: refusal 28:"));
+    }
+    assert_eq!(names(&folder), ["both", "first", "second"]);
 }
 
 #[test]

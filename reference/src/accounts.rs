@@ -3,7 +3,7 @@
 //! Rules, section 3.
 
 use crate::layout::QUARANTINED_SERIAL;
-use crate::options::{Kind, Options};
+use crate::options::Options;
 use crate::permissions::Permission;
 use crate::Refusal;
 
@@ -64,9 +64,11 @@ pub struct Accounts {
     /// The last serial given.
     pub last_serial: u32,
     /// The number of the heap's kind.
-    // OPEN: that it is kept as a byte, and that another number than 0 or 1 is not sound, are
-    // choices.
+    // OPEN: that kind and edition are kept as bytes, and that other numbers than 0 and 1 are not
+    // sound, are choices.
     pub kind: u8,
+    /// The number of the edition of the table of units.
+    pub edition: u8,
     /// The hold records.
     pub holds: [Hold; HOLDS],
 }
@@ -78,6 +80,7 @@ impl Default for Accounts {
             quotas: [Quota::default(); QUOTAS],
             last_serial: 0,
             kind: 0,
+            edition: 0,
             holds: [Hold::UNUSED; HOLDS],
         }
     }
@@ -88,6 +91,7 @@ impl Accounts {
     pub(crate) fn opened(grants: [u32; QUOTAS], options: Options) -> Accounts {
         Accounts {
             kind: options.kind.number(),
+            edition: options.edition.number(),
             quotas: grants.map(|grant| Quota {
                 grant,
                 remainder: grant,
@@ -99,8 +103,7 @@ impl Accounts {
 
     /// Gives what was chosen at opening; none if a number names no choice.
     pub(crate) fn options(&self) -> Option<Options> {
-        let kind = Kind::of(self.kind)?;
-        Some(Options { kind })
+        Options::of(self.kind, self.edition)
     }
 
     /// Gives the serial of the next object; none if every serial of objects was given.

@@ -7,11 +7,11 @@ use crate::claims::{held_object, release_once};
 use crate::layout::{store, write_headers, Block, Handle, Layout, HEADER_BYTES};
 use crate::options::Options;
 use crate::permissions::Permission;
-use crate::rounding::{round_request, Rounded};
+use crate::rounding::Rounded;
 use crate::sound::{length_is_allowed, sound_layout};
 use crate::Refusal;
 
-/// Opens a plain heap.
+/// Opens a plain heap with the first edition of the table of units.
 pub fn open(heap: &mut [u8], grants: [u32; QUOTAS]) -> (Accounts, Result<(), Refusal>) {
     open_with(heap, grants, Options::default())
 }
@@ -67,7 +67,7 @@ pub fn reallocate(
 ) -> Result<Handle, Refusal> {
     let layout = sound_layout(heap, accounts)?;
     let quota = accounts.permitted(quota, Permission::Allocate)?;
-    let rounded = round_request(u64::from(length))?;
+    let rounded = layout.options.edition.round(u64::from(length))?;
     let (old, record) = held_object(layout.named(handle), accounts, quota)?;
     let plan = Plan::new(&layout, accounts, quota, rounded)?;
     let with_both = plan.carry_out(heap, accounts, &layout);
@@ -85,7 +85,7 @@ fn allocate_bytes(
 ) -> Result<Handle, Refusal> {
     let layout = sound_layout(heap, accounts)?;
     let quota = accounts.permitted(quota, Permission::Allocate)?;
-    let rounded = round_request(request)?;
+    let rounded = layout.options.edition.round(request)?;
     let plan = Plan::new(&layout, accounts, quota, rounded)?;
     plan.carry_out(heap, accounts, &layout);
     Ok(plan.block.handle())

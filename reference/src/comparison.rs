@@ -10,6 +10,8 @@ pub enum Difference {
     LastSerial,
     /// The kinds.
     Kind,
+    /// The editions of the table of units.
+    Edition,
     /// The quotas of this number, in grant, remainder or permissions.
     Quota(usize),
     /// The hold records at this place.
@@ -46,10 +48,11 @@ pub fn differences(first: &[u8], second: &[u8]) -> Result<Vec<Difference>, (Imag
     let (a, b) = (&first.accounts, &second.accounts);
     let serial = (a.last_serial != b.last_serial).then_some(Difference::LastSerial);
     let kind = (a.kind != b.kind).then_some(Difference::Kind);
+    let edition = (a.edition != b.edition).then_some(Difference::Edition);
     let quotas = unequal(&a.quotas, &b.quotas).map(Difference::Quota);
     let records = unequal(&a.holds, &b.holds).map(Difference::Record);
     let bytes = runs(&unequal(&first.heap, &second.heap).collect::<Vec<_>>());
-    let head = serial.into_iter().chain(kind);
+    let head = serial.into_iter().chain(kind).chain(edition);
     Ok(head.chain(quotas).chain(records).chain(bytes).collect())
 }
 

@@ -4,7 +4,7 @@
 //! functions serves every form; a form is only the list of what it has room for.
 
 use crate::accounts::{Accounts, Hold, Quota, ALL_PERMISSIONS, HOLDS, QUOTAS};
-use crate::options::{Kind, Options};
+use crate::options::Options;
 
 /// The stream bytes that carry the form's number and the two bytes behind it.
 pub(crate) const FORM_BYTES: usize = 4;
@@ -41,13 +41,12 @@ impl Form {
     /// Gives the one of these forms that a stream's first bytes name, and the options that
     /// they carry; none if the form is another or has no room for such options.
     pub(crate) fn named_by(front: &[u8], forms: &[Form]) -> Option<(Form, Options)> {
-        let [low, high, 0, kind] = *front else {
+        let [low, high, edition, kind] = *front else {
             return None;
         };
         let number = u16::from_le_bytes([low, high]);
         let form = forms.iter().copied().find(|form| form.number == number)?;
-        let kind = Kind::of(kind)?;
-        let options = Options { kind };
+        let options = Options::of(kind, edition)?;
         let carried = form.options || options == Options::default();
         carried.then_some((form, options))
     }
@@ -55,8 +54,12 @@ impl Form {
     /// Gives the bytes with which the stream of such accounts starts.
     fn front(self, accounts: &Accounts) -> [u8; FORM_BYTES] {
         let [low, high] = self.number.to_le_bytes();
-        let kind = if self.options { accounts.kind } else { 0 };
-        [low, high, 0, kind]
+        let [edition, kind] = if self.options {
+            [accounts.edition, accounts.kind]
+        } else {
+            [0, 0]
+        };
+        [low, high, edition, kind]
     }
 
     /// Gives the length of the stream of a heap of so many bytes.

@@ -161,7 +161,7 @@ pub(crate) fn walk(heap: &[u8]) -> Option<Vec<Found>> {
 #[derive(Clone, Debug)]
 pub(crate) struct Layout {
     heap_length: u32,
-    options: Options,
+    pub(crate) options: Options,
     taken: BTreeMap<u32, Block>,
     free: Vec<Block>,
 }

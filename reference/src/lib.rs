@@ -39,7 +39,7 @@ pub use image::{
 };
 pub use layout::{Block, Handle, HEADER_BYTES, QUARANTINED_SERIAL, SIZE_UNIT};
 pub use moves::{move_down, move_up};
-pub use options::{Kind, Options};
+pub use options::{Edition, Kind, Options};
 pub use permissions::clear_permissions;
 pub use queries::{block_at, lend, lend_mut, remaining, Walker};
 pub use queue::{receive, send, Queue, QueueRefusal, QUEUE_PLACES};

@@ -6,8 +6,7 @@ use std::collections::BTreeSet;
 
 use crate::accounts::{Accounts, Hold, ALL_PERMISSIONS, QUOTAS};
 use crate::layout::{walk, Block, Found, Layout, HEADER_BYTES, QUARANTINED_SERIAL, SIZE_UNIT};
-use crate::options::{Kind, Options};
-use crate::rounding::unit_of;
+use crate::options::{Edition, Kind, Options};
 use crate::Refusal;
 
 /// The shortest heap allowed, in bytes.
@@ -45,7 +44,7 @@ pub(crate) fn sound_layout(heap: &[u8], accounts: &Accounts) -> Result<Layout, R
         && no_two_used_records_agree(accounts)
         && every_object_has_a_record(&live, accounts)
         && every_grant_is_accounted_for(&live, accounts)
-        && every_object_fits_its_unit(&live)
+        && every_object_fits_its_unit(&live, options.edition)
         && permissions_are_three_bits(accounts);
     if !sound {
         return Err(Refusal::NotSound);
@@ -154,10 +153,10 @@ fn every_grant_is_accounted_for(live: &[Block], accounts: &Accounts) -> bool {
 
 /// Rule 5.10: base and length of an object are multiples of the unit of that length.
 // OPEN: that blocks in quarantine need not fit a unit is a choice.
-fn every_object_fits_its_unit(live: &[Block]) -> bool {
+fn every_object_fits_its_unit(live: &[Block], edition: Edition) -> bool {
     live.iter().all(|block| {
         let object = block.handle();
-        let unit = unit_of(object.length);
+        let unit = edition.unit_of(object.length);
         object.length.is_multiple_of(unit) && object.base.is_multiple_of(unit)
     })
 }

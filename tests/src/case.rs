@@ -4,7 +4,7 @@ use std::fmt::Write;
 
 use lokhazim_reference::{Accounts, Handle, Hold, Quota, HOLDS, QUOTAS};
 
-use crate::state::{Call, State};
+use crate::state::{Call, Choice, State};
 
 /// How many bytes of the heap a line has.
 const BYTES_IN_LINE: usize = 32;
@@ -16,6 +16,7 @@ pub fn write_case(state: &State, call: Call) -> String {
     // Writing to a string does not fail.
     let _ = writeln!(text, "last-serial {}", accounts.last_serial);
     let _ = writeln!(text, "kind {}", accounts.kind);
+    let _ = writeln!(text, "edition {}", accounts.edition);
     for (number, quota) in accounts.quotas.iter().enumerate() {
         let Quota {
             grant,
@@ -82,6 +83,7 @@ fn read_number_line(accounts: &mut Accounts, word: &str, numbers: &[u64]) -> Opt
     match (word, numbers) {
         ("last-serial", [serial]) => accounts.last_serial = *serial as u32,
         ("kind", [kind]) => accounts.kind = *kind as u8,
+        ("edition", [edition]) => accounts.edition = *edition as u8,
         ("quota", [number, grant, remainder, permissions]) if (*number as usize) < QUOTAS => {
             accounts.quotas[*number as usize] = Quota {
                 grant: *grant as u32,
@@ -115,7 +117,9 @@ fn read_call(text: &str) -> Option<Call> {
         serial: s,
     };
     Some(match (name, small.as_slice()) {
-        ("open", [grants @ .., kind]) => Call::Open(grants.try_into().ok()?, *kind),
+        ("open", [grants @ .., kind, edition]) => {
+            Call::Open(grants.try_into().ok()?, Choice::of(*kind, *edition))
+        }
         ("allocate", &[q, n]) => Call::Allocate(q, n),
         ("array", &[q, n, s]) => Call::Array(q, n, s),
         ("claim", &[q, b, l, s]) => Call::Claim(q, handle(b, l, s)),

@@ -6,7 +6,7 @@ use crate::forged::{forged_handle, live_handle, View};
 use crate::forms::FORM_1;
 use crate::narrowing::sometimes_narrowed;
 use crate::seed::Seed;
-use crate::state::{Call, PLAIN, QUARANTINE};
+use crate::state::{Call, Choice};
 
 /// What kinds of calls are made, by the places of `Call::NAMES`.
 pub type Weights = [u32; Call::NAMES.len()];
@@ -26,10 +26,11 @@ pub const MIXED: Weights = [1, 12, 6, 12, 14, 3, 12, 6, 6, 5, 8, 6, 3, 3, 3];
 /// The calls that the replay program knows, making as many objects as they drop.
 pub const REPLAYED: Weights = [0, 26, 8, 14, 26, 2, 14, 0, 0, 0, 0, 0, 0, 0, 0];
 
-/// Lengths on both sides of each row of the rounding table and of refusal 4.
-pub const EDGES: [u32; 28] = [
-    0, 1, 7, 8, 9, 15, 16, 17, 8_176, 8_177, 8_184, 8_185, 8_190, 8_191, 8_192, 8_193, 8_208,
-    8_209, 16_368, 16_369, 16_376, 16_383, 16_384, 16_385, 32_736, 32_737, 32_760, 32_761,
+/// Lengths on both sides of each row of both rounding tables and of refusal 4.
+pub const EDGES: [u32; 36] = [
+    0, 1, 7, 8, 9, 15, 16, 17, 4_088, 4_089, 4_096, 4_097, 8_176, 8_177, 8_184, 8_185, 8_190,
+    8_191, 8_192, 8_193, 8_208, 8_209, 16_352, 16_353, 16_368, 16_369, 16_376, 16_383, 16_384,
+    16_385, 32_704, 32_705, 32_736, 32_737, 32_760, 32_761,
 ];
 
 /// How arguments are chosen.
@@ -51,7 +52,7 @@ pub struct Habits {
 pub fn choose(seed: &mut Seed, habits: &Habits, view: &View, accounts: &Accounts) -> Call {
     let quota = quota(seed, habits);
     match seed.weighted(&habits.weights) {
-        0 => Call::Open(std::array::from_fn(|_| seed.odd_word()), kind(seed)),
+        0 => Call::Open(std::array::from_fn(|_| seed.odd_word()), choice(seed)),
         1 => Call::Allocate(quota, length(seed, habits, view)),
         2 => array(seed, habits, view, quota),
         3 => Call::Claim(quota, handle(seed, habits, view)),
@@ -150,6 +151,7 @@ pub fn length(seed: &mut Seed, habits: &Habits, view: &View) -> u32 {
     match (seed.below(4), seed.any_of(&free)) {
         (0, Some(size)) => (size - 8).saturating_sub(seed.below(9)).max(1),
         (1, Some(size)) if seed.percent(40) => (size + seed.below(17)).saturating_sub(8).max(1),
+        _ if habits.longest > 4_096 && seed.percent(40) => seed.pick(&EDGES),
         _ => seed.between(1, habits.longest),
     }
 }
@@ -238,11 +240,14 @@ fn place(seed: &mut Seed, habits: &Habits, view: &View) -> usize {
     view.blocks[seed.place(view.blocks.len())].offset as usize
 }
 
-/// Gives the number of a kind for an opening: plain as often as with quarantine, and that also by a
-/// number that no accounts have.
-pub fn kind(seed: &mut Seed) -> u32 {
-    let any = seed.odd_word().max(2);
-    seed.pick(&[PLAIN, PLAIN, PLAIN, QUARANTINE, QUARANTINE, any])
+/// Gives the numbers of kind and edition for an opening: each kind and each edition as often as the
+/// other, the second ones also by a number that no accounts have.
+pub fn choice(seed: &mut Seed) -> Choice {
+    let mut number = || {
+        let any = seed.odd_word().max(2);
+        seed.pick(&[0, 0, 0, 1, 1, any])
+    };
+    Choice::of(number(), number())
 }
 
 /// Gives grants: ample, middling, small, none, or any; now and then to no more quotas than form 1 has.

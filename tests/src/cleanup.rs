@@ -4,7 +4,7 @@
 use lokhazim_reference::{Accounts, Handle, QUOTAS};
 
 use crate::calls::Pair;
-use crate::choice::kind;
+use crate::choice::choice;
 use crate::compare::Failure;
 use crate::cut::live_handles;
 use crate::ledger::{Ledger, Object};
@@ -78,7 +78,7 @@ fn grown(pair: &mut Pair, seed: &mut Seed) -> Result<State, Failure> {
         accounts: Accounts::default(),
     };
     state.heap.fill_with(|| seed.byte());
-    pair.call(&mut state, Call::Open([100_000; QUOTAS], kind(seed)))?;
+    pair.call(&mut state, Call::Open([100_000; QUOTAS], choice(seed)))?;
     let longest = seed.pick(&[8, 40, 200]);
     for _ in 0..seed.between(2, 40) {
         let length = seed.between(1, longest);

@@ -88,6 +88,10 @@ fn account_differences(proved: &State, reference: &State, lines: &mut Vec<String
     if p.kind != r.kind {
         lines.push(format!("kind: proved {}, reference {}", p.kind, r.kind));
     }
+    if p.edition != r.edition {
+        let (p, r) = (p.edition, r.edition);
+        lines.push(format!("edition: proved {p}, reference {r}"));
+    }
     for (number, (p, r)) in p.quotas.iter().zip(&r.quotas).enumerate() {
         if p != r {
             lines.push(format!("quota {number}: proved {p:?}, reference {r:?}"));

@@ -9,6 +9,7 @@ use crate::cut::{blocks, quarantined, GREATEST_SERIAL};
 use crate::forms::{Form, FORMS, FORM_2};
 use crate::harms::HARMS;
 use crate::image_cases::image_of;
+use crate::judge::broken;
 use crate::seed::Seed;
 use crate::state::State;
 use crate::states::{heap_length, sound_in, Plan};
@@ -88,6 +89,12 @@ fn changed(seed: &mut Seed, form: Form, state: &State) -> State {
     let plain = quarantined(&state.heap).is_empty();
     if form == FORM_2 && plain && seed.percent(30) {
         other.accounts.kind ^= 1;
+    }
+    if form == FORM_2 && seed.percent(30) {
+        other.accounts.edition ^= 1;
+        if !broken(&other).is_empty() {
+            other.accounts.edition ^= 1;
+        }
     }
     let filled: Vec<_> = blocks(&state.heap)
         .into_iter()

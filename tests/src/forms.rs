@@ -16,6 +16,9 @@ pub const PIECE: usize = CHECK - CARRIED;
 /// The stream bytes in front of the quotas.
 pub const FRONT: usize = 12;
 
+/// The stream byte that holds the edition in form 2.
+pub const EDITION: usize = 2;
+
 /// The stream byte that holds the kind in form 2.
 pub const KIND: usize = 3;
 
@@ -91,14 +94,15 @@ impl Form {
         FRAME * (self.head() + heap_length).div_ceil(PIECE)
     }
 
-    /// Tells whether the form can carry a state (rule 16.6): a form without permissions plain ones
-    /// alone in which all are set, and no form a grant or a used record behind its own.
+    /// Tells whether the form can carry a state (rule 16.6): a form without permissions plain ones of
+    /// the first edition alone in which all are set, and no form a grant or a used record behind its
+    /// own.
     pub fn carries(self, state: &State) -> bool {
         let accounts = &state.accounts;
-        let marks = self.entry == 12 || !lacks_permission(state) && accounts.kind == 0;
+        let marks = (accounts.kind, accounts.edition) == (0, 0) && !lacks_permission(state);
         let quotas = accounts.quotas[self.quotas..].iter();
         let records = accounts.holds[self.records..].iter();
-        marks
+        (self.entry == 12 || marks)
             && quotas.map(|quota| quota.grant).all(|grant| grant == 0)
             && records.copied().all(|hold| !hold.is_used())
     }
@@ -152,16 +156,16 @@ pub fn put_word(image: &mut [u8], place: usize, word: u32) {
     seal(image);
 }
 
-/// Frames around the stream of a state, sound or not, as far as the form has room for it. The kind is
-/// byte 3 of form 2.
+/// Frames around the stream of a state, sound or not, as far as the form has room for it. The edition
+/// is byte 2 of form 2, the kind byte 3.
 pub fn carry(form: Form, state: &State) -> Vec<u8> {
     let accounts = &state.accounts;
     let mut stream = Vec::with_capacity(form.head() + state.heap.len());
-    let kind = match form.number {
-        1 => 0,
-        _ => accounts.kind,
+    let (edition, kind) = match form.number {
+        1 => (0, 0),
+        _ => (accounts.edition, accounts.kind),
     };
-    let front = form.number | u32::from(kind) << 24;
+    let front = form.number | u32::from(edition) << 16 | u32::from(kind) << 24;
     for word in [front, state.heap.len() as u32, accounts.last_serial] {
         stream.extend(word.to_le_bytes());
     }

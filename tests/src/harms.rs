@@ -1,7 +1,8 @@
 //! What can be wrong with an image, or with the heap that is lent for it.
 
 use crate::forms::{
-    place_of, put_byte, put_word, renumber, seal, Form, FORMS, FORM_2, FRAME, KIND, PIECE, RECORD,
+    place_of, put_byte, put_word, renumber, seal, Form, EDITION, FORMS, FORM_2, FRAME, KIND, PIECE,
+    RECORD,
 };
 use crate::seed::Seed;
 
@@ -48,9 +49,9 @@ pub const HARMS: [Harm; 23] = [
         let any = seed.byte();
         put_byte(image, KIND, seed.pick(&[0, 0, 1, 1, 2, 255, any]));
     }),
-    harm("the byte in front of the kind", |seed, _, image, _| {
+    harm("the byte of the edition", |seed, _, image, _| {
         let any = seed.byte();
-        put_byte(image, KIND - 1, seed.pick(&[1, 2, 255, any]));
+        put_byte(image, EDITION, seed.pick(&[0, 0, 1, 1, 2, 255, any]));
     }),
     harm("the other form's number", |seed, form, image, heap| {
         let length = form.other().length(heap.len());

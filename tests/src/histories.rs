@@ -4,7 +4,7 @@
 use lokhazim_reference::{Accounts, Handle, HOLDS, QUOTAS};
 
 use crate::calls::Pair;
-use crate::choice::{choose, grants, kind, Habits, Weights, GROWING, MIXED, SHARING, SHRINKING};
+use crate::choice::{choice, choose, grants, Habits, Weights, GROWING, MIXED, SHARING, SHRINKING};
 use crate::compare::{call_failure, Failure};
 use crate::cut::blocks;
 use crate::forged::View;
@@ -25,6 +25,8 @@ pub enum Beginning {
     Opening,
     /// By an accepted opening, many small objects, and claims until no record is unused.
     Crowd,
+    /// By an accepted opening of a long heap, for long objects.
+    Long,
     /// By a consistent state that was made directly.
     SoundState,
 }
@@ -56,6 +58,7 @@ pub fn run(
     let part = match beginning {
         Beginning::Opening => "history",
         Beginning::Crowd => "crowd",
+        Beginning::Long => "long",
         Beginning::SoundState => "sound-state",
     };
     pair.begin(part, seed, n);
@@ -65,6 +68,7 @@ pub fn run(
     match beginning {
         Beginning::Opening => {}
         Beginning::Crowd => history.crowd(&mut numbers)?,
+        Beginning::Long => habits.longest = numbers.pick(&[4_200, 8_400, 16_800]),
         Beginning::SoundState => habits.weights = mood(&mut numbers),
     }
     for _ in 0..calls {
@@ -108,6 +112,10 @@ fn begin<'a>(
 ) -> Result<History<'a>, Failure> {
     let (length, grants) = match beginning {
         Beginning::Crowd => (8 * seed.between(200, 500), [1_000_000; QUOTAS]),
+        Beginning::Long => (
+            seed.pick(&[16_384, 24_576, 32_760, 32_768]),
+            [1_000_000; QUOTAS],
+        ),
         _ => (heap_length(seed), grants(seed)),
     };
     let mut state = State {
@@ -118,7 +126,7 @@ fn begin<'a>(
     match beginning {
         Beginning::SoundState => state = sound(seed),
         _ => pair
-            .call(&mut state, Call::Open(grants, kind(seed)))
+            .call(&mut state, Call::Open(grants, choice(seed)))
             .map(|_| ())?,
     }
     let ledger = Ledger::read_off(&state);
@@ -238,7 +246,9 @@ impl History<'_> {
         }
         match seed.percent(50) {
             true => self.go_back(seed),
-            false => self.call(Call::Open(grants(seed), kind(seed))).map(|_| ()),
+            false => self
+                .call(Call::Open(grants(seed), choice(seed)))
+                .map(|_| ()),
         }
     }
 

@@ -8,6 +8,7 @@ use crate::cut::{blocks, QUARANTINED};
 use crate::damage::{damaged_alone, damaged_together, DAMAGES};
 use crate::forms::{carry, renumber, seal, Form, FORMS, FORM_1, FRAME};
 use crate::harms::{Harm, HARMS};
+use crate::judge::broken;
 use crate::judge::check_refusal;
 use crate::seed::Seed;
 use crate::state::State;
@@ -81,7 +82,7 @@ pub fn states(pair: &mut Pair, seed: u64, n: u64) -> Result<(), Failure> {
 type Change = (&'static str, fn(&mut Seed, &mut State));
 
 /// Why form 1 can't carry a state (rule 16.6), one reason at a time.
-pub const OVERFULL: [Change; 4] = [
+pub const OVERFULL: [Change; 5] = [
     ("a grant behind the form's quotas", |seed, state| {
         let number = seed.between(FORM_1.quotas as u32, QUOTAS as u32 - 1);
         let quota = &mut state.accounts.quotas[number as usize];
@@ -112,6 +113,12 @@ pub const OVERFULL: [Change; 4] = [
         if let Some(block) = seed.any_of(&long).filter(|_| seed.clone().percent(50)) {
             let place = block.offset as usize + 4;
             state.heap[place..place + 4].copy_from_slice(&QUARANTINED.to_le_bytes());
+        }
+    }),
+    ("the second edition", |_, state| {
+        state.accounts.edition = 1;
+        if !broken(state).is_empty() {
+            state.accounts.edition = 0;
         }
     }),
 ];

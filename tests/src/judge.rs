@@ -29,10 +29,12 @@ pub enum Sentence {
     Kind,
     /// 5.12: the last serial is one that an object can have.
     LastSerial,
+    /// 5.12: the edition is one that there is.
+    Edition,
 }
 
 /// All of them.
-pub const SENTENCES: [Sentence; 10] = [
+pub const SENTENCES: [Sentence; 11] = [
     Sentence::Cut,
     Sentence::Serials,
     Sentence::Records,
@@ -43,9 +45,11 @@ pub const SENTENCES: [Sentence; 10] = [
     Sentence::Permissions,
     Sentence::Kind,
     Sentence::LastSerial,
+    Sentence::Edition,
 ];
 
-/// Gives the rules that a state of an allowed heap length breaks. Where the sizes do not lead
+/// Gives the rules that a state of an allowed heap length breaks; units are judged by the state's own
+/// edition, and not at all if there is no such edition. Where the sizes do not lead
 /// to the heap's end, the others speak of nothing and only the first is given.
 pub fn broken(state: &State) -> Vec<Sentence> {
     let walk = walk(&state.heap);
@@ -65,13 +69,17 @@ pub fn broken(state: &State) -> Vec<Sentence> {
             .iter()
             .all(|b| used.iter().any(|h| h.serial == b.serial)),
         Sentence::Sums => sums_hold(state, &live, &used),
-        Sentence::Units => live.iter().all(fits_its_unit),
+        Sentence::Units => match state.accounts.edition {
+            edition @ 0..=1 => live.iter().all(|block| fits_its_unit(edition, block)),
+            _ => true,
+        },
         Sentence::Permissions => state.accounts.quotas.iter().all(|q| q.permissions <= 7),
         Sentence::Kind => match state.accounts.kind {
             0 => blocks.iter().all(|block| block.serial != QUARANTINED),
             kind => kind == 1,
         },
         Sentence::LastSerial => state.accounts.last_serial <= GREATEST_SERIAL,
+        Sentence::Edition => state.accounts.edition <= 1,
     };
     let broken = SENTENCES.into_iter().filter(|sentence| !holds(sentence));
     broken.collect()
@@ -148,8 +156,9 @@ fn sums_hold(state: &State, live: &[Block], used: &[Hold]) -> bool {
     })
 }
 
-/// Judges base and length of one object.
-fn fits_its_unit(block: &Block) -> bool {
+/// Judges base and length of one object in an edition.
+fn fits_its_unit(edition: u8, block: &Block) -> bool {
     let (base, length) = (block.offset + 8, block.size - 8);
-    base % unit(length) == 0 && length % unit(length) == 0
+    let unit = unit(edition, length);
+    base % unit == 0 && length % unit == 0
 }

@@ -6,7 +6,7 @@ use std::ops::Range;
 use lokhazim_reference::{Handle, HOLDS, QUOTAS};
 
 use crate::cut::{live_handles, quarantined, GREATEST_SERIAL};
-use crate::state::{Answer, Call, State, PLAIN};
+use crate::state::{Answer, Call, Choice, State};
 
 /// An object of the ledger with each quota's holds on it.
 #[derive(Clone, Debug, PartialEq, Eq)]
@@ -31,7 +31,7 @@ impl Object {
 }
 
 /// The ledger: the grants as opened, the objects and the blocks in quarantine. Heap length, kind,
-/// permissions and last serial belong to what the caller handed in and was answered.
+/// edition, permissions and last serial belong to what the caller handed in and was answered.
 #[derive(Clone, Debug)]
 pub struct Ledger {
     /// The length of the heap.
@@ -48,6 +48,8 @@ pub struct Ledger {
     pub quarantines: bool,
     /// The places of the blocks in quarantine, in the order in which they came there.
     pub quarantined: Vec<Range<usize>>,
+    /// The number of the edition with which the heap was opened.
+    pub edition: u8,
 }
 
 /// A request as rounded: the object's length, and what its base is a multiple of.
@@ -59,18 +61,24 @@ pub struct Request {
     pub length: u32,
 }
 
-/// Gives the unit of a length (rule 6.1).
-pub fn unit(length: u32) -> u32 {
-    match length {
-        0..8_192 => 8,
-        8_192..16_384 => 16,
-        16_384..32_768 => 32,
-        _ => 64,
+/// Gives the unit of a length in the edition of this number (rules 6.1 and 23.3).
+pub fn unit(edition: u8, length: u32) -> u32 {
+    match (edition, length) {
+        (0, 0..8_192) => 8,
+        (0, 8_192..16_384) => 16,
+        (0, 16_384..32_768) => 32,
+        (0, _) => 64,
+        (_, 0..=4_088) => 8,
+        (_, 4_089..=8_176) => 16,
+        (_, 8_177..=16_352) => 32,
+        (_, 16_353..=32_704) => 64,
+        _ => 128,
     }
 }
 
-/// Rounds a request (rules 6.1 to 6.3); none for what refusal 4 is given for.
-pub fn request(bytes: u64) -> Option<Request> {
+/// Rounds a request in an edition (rules 6.2 and 6.3); none for what refusal 4 is given for.
+pub fn request(edition: u8, bytes: u64) -> Option<Request> {
+    let unit = |length| unit(edition, length);
     let asked = match bytes {
         0 | 32_761.. => return None,
         _ => bytes as u32,
@@ -82,15 +90,16 @@ pub fn request(bytes: u64) -> Option<Request> {
 
 impl Ledger {
     /// The ledger after an accepted opening.
-    pub fn opened(heap_length: u32, grants: [u32; QUOTAS], kind: u32) -> Ledger {
+    pub fn opened(heap_length: u32, grants: [u32; QUOTAS], choice: Choice) -> Ledger {
         Ledger {
             heap_length,
             grants,
             permissions: [7; QUOTAS],
             last_serial: 0,
             objects: Vec::new(),
-            quarantines: kind != PLAIN,
+            quarantines: choice.kind != 0,
             quarantined: Vec::new(),
+            edition: u8::from(choice.edition != 0),
         }
     }
 
@@ -114,6 +123,7 @@ impl Ledger {
             objects: objects.collect(),
             quarantines: accounts.kind == 1,
             quarantined: quarantined(&state.heap),
+            edition: accounts.edition,
         }
     }
 
@@ -123,7 +133,7 @@ impl Ledger {
             return;
         }
         match call {
-            Call::Open(grants, kind) => *self = Ledger::opened(self.heap_length, grants, kind),
+            Call::Open(grants, choice) => *self = Ledger::opened(self.heap_length, grants, choice),
             Call::Allocate(q, _) | Call::Array(q, ..) => self.add(q, answer.handle()),
             Call::Claim(q, h) => self.change(h.serial, q, |holds| holds + 1),
             Call::Release(q, h) => self.change(h.serial, q, |holds| holds - 1),
@@ -262,7 +272,7 @@ impl Ledger {
 
     /// Lines 4 to 10 for a request.
     fn request_refusal(&self, quota: u32, bytes: u64, old: Option<Handle>) -> u32 {
-        let Some(request) = request(bytes) else {
+        let Some(request) = request(self.edition, bytes) else {
             return 4;
         };
         let old_refusal = old.map_or(0, |old| Ledger::held(quota, self.whole(old)));

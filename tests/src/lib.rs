@@ -39,6 +39,7 @@ pub mod programs;
 pub mod queues;
 pub mod reports;
 pub mod rounds;
+pub mod run;
 pub mod script;
 pub mod seed;
 pub mod sentences;

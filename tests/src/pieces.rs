@@ -13,12 +13,15 @@ pub struct Piece {
     pub serial: u32,
 }
 
-/// Sizes of blocks whose objects stand at the bounds of the rounding table's rows.
-const ROW_SIZES: [u32; 8] = [8_184, 8_192, 8_200, 8_216, 16_376, 16_392, 16_424, 32_744];
+/// Sizes of blocks whose objects stand at the bounds of the rows of either rounding table.
+const ROW_SIZES: [u32; 15] = [
+    4_096, 4_104, 4_120, 8_184, 8_192, 8_200, 8_216, 8_232, 16_360, 16_376, 16_392, 16_424, 16_456,
+    32_712, 32_744,
+];
 
-/// Cuts a heap into pieces, at most so many of them live; a live one has serial 1 until serials are
-/// given out.
-pub(crate) fn cut(seed: &mut Seed, length: u32, most: usize) -> Vec<Piece> {
+/// Cuts a heap of an edition into pieces, at most so many of them live; a live one has serial 1 until
+/// serials are given out.
+pub(crate) fn cut(seed: &mut Seed, edition: u8, length: u32, most: usize) -> Vec<Piece> {
     let crowd = seed.pick(&[3, 12, 40, most, most]);
     let longest = seed.pick(&[2, 4, 12, 60, 600, 2_400]);
     let share = seed.pick(&[30, 60, 90, 100]);
@@ -35,7 +38,7 @@ pub(crate) fn cut(seed: &mut Seed, length: u32, most: usize) -> Vec<Piece> {
             false => left.min(8 * (1 + seed.below(longest))),
         };
         let (front, size) = match wanted {
-            true => fitted(length - left, size, left),
+            true => fitted(edition, length - left, size, left),
             false => (size, 0),
         };
         add_free(&mut pieces, front);
@@ -85,8 +88,8 @@ fn quarantine(seed: &mut Seed, pieces: &mut Vec<Piece>, bytes: u32, longest: u32
 
 /// Gives the free bytes that a live block needs in front of it, and the size that it has then, so
 /// that its object fits its unit. The block is to start at the offset or behind it.
-fn fitted(offset: u32, size: u32, left: u32) -> (u32, u32) {
-    let unit = unit(size - 8);
+fn fitted(edition: u8, offset: u32, size: u32, left: u32) -> (u32, u32) {
+    let unit = unit(edition, size - 8);
     let front = (offset + 8).next_multiple_of(unit) - (offset + 8);
     let length = (size.min(left - front) - 8) / unit * unit;
     (front, 8 + length)

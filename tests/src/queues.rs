@@ -7,7 +7,7 @@ use lokhazim_reference::{receive, send, Accounts, Handle, Queue, QueueRefusal, Q
 
 use crate::boundary::queue as proved;
 use crate::calls::Pair;
-use crate::choice::{choose, kind, Habits, MIXED};
+use crate::choice::{choice, choose, Habits, MIXED};
 use crate::compare::Failure;
 use crate::cut::live_handles;
 use crate::forged::View;
@@ -280,7 +280,7 @@ pub fn history(pair: &mut Pair, queues: &mut Queues, seed: u64, n: u64) -> Resul
         accounts: Accounts::default(),
     };
     let grant = seed.pick(&[60, 200, 1_000, 100_000]);
-    pair.call(&mut state, Call::Open([grant; QUOTAS], kind(seed)))?;
+    pair.call(&mut state, Call::Open([grant; QUOTAS], choice(seed)))?;
     let lines = [Line::new(seed.below(4), seed.below(4)), Line::new(0, 1)];
     let mut run = Run {
         queues,

@@ -40,11 +40,10 @@ pub fn script(
 
 /// Compares calls of every part for the n-th case of a seed: about a thousand.
 pub fn calls(pair: &mut Pair, seed: u64, n: u64) -> Result<(), Failure> {
-    let crowded = n.is_multiple_of(8);
-    let beginning = if crowded {
-        Beginning::Crowd
-    } else {
-        Beginning::Opening
+    let beginning = match n % 8 {
+        0 => Beginning::Crowd,
+        4 => Beginning::Long,
+        _ => Beginning::Opening,
     };
     histories::run(pair, beginning, seed, n, 250)?;
     for turn in 0..4 {

@@ -1,5 +1,5 @@
-//! What section 10 of the rules and rule 22.11 say of the ledger, each rule checked after a call of
-//! an undamaged history.
+//! What section 10 of the rules and rules 22.11 and 23.1 say of the ledger, each rule checked after a
+//! call of an undamaged history.
 
 use std::ops::Range;
 
@@ -28,7 +28,7 @@ pub struct Step<'a> {
 
 /// Gives what is wrong with a call and the state that it left; nothing if every rule holds.
 pub fn wrong(step: &Step) -> Vec<String> {
-    let checks: [(&str, bool); 16] = [
+    let checks: [(&str, bool); 17] = [
         ("heap and accounts are sound", broken(step.after).is_empty()),
         (
             "live objects are the ledger's",
@@ -43,6 +43,7 @@ pub fn wrong(step: &Step) -> Vec<String> {
             quarantine_is_the_ledgers(step),
         ),
         ("the kind is that of the opening", kind_holds(step)),
+        ("the edition is that of the opening", edition_holds(step)),
         ("grants are the ledger's", grants_are_the_ledgers(step)),
         ("remainders are grants less charges", remainders_hold(step)),
         ("permissions are those not cleared", permissions_hold(step)),
@@ -111,6 +112,11 @@ fn quarantine_is_the_ledgers(step: &Step) -> bool {
 /// Rules 22.1 and 22.2: the kind is that of the opening.
 fn kind_holds(step: &Step) -> bool {
     step.after.accounts.kind == u8::from(step.ledger.quarantines)
+}
+
+/// Rules 23.1 and 23.2: the edition is that of the opening.
+fn edition_holds(step: &Step) -> bool {
+    step.after.accounts.edition == step.ledger.edition
 }
 
 /// Rule 10.8: the accounts' grants are the ledger's, and the last serial is the last one answered.
@@ -198,7 +204,7 @@ fn space_holds(step: &Step) -> bool {
     if step.ledger_before.refusal_before_space(step.call) != 0 {
         return true;
     }
-    let Some(request) = request(bytes) else {
+    let Some(request) = request(step.ledger_before.edition, bytes) else {
         return false;
     };
     match step.ledger_before.lowest_run(request) {

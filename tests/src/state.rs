@@ -4,18 +4,44 @@ use std::fmt;
 
 use lokhazim_reference::{
     allocate, allocate_array, block_at, can_release, check, claim, clear_permissions, free_all,
-    lend, lend_mut, open_with, reallocate, release, remaining, sweep, Accounts, Block, Handle,
-    Kind, Options, Refusal, QUOTAS,
+    lend, lend_mut, open_with, reallocate, release, remaining, sweep, Accounts, Block, Edition,
+    Handle, Kind, Options, Refusal, QUOTAS,
 };
 
-/// The number of a plain heap's kind.
-pub const PLAIN: u32 = 0;
+/// What an opening is told of the heap, as numbers: 0 for a plain heap and for the first edition, and
+/// any other number for quarantine and for the second.
+#[derive(Clone, Copy, Debug, PartialEq, Eq)]
+pub struct Choice {
+    /// The number of the kind.
+    pub kind: u32,
+    /// The number of the edition.
+    pub edition: u32,
+}
 
-/// The number of the kind with quarantine; an opening takes any other number but 0 as well.
-pub const QUARANTINE: u32 = 1;
+impl Choice {
+    /// Gives the choice of these numbers.
+    pub const fn of(kind: u32, edition: u32) -> Choice {
+        Choice { kind, edition }
+    }
+}
+
+/// A plain heap of the first edition.
+pub const PLAIN: Choice = Choice::of(0, 0);
+
+/// A heap with quarantine of the first edition.
+pub const QUARANTINE: Choice = Choice::of(1, 0);
+
+/// A plain heap of the second edition.
+pub const SECOND: Choice = Choice::of(0, 1);
 
 /// Both kinds.
-pub const KINDS: [u32; 2] = [PLAIN, QUARANTINE];
+pub const KINDS: [Choice; 2] = [PLAIN, QUARANTINE];
+
+/// Both editions.
+pub const EDITIONS: [Choice; 2] = [PLAIN, SECOND];
+
+/// Both kinds in both editions.
+pub const CHOICES: [Choice; 4] = [PLAIN, QUARANTINE, SECOND, Choice::of(1, 1)];
 
 /// A heap with its accounts.
 #[derive(Clone, Debug, PartialEq, Eq)]
@@ -29,8 +55,8 @@ pub struct State {
 /// A call with its arguments (rules, section 8).
 #[derive(Clone, Copy, Debug, PartialEq, Eq)]
 pub enum Call {
-    /// Open with the grants and the number of the kind.
-    Open([u32; QUOTAS], u32),
+    /// Open with the grants and the numbers of kind and edition.
+    Open([u32; QUOTAS], Choice),
     /// Allocate: quota, length.
     Allocate(u32, u32),
     /// Allocate array: quota, count, size.
@@ -141,7 +167,9 @@ impl Call {
         };
         let plain = |numbers: &[u32]| numbers.iter().map(|n| u64::from(*n)).collect();
         match self {
-            Call::Open(grants, kind) => plain(&[&grants[..], &[kind]].concat()),
+            Call::Open(grants, Choice { kind, edition }) => {
+                plain(&[&grants[..], &[kind, edition]].concat())
+            }
             Call::Allocate(q, n) | Call::ClearPermissions(q, n) => plain(&[q, n]),
             Call::Array(q, n, s) => plain(&[q, n, s]),
             Call::Claim(q, h) | Call::Release(q, h) | Call::CanRelease(q, h) => with(&[q], h, &[]),
@@ -227,12 +255,16 @@ fn amount(amount: u32) -> Vec<u64> {
     vec![u64::from(amount)]
 }
 
-/// Gives the options of an opening with a number for the kind.
-fn options(kind: u32) -> Options {
+/// Gives the reference's options of an opening.
+fn options(choice: Choice) -> Options {
     Options {
-        kind: match kind {
-            PLAIN => Kind::Plain,
+        kind: match choice.kind {
+            0 => Kind::Plain,
             _ => Kind::Quarantine,
+        },
+        edition: match choice.edition {
+            0 => Edition::First,
+            _ => Edition::Second,
         },
     }
 }
@@ -242,8 +274,8 @@ impl State {
     pub fn perform(&mut self, call: Call) -> Answer {
         let State { heap, accounts } = self;
         match call {
-            Call::Open(grants, kind) => {
-                let (opened, result) = open_with(heap, grants, options(kind));
+            Call::Open(grants, choice) => {
+                let (opened, result) = open_with(heap, grants, options(choice));
                 *accounts = opened;
                 answer(result, |()| Vec::new())
             }

@@ -26,6 +26,8 @@ pub struct Plan {
     pub last_serial: u32,
     /// The number of the kind.
     pub kind: u8,
+    /// The number of the edition.
+    pub edition: u8,
 }
 
 /// Gives an allowed heap length, most often a short one.
@@ -49,11 +51,11 @@ impl Plan {
 
     /// Makes a consistent plan for a heap of this length that a form can carry.
     pub fn in_form(form: Form, seed: &mut Seed, length: u32) -> Plan {
-        let kind = match form.number {
-            1 => 0,
-            _ => seed.below(2) as u8,
+        let (kind, edition) = match form.number {
+            1 => (0, 0),
+            _ => (seed.below(2) as u8, seed.below(2) as u8),
         };
-        let mut pieces = cut(seed, length, form.records);
+        let mut pieces = cut(seed, edition, length, form.records);
         if kind == 1 {
             pieces = quarantine_some(seed, pieces);
         }
@@ -79,10 +81,11 @@ impl Plan {
             permissions: permissions(seed, form),
             last_serial: last_serial.min(GREATEST_SERIAL),
             kind,
+            edition,
         }
     }
 
-    /// Gives the plan of a heap with one object, which quota 0 holds once.
+    /// Gives the plan of a plain heap of the first edition with one object, which quota 0 holds once.
     pub fn of_object(heap_length: u32, base: u32, length: u32) -> Plan {
         let pieces = [
             (base - 8, 0),
@@ -103,6 +106,7 @@ impl Plan {
             permissions: [ALL_PERMISSIONS; QUOTAS],
             last_serial: 1,
             kind: 0,
+            edition: 0,
         }
     }
 
@@ -158,6 +162,7 @@ impl Plan {
             last_serial: self.last_serial,
             holds: self.records,
             kind: self.kind,
+            edition: self.edition,
         };
         State { heap, accounts }
     }

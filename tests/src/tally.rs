@@ -5,6 +5,7 @@ use std::fmt;
 
 use crate::cut::{is_narrowed, joins, looks_alive, quarantined};
 use crate::forms::FORM_1;
+use crate::ledger::unit;
 use crate::state::{Answer, Call, State};
 
 /// The counts of one run.
@@ -38,6 +39,10 @@ pub struct Tally {
     pub most_waiting: usize,
     /// Accepted sweeps that made blocks free.
     pub swept: u64,
+    /// Calls on a heap of the second edition.
+    pub second: u64,
+    /// Objects made there whose unit is not that of the first edition.
+    pub wider: u64,
     /// Calls whose handle names no object although the bytes before its base look like its header.
     pub look_alikes: u64,
     /// Calls whose handle names an object and has a part of it, by kind and by refusal.
@@ -46,6 +51,16 @@ pub struct Tally {
     pub cases: BTreeMap<&'static str, u64>,
     /// Images written and read, by refusal, 0 where accepted.
     pub images: BTreeMap<(&'static str, u32), u64>,
+}
+
+/// Tells whether a call made an object whose unit differs between the editions.
+fn made_wider(call: Call, answer: &Answer) -> bool {
+    let makes = matches!(
+        call,
+        Call::Allocate(..) | Call::Array(..) | Call::Reallocate(..)
+    );
+    let length = answer.handle().length;
+    makes && answer.is_accepted() && unit(0, length) != unit(1, length)
 }
 
 impl Tally {
@@ -69,6 +84,9 @@ impl Tally {
         self.most_waiting = self.most_waiting.max(waiting);
         let sweeps = call == Call::Sweep && answer.is_accepted();
         self.swept += u64::from(sweeps && waiting > 0);
+        let second = before.accounts.edition == 1;
+        self.second += u64::from(second);
+        self.wider += u64::from(second && made_wider(call, answer));
         let frees = matches!(
             call,
             Call::Release(..) | Call::FreeAll(_) | Call::Reallocate(..) | Call::Sweep
@@ -209,6 +227,11 @@ impl fmt::Display for Tally {
             f,
             "  calls with quarantined blocks: {}, the most of them {}, sweeps that freed some: {}",
             self.waited, self.most_waiting, self.swept
+        )?;
+        writeln!(
+            f,
+            "  calls on heaps of the second edition: {}, objects made with a unit of its own: {}",
+            self.second, self.wider
         )?;
         write!(
             f,

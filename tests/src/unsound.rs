@@ -128,6 +128,7 @@ fn one_free_block(seed: &mut Seed, length: u32) -> State {
         quotas: std::array::from_fn(|_| quota(seed.odd_word())),
         last_serial: seed.odd_word(),
         kind: seed.below(2) as u8,
+        edition: seed.below(2) as u8,
         ..Accounts::default()
     };
     State { heap, accounts }
@@ -143,6 +144,7 @@ fn any_accounts(seed: &mut Seed) -> Accounts {
     }
     accounts.last_serial = seed.odd_word();
     accounts.kind = seed.pick(&[0, 0, 1, 1, seed.clone().byte()]);
+    accounts.edition = seed.pick(&[0, 0, 1, 1, seed.clone().byte()]);
     for _ in 0..seed.below(4) {
         accounts.holds[seed.place(HOLDS)] = Hold {
             serial: seed.odd_word(),
@@ -163,7 +165,7 @@ fn change_anything(seed: &mut Seed, state: &mut State) {
     );
     let block = seed.any_of(&blocks(heap));
     let in_header = block.map_or(at, |b| b.offset as usize + at % 8);
-    match seed.below(12) {
+    match seed.below(13) {
         0 => heap[at] = seed.byte(),
         1 => heap[at] ^= 1 << seed.below(8),
         2 | 3 => heap[in_header] ^= 1 << seed.below(8),
@@ -173,6 +175,7 @@ fn change_anything(seed: &mut Seed, state: &mut State) {
         7 => accounts.holds.swap(record, 0),
         8 => accounts.quotas[quota].permissions ^= 1 << seed.below(8),
         9 => accounts.kind ^= 1 << seed.below(8),
+        11 => accounts.edition ^= 1 << seed.below(8),
         10 => {
             let serial = seed.pick(&[0, QUARANTINED]);
             let place = block.map_or(0, |b| b.offset as usize + 4);

@@ -65,10 +65,13 @@ impl Part {
 
 static HISTORIES: Part = Part::new(60_000, 0, history);
 static MORE_HISTORIES: Part = Part::new(60_000, 1_000_000, history);
+static LONG: Part = Part::new(30_000, 0, |pair, n| {
+    histories::run(pair, Beginning::Long, SEED, n, 250)
+});
 static SOUND_STATES: Part = Part::new(100_000, 0, |pair, n| {
     histories::run(pair, Beginning::SoundState, SEED, n, 40)
 });
-static ALONE: Part = Part::new(70_000, 0, |pair, n| {
+static ALONE: Part = Part::new(74_000, 0, |pair, n| {
     let kind = (n % DAMAGES.len() as u64) as usize;
     unsound::alone(pair, &DAMAGES[kind], SEED, n)
 });
@@ -77,9 +80,10 @@ static NOISE: Part = Part::new(40_000, 0, |pair, n| unsound::noise(pair, SEED, n
 static LENGTHS: Part = Part::new(10_000, 0, |pair, n| unsound::lengths(pair, SEED, n));
 
 /// Every part.
-static PARTS: [&Part; 7] = [
+static PARTS: [&Part; 8] = [
     &HISTORIES,
     &MORE_HISTORIES,
+    &LONG,
     &SOUND_STATES,
     &ALONE,
     &TOGETHER,
@@ -174,6 +178,7 @@ fn histories_reach(tally: &Tally) {
     );
     assert!(tally.full_counts >= 500 && tally.full_tables >= 100 && tally.look_alikes >= 50);
     assert!(tally.waited >= 8_000 && tally.swept >= 300);
+    assert!(tally.second >= 20_000, "{}", tally.second);
 }
 
 #[test]
@@ -184,6 +189,20 @@ fn undamaged_histories_and_the_ledger() {
 #[test]
 fn more_undamaged_histories_and_the_ledger() {
     histories_reach(MORE_HISTORIES.tally());
+}
+
+#[test]
+fn histories_with_long_objects_and_the_ledger() {
+    let tally = LONG.tally();
+    all_barred(tally, 10);
+    reached(tally, &[3, 4, 6], 20);
+    reached(tally, &[5, 11], 500);
+    all_accepted(tally, 20);
+    let joined = [tally.joined_front, tally.joined_behind, tally.joined_both];
+    assert!(joined.into_iter().all(|count| count >= 50), "{joined:?}");
+    assert!(tally.waited >= 2_000 && tally.swept >= 100);
+    let (second, wider) = (tally.second, tally.wider);
+    assert!(second >= 10_000 && wider >= 300, "{second} {wider}");
 }
 
 #[test]
@@ -209,6 +228,7 @@ fn sound_states_that_no_replay_reaches_and_the_ledger() {
     assert!(tally.full_counts >= 5_000 && tally.full_tables >= 1_000 && tally.look_alikes >= 500);
     assert!(tally.waited >= 8_000 && tally.swept >= 200);
     assert!(tally.most_waiting > HOLDS, "{}", tally.most_waiting);
+    assert!(tally.second >= 25_000, "{}", tally.second);
 }
 
 #[test]

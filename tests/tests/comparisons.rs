@@ -49,7 +49,7 @@ fn changed(
 
 #[test]
 fn each_kind_of_difference_by_itself() {
-    use Difference::{Bytes, Kind, LastSerial, Quota, Record};
+    use Difference::{Bytes, Edition, Kind, LastSerial, Quota, Record};
     let mut pair = Pair::new();
     let mut expect_in = |form: Form, change: &dyn Fn(&mut State), expected: &[Difference]| {
         let (first, second) = changed(&mut pair, form, 120, change);
@@ -72,14 +72,19 @@ fn each_kind_of_difference_by_itself() {
     }
     let quarantines = |state: &mut State| state.accounts.kind = 1;
     expect_in(FORM_2, &quarantines, &[Kind]);
+    let second = |state: &mut State| state.accounts.edition = 1;
+    expect_in(FORM_2, &second, &[Edition]);
+    let both = |state: &mut State| (state.accounts.kind, state.accounts.edition) = (1, 1);
+    expect_in(FORM_2, &both, &[Kind, Edition]);
     let all = |state: &mut State| {
         state.accounts.kind = 1;
+        state.accounts.edition = 1;
         state.accounts.last_serial = 9;
         state.accounts.quotas[0].permissions = 6;
         state.accounts.holds[0].count = 2;
         state.heap[50] = 1;
     };
-    let listed = [LastSerial, Kind, Quota(0), Record(0), Bytes(50, 1)];
+    let listed = [LastSerial, Kind, Edition, Quota(0), Record(0), Bytes(50, 1)];
     expect_in(FORM_2, &all, &listed);
     for number in 0..QUOTAS {
         let cleared = |state: &mut State| state.accounts.quotas[number].permissions = 6;

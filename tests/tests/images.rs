@@ -4,7 +4,9 @@ use lokhazim_reference::{Accounts, HOLDS, MAX_HEAP, MIN_HEAP, QUOTAS};
 use lokhazim_tests::calls::Pair;
 use lokhazim_tests::compare::Failure;
 use lokhazim_tests::cut::{header, put, quarantined, GREATEST_SERIAL, QUARANTINED};
-use lokhazim_tests::forms::{place_of, put_byte, put_word, Form, FORMS, FORM_1, FORM_2, KIND};
+use lokhazim_tests::forms::{
+    place_of, put_byte, put_word, Form, EDITION, FORMS, FORM_1, FORM_2, KIND,
+};
 use lokhazim_tests::harms::HARMS;
 use lokhazim_tests::image_cases::{
     every_byte, forged, harmed, image_of, narrow, round_trip, states, OVERFULL,
@@ -49,7 +51,7 @@ fn states_are_written_and_read_back() {
 
 #[test]
 fn form_1_is_refused_exactly_for_what_it_can_not_carry() {
-    let tally = compare(900, |pair, n| narrow(pair, SEED, n));
+    let tally = compare(1_250, |pair, n| narrow(pair, SEED, n));
     assert!(tally.images(FORM_1.written, 0) >= 1_500);
     assert!(tally.images(FORM_1.written, 28) >= 2_500);
     for (name, _) in OVERFULL {
@@ -155,7 +157,7 @@ fn the_form_decides_how_the_rest_is_read() {
         let mut other = image.clone();
         put_byte(&mut other, 0, form.other().number as u8);
         assert_eq!(read(&mut pair, &other, &state.heap).0, 24);
-        for (place, byte) in [(0, 0), (0, 3), (1, 1), (2, 1), (2, 255), (3, 2), (3, 255)] {
+        for (place, byte) in [(0, 0), (0, 3), (1, 1), (2, 2), (2, 255), (3, 2), (3, 255)] {
             let mut changed = image.clone();
             put_byte(&mut changed, place, byte);
             assert_eq!(
@@ -206,16 +208,52 @@ fn every_byte_of_the_kind() {
     }
 }
 
-/// Form 1 carries no heap with quarantine, whatever is in it, and 28 comes before 25.
+/// Every number for the edition in both forms: of a heap that both editions take, and of one with an
+/// object that the first alone takes.
 #[test]
-fn form_1_has_plain_heaps_alone() {
+fn every_byte_of_the_edition() {
+    let mut pair = Pair::new();
+    let both = example(&mut pair);
+    let mut first = Plan::of_object(4_168, 8, 4_096).render(&mut Seed::new(SEED));
+    first.accounts.quotas[FORM_1.quotas..].fill(both.accounts.quotas[2]);
+    for (form, state) in FORMS.into_iter().flat_map(|f| [(f, &both), (f, &first)]) {
+        let image = image_of(&mut pair, form, state).expect("no difference");
+        for edition in 0..=255 {
+            let mut changed = image.clone();
+            put_byte(&mut changed, EDITION, edition);
+            let wanted = match edition {
+                0 => 0,
+                1 if form == FORM_1 => 23,
+                1 if state == &first => 26,
+                1 => 0,
+                _ => 23,
+            };
+            let (refusal, read) = read(&mut pair, &changed, &state.heap);
+            assert_eq!(refusal, wanted, "{edition}");
+            if refusal == 0 {
+                let mut state = state.clone();
+                state.accounts.edition = edition;
+                assert_eq!(read, state);
+                let again = image_of(&mut pair, form, &read).expect("no difference");
+                assert_eq!(again, changed);
+            }
+        }
+    }
+}
+
+/// Form 1 carries no heap with quarantine and none of the second edition, whatever is in it, and 28
+/// comes before 25.
+#[test]
+fn form_1_has_plain_heaps_of_the_first_edition_alone() {
     let mut pair = Pair::new();
     let mut state = example(&mut pair);
-    state.accounts.kind = 1;
     let needed = FORM_1.length(state.heap.len());
-    for lent in [0, needed - 1, needed] {
-        let written = pair.write_image(FORM_1, &state, &vec![5; lent]);
-        assert_eq!(written.unwrap_or_else(|f| panic!("{f}")).0, 28, "{lent}");
+    for marks in [(1, 0), (0, 1), (1, 1)] {
+        (state.accounts.kind, state.accounts.edition) = marks;
+        for lent in [0, needed - 1, needed] {
+            let written = pair.write_image(FORM_1, &state, &vec![5; lent]);
+            assert_eq!(written.unwrap_or_else(|f| panic!("{f}")).0, 28, "{lent}");
+        }
     }
 }
 
@@ -246,7 +284,7 @@ fn what_form_1_lacks_is_zero_and_permitted() {
         assert_eq!((refusal, &restored), (0, &state));
         let accounts = &restored.accounts;
         assert!(accounts.quotas.iter().all(|quota| quota.permissions == 7));
-        assert_eq!(accounts.kind, 0);
+        assert_eq!((accounts.kind, accounts.edition), (0, 0));
         let quotas = &accounts.quotas[FORM_1.quotas..QUOTAS];
         assert!(quotas.iter().all(|q| (q.grant, q.remainder) == (0, 0)));
         assert!(accounts.holds[FORM_1.records..HOLDS]

@@ -3,7 +3,7 @@
 use lokhazim_reference::{HOLDS, MAX_HEAP, QUOTAS};
 use lokhazim_tests::calls::Pair;
 use lokhazim_tests::compare::Failure;
-use lokhazim_tests::forms::{place_of, put_byte, seal, Form, FORMS, FORM_1, FORM_2};
+use lokhazim_tests::forms::{place_of, put_byte, seal, Form, EDITION, FORMS, FORM_1, FORM_2, KIND};
 use lokhazim_tests::harms::HARMS;
 use lokhazim_tests::histories::{self, Beginning};
 use lokhazim_tests::image_cases::image_of;
@@ -145,11 +145,13 @@ fn the_other_form_comes_behind_the_frames_and_before_the_rest() {
         };
         expect(&with(0, 0), 23, 23);
         expect(&with(0, 3), 23, 23);
-        expect(&with(2, 1), 23, 23);
-        // Form 2 then has a heap with quarantine, which form 1 can't carry.
-        expect(&with(3, 1), if form == FORM_1 { 23 } else { 28 }, 23);
-        expect(&with(3, 2), 23, 23);
-        expect(&with(3, 255), 23, 23);
+        for place in [EDITION, KIND] {
+            // Form 2 then has a heap of the second edition, or with quarantine, which form 1 can't
+            // carry.
+            expect(&with(place, 1), if form == FORM_1 { 23 } else { 28 }, 23);
+            expect(&with(place, 2), 23, 23);
+            expect(&with(place, 255), 23, 23);
+        }
         expect(&with(0, form.other().number as u8), 23, 24);
         expect(&with(4, 129), 24, 23);
         expect(&with(form.record_at(0) + 7, 1), 24, 23);
@@ -187,6 +189,7 @@ fn what_form_1_can_not_carry_stays() {
         expect(&less, false);
     }
     expect(&|state: &mut State| state.accounts.kind = 1, false);
+    expect(&|state: &mut State| state.accounts.edition = 1, false);
     let used = (0..FORM_1.records).find(|place| state.accounts.holds[*place].is_used());
     for place in used.into_iter().flat_map(|_| FORM_1.records..HOLDS) {
         let swap = |state: &mut State| state.accounts.holds.swap(used.unwrap_or(0), place);

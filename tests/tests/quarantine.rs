@@ -3,74 +3,11 @@
 
 use lokhazim_reference::{Accounts, Handle, HOLDS, MAX_HEAP, QUOTAS};
 use lokhazim_tests::calls::Pair;
-use lokhazim_tests::cut::{blocks, header, put, quarantined, GREATEST_SERIAL, QUARANTINED};
-use lokhazim_tests::histories::once;
+use lokhazim_tests::cut::{header, put, quarantined, GREATEST_SERIAL, QUARANTINED};
 use lokhazim_tests::judge::{broken, Sentence};
-use lokhazim_tests::state::{Answer, Call, State, KINDS, PLAIN, QUARANTINE};
+use lokhazim_tests::run::Run;
+use lokhazim_tests::state::{Call, Choice, State, CHOICES, KINDS, PLAIN, QUARANTINE};
 use lokhazim_tests::unsound::check_is_the_judges;
-
-/// A heap with its accounts on which calls are made by both sides, and by the ledger's rules.
-struct Run {
-    pair: Pair,
-    state: State,
-}
-
-impl Run {
-    /// Opens a heap of this length, with ample grants.
-    fn open(length: usize, kind: u32) -> Run {
-        let state = State {
-            heap: vec![0xA5; length],
-            accounts: Accounts::default(),
-        };
-        let mut run = Run {
-            pair: Pair::new(),
-            state,
-        };
-        run.gives(Call::Open([1_000_000; QUOTAS], kind), &[]);
-        run
-    }
-
-    /// Goes on from a state.
-    fn on(state: State) -> Run {
-        let pair = Pair::new();
-        Run { pair, state }
-    }
-
-    /// Makes a call on both sides, on a copy by the ledger's rules too.
-    fn call(&mut self, call: Call) -> Answer {
-        let checked = once(&mut self.pair, self.state.clone(), call);
-        let answer = self.pair.call(&mut self.state, call);
-        let answer = answer.unwrap_or_else(|failure| panic!("{failure}"));
-        assert_eq!(
-            checked.unwrap_or_else(|failure| panic!("{failure}")),
-            answer
-        );
-        answer
-    }
-
-    /// Makes a call and checks the numbers that it answers.
-    fn gives(&mut self, call: Call, numbers: &[u64]) {
-        assert_eq!(self.call(call), Answer::accepted(numbers), "{call}");
-    }
-
-    /// Makes a call and checks the number of its refusal.
-    fn refuses(&mut self, call: Call, number: u32) {
-        assert_eq!(self.call(call), Answer::refused(number), "{call}");
-    }
-
-    /// Makes objects of 8 bytes for a quota and gives their handles.
-    fn objects(&mut self, quota: u32, count: usize) -> Vec<Handle> {
-        let mut made = |_| self.call(Call::Allocate(quota, 8)).handle();
-        (0..count).map(&mut made).collect()
-    }
-
-    /// Checks the blocks by size and serial.
-    fn has(&self, wanted: &[(u32, u32)]) {
-        let found = blocks(&self.state.heap).into_iter();
-        let found: Vec<(u32, u32)> = found.map(|block| (block.size, block.serial)).collect();
-        assert_eq!(found, wanted);
-    }
-}
 
 /// The run of the rule book: released blocks wait side by side, take no request and no handle, and a
 /// sweep joins them with each other and with free ones.
@@ -111,18 +48,22 @@ fn a_plain_heap_has_nothing_to_sweep() {
     assert_eq!(run.state, before);
 }
 
-/// Any number but 0 opens with quarantine, and the accounts then have 1.
+/// Any number but 0 opens with quarantine, and the accounts then have 1, in either edition.
 #[test]
 fn kinds_of_an_opening() {
     for (number, kind) in [(0, 0), (1, 1), (2, 1), (255, 1), (256, 1), (u32::MAX, 1)] {
-        let run = Run::open(64, number);
-        assert_eq!(run.state.accounts.kind, kind, "{number}");
-        let mut refused = Run::on(State {
-            heap: vec![7; 63],
-            accounts: run.state.accounts,
-        });
-        refused.refuses(Call::Open([5; QUOTAS], number), 1);
-        assert_eq!(refused.state.accounts, Accounts::default());
+        for edition in [0, 1] {
+            let choice = Choice::of(number, edition);
+            let Run { state, .. } = Run::open(64, choice);
+            let marks = (state.accounts.kind, state.accounts.edition);
+            assert_eq!(marks, (kind, edition as u8), "{number}");
+            let mut refused = Run::on(State {
+                heap: vec![7; 63],
+                accounts: state.accounts,
+            });
+            refused.refuses(Call::Open([5; QUOTAS], choice), 1);
+            assert_eq!(refused.state.accounts, Accounts::default());
+        }
     }
 }
 
@@ -219,8 +160,8 @@ fn junk_in_quarantined_bodies_stays() {
 /// A release makes the object zero in both kinds, and leaves the bytes around it.
 #[test]
 fn a_released_object_is_cleared() {
-    for kind in KINDS {
-        let mut run = Run::open(128, kind);
+    for choice in CHOICES {
+        let mut run = Run::open(128, choice);
         let made = run.objects(0, 3);
         for handle in &made {
             for at in 0..8 {
@@ -277,8 +218,8 @@ fn a_heap_full_of_quarantined_blocks() {
 /// The last serial that an object can have, in both kinds (rule 12.7), and the one that none can.
 #[test]
 fn serials_end_below_that_of_quarantine() {
-    for kind in KINDS {
-        let mut run = Run::open(128, kind);
+    for choice in CHOICES {
+        let mut run = Run::open(128, choice);
         run.state.accounts.last_serial = GREATEST_SERIAL - 1;
         let last = u64::from(GREATEST_SERIAL);
         run.gives(Call::Allocate(0, 8), &[8, 8, last]);
@@ -293,20 +234,20 @@ fn serials_end_below_that_of_quarantine() {
         run.gives(Call::Claim(1, handle), &[8]);
         run.gives(Call::FreeAll(0), &[16]);
         run.gives(Call::Release(1, handle), &[16]);
-        run.gives(Call::Sweep, &[if kind == PLAIN { 0 } else { 16 }]);
+        run.gives(Call::Sweep, &[16 * u64::from(choice.kind)]);
         run.state.accounts.last_serial = QUARANTINED;
         assert_eq!(broken(&run.state), [Sentence::LastSerial]);
         run.refuses(Call::Allocate(0, 8), 2);
         run.refuses(Call::Check, 2);
-        run.gives(Call::Open([5; QUOTAS], kind), &[]);
+        run.gives(Call::Open([5; QUOTAS], choice), &[]);
     }
 }
 
 /// A handle with the serial of quarantine names nothing, whole or narrowed, in either kind.
 #[test]
 fn no_handle_names_a_quarantined_block() {
-    for kind in KINDS {
-        let mut run = Run::open(64, kind);
+    for choice in CHOICES {
+        let mut run = Run::open(64, choice);
         let made = run.objects(0, 1);
         run.gives(Call::Release(0, made[0]), &[16]);
         for length in [8, 1] {

@@ -48,7 +48,7 @@ const PARTS: [Part; 14] = [
         &[("ok", 1_000), ("no 3", 100), ("no 4", 500)],
     ),
     ("longest-input", 32, &[("ok", 10_000), ("bad", 4)]),
-    ("openings", 200, &[("ok", 200), ("no 1", 40)]),
+    ("openings", 220, &[("ok", 200), ("no 1", 40)]),
     (
         "reallocations",
         180,

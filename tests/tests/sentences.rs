@@ -3,7 +3,7 @@
 use lokhazim_reference::{Accounts, Handle, QUOTAS};
 use lokhazim_tests::ledger::Ledger;
 use lokhazim_tests::sentences::{wrong, Step};
-use lokhazim_tests::state::{Answer, Call, State, PLAIN, QUARANTINE};
+use lokhazim_tests::state::{Answer, Call, State, PLAIN, QUARANTINE, SECOND};
 
 /// A call with everything before and after it, to be changed.
 #[derive(Clone)]
@@ -233,6 +233,40 @@ fn a_wrong_quarantine_is_noticed() {
     waits.breaks("shares a byte", |s| s.ledger.objects[2].handle.base = 32);
     let full = Recorded::new(&state, Call::Allocate(3, 152));
     assert_eq!(full.answer, Answer::refused(11));
+}
+
+/// A heap of the second edition with an object behind which a length of 4,089 has its place at 32; in
+/// the first it would be 24.
+fn begin_in_the_second_edition() -> State {
+    let mut state = State {
+        heap: vec![0; 8_192],
+        accounts: Accounts::default(),
+    };
+    for call in [Call::Open([10_000; QUOTAS], SECOND), Call::Allocate(0, 8)] {
+        assert!(state.perform(call).is_accepted(), "{call}");
+    }
+    state
+}
+
+#[test]
+fn a_wrong_edition_is_noticed() {
+    let state = begin_in_the_second_edition();
+    let request = Recorded::new(&state, Call::Allocate(1, 4_089));
+    assert_eq!(request.wrong(), Vec::<String>::new());
+    assert_eq!(request.answer, Answer::accepted(&[32, 4_096, 2]));
+    request.breaks("the edition", |s| s.after.accounts.edition = 0);
+    request.breaks("are sound", |s| s.after.accounts.edition = 2);
+    // Where the first edition would put it, and how it would round another.
+    request.breaks("suitable run", |s| {
+        s.answer = Answer::accepted(&[24, 4_096, 2])
+    });
+    let longer = Recorded::new(&state, Call::Allocate(1, 4_097));
+    longer.breaks("suitable run", |s| {
+        s.answer = Answer::accepted(&[32, 4_104, 2])
+    });
+    let opened = Recorded::new(&state, Call::Open([5; QUOTAS], PLAIN));
+    assert_eq!(opened.wrong(), Vec::<String>::new());
+    opened.breaks("the edition", |s| s.after.accounts.edition = 1);
 }
 
 #[test]

@@ -39,7 +39,7 @@ impl Block {
     /// use lokhazim::{Heap, Kind, Settings, QUOTAS};
     ///
     /// # let mut memory = [0; 128];
-    /// let settings = Settings { kind: Kind::Quarantine };
+    /// let settings = Settings { kind: Kind::Quarantine, ..Settings::default() };
     /// let mut heap = Heap::open_with(&mut memory, [100; QUOTAS], settings)?;
     /// let handle = heap.allocate(0, 10)?;
     /// heap.release(0, handle)?;

@@ -14,6 +14,8 @@ pub enum Difference {
     LastSerial,
     /// The kind of the heap.
     Kind,
+    /// The edition of the heap's rounding table.
+    Edition,
     /// The quota of this number: its grant, its remainder or its permissions.
     Quota(usize),
     /// The hold record at this place.
@@ -61,8 +63,8 @@ impl fmt::Display for CompareRefusal {
 impl Error for CompareRefusal {}
 
 /// Lists everything that differs between two images of one form and nothing else: the last serial, the
-/// kind, quotas, records, runs of heap bytes, each in rising order. There is nothing exactly if the two images
-/// hold equal states, which is exactly if their bytes are equal.
+/// kind, the edition, quotas, records, runs of heap bytes, each in rising order. There is nothing exactly
+/// if the two images hold equal states, which is exactly if their bytes are equal.
 ///
 /// # Errors
 ///
@@ -126,6 +128,7 @@ impl Iterator for Differences<'_> {
                 length: reply.length,
             },
             5 => Difference::Kind,
+            6 => Difference::Edition,
             _ => return None,
         };
         (self.part, self.at) = (reply.part, reply.at);

@@ -30,8 +30,8 @@ pub struct Heap<'a> {
 }
 
 impl<'a> Heap<'a> {
-    /// Clears the bytes and gives each quota its grant and all permissions. The heap is plain; for
-    /// another kind see [`open_with`](Heap::open_with).
+    /// Clears the bytes and gives each quota its grant and all permissions. The heap is plain and of
+    /// the first edition; for others see [`open_with`](Heap::open_with).
     ///
     /// The bytes are a multiple of 8 from 64 to 32,768. Put them into [`Aligned`](crate::Aligned)
     /// where the addresses of objects have to be aligned.
@@ -58,12 +58,13 @@ impl<'a> Heap<'a> {
     /// [`Refusal::HeapLength`]; the bytes are as they were.
     ///
     /// ```
-    /// use lokhazim::{Heap, Kind, Settings, QUOTAS};
+    /// use lokhazim::{Edition, Heap, Kind, Settings, QUOTAS};
     ///
     /// let mut memory = [7; 128];
-    /// let settings = Settings { kind: Kind::Quarantine };
+    /// let settings = Settings { kind: Kind::Quarantine, edition: Edition::Second };
     /// let heap = Heap::open_with(&mut memory, [100; QUOTAS], settings)?;
     /// assert_eq!(heap.kind(), Kind::Quarantine);
+    /// assert_eq!(heap.edition(), Edition::Second);
     /// # Ok::<(), lokhazim::Refusal>(())
     /// ```
     pub fn open_with(
@@ -72,7 +73,8 @@ impl<'a> Heap<'a> {
         settings: Settings,
     ) -> Result<Heap<'a>, Refusal> {
         let kind = u32::from(settings.kind.number());
-        let reply = raw::open(bytes, Grants { values: grants }, kind);
+        let edition = u32::from(settings.edition.number());
+        let reply = raw::open(bytes, Grants { values: grants }, kind, edition);
         verdict(reply.refusal)?;
         Ok(Heap {
             bytes,
@@ -118,7 +120,7 @@ impl<'a> Heap<'a> {
     }
 
     /// The accounts: each quota's grant, remainder and permissions, the last serial, the hold
-    /// records and the kind.
+    /// records, the kind and the edition.
     ///
     /// ```
     /// # let mut memory = [0; 128];
@@ -331,7 +333,7 @@ impl<'a> Heap<'a> {
     /// use lokhazim::{grants, Heap, Kind, Refusal, Settings};
     ///
     /// # let mut memory = [0; 128];
-    /// let settings = Settings { kind: Kind::Quarantine };
+    /// let settings = Settings { kind: Kind::Quarantine, ..Settings::default() };
     /// let mut heap = Heap::open_with(&mut memory, grants([200]), settings)?;
     /// heap.allocate(0, 40)?;
     /// heap.allocate(0, 72)?;

@@ -1,8 +1,8 @@
 //! Images: a heap with its accounts as bytes that can be kept and read back.
 //!
 //! Form 2 carries every state and is what is written. Form 1 is that of earlier versions, with fewer
-//! quotas and records, no permissions and plain heaps alone; it is written for boards that read nothing else. Both are
-//! read, by the number that they begin with.
+//! quotas and records, no permissions and plain heaps of the first edition alone; it is written for
+//! boards that read nothing else. Both are read, by the number that they begin with.
 
 use core::error::Error;
 use core::fmt;
@@ -108,7 +108,7 @@ pub enum ImageRefusal {
     /// 22: a frame's check, number or count is wrong.
     FrameWrong,
     /// 23: another form of image, one that is not moved this way, or a mark that this form doesn't
-    /// have, such as a kind above 1.
+    /// have, such as a kind or an edition above 1.
     FormNumber,
     /// 24: a heap length that is not allowed or needs another number of frames, a spare byte that is
     /// not zero, or permissions that don't exist.
@@ -121,7 +121,7 @@ pub enum ImageRefusal {
     HeapLengths,
     /// 28: form 1 can't carry the accounts: one of the quotas behind the first [`FORM_1_QUOTAS`] has
     /// a grant, one of the records behind the first [`FORM_1_HOLDS`] is used, some quota is without a
-    /// permission, or the heap has quarantine.
+    /// permission, or the heap has quarantine or is of the second edition.
     NotCarried,
     /// 29: two images are of different forms.
     FormsDiffer,
@@ -186,7 +186,7 @@ impl ImageRefusal {
             ImageRefusal::Contents => "the image states a heap length that it can't have, or has bytes where zeros belong; it was not written by this library",
             ImageRefusal::Room => "the lent image is too short, or the lent heap has not the length of the image's; see image_length",
             ImageRefusal::HeapLengths => "the heaps of the two images have different lengths; only images of one length are compared",
-            ImageRefusal::NotCarried => "form 1 has fewer quotas and records, all permissions and no quarantine; save form 2",
+            ImageRefusal::NotCarried => "form 1 has fewer quotas and records, all permissions, no quarantine and edition 1 alone; save form 2",
             ImageRefusal::FormsDiffer => "the two images are of different forms; move one to the form of the other to compare them",
             ImageRefusal::Inconsistent => "the heap and the accounts in the image don't agree; it was not written by this library",
         }
@@ -283,8 +283,8 @@ impl<'a> Heap<'a> {
     /// Takes up a heap from an image; the bytes have the length of the image's heap.
     ///
     /// A board that was stopped goes on where it was: handles from before the image are good,
-    /// handles that were given out after it mean nothing. The heap's kind comes from the image too. From
-    /// form 1 every quota has all permissions, and the heap is plain.
+    /// handles that were given out after it mean nothing. The heap's kind and edition come from the image
+    /// too. From form 1 every quota has all permissions, and the heap is plain and of the first edition.
     ///
     /// # Errors
     ///

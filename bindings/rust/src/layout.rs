@@ -37,7 +37,7 @@ pub struct Hold {
     pub count: u8,
 }
 
-/// The accounts of a heap: its quotas, the last serial given, the hold records and its kind.
+/// The accounts of a heap: its quotas, the last serial given, the hold records, its kind and its edition.
 #[derive(Clone, Debug, PartialEq, Eq, Hash)]
 #[repr(C)]
 pub struct Accounts {
@@ -49,6 +49,8 @@ pub struct Accounts {
     pub holds: [Hold; HOLDS],
     /// The number of the heap's [`Kind`](crate::Kind), 0 or 1.
     pub kind: u8,
+    /// The number of the heap's [`Edition`](crate::Edition), 0 or 1.
+    pub edition: u8,
 }
 
 /// Names an object by its serial and by the range of bytes that the handle has of it.
@@ -196,7 +198,7 @@ pub struct CompareReply {
     pub refusal: u32,
     /// The image that a refusal is about: 1 the first, 2 the second, 0 neither.
     pub which: u32,
-    /// 0 nothing, 1 the last serial, 2 a quota, 3 a record, 4 heap bytes, 5 the heap's kind.
+    /// 0 nothing, 1 the last serial, 2 a quota, 3 a record, 4 heap bytes, 5 the heap's kind, 6 its edition.
     pub kind: u32,
     /// The quota's number, the record's place, the bytes' offset.
     pub place: usize,
@@ -213,7 +215,7 @@ pub struct NextReply {
     pub place: usize,
     /// As in [`CompareReply`].
     pub length: usize,
-    /// The part of the position behind it: 0 start, 1 quotas, 2 records, 3 bytes, 4 kind.
+    /// The part of the position behind it: 0 start, 1 quotas, 2 records, 3 bytes, 4 kind, 5 edition.
     pub part: u32,
     /// The place in that part.
     pub at: usize,
@@ -312,7 +314,7 @@ macro_rules! lies {
 
 lies!(Quota, 12: grant at 0, remainder at 4, permissions at 8);
 lies!(Hold, 8: serial at 0, quota at 4, count at 5);
-lies!(Accounts, 4488: quotas at 0, last_serial at 384, holds at 388, kind at 4484);
+lies!(Accounts, 4488: quotas at 0, last_serial at 384, holds at 388, kind at 4484, edition at 4485);
 lies!(Handle, 12: base at 0, length at 4, serial at 8);
 lies!(Grants, 128: values at 0);
 lies!(OpenReply, 4492: accounts at 0, refusal at 4488);

@@ -3,11 +3,11 @@
 //!
 //! Each part has a quota, each object costs its rounded length plus 8, and a part may hold an object
 //! that another made. A heap may keep the blocks of released objects in quarantine until a sweep
-//! (see [`Kind`]). Every call but the opening checks the whole heap and its accounts; a call
-//! answers, or gives one of twelve refusals and changes nothing. That is proved of the library on
-//! any bytes and any numbers; this crate adds types that keep the bytes and their accounts together,
-//! and no rule of its own. A quota's number is an argument: keep the [`Heap`] in one trusted place
-//! that fills in each part's number.
+//! (see [`Kind`]), and rounds by one of two tables (see [`Edition`]). Every call but the opening
+//! checks the whole heap and its accounts; a call answers, or gives one of twelve refusals and
+//! changes nothing. That is proved of the library on any bytes and any numbers; this crate adds types
+//! that keep the bytes and their accounts together, and no rule of its own. A quota's number is an
+//! argument: keep the [`Heap`] in one trusted place that fills in each part's number.
 //!
 //! The story of `examples/valve.c`: a logger that has nearly spent its quota is refused, a radio
 //! keeps a buffer alive by a claim, and the valve's close command still finds room.
@@ -86,7 +86,7 @@ pub use image::{
 };
 pub use layout::{Accounts, Handle, Hold, Queue, Quota, HOLDS, QUEUE_PLACES, QUOTAS};
 pub use moves::{move_image_down, move_image_up};
-pub use opening::{Kind, Settings};
+pub use opening::{Edition, Kind, Settings};
 pub use permissions::Permissions;
 pub use queue::QueueRefusal;
 pub use refusal::Refusal;
@@ -128,21 +128,22 @@ pub const fn grants<const N: usize>(first: [u32; N]) -> [u32; QUOTAS] {
     all
 }
 
-/// Bytes that begin at an address which is a multiple of 32.
+/// Bytes that begin at an address which is a multiple of 64, the greatest unit of an object that fits
+/// a heap.
 ///
-/// An object's base, counted from the heap's first byte, is a multiple of 8; of 16 if the object
-/// has 8,192 bytes or more, and of 32 from 16,384 on. In a heap of aligned bytes the address of the
-/// object is one too.
+/// An object's base, counted from the heap's first byte, is a multiple of the unit that the heap's
+/// [`Edition`] gives to its length. In a heap of aligned bytes the address of the object is one too.
 ///
 /// ```
-/// use lokhazim::{Aligned, Heap, QUOTAS};
+/// use lokhazim::{Aligned, Edition, Heap, Settings, QUOTAS};
 ///
 /// let mut memory = Aligned([0; 32_768]);
-/// let mut heap = Heap::open(&mut memory.0, [40_000; QUOTAS])?;
+/// let settings = Settings { edition: Edition::Second, ..Settings::default() };
+/// let mut heap = Heap::open_with(&mut memory.0, [40_000; QUOTAS], settings)?;
 /// let handle = heap.allocate(0, 20_000)?;
-/// assert!(heap.lend(handle)?.as_ptr().addr().is_multiple_of(32));
+/// assert!(heap.lend(handle)?.as_ptr().addr().is_multiple_of(64));
 /// # Ok::<(), lokhazim::Refusal>(())
 /// ```
 #[derive(Clone, Copy, Debug)]
-#[repr(C, align(32))]
+#[repr(C, align(64))]
 pub struct Aligned<const N: usize>(pub [u8; N]);

@@ -5,7 +5,7 @@
 /// ```
 /// use lokhazim::{grants, Heap, Kind, Refusal, Settings};
 ///
-/// let settings = Settings { kind: Kind::Quarantine };
+/// let settings = Settings { kind: Kind::Quarantine, ..Settings::default() };
 /// let mut memory = [0; 64];
 /// let mut heap = Heap::open_with(&mut memory, grants([100]), settings)?;
 /// let handle = heap.allocate(0, 56)?;
@@ -55,10 +55,76 @@ impl Kind {
     }
 }
 
+/// The edition of the rounding table, which gives each length its unit.
+///
+/// A request gets an object of the next multiple of its unit (itself, if it is one), at a base that is
+/// a multiple of the unit of that length.
+///
+/// | unit | 8 | 16 | 32 | 64 | 128 |
+/// |---|---|---|---|---|---|
+/// | first edition | to 8,191 | to 16,383 | to 32,767 | above | |
+/// | second edition | to 4,088 | to 8,176 | to 16,352 | to 32,704 | above |
+///
+/// An object of 32,768 bytes fits no heap: the longest request that can be accepted is 32,736 in the
+/// first edition and 32,704 in the second.
+///
+/// ```
+/// use lokhazim::{grants, Edition, Heap, Settings};
+///
+/// let mut memory = [0; 8_192];
+/// let mut heap = Heap::open(&mut memory, grants([9_000]))?;
+/// let handle = heap.allocate(0, 4_089)?;
+/// assert_eq!((handle.base, handle.length), (8, 4_096));
+///
+/// let settings = Settings { edition: Edition::Second, ..Settings::default() };
+/// let mut heap = Heap::open_with(&mut memory, grants([9_000]), settings)?;
+/// let handle = heap.allocate(0, 4_089)?;
+/// assert_eq!((handle.base, handle.length), (16, 4_096));
+/// # Ok::<(), lokhazim::Refusal>(())
+/// ```
+#[derive(Clone, Copy, Debug, Default, PartialEq, Eq, Hash)]
+#[repr(u8)]
+pub enum Edition {
+    /// The table of the first version.
+    #[default]
+    First = 0,
+    /// The table with longer units from 4,089 bytes on.
+    Second = 1,
+}
+
+impl Edition {
+    /// The edition's number, the same as in C and in [`Accounts::edition`](crate::Accounts::edition).
+    ///
+    /// ```
+    /// assert_eq!(lokhazim::Edition::Second.number(), 1);
+    /// ```
+    pub const fn number(self) -> u8 {
+        self as u8
+    }
+
+    /// The edition that has this number, if one has.
+    ///
+    /// ```
+    /// use lokhazim::Edition;
+    ///
+    /// assert_eq!(Edition::from_number(0), Some(Edition::First));
+    /// assert_eq!(Edition::from_number(2), None);
+    /// ```
+    pub const fn from_number(number: u8) -> Option<Edition> {
+        match number {
+            0 => Some(Edition::First),
+            1 => Some(Edition::Second),
+            _ => None,
+        }
+    }
+}
+
 /// What [`Heap::open_with`](crate::Heap::open_with) chooses beside the grants. By default a heap is
-/// plain.
+/// plain and of the first edition.
 #[derive(Clone, Copy, Debug, Default, PartialEq, Eq, Hash)]
 pub struct Settings {
     /// What becomes of a block that nobody holds any more.
     pub kind: Kind,
+    /// Which rounding table gives the units.
+    pub edition: Edition,
 }

@@ -3,7 +3,7 @@
 use crate::blocks::{Block, Blocks};
 use crate::heap::Heap;
 use crate::layout::Handle;
-use crate::opening::Kind;
+use crate::opening::{Edition, Kind};
 use crate::permissions::Permissions;
 use crate::raw;
 use crate::refusal::{verdict, Refusal};
@@ -133,6 +133,24 @@ impl Heap<'_> {
         match self.accounts.kind {
             0 => Kind::Plain,
             _ => Kind::Quarantine,
+        }
+    }
+
+    /// Which rounding table gives the units, as it was chosen at the opening.
+    ///
+    /// ```
+    /// use lokhazim::{Edition, Heap, QUOTAS};
+    ///
+    /// # let mut memory = [0; 128];
+    /// let heap = Heap::open(&mut memory, [100; QUOTAS])?;
+    /// assert_eq!(heap.edition(), Edition::First);
+    /// # Ok::<(), lokhazim::Refusal>(())
+    /// ```
+    pub fn edition(&self) -> Edition {
+        // The library gives no other number than 0 and 1.
+        match self.accounts.edition {
+            0 => Edition::First,
+            _ => Edition::Second,
         }
     }
 

@@ -12,7 +12,13 @@ use crate::layout::{
 };
 
 extern "C" {
-    fn lokhazim_open(heap: *mut u8, length: usize, grants: Grants, kind: u32) -> OpenReply;
+    fn lokhazim_open(
+        heap: *mut u8,
+        length: usize,
+        grants: Grants,
+        kind: u32,
+        edition: u32,
+    ) -> OpenReply;
     fn lokhazim_allocate(
         heap: *mut u8,
         length: usize,
@@ -200,9 +206,9 @@ macro_rules! safe {
     };
 }
 
-pub fn open(heap: &mut [u8], grants: Grants, kind: u32) -> OpenReply {
+pub fn open(heap: &mut [u8], grants: Grants, kind: u32, edition: u32) -> OpenReply {
     // SAFETY: pointer and length are those of a slice that is borrowed for the call.
-    unsafe { lokhazim_open(heap.as_mut_ptr(), heap.len(), grants, kind) }
+    unsafe { lokhazim_open(heap.as_mut_ptr(), heap.len(), grants, kind, edition) }
 }
 
 safe!(mut allocate = lokhazim_allocate(quota: u32, bytes: u32) -> HandleReply);

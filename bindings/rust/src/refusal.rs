@@ -23,10 +23,10 @@ use crate::layout::{HOLDS, QUOTAS};
 pub enum Refusal {
     /// 1: the heap's length is not allowed.
     HeapLength = 1,
-    /// 2: the heap's bytes and its accounts don't agree, a long object's base is not aligned, a
-    /// quota has permissions that don't exist, the last serial is above
-    /// [`SERIAL_MAX`](crate::SERIAL_MAX), the kind doesn't exist, or a plain heap has a quarantined
-    /// block.
+    /// 2: the heap's bytes and its accounts don't agree, an object's base or length is no multiple of
+    /// its unit in the heap's own [`Edition`](crate::Edition), a quota has permissions that don't
+    /// exist, the last serial is above [`SERIAL_MAX`](crate::SERIAL_MAX), the kind or the edition
+    /// doesn't exist, or a plain heap has a quarantined block.
     Inconsistent = 2,
     /// 3: there is no quota of this number.
     QuotaNumber = 3,

@@ -66,6 +66,14 @@ fn released_blocks_wait_for_a_sweep_from_c() {
 }
 
 #[test]
+fn each_edition_rounds_by_its_table_from_c() {
+    for level in ["-O0", "-O2"] {
+        let program = compile("bindings/rust/tests/c/editions.c", level);
+        run(&program, &[], b"");
+    }
+}
+
+#[test]
 fn every_field_goes_through_the_library_from_c() {
     for level in ["-O0", "-O2"] {
         run(&compile("bindings/rust/tests/c/library.c", level), &[], b"");

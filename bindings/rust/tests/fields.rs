@@ -90,6 +90,7 @@ impl Fields for Accounts {
         visitor.visit32(&mut self.last_serial);
         self.holds.iter_mut().for_each(|hold| hold.visit(visitor));
         visitor.visit8(&mut self.kind);
+        visitor.visit8(&mut self.edition);
     }
 }
 

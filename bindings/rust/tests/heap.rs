@@ -87,7 +87,7 @@ fn the_calls_leave_each_field_as_it_should_be() -> Result<(), Refusal> {
         );
     }
     assert_eq!(heap.accounts().last_serial, HOLDS as u32);
-    assert_eq!(heap.accounts().kind, 0);
+    assert_eq!((heap.accounts().kind, heap.accounts().edition), (0, 0));
     Ok(())
 }
 
@@ -113,6 +113,7 @@ fn the_library_notices_a_change_of_any_field() -> Result<(), Refusal> {
     is_noticed(bytes, &accounts, |a| a.last_serial -= 1);
     is_noticed(bytes, &accounts, |a| a.last_serial = u32::MAX);
     is_noticed(bytes, &accounts, |a| a.kind = 2);
+    is_noticed(bytes, &accounts, |a| a.edition = 2);
     for place in 0..HOLDS {
         is_noticed(bytes, &accounts, |a| a.holds[place].serial += HOLDS as u32);
         is_noticed(bytes, &accounts, |a| a.holds[place].quota = QUOTAS as u8);

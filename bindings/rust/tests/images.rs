@@ -4,8 +4,8 @@ use std::error::Error;
 
 use lokhazim::{
     compare_images, examine_image, grants, image_length, image_length_form_1, move_image_down,
-    move_image_up, Accounts, Difference, Heap, Hold, ImageRefusal, Kind, Permissions, Settings,
-    Which, FORM_1_HOLDS, FORM_1_QUOTAS, HOLDS, QUOTAS,
+    move_image_up, Accounts, Difference, Edition, Heap, Hold, ImageRefusal, Kind, Permissions,
+    Refusal, Settings, Which, FORM_1_HOLDS, FORM_1_QUOTAS, HOLDS, QUOTAS,
 };
 
 /// The images of a heap in form 2 and in form 1.
@@ -118,6 +118,7 @@ fn is_carried(carried: bool, change: impl FnOnce(&mut Accounts)) -> Result<(), B
 fn form_1_is_refused_exactly_for_what_it_can_not_carry() -> Result<(), Box<dyn Error>> {
     is_carried(true, |_| {})?;
     is_carried(false, |a| a.kind = 1)?;
+    is_carried(false, |a| a.edition = 1)?;
     for number in 0..QUOTAS {
         is_carried(number < FORM_1_QUOTAS, |a| {
             let more = a.quotas[number].grant - a.quotas[number].remainder;
@@ -177,7 +178,11 @@ fn a_quota_differs_by_its_permissions_alone() -> Result<(), Box<dyn Error>> {
 
 /// A heap of 128 bytes of a kind in which one of two objects was released.
 fn released(bytes: &mut [u8], kind: Kind) -> Result<Heap<'_>, Box<dyn Error>> {
-    let mut heap = Heap::open_with(bytes, grants([100]), Settings { kind })?;
+    let settings = Settings {
+        kind,
+        ..Settings::default()
+    };
+    let mut heap = Heap::open_with(bytes, grants([100]), settings)?;
     let first = heap.allocate(0, 8)?;
     heap.allocate(0, 8)?;
     heap.release(0, first)?;
@@ -233,13 +238,87 @@ fn another_kind_is_no_image_of_this_version() -> Result<(), Box<dyn Error>> {
     let heap = Heap::open(&mut memory, grants([100]))?;
     for (form, mut image) in [2, 1].into_iter().zip(images(&heap)?) {
         for kind in 1..=255 {
-            // The check is a sum of words, and the kind the highest byte of one.
-            image[7] += 1;
-            image[511] = image[511].wrapping_add(1);
+            raise(&mut image, 7);
             let read = Heap::restore(&mut [0; 128], &image).map(|heap| heap.kind());
             match (form, kind) {
                 (2, 1) => assert_eq!(read, Ok(Kind::Quarantine)),
                 _ => assert_eq!(read, Err(ImageRefusal::FormNumber), "{form} {kind}"),
+            }
+        }
+    }
+    Ok(())
+}
+
+/// Adds 1 to a byte of the first frame, and to the frame's check, which is a sum of words.
+fn raise(image: &mut [u8], place: usize) {
+    image[place] += 1;
+    let check = u32::from_le_bytes(image[508..512].try_into().expect("four bytes"));
+    let raised = check.wrapping_add(1 << (8 * (place % 4)));
+    image[508..512].copy_from_slice(&raised.to_le_bytes());
+}
+
+/// A heap of an edition; with 4,112 bytes it has room for an object of 4,096 in both.
+fn opened(bytes: &mut [u8], edition: Edition) -> Result<Heap<'_>, Refusal> {
+    let settings = Settings {
+        edition,
+        ..Settings::default()
+    };
+    Heap::open_with(bytes, grants([8_000]), settings)
+}
+
+#[test]
+fn editions_come_back_as_they_were_saved() -> Result<(), Box<dyn Error>> {
+    let mut memory = [0; 4_112];
+    let mut image = [0; 9_216];
+    let length = opened(&mut memory, Edition::Second)?.save(&mut image)?;
+    let mut elsewhere = [7; 4_112];
+    let mut again = Heap::restore(&mut elsewhere, &image[..length])?;
+    assert_eq!(again.edition(), Edition::Second);
+    assert_eq!(again.allocate(0, 4_089)?.base, 16);
+
+    // A heap of the first edition goes back to one of the second, and the other way round.
+    let mut first = opened(&mut memory, Edition::First)?;
+    let mut first_image = [0; 9_216];
+    let first_length = first.save(&mut first_image)?;
+    first.go_back(&image[..length])?;
+    assert_eq!(first.edition(), Edition::Second);
+    assert_eq!(first.allocate(0, 4_089)?.base, 16);
+    first.go_back(&first_image[..first_length])?;
+    assert_eq!(first.edition(), Edition::First);
+    assert_eq!(first.allocate(0, 4_089)?.base, 8);
+    Ok(())
+}
+
+#[test]
+fn editions_are_compared_and_not_moved_down() -> Result<(), Box<dyn Error>> {
+    let mut images = [[0; 9_216]; 2];
+    let mut length = 0;
+    let editions = [Edition::First, Edition::Second];
+    for (edition, image) in editions.into_iter().zip(&mut images) {
+        length = opened(&mut [0; 4_112], edition)?.save(image)?;
+    }
+    let [first, second] = images.each_ref().map(|image| &image[..length]);
+    let differences: Vec<Difference> = compare_images(first, second)?.collect();
+    assert_eq!(differences, [Difference::Edition]);
+    let mut out = [3; 9_216];
+    let refused = move_image_down(second, &mut out);
+    assert_eq!((refused, out), (Err(ImageRefusal::NotCarried), [3; 9_216]));
+    let length = move_image_down(first, &mut out)?;
+    assert_eq!(Some(length), image_length_form_1(4_112));
+    Ok(())
+}
+
+#[test]
+fn another_edition_is_no_image_of_this_version() -> Result<(), Box<dyn Error>> {
+    let mut memory = [0; 128];
+    let heap = Heap::open(&mut memory, grants([100]))?;
+    for (form, mut image) in [2, 1].into_iter().zip(images(&heap)?) {
+        for edition in 1..=255 {
+            raise(&mut image, 6);
+            let read = Heap::restore(&mut [0; 128], &image).map(|heap| heap.edition());
+            match (form, edition) {
+                (2, 1) => assert_eq!(read, Ok(Edition::Second)),
+                _ => assert_eq!(read, Err(ImageRefusal::FormNumber), "{form} {edition}"),
             }
         }
     }

@@ -1,12 +1,13 @@
 //! Heaps with quarantine through the crate's own types.
 
 use lokhazim::{
-    grants, Accounts, Block, Handle, Heap, Kind, Refusal, Settings, HEAP_MAX, HOLDS, QUARANTINED,
-    QUOTAS, SERIAL_MAX,
+    grants, Accounts, Block, Edition, Handle, Heap, Kind, Refusal, Settings, HEAP_MAX, HOLDS,
+    QUARANTINED, QUOTAS, SERIAL_MAX,
 };
 
 const QUARANTINE: Settings = Settings {
     kind: Kind::Quarantine,
+    edition: Edition::First,
 };
 
 /// The blocks of a heap by offset, size and serial.

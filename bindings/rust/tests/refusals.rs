@@ -6,8 +6,8 @@ mod support;
 use std::error::Error;
 
 use lokhazim::{
-    ImageRefusal, Kind, Permissions, Refusal, FORM_1_HOLDS, FORM_1_QUOTAS, HEAP_MAX, HEAP_MIN,
-    HOLDS, IMAGE_MAX, IMAGE_MAX_FORM_1, QUOTAS, REQUEST_MAX,
+    Edition, ImageRefusal, Kind, Permissions, Refusal, FORM_1_HOLDS, FORM_1_QUOTAS, HEAP_MAX,
+    HEAP_MIN, HOLDS, IMAGE_MAX, IMAGE_MAX_FORM_1, QUOTAS, REQUEST_MAX,
 };
 
 /// A header's text.
@@ -58,6 +58,8 @@ fn the_header_has_the_same_constants() {
         ("MAY_ALL", Permissions::ALL.bits().into()),
         ("PLAIN", Kind::Plain.number().into()),
         ("QUARANTINE", Kind::Quarantine.number().into()),
+        ("EDITION_1", Edition::First.number().into()),
+        ("EDITION_2", Edition::Second.number().into()),
     ] {
         let line = format!("#define LOKHAZIM_{name} {value}\n");
         assert!(header.contains(&line), "the header lacks the line '{line}'");

@@ -26,6 +26,7 @@ accounts left = record {
   «last_serial» = 1;
   holds = record { serial = 1; quota = 0; count = 1 } ∷ replicate (HOLDS - 1) record { serial = 0; quota = 0; count = 0 };
   kind = 0;
+  edition = 0;
 }
 
 pub object : ListedBlock

@@ -8,7 +8,7 @@ ghost use mathlib.Core.Path.{_≡_};
 ghost use Prim.Native.Nat.{_+_};
 ghost use Rattle.model.specs.Answers.{verdict-values};
 ghost use Rattle.access.specs.Results.{outcome};
-ghost use Rattle.rounding.specs.Rounding.{unit};
+ghost use Rattle.rounding.specs.Rounding.{table};
 ghost use Rattle.access.specs.Lending.{Spans, write-object, lent-bytes, lent-range, lent-refusal};
 
 // Where the lent bytes lie, and the refusal's number, 0 where there is none.
@@ -20,7 +20,7 @@ pub(crate) struct Span {
 
 // Rule 8.29: the range of a handle that names an object; an empty one with the refusal's number where lend is refused.
 fn span_of(heap: &[u8], accounts: Accounts, handle: Handle) -> Span
-    ensures { λ r. ⌜ Spans unit (now (heap .entry)) accounts handle (r .refusal) (r .start) (r .end) ⌝ }
+    ensures { λ r. ⌜ Spans (table (accounts .edition)) (now (heap .entry)) accounts handle (r .refusal) (r .start) (r .end) ⌝ }
 {
     if let Verdict::Refused(refusal) = checker::check(heap, accounts) {
         return Span {
@@ -53,7 +53,8 @@ pub fn write_object(
     at: u32,
     byte: u8,
 ) -> Verdict
-    ensures { λ r. ⌜ outcome (now (heap .exit)) accounts (verdict-values r) ≡ write-object unit (now (heap .entry)) accounts handle at byte ⌝ }
+    ensures { λ r. ⌜ outcome (now (heap .exit)) accounts (verdict-values r)
+        ≡ write-object (table (accounts .edition)) (now (heap .entry)) accounts handle at byte ⌝ }
 {
     if let Verdict::Refused(refusal) = checker::check(heap, accounts) {
         return Verdict::Refused(refusal);
@@ -76,9 +77,10 @@ pub fn lend<'a>(
     handle: Handle,
     refusal: &mut u32,
 ) -> &'a mut [u8]
-    ensures holds { λ r. ⌜ now r ≡ lent-bytes unit (now (heap .entry)) accounts handle ⌝ }
-    ensures lies { λ r. ⌜ (r .ptr .0 ≡ heap .entry .ptr .0) × (r .ptr .1 ≡ heap .entry .ptr .1 + lent-range unit (now (heap .entry)) accounts handle .start) ⌝ }
-    ensures refuses { λ r. ⌜ now (refusal .exit) ≡ lent-refusal unit (now (heap .entry)) accounts handle ⌝ }
+    ensures holds { λ r. ⌜ now r ≡ lent-bytes (table (accounts .edition)) (now (heap .entry)) accounts handle ⌝ }
+    ensures lies { λ r. ⌜ (r .ptr .0 ≡ heap .entry .ptr .0)
+        × (r .ptr .1 ≡ heap .entry .ptr .1 + lent-range (table (accounts .edition)) (now (heap .entry)) accounts handle .start) ⌝ }
+    ensures refuses { λ r. ⌜ now (refusal .exit) ≡ lent-refusal (table (accounts .edition)) (now (heap .entry)) accounts handle ⌝ }
 {
     let span = span_of(heap, accounts, handle);
     *refusal = span.refusal;

@@ -6,7 +6,7 @@ use model::ListedBlock;
 use model::Verdict;
 ghost use mathlib.Core.Path.{_≡_};
 ghost use Rattle.model.specs.Answers.{block-values};
-ghost use Rattle.rounding.specs.Rounding.{unit};
+ghost use Rattle.rounding.specs.Rounding.{table};
 ghost use Rattle.model.specs.Calls.{list-block};
 ghost use Rattle.access.specs.Results.{outcome};
 ghost use Rattle.access.specs.Listing.{find-block};
@@ -34,7 +34,7 @@ fn find_block(heap: &[u8], at: usize) -> BlockAnswer
 
 // The block that starts at a place of the heap, if one does.
 pub(crate) fn list_block(heap: &[u8], accounts: Accounts, at: usize) -> BlockAnswer
-    ensures { λ r. ⌜ outcome (now (heap .entry)) accounts (block-values r) ≡ list-block unit (now (heap .entry)) accounts at ⌝ }
+    ensures { λ r. ⌜ outcome (now (heap .entry)) accounts (block-values r) ≡ list-block (table (accounts .edition)) (now (heap .entry)) accounts at ⌝ }
 {
     if let Verdict::Refused(refusal) = checker::check(heap, accounts) {
         return BlockAnswer::Refused(refusal);

@@ -11,13 +11,13 @@ use model::Refusal;
 use model::Verdict;
 ghost use mathlib.Core.Path.{_≡_};
 ghost use Rattle.model.specs.Answers.{amount-values, range-values, verdict-values};
-ghost use Rattle.rounding.specs.Rounding.{unit};
+ghost use Rattle.rounding.specs.Rounding.{table};
 ghost use Rattle.model.specs.Calls.{can-release, lend, remaining-of};
 ghost use Rattle.access.specs.Results.{outcome};
 
 // Rule 8.30: what remains of a quota.
 pub fn remaining(heap: &[u8], accounts: Accounts, quota: u32) -> AmountAnswer
-    ensures { λ r. ⌜ outcome (now (heap .entry)) accounts (amount-values r) ≡ remaining-of unit (now (heap .entry)) accounts quota ⌝ }
+    ensures { λ r. ⌜ outcome (now (heap .entry)) accounts (amount-values r) ≡ remaining-of (table (accounts .edition)) (now (heap .entry)) accounts quota ⌝ }
 {
     if let Verdict::Refused(refusal) = checker::check(heap, accounts) {
         return AmountAnswer::Refused(refusal);
@@ -30,7 +30,8 @@ pub fn remaining(heap: &[u8], accounts: Accounts, quota: u32) -> AmountAnswer
 
 // Rule 8.31: whether a quota can release an object, by the refusal that a release would meet.
 pub fn can_release(heap: &[u8], accounts: Accounts, quota: u32, handle: Handle) -> Verdict
-    ensures { λ r. ⌜ outcome (now (heap .entry)) accounts (verdict-values r) ≡ can-release unit (now (heap .entry)) accounts quota handle ⌝ }
+    ensures { λ r. ⌜ outcome (now (heap .entry)) accounts (verdict-values r)
+        ≡ can-release (table (accounts .edition)) (now (heap .entry)) accounts quota handle ⌝ }
 {
     if let Verdict::Refused(refusal) = checker::check(heap, accounts) {
         return Verdict::Refused(refusal);
@@ -50,7 +51,7 @@ pub fn can_release(heap: &[u8], accounts: Accounts, quota: u32, handle: Handle) 
 
 // Rule 8.29: the range of a handle that names an object, as a part of the heap.
 pub fn object_range(heap: &[u8], accounts: Accounts, handle: Handle) -> RangeAnswer
-    ensures { λ r. ⌜ outcome (now (heap .entry)) accounts (range-values r) ≡ lend unit (now (heap .entry)) accounts handle ⌝ }
+    ensures { λ r. ⌜ outcome (now (heap .entry)) accounts (range-values r) ≡ lend (table (accounts .edition)) (now (heap .entry)) accounts handle ⌝ }
 {
     if let Verdict::Refused(refusal) = checker::check(heap, accounts) {
         return RangeAnswer::Refused(refusal);

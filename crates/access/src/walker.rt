@@ -4,7 +4,7 @@ use accounts::Accounts;
 use model::BlockAnswer;
 ghost use mathlib.Core.Path.{_≡_};
 ghost use Rattle.model.specs.Answers.{block-values};
-ghost use Rattle.rounding.specs.Rounding.{unit};
+ghost use Rattle.rounding.specs.Rounding.{table};
 ghost use Rattle.model.specs.Calls.{list-block};
 ghost use Rattle.access.specs.Results.{outcome};
 ghost use Rattle.access.specs.Listing.{Stepped};
@@ -30,7 +30,7 @@ struct Given {
 
 // The block that starts at a place, and the place behind it; where none is given, the same place.
 fn step_from(heap: &[u8], accounts: Accounts, at: usize) -> Given
-    ensures { λ r. ⌜ Stepped unit (now (heap .entry)) accounts at (r .answer) (r .at) ⌝ }
+    ensures { λ r. ⌜ Stepped (table (accounts .edition)) (now (heap .entry)) accounts at (r .answer) (r .at) ⌝ }
 {
     let answer = list_block(heap, accounts, at);
     let BlockAnswer::Listed(block) = answer else {
@@ -51,7 +51,8 @@ pub fn walk<'a>(heap: &'a [u8]) -> Walker<'a>
 
 // A step: the block that starts at the walker's place, and the walker moved on to the block's end. Where no block is given, it stays.
 pub fn next<'a>(walker: Walker<'a>, accounts: Accounts) -> Step<'a>
-    ensures { λ r. ⌜ (r .heap ≡ walker .entry .heap) × Stepped unit (now (walker .entry .heap)) accounts (walker .entry .at) (r .answer) (r .at) ⌝ }
+    ensures { λ r. ⌜ (r .heap ≡ walker .entry .heap)
+        × Stepped (table (accounts .edition)) (now (walker .entry .heap)) accounts (walker .entry .at) (r .answer) (r .at) ⌝ }
 {
     let given = step_from(walker.heap, accounts, walker.at);
     Step {
@@ -63,7 +64,7 @@ pub fn next<'a>(walker: Walker<'a>, accounts: Accounts) -> Step<'a>
 
 // What a step of a walker at a place answers: with plain parameters.
 pub fn list_from(heap: &[u8], accounts: Accounts, at: usize) -> BlockAnswer
-    ensures { λ r. ⌜ outcome (now (heap .entry)) accounts (block-values r) ≡ list-block unit (now (heap .entry)) accounts at ⌝ }
+    ensures { λ r. ⌜ outcome (now (heap .entry)) accounts (block-values r) ≡ list-block (table (accounts .edition)) (now (heap .entry)) accounts at ⌝ }
 {
     next(Walker { heap, at }, accounts).answer
 }

@@ -119,6 +119,7 @@ pub record Kept (q : ℕ) (k r : Accounts) : Type 0 where
   pub same-count : length (r .quotas) ≡ length (k .quotas)
   pub same-others : (o : ℕ) → o ≢ q → remaining o r ≡ remaining o k
   pub same-kind : r .kind ≡ k .kind
+  pub same-edition : r .edition ≡ k .edition
 
 -- what remains of a quota, and setting it
 module _ (q : ℕ) (k : Accounts) where
@@ -139,7 +140,8 @@ module _ (q : ℕ) (k : Accounts) where
   set-same = rw (set-getD (k .quotas) q zero-quota) refl
 
   pub kept : Kept q k k
-  kept = record { same-holds = refl; same-last = refl; same-grants = refl; same-count = refl; same-others = λ o d. refl; same-kind = refl }
+  kept =
+      record { same-holds = refl; same-last = refl; same-grants = refl; same-count = refl; same-others = λ o d. refl; same-kind = refl; same-edition = refl }
 
   pub set-kept : (n : ℕ) → Kept q k (set-remaining q n k)
   unfolding remaining set-remaining
@@ -151,6 +153,7 @@ module _ (q : ℕ) (k : Accounts) where
         same-count = length-set (k .quotas) q (with-remainder n (quota-at q k));
         same-others = λ o d. ap (λ (x : Quota). x .remainder) (getD-set-other (k .quotas) q o (with-remainder n (quota-at q k)) zero-quota d);
         same-kind = refl;
+        same-edition = refl;
       }
 
 -- what a quota has spent
@@ -300,8 +303,9 @@ pub same-quota : (x y : Quota) → with-remainder 0 x ≡ with-remainder 0 y →
 same-quota x y e r = λ i. with-remainder (r i) (e i)
 
 -- accounts with equal fields are equal
-pub same-accounts : (k l : Accounts) → k .quotas ≡ l .quotas → k .«last_serial» ≡ l .«last_serial» → k .holds ≡ l .holds → k .kind ≡ l .kind → k ≡ l
-same-accounts k l q s h e = λ i. record { quotas = q i; «last_serial» = s i; holds = h i; kind = e i }
+pub same-accounts : (k l : Accounts) → k .quotas ≡ l .quotas → k .«last_serial» ≡ l .«last_serial» → k .holds ≡ l .holds → k .kind ≡ l .kind
+    → k .edition ≡ l .edition → k ≡ l
+same-accounts k l q s h e f = λ i. record { quotas = q i; «last_serial» = s i; holds = h i; kind = e i; edition = f i }
 
 -- a refund changes nothing of any quota but what remains
 pub refund-but : (q n : ℕ) (k : Accounts) → map (with-remainder 0) (refund q n k .quotas) ≡ map (with-remainder 0) (k .quotas)

@@ -9,8 +9,10 @@ use Rattle.accounts.specs.declared.Quota.{Quota}
 use Rattle.accounts.specs.declared.Hold.{Hold}
 use Rattle.accounts.specs.declared.Accounts.{Accounts}
 use Rattle.accounts.specs.declared.Place.the-variants.{At, Nothing}
-use Rattle.accounts.specs.declared.Kind.the-variants.{Quarantine}
-use Rattle.accounts.specs.Accounts.{QUOTAS, HOLDS, zero-hold, zero-accounts, with-quotas, with-last-serial, with-kind, granted, plain, opened}
+use Rattle.accounts.specs.declared.Kind.the-variants.{Plain, Quarantine}
+use Rattle.accounts.specs.declared.Edition.the-variants.{First, Second}
+use Rattle.accounts.specs.Accounts.{QUOTAS, HOLDS, zero-hold, zero-accounts, with-quotas, with-last-serial, with-kind, with-edition, granted, plain}
+use Rattle.accounts.specs.Accounts.{opened}
 use Rattle.accounts.specs.Accounts.{ALLOCATE, CLAIM, FREE-ALL, permissible, permissions, permits, cleared, left-permissions, clear-permissions}
 use Rattle.accounts.specs.Accounts.{remaining, spent, set-remaining, less-paid, paid-back, charged, refunded, charge, refund}
 use Rattle.accounts.specs.Accounts.{used, unused, is-for, first-from, find-hold, lowest-unused, hold-at, put-hold, drop-hold, record-of, drop-records}
@@ -33,6 +35,7 @@ pub opening-rows : (zero-accounts
       «last_serial» = 0;
       holds = replicate 512 (record { serial = 0; quota = 0; count = 0 });
       kind = 0;
+      edition = 0;
     })
     × (opened plain (5 ∷ 6 ∷ [])
     ≡ record {
@@ -40,11 +43,13 @@ pub opening-rows : (zero-accounts
       «last_serial» = 0;
       holds = zero-accounts .holds;
       kind = 0;
+      edition = 0;
     })
-    × (opened (record { kind = Quarantine }) (5 ∷ 6 ∷ []) ≡ with-kind 1 (opened plain (5 ∷ 6 ∷ [])))
-    × (with-last-serial 9 five ≡ record { quotas = five .quotas; «last_serial» = 9; holds = five .holds; kind = 0 })
+    × (opened (record { kind = Quarantine; edition = First }) (5 ∷ 6 ∷ []) ≡ with-kind 1 (opened plain (5 ∷ 6 ∷ [])))
+    × (opened (record { kind = Plain; edition = Second }) (5 ∷ 6 ∷ []) ≡ with-edition 1 (opened plain (5 ∷ 6 ∷ [])))
+    × (with-last-serial 9 five ≡ record { quotas = five .quotas; «last_serial» = 9; holds = five .holds; kind = 0; edition = 0 })
 unfolding five opened
-opening-rows = (refl, refl, refl, refl)
+opening-rows = (refl, refl, refl, refl, refl)
 
 -- 5 remain of 9, and the permission to allocate is cleared
 unfoldable pub nine : Quota

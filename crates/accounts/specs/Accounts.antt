@@ -9,6 +9,8 @@ use Rattle.accounts.specs.declared.Hold.{Hold}
 use Rattle.accounts.specs.declared.Accounts.{Accounts}
 use Rattle.accounts.specs.declared.Kind.{Kind}
 use Rattle.accounts.specs.declared.Kind.the-variants.{Plain, Quarantine}
+use Rattle.accounts.specs.declared.Edition.{Edition}
+use Rattle.accounts.specs.declared.Edition.the-variants.{First, Second}
 use Rattle.accounts.specs.declared.Settings.{Settings}
 use Rattle.accounts.specs.declared.Place.{Place}
 use Rattle.accounts.specs.declared.Place.the-variants.{At, Nothing}
@@ -44,7 +46,7 @@ abbrev pub zero-hold : Hold
 zero-hold = record { serial = 0; quota = 0; count = 0 }
 
 abbrev pub zero-accounts : Accounts
-zero-accounts = record { quotas = replicate QUOTAS zero-quota; «last_serial» = 0; holds = replicate HOLDS zero-hold; kind = 0 }
+zero-accounts = record { quotas = replicate QUOTAS zero-quota; «last_serial» = 0; holds = replicate HOLDS zero-hold; kind = 0; edition = 0 }
 
 -- one function for each field that changes
 abbrev pub with-remainder : ℕ → Quota → Quota
@@ -54,16 +56,19 @@ abbrev pub with-permissions : ℕ → Quota → Quota
 with-permissions n q = record { grant = q .grant; remainder = q .remainder; permissions = n }
 
 abbrev pub with-quotas : List Quota → Accounts → Accounts
-with-quotas qs k = record { quotas = qs; «last_serial» = k .«last_serial»; holds = k .holds; kind = k .kind }
+with-quotas qs k = record { quotas = qs; «last_serial» = k .«last_serial»; holds = k .holds; kind = k .kind; edition = k .edition }
 
 abbrev pub with-last-serial : ℕ → Accounts → Accounts
-with-last-serial n k = record { quotas = k .quotas; «last_serial» = n; holds = k .holds; kind = k .kind }
+with-last-serial n k = record { quotas = k .quotas; «last_serial» = n; holds = k .holds; kind = k .kind; edition = k .edition }
 
 abbrev pub with-holds : List Hold → Accounts → Accounts
-with-holds hs k = record { quotas = k .quotas; «last_serial» = k .«last_serial»; holds = hs; kind = k .kind }
+with-holds hs k = record { quotas = k .quotas; «last_serial» = k .«last_serial»; holds = hs; kind = k .kind; edition = k .edition }
 
 abbrev pub with-kind : ℕ → Accounts → Accounts
-with-kind n k = record { quotas = k .quotas; «last_serial» = k .«last_serial»; holds = k .holds; kind = n }
+with-kind n k = record { quotas = k .quotas; «last_serial» = k .«last_serial»; holds = k .holds; kind = n; edition = k .edition }
+
+abbrev pub with-edition : ℕ → Accounts → Accounts
+with-edition n k = record { quotas = k .quotas; «last_serial» = k .«last_serial»; holds = k .holds; kind = k .kind; edition = n }
 
 -- what the quotas were granted
 abbrev pub grants : Accounts → List ℕ
@@ -78,18 +83,23 @@ abbrev pub granted : ℕ → Quota
 granted g = record { grant = g; remainder = g; permissions = ALL-PERMISSIONS }
 
 abbrev pub begun : List ℕ → Accounts
-begun grants = record { quotas = map granted grants; «last_serial» = 0; holds = replicate HOLDS zero-hold; kind = 0 }
+begun grants = record { quotas = map granted grants; «last_serial» = 0; holds = replicate HOLDS zero-hold; kind = 0; edition = 0 }
 
--- rule 22.1: the kind of a heap as a number of the accounts, the settings of a plain heap, and the accounts at an opening with settings
+-- rules 22.1 and 23.3: the kind of a heap and its edition as numbers of the accounts, the settings of a plain heap of edition 1, and the accounts at an
+-- opening with settings
 abbrev pub kind-number : Kind → ℕ
 kind-number Plain = 0
 kind-number Quarantine = 1
 
+abbrev pub edition-number : Edition → ℕ
+edition-number First = 0
+edition-number Second = 1
+
 abbrev pub plain : Settings
-plain = record { kind = Plain }
+plain = record { kind = Plain; edition = First }
 
 unfoldable pub opened : Settings → List ℕ → Accounts
-opened g grants = with-kind (kind-number (g .kind)) (begun grants)
+opened g grants = with-edition (edition-number (g .edition)) (with-kind (kind-number (g .kind)) (begun grants))
 
 -- the quota with a number, of zeros where there is none; and what remains of it
 abbrev pub quota-at : ℕ → Accounts → Quota

@@ -1,7 +1,7 @@
 // The accounts of a shared heap: quotas, the last serial and hold records, taken by value and given back by value (rules, section 3).
 ghost use Prim.Native.Nat.{_<_};
 ghost use mathlib.Core.Path.{_≡_};
-ghost use Rattle.accounts.specs.Accounts.{zero-hold, zero-accounts, kind-number, begun, charged, refunded, used, is-for, dropped, opened};
+ghost use Rattle.accounts.specs.Accounts.{zero-hold, zero-accounts, kind-number, edition-number, begun, charged, refunded, used, is-for, dropped, opened};
 ghost use Rattle.accounts.specs.Accounts.{remaining, spent, charge, refund, with-holds, with-last-serial};
 ghost use Rattle.accounts.specs.Accounts.{with-permissions, bit-left, cleared, left-permissions, clear-permissions};
 ghost use Rattle.accounts.specs.Accounts.{find-hold, lowest-unused, hold-at, put-hold, drop-hold, drop-records};
@@ -40,13 +40,14 @@ pub struct Hold {
     pub count: u8,
 }
 
-// The accounting state. The kind is 0 for a plain heap and 1 for one with quarantine.
+// The accounting state. The kind is 0 for a plain heap and 1 for one with quarantine; the edition is 0 for edition 1 of the table of units and 1 for 2.
 #[repr(C)]
 pub struct Accounts {
     pub quotas: [Quota; QUOTAS],
     pub last_serial: u32,
     pub holds: [Hold; HOLDS],
     pub kind: u8,
+    pub edition: u8,
 }
 
 // What becomes of a block that nobody holds: it is free at once, or waits for a sweep.
@@ -55,9 +56,16 @@ pub enum Kind {
     Quarantine,
 }
 
+// Which table of units lengths are rounded by.
+pub enum Edition {
+    First,
+    Second,
+}
+
 // What an opening chooses beside the grants.
 pub struct Settings {
     pub kind: Kind,
+    pub edition: Edition,
 }
 
 // The place of a hold record, if there is one.
@@ -94,6 +102,18 @@ impl Kind {
         match self {
             Kind::Plain => 0,
             Kind::Quarantine => 1,
+        }
+    }
+}
+
+impl Edition {
+    // The edition as a number of the accounts.
+    pub fn number(self) -> u8
+        ensures { λ r. ⌜ r ≡ edition-number self ⌝ }
+    {
+        match self {
+            Edition::First => 0,
+            Edition::Second => 1,
         }
     }
 }
@@ -206,10 +226,11 @@ impl Accounts {
             last_serial: 0,
             holds: [hold; HOLDS],
             kind: 0,
+            edition: 0,
         }
     }
 
-    // The accounts of a plain heap at opening: every grant is there whole, with all permissions.
+    // The accounts of a plain heap of edition 1 at opening: every grant is there whole, with all permissions.
     fn begin(grants: [u32; QUOTAS]) -> Accounts
         ensures { λ r. ⌜ r ≡ begun grants ⌝ }
     {
@@ -234,8 +255,10 @@ impl Accounts {
         ensures { λ r. ⌜ r ≡ opened settings grants ⌝ }
     {
         let kind = settings.kind;
+        let edition = settings.edition;
         let mut accounts = Accounts::begin(grants);
         accounts.kind = kind.number();
+        accounts.edition = edition.number();
         accounts
     }
 

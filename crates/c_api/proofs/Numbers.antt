@@ -5,7 +5,6 @@ use Prim.Native.Nat.{ℕ}
 use mathlib.Core.Path.{_≡_, refl, ap, sym, subst⁻¹, _∙_}
 use mathlib.Core.List.{List}
 use mathlib.Core.Option.{Option, none, some}
-use Rattle.rounding.specs.Rounding.{unit}
 use Rattle.accounts.specs.declared.Accounts.{Accounts}
 use Rattle.model.specs.declared.ListedBlock.{ListedBlock}
 use Rattle.model.specs.Answers.{Values, zero-handle, refused}
@@ -53,7 +52,7 @@ reply-exact n none r e = subst⁻¹ Exact e refl
 reply-exact n (some b) r e = subst⁻¹ Exact e refl
 
 -- the values of the check are its whole outcome
-pub check-whole : (s : List ℕ) (k : Accounts) (n : ℕ) → refused n ≡ check unit s k .values → outcome s k (refused n) ≡ check unit s k
-check-whole s k n e =
+pub check-whole : (unit : ℕ → ℕ) (s : List ℕ) (k : Accounts) (n : ℕ) → refused n ≡ check unit s k .values → outcome s k (refused n) ≡ check unit s k
+check-whole unit s k n e =
     let kept = changes-nothing unit s k 0 zero-handle 0 .4 in
     λ i. outcome (sym (kept .0) i) (sym (kept .1) i) (e i)

@@ -7,6 +7,8 @@ use mathlib.Core.Bool.{cond}
 use lib.Dec.{eqb}
 use Rattle.accounts.specs.declared.Kind.{Kind}
 use Rattle.accounts.specs.declared.Kind.the-variants.{Plain, Quarantine}
+use Rattle.accounts.specs.declared.Edition.{Edition}
+use Rattle.accounts.specs.declared.Edition.the-variants.{First, Second}
 use Rattle.accounts.specs.declared.Settings.{Settings}
 use Rattle.model.specs.declared.ListedBlock.{ListedBlock}
 use Rattle.model.specs.Answers.{Values, zero-handle, zero-range, refused}
@@ -19,12 +21,15 @@ use Rattle.c_api.specs.declared.Amount.{Amount}
 use Rattle.c_api.specs.declared.RangeReply.{RangeReply}
 use Rattle.c_api.specs.declared.BlockReply.{BlockReply}
 
--- the settings of an opening as a number: 0 is plain, and any other number the second kind
+-- the settings of an opening as two numbers: 0 is plain, and any other number the second kind; 0 is edition 1, and any other number edition 2
 unfoldable pub kind-of : ℕ → Kind
 kind-of n = cond (eqb n 0) Plain Quarantine
 
-abbrev pub settings-of : ℕ → Settings
-settings-of kind = record { kind = kind-of kind }
+unfoldable pub edition-of : ℕ → Edition
+edition-of n = cond (eqb n 0) First Second
+
+abbrev pub settings-of : ℕ → ℕ → Settings
+settings-of kind edition = record { kind = kind-of kind; edition = edition-of edition }
 
 -- open: the accounts, and the refusal's number
 abbrev pub open-reply : List ℕ → OpenReply → Outcome

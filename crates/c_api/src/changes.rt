@@ -7,13 +7,14 @@ use crate::replies::reply_of_amount;
 use crate::replies::reply_of_handle;
 use crate::replies::reply_of_opened;
 use accounts::Accounts;
+use accounts::Edition;
 use accounts::Kind;
 use accounts::Settings;
 use model::Handle;
 ghost use mathlib.Core.Path.{_≡_};
-ghost use Rattle.rounding.specs.Rounding.{unit};
+ghost use Rattle.rounding.specs.Rounding.{table};
 ghost use Rattle.model.specs.Calls.{open-heap, allocate, allocate-array, claim, release, free-all, reallocate, clear, sweep};
-ghost use Rattle.c_api.specs.Replies.{kind-of, settings-of, open-reply, handle-reply, amount-reply};
+ghost use Rattle.c_api.specs.Replies.{kind-of, edition-of, settings-of, open-reply, handle-reply, amount-reply};
 
 // The kind of a number.
 fn kind_of(number: u32) -> Kind
@@ -25,22 +26,38 @@ fn kind_of(number: u32) -> Kind
     Kind::Quarantine
 }
 
-// The settings of a number.
-fn settings_of(kind: u32) -> Settings
-    ensures { λ r. ⌜ r ≡ settings-of kind ⌝ }
+// The edition of a number.
+fn edition_of(number: u32) -> Edition
+    ensures { λ r. ⌜ r ≡ edition-of number ⌝ }
+{
+    if number == 0 {
+        return Edition::First;
+    }
+    Edition::Second
+}
+
+// The settings of two numbers.
+fn settings_of(kind: u32, edition: u32) -> Settings
+    ensures { λ r. ⌜ r ≡ settings-of kind edition ⌝ }
 {
     Settings {
         kind: kind_of(kind),
+        edition: edition_of(edition),
     }
 }
 
 // One free block covers the heap, and every quota has its grant.
 #[no_mangle]
-pub extern "C" fn lokhazim_open(heap: &mut [u8], grants: Grants, kind: u32) -> OpenReply
-    ensures { λ r. ⌜ open-reply (now (heap .exit)) r ≡ open-heap (settings-of kind) (now (heap .entry)) (grants .values) ⌝ }
+pub extern "C" fn lokhazim_open(
+    heap: &mut [u8],
+    grants: Grants,
+    kind: u32,
+    edition: u32,
+) -> OpenReply
+    ensures { λ r. ⌜ open-reply (now (heap .exit)) r ≡ open-heap (settings-of kind edition) (now (heap .entry)) (grants .values) ⌝ }
 {
     let values = grants.values;
-    let settings = settings_of(kind);
+    let settings = settings_of(kind, edition);
     reply_of_opened(heap::open(heap, values, settings))
 }
 
@@ -52,7 +69,7 @@ pub extern "C" fn lokhazim_allocate(
     quota: u32,
     length: u32,
 ) -> HandleReply
-    ensures { λ r. ⌜ handle-reply (now (heap .exit)) r ≡ allocate unit (now (heap .entry)) accounts quota length ⌝ }
+    ensures { λ r. ⌜ handle-reply (now (heap .exit)) r ≡ allocate (table (accounts .edition)) (now (heap .entry)) accounts quota length ⌝ }
 {
     reply_of_handle(heap::allocate(heap, accounts, quota, length))
 }
@@ -66,7 +83,7 @@ pub extern "C" fn lokhazim_allocate_array(
     count: u32,
     size: u32,
 ) -> HandleReply
-    ensures { λ r. ⌜ handle-reply (now (heap .exit)) r ≡ allocate-array unit (now (heap .entry)) accounts quota count size ⌝ }
+    ensures { λ r. ⌜ handle-reply (now (heap .exit)) r ≡ allocate-array (table (accounts .edition)) (now (heap .entry)) accounts quota count size ⌝ }
 {
     reply_of_handle(heap::allocate_array(heap, accounts, quota, count, size))
 }
@@ -79,7 +96,7 @@ pub extern "C" fn lokhazim_claim(
     quota: u32,
     handle: Handle,
 ) -> AmountReply
-    ensures { λ r. ⌜ amount-reply (now (heap .entry)) r ≡ claim unit (now (heap .entry)) accounts quota handle ⌝ }
+    ensures { λ r. ⌜ amount-reply (now (heap .entry)) r ≡ claim (table (accounts .edition)) (now (heap .entry)) accounts quota handle ⌝ }
 {
     reply_of_amount(heap::claim(heap, accounts, quota, handle))
 }
@@ -92,7 +109,7 @@ pub extern "C" fn lokhazim_release(
     quota: u32,
     handle: Handle,
 ) -> AmountReply
-    ensures { λ r. ⌜ amount-reply (now (heap .exit)) r ≡ release unit (now (heap .entry)) accounts quota handle ⌝ }
+    ensures { λ r. ⌜ amount-reply (now (heap .exit)) r ≡ release (table (accounts .edition)) (now (heap .entry)) accounts quota handle ⌝ }
 {
     reply_of_amount(heap::release(heap, accounts, quota, handle))
 }
@@ -100,7 +117,7 @@ pub extern "C" fn lokhazim_release(
 // A quota gives up all its holds; the amount is what it gets back.
 #[no_mangle]
 pub extern "C" fn lokhazim_free_all(heap: &mut [u8], accounts: Accounts, quota: u32) -> AmountReply
-    ensures { λ r. ⌜ amount-reply (now (heap .exit)) r ≡ free-all unit (now (heap .entry)) accounts quota ⌝ }
+    ensures { λ r. ⌜ amount-reply (now (heap .exit)) r ≡ free-all (table (accounts .edition)) (now (heap .entry)) accounts quota ⌝ }
 {
     reply_of_amount(heap::free_all(heap, accounts, quota))
 }
@@ -113,7 +130,7 @@ pub extern "C" fn lokhazim_clear_permissions(
     quota: u32,
     bits: u32,
 ) -> AmountReply
-    ensures { λ r. ⌜ amount-reply (now (heap .entry)) r ≡ clear unit (now (heap .entry)) accounts quota bits ⌝ }
+    ensures { λ r. ⌜ amount-reply (now (heap .entry)) r ≡ clear (table (accounts .edition)) (now (heap .entry)) accounts quota bits ⌝ }
 {
     reply_of_amount(heap::clear_permissions(heap, accounts, quota, bits))
 }
@@ -127,7 +144,7 @@ pub extern "C" fn lokhazim_reallocate(
     handle: Handle,
     length: u32,
 ) -> HandleReply
-    ensures { λ r. ⌜ handle-reply (now (heap .exit)) r ≡ reallocate unit (now (heap .entry)) accounts quota handle length ⌝ }
+    ensures { λ r. ⌜ handle-reply (now (heap .exit)) r ≡ reallocate (table (accounts .edition)) (now (heap .entry)) accounts quota handle length ⌝ }
 {
     reply_of_handle(heap::reallocate(heap, accounts, quota, handle, length))
 }
@@ -135,7 +152,7 @@ pub extern "C" fn lokhazim_reallocate(
 // Every quarantined block becomes free, and the sum of their sizes is answered.
 #[no_mangle]
 pub extern "C" fn lokhazim_sweep(heap: &mut [u8], accounts: Accounts) -> AmountReply
-    ensures { λ r. ⌜ amount-reply (now (heap .exit)) r ≡ sweep unit (now (heap .entry)) accounts ⌝ }
+    ensures { λ r. ⌜ amount-reply (now (heap .exit)) r ≡ sweep (table (accounts .edition)) (now (heap .entry)) accounts ⌝ }
 {
     reply_of_amount(heap::sweep(heap, accounts))
 }

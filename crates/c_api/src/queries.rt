@@ -9,7 +9,7 @@ use crate::replies::reply_of_range;
 use accounts::Accounts;
 use model::Handle;
 ghost use mathlib.Core.Path.{_≡_};
-ghost use Rattle.rounding.specs.Rounding.{unit};
+ghost use Rattle.rounding.specs.Rounding.{table};
 ghost use Rattle.model.specs.Calls.{lend, remaining-of, can-release, list-block, check};
 ghost use Rattle.access.specs.Results.{outcome};
 ghost use Rattle.access.specs.Lending.{write-object};
@@ -19,7 +19,7 @@ ghost use Rattle.c_api.specs.Replies.{amount-numbers, range-numbers, blo
 // Where in the heap the bytes of a handle's range lie.
 #[no_mangle]
 pub extern "C" fn lokhazim_lend(heap: &[u8], accounts: Accounts, handle: Handle) -> RangeReply
-    ensures { λ r. ⌜ outcome (now (heap .entry)) accounts (range-numbers r) ≡ lend unit (now (heap .entry)) accounts handle ⌝ }
+    ensures { λ r. ⌜ outcome (now (heap .entry)) accounts (range-numbers r) ≡ lend (table (accounts .edition)) (now (heap .entry)) accounts handle ⌝ }
 {
     reply_of_range(heap::object_range(heap, accounts, handle))
 }
@@ -34,7 +34,7 @@ pub extern "C" fn lokhazim_write(
     at: u32,
     byte: u8,
 ) -> u32
-    ensures { λ r. ⌜ outcome (now (heap .exit)) accounts (refused r) ≡ write-object unit (now (heap .entry)) accounts handle at byte ⌝ }
+    ensures { λ r. ⌜ outcome (now (heap .exit)) accounts (refused r) ≡ write-object (table (accounts .edition)) (now (heap .entry)) accounts handle at byte ⌝ }
 {
     number_of(heap::write_object(heap, accounts, handle, at, byte))
 }
@@ -42,7 +42,7 @@ pub extern "C" fn lokhazim_write(
 // What remains of a quota.
 #[no_mangle]
 pub extern "C" fn lokhazim_remaining(heap: &[u8], accounts: Accounts, quota: u32) -> Amount
-    ensures { λ r. ⌜ outcome (now (heap .entry)) accounts (amount-numbers r) ≡ remaining-of unit (now (heap .entry)) accounts quota ⌝ }
+    ensures { λ r. ⌜ outcome (now (heap .entry)) accounts (amount-numbers r) ≡ remaining-of (table (accounts .edition)) (now (heap .entry)) accounts quota ⌝ }
 {
     amount_of(heap::remaining(heap, accounts, quota))
 }
@@ -55,7 +55,7 @@ pub extern "C" fn lokhazim_can_release(
     quota: u32,
     handle: Handle,
 ) -> u32
-    ensures { λ r. ⌜ outcome (now (heap .entry)) accounts (refused r) ≡ can-release unit (now (heap .entry)) accounts quota handle ⌝ }
+    ensures { λ r. ⌜ outcome (now (heap .entry)) accounts (refused r) ≡ can-release (table (accounts .edition)) (now (heap .entry)) accounts quota handle ⌝ }
 {
     number_of(heap::can_release(heap, accounts, quota, handle))
 }
@@ -63,7 +63,7 @@ pub extern "C" fn lokhazim_can_release(
 // The block that starts at a place of the heap, if one does.
 #[no_mangle]
 pub extern "C" fn lokhazim_list_block(heap: &[u8], accounts: Accounts, at: usize) -> BlockReply
-    ensures answers { λ r. ⌜ outcome (now (heap .entry)) accounts (block-numbers r) ≡ list-block unit (now (heap .entry)) accounts at ⌝ }
+    ensures answers { λ r. ⌜ outcome (now (heap .entry)) accounts (block-numbers r) ≡ list-block (table (accounts .edition)) (now (heap .entry)) accounts at ⌝ }
     ensures zeros { λ r. ⌜ Exact r ⌝ }
 {
     reply_of_block(heap::list_from(heap, accounts, at))
@@ -72,7 +72,7 @@ pub extern "C" fn lokhazim_list_block(heap: &[u8], accounts: Accounts, at: usize
 // The refusal that every call but open begins with: 1, 2 or none.
 #[no_mangle]
 pub extern "C" fn lokhazim_check(heap: &[u8], accounts: Accounts) -> u32
-    ensures { λ r. ⌜ outcome (now (heap .entry)) accounts (refused r) ≡ check unit (now (heap .entry)) accounts ⌝ }
+    ensures { λ r. ⌜ outcome (now (heap .entry)) accounts (refused r) ≡ check (table (accounts .edition)) (now (heap .entry)) accounts ⌝ }
 {
     number_of(heap::check(heap, accounts))
 }

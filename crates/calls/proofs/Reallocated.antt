@@ -32,6 +32,7 @@ use Rattle.model.specs.declared.HandleAnswer.the-variants.{Given, Refused}
 use Rattle.model.specs.declared.Call.the-variants.{Allocate}
 use Rattle.model.proofs.Bools.{fails, and-right, and-both}
 use Rattle.model.proofs.Consistent.{sound-fits, sound-permissible, sound-kinds, sound-range}
+use Rattle.model.proofs.StepFrame.{step-keeps}
 use Rattle.model.proofs.Permissions.{allocated-permissions}
 use Rattle.model.proofs.Lookup.{lookup-named, lookup-exactly, lookup-whole-exactly}
 use Rattle.model.proofs.Refusals.{by-lines, refusal-of-lines, accepted-exactly, unless-refused}
@@ -70,6 +71,12 @@ module _ (serial q : ℕ) (w : Hold) (other : is-for serial q w ≡ false) where
           → first-from (is-for serial q) n (change-first unused (λ _. w) (h ∷ hs)) ≡ first-from (is-for serial q) n (h ∷ hs)
       go true e ih = rw (e, other, not-used h e) refl
       go false e ih = rw (e, ih) refl
+
+-- an allocation leaves the edition, so that the release behind it goes by the same table
+pub given-edition : (unit : ℕ → ℕ) (s : List ℕ) (k : Accounts) (q n : ℕ) (t : List ℕ) (x : HandleResult) → handle-outcome t x ≡ allocate unit s k q n
+    → x .accounts .edition ≡ k .edition
+unfolding step
+given-edition unit s k q n t x e = ap (λ (y : Outcome). y .accounts .edition) e ∙ step-keeps unit (Allocate q n) s k .same-edition
 
 -- a handle that is the whole of an object that it names names it to reallocate too
 pub whole-named : (h old : Handle) (s : List ℕ) → h ≡ old → lookup h s ≡ some old → (lookup-whole h s ≡ some old) × (found (lookup-whole h s) ≡ old)

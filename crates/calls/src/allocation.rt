@@ -18,7 +18,7 @@ ghost use Rattle.accounts.specs.Accounts.{with-last-serial, put-hold, charge as
 ghost use Rattle.layout.specs.Blocks.{greatest-heap};
 ghost use Rattle.model.specs.declared.HandleAnswer.the-variants.{Given};
 ghost use Rattle.model.specs.Calls.{allocate as allocate-of, allocate-array};
-ghost use Rattle.rounding.specs.Rounding.{unit};
+ghost use Rattle.rounding.specs.Rounding.{table};
 ghost use Rattle.calls.specs.Results.{handle-outcome};
 ghost use Rattle.calls.specs.Ready.{Ready};
 
@@ -55,10 +55,10 @@ fn booked(accounts: Accounts, quota: u8, charge: u32, place: usize, serial: u32)
 
 // Allocation behind the first four lines: the other refusals in their order, then the object is cut out and its quota pays.
 pub(crate) fn grant(heap: &mut [u8], accounts: Accounts, quota: u32, length: u32) -> HandleResult
-    requires { ⌜ Ready unit (now heap) accounts quota length ⌝ }
-    ensures { λ r. ⌜ handle-outcome (now (heap .exit)) r ≡ allocate-of unit (now (heap .entry)) accounts quota length ⌝ }
+    requires { ⌜ Ready (table (accounts .edition)) (now heap) accounts quota length ⌝ }
+    ensures { λ r. ⌜ handle-outcome (now (heap .exit)) r ≡ allocate-of (table (accounts .edition)) (now (heap .entry)) accounts quota length ⌝ }
 {
-    let size = rounding::object_length(length) as u32;
+    let size = rounding::object_length(accounts.edition, length) as u32;
     let charge = size + 8;
     if accounts.quotas[quota as usize].remainder < charge {
         return HandleResult::refused(accounts, Refusal::QuotaExceeded);
@@ -70,7 +70,7 @@ pub(crate) fn grant(heap: &mut [u8], accounts: Accounts, quota: u32, length: u32
     if GREATEST_SERIAL <= last {
         return HandleResult::refused(accounts, Refusal::SerialsExhausted);
     }
-    let alignment = rounding::object_unit(size);
+    let alignment = rounding::object_unit(accounts.edition, size);
     let Fit::At(block, base) = finder::find_base(heap, alignment, size as usize) else {
         return HandleResult::refused(accounts, Refusal::NoSpace);
     };
@@ -85,7 +85,7 @@ const LONGEST: u64 = GREATEST_LENGTH as u64;
 
 // Allocation for a length of any size.
 fn allocate_wide(heap: &mut [u8], accounts: Accounts, quota: u32, length: u64) -> HandleResult
-    ensures { λ r. ⌜ handle-outcome (now (heap .exit)) r ≡ allocate-of unit (now (heap .entry)) accounts quota length ⌝ }
+    ensures { λ r. ⌜ handle-outcome (now (heap .exit)) r ≡ allocate-of (table (accounts .edition)) (now (heap .entry)) accounts quota length ⌝ }
 {
     if let Verdict::Refused(refusal) = checker::check(heap, accounts) {
         return HandleResult::refused(accounts, refusal);
@@ -107,7 +107,7 @@ fn allocate_wide(heap: &mut [u8], accounts: Accounts, quota: u32, length: u64) -
 
 // A new object of at least `length` bytes.
 pub fn allocate(heap: &mut [u8], accounts: Accounts, quota: u32, length: u32) -> HandleResult
-    ensures { λ r. ⌜ handle-outcome (now (heap .exit)) r ≡ allocate-of unit (now (heap .entry)) accounts quota length ⌝ }
+    ensures { λ r. ⌜ handle-outcome (now (heap .exit)) r ≡ allocate-of (table (accounts .edition)) (now (heap .entry)) accounts quota length ⌝ }
 {
     allocate_wide(heap, accounts, quota, length as u64)
 }
@@ -120,7 +120,7 @@ pub fn allocate_array(
     count: u32,
     size: u32,
 ) -> HandleResult
-    ensures { λ r. ⌜ handle-outcome (now (heap .exit)) r ≡ allocate-array unit (now (heap .entry)) accounts quota count size ⌝ }
+    ensures { λ r. ⌜ handle-outcome (now (heap .exit)) r ≡ allocate-array (table (accounts .edition)) (now (heap .entry)) accounts quota count size ⌝ }
 {
     allocate_wide(heap, accounts, quota, (count as u64) * (size as u64))
 }

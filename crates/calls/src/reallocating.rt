@@ -16,7 +16,7 @@ use model::Verdict;
 ghost use mathlib.Core.Path.{_≡_};
 ghost use Prim.Native.Nat.{_+_, _^_, _<_, min};
 ghost use Rattle.model.specs.Calls.{reallocate as reallocate-of};
-ghost use Rattle.rounding.specs.Rounding.{unit};
+ghost use Rattle.rounding.specs.Rounding.{table};
 ghost use Rattle.calls.specs.Results.{handle-outcome};
 ghost use Rattle.calls.specs.Ready.{Ready};
 ghost use Rattle.calls.specs.Releasing.{current};
@@ -53,8 +53,8 @@ fn exchange(
     handle: Handle,
     length: u32,
 ) -> HandleResult
-    requires { ⌜ Ready unit (now heap) accounts quota length ⌝ }
-    ensures { λ r. ⌜ handle-outcome (now (heap .exit)) r ≡ reallocate-of unit (now (heap .entry)) accounts quota handle length ⌝ }
+    requires { ⌜ Ready (table (accounts .edition)) (now heap) accounts quota length ⌝ }
+    ensures { λ r. ⌜ handle-outcome (now (heap .exit)) r ≡ reallocate-of (table (accounts .edition)) (now (heap .entry)) accounts quota handle length ⌝ }
 {
     let Lookup::Found(old) = finder::find_whole(heap, handle) else {
         return HandleResult::refused(accounts, Refusal::NoSuchObject);
@@ -82,7 +82,7 @@ pub fn reallocate(
     handle: Handle,
     length: u32,
 ) -> HandleResult
-    ensures { λ r. ⌜ handle-outcome (now (heap .exit)) r ≡ reallocate-of unit (now (heap .entry)) accounts quota handle length ⌝ }
+    ensures { λ r. ⌜ handle-outcome (now (heap .exit)) r ≡ reallocate-of (table (accounts .edition)) (now (heap .entry)) accounts quota handle length ⌝ }
 {
     if let Verdict::Refused(refusal) = checker::check(heap, accounts) {
         return HandleResult::refused(accounts, refusal);

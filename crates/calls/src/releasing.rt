@@ -11,7 +11,7 @@ use model::Refusal;
 use model::Verdict;
 use quotas::AmountResult;
 ghost use mathlib.Core.Path.{_≡_};
-ghost use Rattle.rounding.specs.Rounding.{unit};
+ghost use Rattle.rounding.specs.Rounding.{table};
 ghost use Rattle.model.specs.Calls.{release as release-of};
 ghost use Rattle.finder.specs.Walk.{object-met};
 ghost use Rattle.quotas.specs.Results.{amount-outcome};
@@ -26,7 +26,7 @@ pub(crate) fn drop_claim(
     block: Met,
     place: usize,
 ) -> AmountResult
-    requires { ⌜ Holding unit (now heap) accounts quota block place ⌝ }
+    requires { ⌜ Holding (table (accounts .edition)) (now heap) accounts quota block place ⌝ }
     ensures { λ r. ⌜ amount-outcome (now (heap .exit)) r ≡ claim-dropped (now (heap .entry)) accounts quota (object-met block) ⌝ }
 {
     let hold = accounts.holds[place];
@@ -55,8 +55,8 @@ pub(crate) fn drop_claim(
 
 // Release behind the first three lines: the lookup, the quota's record, and one hold less.
 fn give_up(heap: &mut [u8], accounts: Accounts, quota: u32, handle: Handle) -> AmountResult
-    requires { ⌜ Checked unit (now heap) accounts quota ⌝ }
-    ensures { λ r. ⌜ amount-outcome (now (heap .exit)) r ≡ release-of unit (now (heap .entry)) accounts quota handle ⌝ }
+    requires { ⌜ Checked (table (accounts .edition)) (now heap) accounts quota ⌝ }
+    ensures { λ r. ⌜ amount-outcome (now (heap .exit)) r ≡ release-of (table (accounts .edition)) (now (heap .entry)) accounts quota handle ⌝ }
 {
     let Lookup::Found(block) = finder::find_object(heap, handle) else {
         return AmountResult::refused(accounts, Refusal::NoSuchObject);
@@ -69,7 +69,7 @@ fn give_up(heap: &mut [u8], accounts: Accounts, quota: u32, handle: Handle) -> A
 
 // One hold of a quota is given up.
 pub fn release(heap: &mut [u8], accounts: Accounts, quota: u32, handle: Handle) -> AmountResult
-    ensures { λ r. ⌜ amount-outcome (now (heap .exit)) r ≡ release-of unit (now (heap .entry)) accounts quota handle ⌝ }
+    ensures { λ r. ⌜ amount-outcome (now (heap .exit)) r ≡ release-of (table (accounts .edition)) (now (heap .entry)) accounts quota handle ⌝ }
 {
     if let Verdict::Refused(refusal) = checker::check(heap, accounts) {
         return AmountResult::refused(accounts, refusal);

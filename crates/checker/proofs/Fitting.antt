@@ -83,15 +83,17 @@ same-remainder u end length i m =
     let e : end ≡ end - length + length / u * u = omega arith in
     ap (λ (x : ℕ). x % u) e ∙ add-mul-mod-self-right (end - length) (length / u) u
 
--- the tests of a live block's object, whose length has the unit u
+-- the tests of a live block's object: of one whose length is no multiple of its unit
+pub length-unfit : (unit : ℕ → ℕ) (size end : ℕ) → ((size - 8) % unit (size - 8) ≡ 0 → ⊥)
+    → (leb 16 size && fits-unit unit (end - (size - 8)) (size - 8)) ≡ false
+length-unfit unit size end m = and-no (leb 16 size) (fits-unit unit (end - (size - 8)) (size - 8)) (rw (ne-eqb ((size - 8) % unit (size - 8)) 0 m))
+
+-- and of one whose length has the unit u
 module _ (unit : ℕ → ℕ) (size end u : ℕ) (i : size ≤ end) (own : u ≡ unit (size - 8)) where
   -- multiples of 8 fit unit 8
   pub fits-eights : 16 ≤ size → u ≡ 8 → size % 8 ≡ 0 → end % 8 ≡ 0 → (leb 16 size && fits-unit unit (end - (size - 8)) (size - 8)) ≡ true
   fits-eights l e m n =
       rw (le-leb 16 size l, ← own, e, eq-eqb ((size - 8) % 8) 0 (omega arith), eq-eqb ((end - (size - 8)) % 8) 0 (omega arith))
-
-  pub length-unfit : ((size - 8) % u ≡ 0 → ⊥) → (leb 16 size && fits-unit unit (end - (size - 8)) (size - 8)) ≡ false
-  length-unfit m = and-no (leb 16 size) (fits-unit unit (end - (size - 8)) (size - 8)) (rw (← own, ne-eqb ((size - 8) % u) 0 m))
 
   pub base-fits : 16 ≤ size → (size - 8) % u ≡ 0 → (leb 16 size && fits-unit unit (end - (size - 8)) (size - 8)) ≡ eqb (end % u) 0
   base-fits l m = rw (le-leb 16 size l, ← own, eq-eqb ((size - 8) % u) 0 m, same-remainder u end (size - 8) (omega arith) m)

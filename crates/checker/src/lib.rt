@@ -23,7 +23,7 @@ ghost use lib.ListN.{length};
 ghost use Rattle.model.specs.Answers.{verdict-values};
 ghost use Rattle.model.specs.Consistent.{allowed, fits-unit, greatest-serial};
 ghost use Rattle.model.specs.Calls.{check as check-of};
-ghost use Rattle.rounding.specs.Rounding.{unit};
+ghost use Rattle.rounding.specs.Rounding.{table};
 ghost use Rattle.checker.specs.Fitting.{fitting};
 ghost use Rattle.accounts.specs.Accounts.{QUOTAS, HOLDS};
 ghost use Rattle.layout.specs.Blocks.{parse};
@@ -55,14 +55,17 @@ pub fn is_allowed(len: usize) -> bool
     len <= GREATEST_HEAP
 }
 
-// Rules 22.2 and 22.9: whether the last serial may have been given, and the kind is one of two.
-fn is_in_range(last: u32, kind: u8) -> bool
-    ensures { λ r. ⌜ r ≡ (leb last greatest-serial && ltb kind 2) ⌝ }
+// Rules 22.2, 22.9 and 23.3: whether the last serial may have been given, the kind is one of two, and so is the edition.
+fn is_in_range(last: u32, kind: u8, edition: u8) -> bool
+    ensures { λ r. ⌜ r ≡ (leb last greatest-serial && (ltb kind 2 && ltb edition 2)) ⌝ }
 {
     if GREATEST_SERIAL < last {
         return false;
     }
-    kind < 2
+    if 2 <= kind {
+        return false;
+    }
+    edition < 2
 }
 
 // Whether a record without a serial is unused.
@@ -246,7 +249,8 @@ fn settle(
     charge: usize,
 ) -> bool
     requires { ⌜ Payable (now keys) (now next) (now owed) from serial ⌝ }
-    ensures { λ r. ⌜ Settled serial charge (now (keys .entry)) (now (owed .entry)) r (now (keys .exit)) (now (owed .exit)) ⌝ }
+    ensures { λ r. ⌜ Settled serial charge (now (keys .entry)) (now (owed .entry))
+        r (now (keys .exit)) (now (owed .exit)) ⌝ }
 {
     let at = find(keys, next, from, serial);
     if HOLDS <= at {
@@ -264,14 +268,15 @@ fn settle(
     settle_others(keys, next, owed, payer, after, serial, charge)
 }
 
-// How many sizes from 16 bytes on a live block may have whose object has unit 8.
-const SHORT: usize = 8200 - 16;
+// How many sizes from 16 bytes on a live block may have whose object has unit 8 in both editions.
+const SHORT: usize = 4104 - 16;
 
 // Whether a live block that ends at a place is long enough, and base and length of its object are multiples of its unit. Sizes and ends are multiples of 8,
-// which is the unit of a short object, so one comparison decides most blocks. Where the length is a multiple, the base is one exactly if the end is.
-fn is_fitting(size: usize, end: usize) -> bool
+// which is the unit of a short object, so one comparison decides most blocks. A length is a multiple of its unit exactly if it is one of the unit by its
+// leading zeros, and then the two are the same; and then the base is a multiple exactly if the end is.
+fn is_fitting(edition: u8, size: usize, end: usize) -> bool
     requires { ⌜ (size % 8 ≡ 0) × (end % 8 ≡ 0) × (size ≤ end) × (size < 2 ^ 32) ⌝ }
-    ensures { λ r. ⌜ r ≡ (leb 16 size && fits-unit unit (end - (size - 8)) (size - 8)) ⌝ }
+    ensures { λ r. ⌜ r ≡ (leb 16 size && fits-unit (table edition) (end - (size - 8)) (size - 8)) ⌝ }
 {
     if wrapping_sub_usize(size, 16) < SHORT {
         return true;
@@ -280,7 +285,7 @@ fn is_fitting(size: usize, end: usize) -> bool
         return false;
     }
     let length = size - 8;
-    let unit = rounding::object_unit(length as u32) as usize;
+    let unit = rounding::object_unit(edition, length as u32) as usize;
     if length % unit != 0 {
         return false;
     }
@@ -305,6 +310,7 @@ fn visit(
     heads: &[u16; SLOTS],
     owed: &mut [usize; QUOTAS],
     kind: u8,
+    edition: u8,
     last: u32,
     before: u32,
     serial: u32,
@@ -312,7 +318,8 @@ fn visit(
     end: usize,
 ) -> bool
     requires { ⌜ Ready (now keys) (now next) (now heads) (now owed) × (size % 8 ≡ 0) × (end % 8 ≡ 0) × (size ≤ end) × (size < 2 ^ 32) ⌝ }
-    ensures { λ r. ⌜ Visited unit kind last serial size end before (now (next .entry)) (now (heads .entry)) (now (keys .entry)) (now (owed .entry)) r (now (keys .exit)) (now (owed .exit)) ⌝ }
+    ensures { λ r. ⌜ Visited (table edition) kind last serial size end before (now (next .entry)) (now (heads .entry)) (now (keys .entry)) (now (owed .entry))
+        r (now (keys .exit)) (now (owed .exit)) ⌝ }
 {
     if serial == 0 {
         if before == 0 {
@@ -326,7 +333,7 @@ fn visit(
     if last < serial {
         return false;
     }
-    if !is_fitting(size, end) {
+    if !is_fitting(edition, size, end) {
         return false;
     }
     let slot = slot_of(serial);
@@ -344,9 +351,11 @@ fn walk(
     owed: &mut [usize; QUOTAS],
     last: u32,
     kind: u8,
+    edition: u8,
 ) -> bool
     requires { ⌜ Ready (now keys) (now next) (now heads) (now owed) ⌝ }
-    ensures { λ r. ⌜ r ≡ (audit-parsed last (parse (now (heap .entry))) (some (begin (now (keys .entry)) (now (owed .entry)))) && fitting unit kind 0 (parse (now (heap .entry)))) ⌝ }
+    ensures { λ r. ⌜ r ≡ (audit-parsed last (parse (now (heap .entry))) (some (begin (now (keys .entry)) (now (owed .entry))))
+        && fitting (table edition) kind 0 (parse (now (heap .entry)))) ⌝ }
 {
     let mut before: u32 = 1;
     let mut back: usize = 0;
@@ -369,6 +378,7 @@ fn walk(
             heads,
             owed,
             kind,
+            edition,
             last,
             before,
             serial,
@@ -392,14 +402,15 @@ fn walk(
 
 // Rule 8.35, the verdict on a heap and its accounting state: refused for its length, refused as inconsistent, or accepted.
 pub fn check(heap: &[u8], accounts: Accounts) -> Verdict
-    ensures { λ r. ⌜ verdict-values r ≡ check-of unit (now (heap .entry)) accounts .values ⌝ }
+    ensures { λ r. ⌜ verdict-values r ≡ check-of (table (accounts .edition)) (now (heap .entry)) accounts .values ⌝ }
 {
     if !is_allowed(heap.len()) {
         return Verdict::Refused(Refusal::HeapLength);
     }
     let last = accounts.last_serial;
     let kind = accounts.kind;
-    if !is_in_range(last, kind) {
+    let edition = accounts.edition;
+    if !is_in_range(last, kind, edition) {
         return Verdict::Refused(Refusal::Inconsistent);
     }
     let end = HOLDS as u16;
@@ -415,7 +426,16 @@ pub fn check(heap: &[u8], accounts: Accounts) -> Verdict
     if !owing(quotas, &mut owed) {
         return Verdict::Refused(Refusal::Inconsistent);
     }
-    if !walk(heap, &mut keys, &next, &heads, &mut owed, last, kind) {
+    if !walk(
+        heap,
+        &mut keys,
+        &next,
+        &heads,
+        &mut owed,
+        last,
+        kind,
+        edition,
+    ) {
         return Verdict::Refused(Refusal::Inconsistent);
     }
     Verdict::Accepted

@@ -52,11 +52,12 @@ module _ (t u : State) (g : Good t) (h : Good u) (e : but-remainders (t .account
       ext-getD zero-quota (t .accounts .quotas) (u .accounts .quotas) (g .quotas ∙ sym (h .quotas))
       (λ j l. same-quota (getD (t .accounts .quotas) j zero-quota) (getD (u .accounts .quotas) j zero-quota) (same-but j) (same-remainder j l))
 
-  -- are the same state, if they have the last serial and the kind in common too
-  pub same-state : t .accounts .«last_serial» ≡ u .accounts .«last_serial» → t .accounts .kind ≡ u .accounts .kind → t ≡ u
-  same-state l n = let a = same-accounts (t .accounts) (u .accounts) same-quotas l r n in λ i. record { blocks = b i; accounts = a i }
+  -- are the same state, if they have the last serial, the kind and the edition in common too
+  pub same-state : t .accounts .«last_serial» ≡ u .accounts .«last_serial» → t .accounts .kind ≡ u .accounts .kind
+      → t .accounts .edition ≡ u .accounts .edition → t ≡ u
+  same-state l n e = let a = same-accounts (t .accounts) (u .accounts) same-quotas l r n e in λ i. record { blocks = b i; accounts = a i }
 
--- what a release leaves: the records, the blocks, the quotas but for what remains, the last serial and the kind
+-- what a release leaves: the records, the blocks, the quotas but for what remains, the last serial, the kind and the edition
 module _ (q : ℕ) (o : Handle) (t : State) where
   pub released-holds : released q o t .accounts .holds ≡ lower-count (o .serial) q (t .accounts .holds)
   unfolding released
@@ -77,3 +78,7 @@ module _ (q : ℕ) (o : Handle) (t : State) where
   pub released-kind : released q o t .accounts .kind ≡ t .accounts .kind
   unfolding released
   released-kind = refund-kept q (given-back q o (t .accounts)) (t .accounts) .same-kind
+
+  pub released-edition : released q o t .accounts .edition ≡ t .accounts .edition
+  unfolding released
+  released-edition = refund-kept q (given-back q o (t .accounts)) (t .accounts) .same-edition

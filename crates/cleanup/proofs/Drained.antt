@@ -40,6 +40,7 @@ use Rattle.cleanup.specs.Releases.{Drop, Cleaned, cleaned, accepted-thro
 use Rattle.cleanup.specs.FreeAll.{all-for, sum-of, AsFreeAll, FreeAllByReleases}
 use Rattle.cleanup.proofs.Lowering.{lowered-held}
 use Rattle.cleanup.proofs.Balance.{but-remainders, same-state, released-holds, released-blocks, released-but, released-last, released-kind}
+use Rattle.cleanup.proofs.Balance.{released-edition}
 use Rattle.cleanup.proofs.Accepting.{Sound, after, Accepted, next-sound, after-first, rest-accepted, first-possible}
 
 -- a used record with one hold less is of zeros or still used
@@ -82,6 +83,7 @@ module _ (unit : ℕ → ℕ) (q : ℕ) where
     pub but : but-remainders (state .accounts) ≡ but-remainders (t .accounts)
     pub last : state .accounts .«last_serial» ≡ t .accounts .«last_serial»
     pub kind : state .accounts .kind ≡ t .accounts .kind
+    pub edition : state .accounts .edition ≡ t .accounts .edition
     pub paid : remaining q (state .accounts) ≡ remaining q (t .accounts) + sum-of (after unit ds t .answers)
 
   -- nothing is settled in a good state
@@ -130,6 +132,7 @@ module _ (unit : ℕ → ℕ) (q : ℕ) where
           but = e .but ∙ released-but (d .quota) o t;
           last = e .last ∙ released-last (d .quota) o t;
           kind = e .kind ∙ released-kind (d .quota) o t;
+          edition = e .edition ∙ released-edition (d .quota) o t;
           paid = omega (arith, e .paid, repaid, summed);
         }
 
@@ -147,6 +150,7 @@ module _ (unit : ℕ → ℕ) (q : ℕ) where
         but = refl;
         last = refl;
         kind = refl;
+        edition = refl;
         paid = omega arith;
       }
   ends (d ∷ ds) t g a f =
@@ -182,6 +186,7 @@ module _ (unit : ℕ → ℕ) (q : ℕ) where
         (end .blocks ∙ ap (λ (hs : List Hold). settle (t .accounts .kind) hs (t .blocks)) end-holds)
         (end .last ∙ sym (refund-kept q back (t .accounts) .same-last))
         (end .kind ∙ sym (refund-kept q back (t .accounts) .same-kind))
+        (end .edition ∙ sym (refund-kept q back (t .accounts) .same-edition))
 
     end-sum : sum-of (after unit ds t .answers) ≡ back
     end-sum = omega (arith, end .paid, freed-paid q t (g .good) exists, ap (λ (u : State). remaining q (u .accounts)) end-freed)

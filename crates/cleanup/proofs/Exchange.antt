@@ -28,7 +28,7 @@ use Rattle.invariant.proofs.Releasing.{Possible, possible-there, possible-good}
 use Rattle.cleanup.specs.Releases.{Drop, Answered}
 use Rattle.cleanup.proofs.Lowering.{lowered-held, lowered-record, other-record, lowered-exchanged, record-held}
 use Rattle.cleanup.proofs.Finding.{found-kept, found-before}
-use Rattle.cleanup.proofs.Balance.{same-state, released-holds, released-but, released-last, released-kind}
+use Rattle.cleanup.proofs.Balance.{same-state, released-holds, released-but, released-last, released-kind, released-edition}
 
 -- the answer of a release
 abbrev pub answer : ℕ → Handle → State → Answered
@@ -132,6 +132,8 @@ module _ (t : State) (g : Good t) (d e : Drop) (o p : Handle) (a : Possible (d .
       (both-holds s) (both-blocks s)
       ((released-last (e .quota) p first-done ∙ released-last (d .quota) o t) ∙ sym (released-last (d .quota) o second-done ∙ released-last (e .quota) p t))
       ((released-kind (e .quota) p first-done ∙ released-kind (d .quota) o t) ∙ sym (released-kind (d .quota) o second-done ∙ released-kind (e .quota) p t))
+      ((released-edition (e .quota) p first-done ∙ released-edition (d .quota) o t)
+      ∙ sym (released-edition (d .quota) o second-done ∙ released-edition (e .quota) p t))
 
   -- a release of another record gives back the same
   same-answer : (q : ℕ) (x : Handle) (j : ℕ) (y : Handle) → has-record (t .accounts .holds) j (y .serial) ≡ true

@@ -24,7 +24,7 @@ use Rattle.comparison.specs.Differences.{State, Run, same-quota, same-re
 use Rattle.comparison.specs.Differences.{differences}
 use Rattle.comparison.specs.Listing.{part-of, start-of, Before, Longest, OneSize}
 use Rattle.comparison.specs.declared.Difference.{Difference}
-use Rattle.comparison.specs.declared.Difference.the-variants.{LastSerial, Kind, Quota as QuotaAt, Record as RecordAt, Bytes}
+use Rattle.comparison.specs.declared.Difference.the-variants.{LastSerial, Kind, Edition, Quota as QuotaAt, Record as RecordAt, Bytes}
 use Rattle.comparison.proofs.Lists.{all-imply, all-member, all-map, Sorted, sorted-both, parts-rise, sorted-places, not-before-itself}
 use Rattle.comparison.proofs.Runs.{Split, no-runs, runs-split}
 use Rattle.comparison.proofs.Longest.{runs-sorted, runs-exact, bytes-exact}
@@ -85,19 +85,19 @@ module _ (name : Difference) (x y : ℕ) where
       go true e = (λ m. absurd (List·Memᴰ·not-nil m), λ f. absurd (f (eqb-true x y e)))
       go false e = (λ m. eqb-false x y e, λ f. List·Memᴰ·head refl)
 
-quota-in : (xs ys : List Quota) → All (λ d. part-of d ≡ 2) (quota-part 0 xs ys)
+quota-in : (xs ys : List Quota) → All (λ d. part-of d ≡ 3) (quota-part 0 xs ys)
 unfolding quota-part
-quota-in xs ys = differing-all same-quota QuotaAt (λ d. part-of d ≡ 2) 0 xs ys (λ k l. refl)
+quota-in xs ys = differing-all same-quota QuotaAt (λ d. part-of d ≡ 3) 0 xs ys (λ k l. refl)
 
-record-in : (xs ys : List Hold) → All (λ d. part-of d ≡ 3) (record-part 0 xs ys)
+record-in : (xs ys : List Hold) → All (λ d. part-of d ≡ 4) (record-part 0 xs ys)
 unfolding record-part
-record-in xs ys = differing-all same-record RecordAt (λ d. part-of d ≡ 3) 0 xs ys (λ k l. refl)
+record-in xs ys = differing-all same-record RecordAt (λ d. part-of d ≡ 4) 0 xs ys (λ k l. refl)
 
-bytes-in : (s t : List ℕ) → All (λ d. part-of d ≡ 4) (byte-part 0 s t)
+bytes-in : (s t : List ℕ) → All (λ d. part-of d ≡ 5) (byte-part 0 s t)
 unfolding byte-part
-bytes-in s t = all-map bytes-of (λ d. part-of d ≡ 4) (runs 0 s t) (go (runs 0 s t))
+bytes-in s t = all-map bytes-of (λ d. part-of d ≡ 5) (runs 0 s t) (go (runs 0 s t))
   where
-    go : (rs : List Run) → All (λ (r : Run). part-of (bytes-of r) ≡ 4) rs
+    go : (rs : List Run) → All (λ (r : Run). part-of (bytes-of r) ≡ 5) rs
     go [] = tt
     go (r ∷ rs) = (refl, go rs)
 
@@ -128,6 +128,9 @@ module _ (a b : State) where
   kinds : List Difference
   kinds = number-part Kind (a .accounts .kind) (b .accounts .kind)
 
+  editions : List Difference
+  editions = number-part Edition (a .accounts .edition) (b .accounts .edition)
+
   quotas : List Difference
   quotas = quota-part 0 (a .accounts .quotas) (b .accounts .quotas)
 
@@ -137,42 +140,55 @@ module _ (a b : State) where
   bytes : List Difference
   bytes = byte-part 0 (a .heap) (b .heap)
 
-  bytes-above : (m : ℕ) → m < 4 → All (λ d. m < part-of d) bytes
+  bytes-above : (m : ℕ) → m < 5 → All (λ d. m < part-of d) bytes
   unfolding bytes
-  bytes-above m l = higher m 4 bytes l (bytes-in (a .heap) (b .heap))
+  bytes-above m l = higher m 5 bytes l (bytes-in (a .heap) (b .heap))
 
-  records-above : (m : ℕ) → m < 3 → All (λ d. m < part-of d) (records ++ bytes)
+  records-above : (m : ℕ) → m < 4 → All (λ d. m < part-of d) (records ++ bytes)
   unfolding records
   records-above m l =
-      all-both (λ d. m < part-of d) records bytes (higher m 3 records l (record-in (a .accounts .holds) (b .accounts .holds))) (bytes-above m (omega arith))
+      all-both (λ d. m < part-of d) records bytes (higher m 4 records l (record-in (a .accounts .holds) (b .accounts .holds))) (bytes-above m (omega arith))
 
-  quotas-above : (m : ℕ) → m < 2 → All (λ d. m < part-of d) (quotas ++ (records ++ bytes))
+  quotas-above : (m : ℕ) → m < 3 → All (λ d. m < part-of d) (quotas ++ (records ++ bytes))
   unfolding quotas
   quotas-above m l =
-      all-both (λ d. m < part-of d) quotas (records ++ bytes) (higher m 2 quotas l (quota-in (a .accounts .quotas) (b .accounts .quotas)))
+      all-both (λ d. m < part-of d) quotas (records ++ bytes) (higher m 3 quotas l (quota-in (a .accounts .quotas) (b .accounts .quotas)))
       (records-above m (omega arith))
 
-  kinds-above : All (λ d. 0 < part-of d) (kinds ++ (quotas ++ (records ++ bytes)))
-  unfolding kinds
-  kinds-above =
-      all-both (λ d. 0 < part-of d) kinds (quotas ++ (records ++ bytes))
+  editions-above : (m : ℕ) → m < 2 → All (λ d. m < part-of d) (editions ++ (quotas ++ (records ++ bytes)))
+  unfolding editions
+  editions-above m l =
+      all-both (λ d. m < part-of d) editions (quotas ++ (records ++ bytes))
+      (higher m 2 editions l (number-in Edition (a .accounts .edition) (b .accounts .edition)))
+      (quotas-above m (omega arith))
+
+  -- what is behind the serials
+  settings : List Difference
+  settings = kinds ++ (editions ++ (quotas ++ (records ++ bytes)))
+
+  settings-above : All (λ d. 0 < part-of d) settings
+  unfolding kinds settings
+  settings-above =
+      all-both (λ d. 0 < part-of d) kinds (editions ++ (quotas ++ (records ++ bytes)))
       (higher 0 1 kinds (omega arith) (number-in Kind (a .accounts .kind) (b .accounts .kind)))
-      (quotas-above 0 (omega arith))
+      (editions-above 0 (omega arith))
 
   -- the list is sorted
   sorted : Sorted (differences a b)
-  unfolding differences serials kinds quotas records bytes quota-part record-part byte-part
+  unfolding differences serials kinds editions quotas records bytes settings quota-part record-part byte-part
   sorted =
-      sorted-both serials (kinds ++ (quotas ++ (records ++ bytes))) (number-sorted LastSerial (a .accounts .«last_serial») (b .accounts .«last_serial»))
-      (sorted-both kinds (quotas ++ (records ++ bytes)) (number-sorted Kind (a .accounts .kind) (b .accounts .kind))
+      sorted-both serials settings (number-sorted LastSerial (a .accounts .«last_serial») (b .accounts .«last_serial»))
+      (sorted-both kinds (editions ++ (quotas ++ (records ++ bytes))) (number-sorted Kind (a .accounts .kind) (b .accounts .kind))
+      (sorted-both editions (quotas ++ (records ++ bytes)) (number-sorted Edition (a .accounts .edition) (b .accounts .edition))
       (sorted-both quotas (records ++ bytes) (differing-sorted same-quota QuotaAt (λ j k l. inr (refl, l)) 0 (a .accounts .quotas) (b .accounts .quotas))
       (sorted-both records bytes (differing-sorted same-record RecordAt (λ j k l. inr (refl, l)) 0 (a .accounts .holds) (b .accounts .holds))
       (runs-sorted (a .heap) (b .heap) 0 (runs 0 (a .heap) (b .heap)) (runs-split (a .heap) (b .heap) 0))
-      (parts-rise 3 records bytes (record-in (a .accounts .holds) (b .accounts .holds)) (bytes-above 3 (omega arith))))
-      (parts-rise 2 quotas (records ++ bytes) (quota-in (a .accounts .quotas) (b .accounts .quotas)) (records-above 2 (omega arith))))
-      (parts-rise 1 kinds (quotas ++ (records ++ bytes)) (number-in Kind (a .accounts .kind) (b .accounts .kind)) (quotas-above 1 (omega arith))))
-      (parts-rise 0 serials (kinds ++ (quotas ++ (records ++ bytes)))
-      (number-in LastSerial (a .accounts .«last_serial») (b .accounts .«last_serial»)) kinds-above)
+      (parts-rise 4 records bytes (record-in (a .accounts .holds) (b .accounts .holds)) (bytes-above 4 (omega arith))))
+      (parts-rise 3 quotas (records ++ bytes) (quota-in (a .accounts .quotas) (b .accounts .quotas)) (records-above 3 (omega arith))))
+      (parts-rise 2 editions (quotas ++ (records ++ bytes)) (number-in Edition (a .accounts .edition) (b .accounts .edition)) (quotas-above 2 (omega arith))))
+      (parts-rise 1 kinds (editions ++ (quotas ++ (records ++ bytes))) (number-in Kind (a .accounts .kind) (b .accounts .kind))
+      (editions-above 1 (omega arith))))
+      (parts-rise 0 serials settings (number-in LastSerial (a .accounts .«last_serial») (b .accounts .«last_serial»)) settings-above)
 
   -- asked for two, the one with the lower number comes before the other; so nothing is listed twice
   pub in-order : (m n : ℕ) (d e : Difference) → m < n → getElem? (differences a b) m ≡ some d → getElem? (differences a b) n ≡ some e → Before d e
@@ -186,44 +202,57 @@ module _ (a b : State) where
 
   -- what is listed is exactly what differs
   pub serial-exact : List·Memᴰ LastSerial (differences a b) ↔ (a .accounts .«last_serial» ≢ b .accounts .«last_serial»)
-  unfolding differences serials kinds quotas records bytes
+  unfolding differences serials kinds editions quotas records bytes settings
   serial-exact =
-      then (only-part LastSerial 0 serials (kinds ++ (quotas ++ (records ++ bytes))) kinds-above refl)
+      then (only-part LastSerial 0 serials settings settings-above refl)
       (number-is LastSerial (a .accounts .«last_serial») (b .accounts .«last_serial»))
 
-  behind-serial : (d : Difference) → 0 < part-of d → List·Memᴰ d (differences a b) ↔ List·Memᴰ d (kinds ++ (quotas ++ (records ++ bytes)))
-  unfolding differences serials kinds quotas records bytes
-  behind-serial d l =
-      skip-part d 0 serials (kinds ++ (quotas ++ (records ++ bytes))) (number-in LastSerial (a .accounts .«last_serial») (b .accounts .«last_serial»)) l
+  behind-serial : (d : Difference) → 0 < part-of d → List·Memᴰ d (differences a b) ↔ List·Memᴰ d settings
+  unfolding differences serials kinds editions quotas records bytes settings
+  behind-serial d l = skip-part d 0 serials settings (number-in LastSerial (a .accounts .«last_serial») (b .accounts .«last_serial»)) l
 
   pub kind-exact : List·Memᴰ Kind (differences a b) ↔ (a .accounts .kind ≢ b .accounts .kind)
-  unfolding kinds
+  unfolding kinds settings
   kind-exact =
       then (behind-serial Kind (omega arith))
-      (then (only-part Kind 1 kinds (quotas ++ (records ++ bytes)) (quotas-above 1 (omega arith)) refl)
+      (then (only-part Kind 1 kinds (editions ++ (quotas ++ (records ++ bytes))) (editions-above 1 (omega arith)) refl)
       (number-is Kind (a .accounts .kind) (b .accounts .kind)))
 
-  behind-kind : (d : Difference) → 1 < part-of d → List·Memᴰ d (differences a b) ↔ List·Memᴰ d (quotas ++ (records ++ bytes))
-  unfolding kinds
+  behind-kind : (d : Difference) → 1 < part-of d → List·Memᴰ d (differences a b) ↔ List·Memᴰ d (editions ++ (quotas ++ (records ++ bytes)))
+  unfolding kinds settings
   behind-kind d l =
-      then (behind-serial d (omega arith)) (skip-part d 1 kinds (quotas ++ (records ++ bytes)) (number-in Kind (a .accounts .kind) (b .accounts .kind)) l)
+      then (behind-serial d (omega arith))
+      (skip-part d 1 kinds (editions ++ (quotas ++ (records ++ bytes))) (number-in Kind (a .accounts .kind) (b .accounts .kind)) l)
 
-  behind-quotas : (d : Difference) → 2 < part-of d → List·Memᴰ d (differences a b) ↔ List·Memᴰ d (records ++ bytes)
+  pub edition-exact : List·Memᴰ Edition (differences a b) ↔ (a .accounts .edition ≢ b .accounts .edition)
+  unfolding editions
+  edition-exact =
+      then (behind-kind Edition (omega arith))
+      (then (only-part Edition 2 editions (quotas ++ (records ++ bytes)) (quotas-above 2 (omega arith)) refl)
+      (number-is Edition (a .accounts .edition) (b .accounts .edition)))
+
+  behind-edition : (d : Difference) → 2 < part-of d → List·Memᴰ d (differences a b) ↔ List·Memᴰ d (quotas ++ (records ++ bytes))
+  unfolding editions
+  behind-edition d l =
+      then (behind-kind d (omega arith))
+      (skip-part d 2 editions (quotas ++ (records ++ bytes)) (number-in Edition (a .accounts .edition) (b .accounts .edition)) l)
+
+  behind-quotas : (d : Difference) → 3 < part-of d → List·Memᴰ d (differences a b) ↔ List·Memᴰ d (records ++ bytes)
   unfolding quotas
   behind-quotas d l =
-      then (behind-kind d (omega arith)) (skip-part d 2 quotas (records ++ bytes) (quota-in (a .accounts .quotas) (b .accounts .quotas)) l)
+      then (behind-edition d (omega arith)) (skip-part d 3 quotas (records ++ bytes) (quota-in (a .accounts .quotas) (b .accounts .quotas)) l)
 
-  behind-records : (d : Difference) → 3 < part-of d → List·Memᴰ d (differences a b) ↔ List·Memᴰ d bytes
+  behind-records : (d : Difference) → 4 < part-of d → List·Memᴰ d (differences a b) ↔ List·Memᴰ d bytes
   unfolding records
-  behind-records d l = then (behind-quotas d (omega arith)) (skip-part d 3 records bytes (record-in (a .accounts .holds) (b .accounts .holds)) l)
+  behind-records d l = then (behind-quotas d (omega arith)) (skip-part d 4 records bytes (record-in (a .accounts .holds) (b .accounts .holds)) l)
 
   module _ (w : OneSize a b) where
     pub quota-exact : (q : ℕ) → List·Memᴰ (QuotaAt q) (differences a b)
         ↔ (getD (a .accounts .quotas) q zero-quota ≢ getD (b .accounts .quotas) q zero-quota)
     unfolding quotas quota-part
     quota-exact q =
-        then (behind-kind (QuotaAt q) (omega arith))
-        (then (only-part (QuotaAt q) 2 quotas (records ++ bytes) (records-above 2 (omega arith)) refl)
+        then (behind-edition (QuotaAt q) (omega arith))
+        (then (only-part (QuotaAt q) 3 quotas (records ++ bytes) (records-above 3 (omega arith)) refl)
         (items-exact same-quota QuotaAt (λ j k e. ap start-of e) same-quota-self same-quota-is zero-quota (a .accounts .quotas)
         (b .accounts .quotas) (w .quotas) q))
 
@@ -232,7 +261,7 @@ module _ (a b : State) where
     unfolding records record-part
     record-exact p =
         then (behind-quotas (RecordAt p) (omega arith))
-        (then (only-part (RecordAt p) 3 records bytes (bytes-above 3 (omega arith)) refl)
+        (then (only-part (RecordAt p) 4 records bytes (bytes-above 4 (omega arith)) refl)
         (items-exact same-record RecordAt (λ j k e. ap start-of e) same-record-self same-record-is zero-hold (a .accounts .holds)
         (b .accounts .holds) (w .holds) p))
 
@@ -282,6 +311,7 @@ differences-self a =
     rw (
       eq-eqb (a .accounts .«last_serial») (a .accounts .«last_serial») refl,
       eq-eqb (a .accounts .kind) (a .accounts .kind) refl,
+      eq-eqb (a .accounts .edition) (a .accounts .edition) refl,
       none-differing same-quota QuotaAt same-quota-self 0 (a .accounts .quotas),
       none-differing same-record RecordAt same-record-self 0 (a .accounts .holds),
       none-bytes (a .heap),
@@ -295,12 +325,14 @@ differences-empty a b w = (there, λ e. rw e (differences-self b))
     there e =
         let x = no-front (number-part LastSerial (a .accounts .«last_serial») (b .accounts .«last_serial»)) _ e in
         let u = no-front (number-part Kind (a .accounts .kind) (b .accounts .kind)) _ (x .1) in
-        let y = no-front (quota-part 0 (a .accounts .quotas) (b .accounts .quotas)) _ (u .1) in
+        let v = no-front (number-part Edition (a .accounts .edition) (b .accounts .edition)) _ (u .1) in
+        let y = no-front (quota-part 0 (a .accounts .quotas) (b .accounts .quotas)) _ (v .1) in
         let z = no-front (record-part 0 (a .accounts .holds) (b .accounts .holds)) _ (y .1) in
         let n = number-none LastSerial (a .accounts .«last_serial») (b .accounts .«last_serial») (x .0) in
         let c = number-none Kind (a .accounts .kind) (b .accounts .kind) (u .0) in
+        let f = number-none Edition (a .accounts .edition) (b .accounts .edition) (v .0) in
         let q = differing-none same-quota QuotaAt same-quota-is 0 (a .accounts .quotas) (b .accounts .quotas) (w .quotas) (y .0) in
         let h = differing-none same-record RecordAt same-record-is 0 (a .accounts .holds) (b .accounts .holds) (w .holds) (z .0) in
         let s = bytes-none (a .heap) (b .heap) (w .heap) (z .1) in
-        let k = same-accounts (a .accounts) (b .accounts) q n h c in
+        let k = same-accounts (a .accounts) (b .accounts) q n h c f in
         λ i. record { heap = s i; accounts = k i }

@@ -19,11 +19,11 @@ use Rattle.image_model.proofs.Items.{each-length}
 use Rattle.image_model.proofs.Places.{marks-keep, blank-lengths}
 use Rattle.image.proofs.Parses.{form-of-fits}
 use Rattle.comparison.specs.Differences.{state-in, same-quota, same-record, number-part, differing, quota-part, record-part, byte-part, differences}
-use Rattle.comparison.specs.Positions.{from-byte, from-record, from-quota, from-kind, behind, first-of}
+use Rattle.comparison.specs.Positions.{from-byte, from-record, from-quota, from-edition, from-kind, behind, first-of}
 use Rattle.comparison.specs.Finding.{same-byte, Reaches}
 use Rattle.comparison.specs.declared.Difference.{Difference}
-use Rattle.comparison.specs.declared.Difference.the-variants.{LastSerial, Kind, Quota as QuotaAt, Record as RecordAt, Bytes}
-use Rattle.comparison.specs.declared.Position.the-variants.{Kind as FromKind, Quota as FromQuota, Record as FromRecord, Byte}
+use Rattle.comparison.specs.declared.Difference.the-variants.{LastSerial, Kind, Edition, Quota as QuotaAt, Record as RecordAt, Bytes}
+use Rattle.comparison.specs.declared.Position.the-variants.{Kind as FromKind, Edition as FromEdition, Quota as FromQuota, Record as FromRecord, Byte}
 use Rattle.comparison.specs.declared.NextAnswer.the-variants.{Differs, Nothing}
 use Rattle.comparison.proofs.Runs.{equal, end, RunFrom, first-run, no-runs}
 use Rattle.comparison.proofs.Items.{from-found, from-end}
@@ -197,11 +197,19 @@ module _ (i j : List ℕ) (k l : Accounts) (one : k ≡ accounts-in i) (two : l 
     unfolding from-record state-in record-part
     records-none h = rw (← one, ← two) (ap first-of (items-none same-record RecordAt zero-hold HOLDS (k .holds) (l .holds) holds-1 holds-2 from at reached _ h))
 
-  pub kind-differs : (k .kind ≡ l .kind → ⊥) → Differs Kind (FromQuota 0) ≡ first-of (from-kind (state-in i) (state-in j))
+  pub edition-differs : (k .edition ≡ l .edition → ⊥) → Differs Edition (FromQuota 0) ≡ first-of (from-edition (state-in i) (state-in j))
+  unfolding state-in from-edition behind
+  edition-differs f = rw (← one, ← two) (number-found Edition (k .edition) (l .edition) _ f)
+
+  pub edition-same : k .edition ≡ l .edition → first-of (from-quota (state-in i) (state-in j) 0) ≡ first-of (from-edition (state-in i) (state-in j))
+  unfolding state-in from-edition
+  edition-same e = rw (← one, ← two) (ap first-of (number-same Edition (k .edition) (l .edition) _ e))
+
+  pub kind-differs : (k .kind ≡ l .kind → ⊥) → Differs Kind FromEdition ≡ first-of (from-kind (state-in i) (state-in j))
   unfolding state-in from-kind behind
   kind-differs f = rw (← one, ← two) (number-found Kind (k .kind) (l .kind) _ f)
 
-  pub kind-same : k .kind ≡ l .kind → first-of (from-quota (state-in i) (state-in j) 0) ≡ first-of (from-kind (state-in i) (state-in j))
+  pub kind-same : k .kind ≡ l .kind → first-of (from-edition (state-in i) (state-in j)) ≡ first-of (from-kind (state-in i) (state-in j))
   unfolding state-in from-kind
   kind-same e = rw (← one, ← two) (ap first-of (number-same Kind (k .kind) (l .kind) _ e))
 

@@ -11,7 +11,7 @@ use lib.ListN.{getElem?}
 use Rattle.image_model.proofs.Items.{All, all-both}
 use Rattle.comparison.specs.Listing.{Before, part-of, start-of, stop-of}
 use Rattle.comparison.specs.declared.Difference.{Difference}
-use Rattle.comparison.specs.declared.Difference.the-variants.{LastSerial, Kind, Quota, Record, Bytes}
+use Rattle.comparison.specs.declared.Difference.the-variants.{LastSerial, Kind, Edition, Quota, Record, Bytes}
 use Rattle.comparison.proofs.Rows
 
 module _ {A : Type 0} where
@@ -68,6 +68,7 @@ sorted-places (x ∷ xs) w (suc m) (suc n) d e l p q = sorted-places xs (w .1) m
 starts-first : (d : Difference) → start-of d < suc (stop-of d)
 starts-first LastSerial = omega arith
 starts-first Kind = omega arith
+starts-first Edition = omega arith
 starts-first (Quota q) = omega arith
 starts-first (Record p) = omega arith
 starts-first (Bytes at n) = omega arith

@@ -15,7 +15,7 @@ use Rattle.image_model.proofs.Items.{All}
 use Rattle.comparison.specs.Differences.{Run, runs, bytes-of, byte-part}
 use Rattle.comparison.specs.Listing.{Before, Longest}
 use Rattle.comparison.specs.declared.Difference.{Difference}
-use Rattle.comparison.specs.declared.Difference.the-variants.{LastSerial, Kind, Quota, Record, Bytes}
+use Rattle.comparison.specs.declared.Difference.the-variants.{LastSerial, Kind, Edition, Quota, Record, Bytes}
 use Rattle.comparison.proofs.Lists.{all-imply, all-member, all-map, member-map, Sorted}
 use Rattle.comparison.proofs.Runs.{equal, end, RunFrom, Split, runs-split}
 
@@ -84,6 +84,7 @@ module _ (s t : List ℕ) where
     abbrev IsLongest : Difference → Type 0
     IsLongest LastSerial = Unit {0}
     IsLongest Kind = Unit {0}
+    IsLongest Edition = Unit {0}
     IsLongest (Quota q) = Unit {0}
     IsLongest (Record p) = Unit {0}
     IsLongest (Bytes at n) = Longest s t at n

@@ -15,11 +15,12 @@ use lib.Dec.{eqb}
 use Rattle.accounts.specs.Accounts.{zero-quota, zero-hold}
 use Rattle.comparison.specs.Differences.{State, Run, same-quota, same-record, number-part, quota-part, record-part, runs, bytes-of, byte-part}
 use Rattle.comparison.specs.Differences.{differences}
-use Rattle.comparison.specs.Positions.{from-byte, from-record, from-quota, from-kind, differences-from, behind, first-of, next-of, with-answer, asked}
+use Rattle.comparison.specs.Positions.{from-byte, from-record, from-quota, from-edition, from-kind, differences-from, behind, first-of, next-of}
+use Rattle.comparison.specs.Positions.{with-answer, asked}
 use Rattle.comparison.specs.declared.Difference.{Difference}
-use Rattle.comparison.specs.declared.Difference.the-variants.{LastSerial, Kind, Quota as QuotaAt, Record as RecordAt}
+use Rattle.comparison.specs.declared.Difference.the-variants.{LastSerial, Kind, Edition, Quota as QuotaAt, Record as RecordAt}
 use Rattle.comparison.specs.declared.Position.{Position}
-use Rattle.comparison.specs.declared.Position.the-variants.{Start, Kind as FromKind, Quota, Record, Byte}
+use Rattle.comparison.specs.declared.Position.the-variants.{Start, Kind as FromKind, Edition as FromEdition, Quota, Record, Byte}
 use Rattle.comparison.specs.declared.NextAnswer.the-variants.{Differs, Nothing}
 use Rattle.comparison.proofs.Runs.{runs-go-on}
 use Rattle.comparison.proofs.Items.{items-go-on}
@@ -79,13 +80,17 @@ module _ (a b : State) where
       go true z = later d ds z
       go false z = let u : d ≡ name = cc in let v : rest ≡ ds = cc in rw u (next ∙ v)
 
+  edition-goes-on : (d : Difference) (ds : List Difference) → from-edition a b ≡ d ∷ ds → GoesOn d ds
+  unfolding from-edition differences-from behind
+  edition-goes-on = number-goes-on Edition (a .accounts .edition) (b .accounts .edition) (from-quota a b 0) refl (quotas-go-on 0)
+
   kind-goes-on : (d : Difference) (ds : List Difference) → from-kind a b ≡ d ∷ ds → GoesOn d ds
   unfolding from-kind differences-from behind
-  kind-goes-on = number-goes-on Kind (a .accounts .kind) (b .accounts .kind) (from-quota a b 0) refl (quotas-go-on 0)
+  kind-goes-on = number-goes-on Kind (a .accounts .kind) (b .accounts .kind) (from-edition a b) refl edition-goes-on
 
   -- the whole list is that of the last serial, and then that from the kind on
   pub from-start : differences a b ≡ number-part LastSerial (a .accounts .«last_serial») (b .accounts .«last_serial») ++ from-kind a b
-  unfolding differences from-kind from-quota from-record from-byte
+  unfolding differences from-kind from-edition from-quota from-record from-byte
   from-start = refl
 
   start-goes-on : (d : Difference) (ds : List Difference) → differences a b ≡ d ∷ ds → GoesOn d ds
@@ -98,6 +103,7 @@ module _ (a b : State) where
   unfolding differences-from
   goes-on Start d ds e = start-goes-on d ds e
   goes-on FromKind d ds e = kind-goes-on d ds e
+  goes-on FromEdition d ds e = edition-goes-on d ds e
   goes-on (Quota q) d ds e = quotas-go-on q d ds e
   goes-on (Record p) d ds e = records-go-on p d ds e
   goes-on (Byte at) d ds e = bytes-go-on at d ds e

@@ -8,15 +8,17 @@ use lib.ListN.{set, replicate, take}
 use Rattle.accounts.specs.declared.Accounts.{Accounts}
 use Rattle.accounts.specs.declared.Quota.{Quota}
 use Rattle.accounts.specs.declared.Hold.{Hold}
-use Rattle.accounts.specs.Accounts.{QUOTAS, HOLDS, zero-quota, zero-hold, with-permissions, with-quotas, with-last-serial, with-holds, with-kind, plain, opened}
+use Rattle.accounts.specs.Accounts.{QUOTAS, HOLDS, zero-quota, zero-hold, with-permissions, with-quotas, with-last-serial, with-holds, plain, opened}
+use Rattle.accounts.specs.Accounts.{with-kind, with-edition}
 use Rattle.framing.specs.Frames.{cut}
 use Rattle.image_model.specs.Stream.{form-1, form-2, stream, image-of}
 use Rattle.comparison.specs.Differences.{State, differences}
 use Rattle.comparison.specs.Positions.{next-of, asked}
 use Rattle.comparison.specs.Compare.{Compared, compare-of}
 use Rattle.comparison.specs.declared.Difference.{Difference}
-use Rattle.comparison.specs.declared.Difference.the-variants.{LastSerial, Kind, Quota as QuotaAt, Record as RecordAt, Bytes}
-use Rattle.comparison.specs.declared.Position.the-variants.{Start, Kind as FromKind, Quota as FromQuota, Record as FromRecord, Byte as FromByte}
+use Rattle.comparison.specs.declared.Difference.the-variants.{LastSerial, Kind, Edition, Quota as QuotaAt, Record as RecordAt, Bytes}
+use Rattle.comparison.specs.declared.Position.the-variants.{Start, Kind as FromKind, Edition as FromEdition}
+use Rattle.comparison.specs.declared.Position.the-variants.{Quota as FromQuota, Record as FromRecord, Byte as FromByte}
 use Rattle.comparison.specs.declared.NextAnswer.the-variants.{Differs, Nothing}
 use Rattle.comparison.specs.declared.Which.{Which}
 use Rattle.comparison.specs.declared.Which.the-variants.{First, Second, Neither}
@@ -39,6 +41,7 @@ accounts =
       «last_serial» = 1;
       holds = hold 1 0 1 ∷ replicate 52 zero-hold ++ (hold 1 1 3 ∷ replicate (HOLDS - 54) zero-hold);
       kind = 0;
+      edition = 0;
     }
 
 -- the state of these, and the same with another heap, other quotas, records or serial
@@ -75,8 +78,8 @@ run-rows : (differences state state ≡ [])
 unfolding small
 run-rows = (refl, refl, refl, refl, refl, refl, refl, refl)
 
--- accounts: the last serial; the kind, and behind the serial; a quota by its grant, by its remainder; the first and the last quota; a record by each of
--- its numbers; the first and the last record; two records that changed places
+-- accounts: the last serial; the kind, and behind the serial; the edition, and behind both; a quota by its grant, by its remainder; the first and the last
+-- quota; a record by each of its numbers; the first and the last record; two records that changed places
 quotas-with : List Quota → State
 quotas-with qs = with-accounts (with-quotas qs accounts)
 
@@ -87,6 +90,10 @@ account-rows : (differences state (with-accounts (with-last-serial 2 accounts)) 
     × (differences state (with-accounts (with-kind 1 accounts)) ≡ Kind ∷ [])
     × (differences (with-accounts (with-kind 1 accounts)) state ≡ Kind ∷ [])
     × (differences state (with-accounts (with-kind 1 (with-last-serial 2 accounts))) ≡ LastSerial ∷ Kind ∷ [])
+    × (differences state (with-accounts (with-edition 1 accounts)) ≡ Edition ∷ [])
+    × (differences (with-accounts (with-edition 1 accounts)) state ≡ Edition ∷ [])
+    × (differences state (with-accounts (with-edition 1 (with-kind 1 (with-last-serial 2 accounts)))) ≡ LastSerial ∷ Kind ∷ Edition ∷ [])
+    × (differences (with-accounts (with-kind 1 accounts)) (with-accounts (with-edition 1 accounts)) ≡ Kind ∷ Edition ∷ [])
     × (differences state (quotas-with (set (accounts .quotas) 1 (quota 1001 984))) ≡ QuotaAt 1 ∷ [])
     × (differences state (quotas-with (set (accounts .quotas) 1 (quota 1000 983))) ≡ QuotaAt 1 ∷ [])
     × (differences state (quotas-with (set (accounts .quotas) 1 (with-permissions 6 (quota 1000 984)))) ≡ QuotaAt 1 ∷ [])
@@ -97,7 +104,7 @@ account-rows : (differences state (with-accounts (with-last-serial 2 accounts)) 
     × (differences state (holds-with (set (set (accounts .holds) 511 (hold 0 0 1)) 0 zero-hold)) ≡ RecordAt 0 ∷ RecordAt 511 ∷ [])
     × (differences state (holds-with (set (set (accounts .holds) 53 (hold 1 0 1)) 0 (hold 1 1 3))) ≡ RecordAt 0 ∷ RecordAt 53 ∷ [])
 unfolding small quotas-with holds-with
-account-rows = (refl, refl, refl, refl, refl, refl, refl, refl, refl, refl, refl, refl, refl)
+account-rows = (refl, refl, refl, refl, refl, refl, refl, refl, refl, refl, refl, refl, refl, refl, refl, refl, refl)
 
 -- everything at once, in an image that is accepted: another serial, a third quota, exchanged records, a byte of the object, two runs in a free block
 other : State
@@ -110,6 +117,7 @@ other =
             «last_serial» = 3;
             holds = hold 1 1 3 ∷ replicate 52 zero-hold ++ (hold 1 0 1 ∷ replicate (HOLDS - 54) zero-hold);
             kind = 0;
+            edition = 0;
           };
     }
 
@@ -117,19 +125,28 @@ all-rows : differences state other ≡ LastSerial ∷ QuotaAt 2 ∷ RecordAt 0 �
 unfolding small other
 all-rows = refl
 
--- the same of the second kind
+-- the same of the second kind, and of edition 2 too
 another : State
 another = record { heap = other .heap; accounts = with-kind 1 (other .accounts) }
 
-kind-rows : differences state another ≡ LastSerial ∷ Kind ∷ QuotaAt 2 ∷ RecordAt 0 ∷ RecordAt 53 ∷ Bytes 8 1 ∷ Bytes 30 2 ∷ Bytes 63 1 ∷ []
-unfolding small other another
-kind-rows = refl
+third : State
+third = record { heap = other .heap; accounts = with-edition 1 (another .accounts) }
+
+kind-rows : (differences state another ≡ LastSerial ∷ Kind ∷ QuotaAt 2 ∷ RecordAt 0 ∷ RecordAt 53 ∷ Bytes 8 1 ∷ Bytes 30 2 ∷ Bytes 63 1 ∷ [])
+    × (differences state third ≡ LastSerial ∷ Kind ∷ Edition ∷ QuotaAt 2 ∷ RecordAt 0 ∷ RecordAt 53 ∷ Bytes 8 1 ∷ Bytes 30 2 ∷ Bytes 63 1 ∷ [])
+unfolding small other another third
+kind-rows = (refl, refl)
 
 -- positions: from the start, from each part on, from a part's end, behind a difference, inside a run, behind the last
 next-rows : (next-of Start state other ≡ Differs LastSerial FromKind)
     × (next-of FromKind state other ≡ Differs (QuotaAt 2) (FromQuota 3))
-    × (next-of FromKind state another ≡ Differs Kind (FromQuota 0))
-    × (next-of Start other another ≡ Differs Kind (FromQuota 0))
+    × (next-of FromKind state another ≡ Differs Kind FromEdition)
+    × (next-of Start other another ≡ Differs Kind FromEdition)
+    × (next-of FromEdition other another ≡ Nothing)
+    × (next-of FromEdition state another ≡ Differs (QuotaAt 2) (FromQuota 3))
+    × (next-of FromEdition state third ≡ Differs Edition (FromQuota 0))
+    × (next-of Start another third ≡ Differs Edition (FromQuota 0))
+    × (next-of (FromQuota 0) another third ≡ Nothing)
     × (next-of (FromQuota 0) other another ≡ Nothing)
     × (next-of Start state (but (9 ∷ [])) ≡ Differs (Bytes 9 1) (FromByte 10))
     × (next-of (FromQuota 0) state other ≡ Differs (QuotaAt 2) (FromQuota 3))
@@ -143,8 +160,9 @@ next-rows : (next-of Start state other ≡ Differs LastSerial FromKind)
     × (next-of Start state state ≡ Nothing)
     × (asked 3 Start state other ≡ LastSerial ∷ QuotaAt 2 ∷ RecordAt 0 ∷ [])
     × (asked 3 Start state another ≡ LastSerial ∷ Kind ∷ QuotaAt 2 ∷ [])
-unfolding small other another
-next-rows = (refl, refl, refl, refl, refl, refl, refl, refl, refl, refl, refl, refl, refl, refl, refl, refl, refl)
+    × (asked 4 Start state third ≡ LastSerial ∷ Kind ∷ Edition ∷ QuotaAt 2 ∷ [])
+unfolding small other another third
+next-rows = (refl, refl, refl, refl, refl, refl, refl, refl, refl, refl, refl, refl, refl, refl, refl, refl, refl, refl, refl, refl, refl, refl, refl)
 
 -- images: of both states, and of a fresh heap that is longer; and the first with a wrong byte in its stream
 first : List ℕ
@@ -175,7 +193,7 @@ nth-rows : (compare-of first second 0 ≡ found (some LastSerial))
 unfolding small other first second found
 nth-rows = (refl, refl, refl, refl, refl, refl)
 
--- the same states in form 2, and two that form 1 does not carry
+-- the same states in form 2, and three that form 1 does not carry
 full : List ℕ
 full = image-of form-2 heap accounts
 
@@ -185,10 +203,17 @@ full-other = image-of form-2 heap (quotas-with (set (accounts .quotas) 31 (with-
 full-kind : List ℕ
 full-kind = image-of form-2 heap (with-kind 1 (with-last-serial 2 accounts))
 
+full-edition : List ℕ
+full-edition = image-of form-2 heap (with-edition 1 accounts)
+
 form-rows : (compare-of full full-kind 0 ≡ found (some LastSerial))
     × (compare-of full full-kind 1 ≡ found (some Kind))
     × (compare-of full full-kind 2 ≡ found none)
     × (compare-of full-kind full-kind 0 ≡ found none)
+    × (compare-of full full-edition 0 ≡ found (some Edition))
+    × (compare-of full full-edition 1 ≡ found none)
+    × (compare-of full-kind full-edition 2 ≡ found (some Edition))
+    × (compare-of full-edition full-edition 0 ≡ found none)
     × (compare-of first full-kind 0 ≡ refused 29 Neither)
     × (compare-of full full-other 0 ≡ found (some (QuotaAt 31)))
     × (compare-of full full-other 1 ≡ found none)
@@ -197,8 +222,8 @@ form-rows : (compare-of full full-kind 0 ≡ found (some LastSerial))
     × (compare-of full first 0 ≡ refused 29 Neither)
     × (compare-of full longer 0 ≡ refused 29 Neither)
     × (compare-of full (take 1535 second) 0 ≡ refused 21 Second)
-unfolding small quotas-with other first second longer full full-other full-kind found refused
-form-rows = (refl, refl, refl, refl, refl, refl, refl, refl, refl, refl, refl, refl)
+unfolding small quotas-with other first second longer full full-other full-kind full-edition found refused
+form-rows = (refl, refl, refl, refl, refl, refl, refl, refl, refl, refl, refl, refl, refl, refl, refl, refl)
 
 -- each of the reader's refusals of either image; the first image's where both are bad; the lengths last, about neither
 refused-rows : (compare-of [] second 0 ≡ refused 21 First)

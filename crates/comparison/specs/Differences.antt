@@ -1,5 +1,5 @@
--- What differs between two states, as a list (rules 14.2 to 14.6): the last serial, the kind, then quotas by number, hold records by place and, at the
--- end, runs of heap bytes by offset, each as long as can be.
+-- What differs between two states, as a list (rules 14.2 to 14.6): the last serial, the kind, the edition, then quotas by number, hold records by place
+-- and, at the end, runs of heap bytes by offset, each as long as can be.
 use Prim.Native.Nat.{ℕ, suc}
 use mathlib.Core.List.{List, [], _∷_, _++_, map}
 use mathlib.Core.Bool.{Bool, cond, _&&_}
@@ -9,7 +9,7 @@ use Rattle.accounts.specs.declared.Hold.{Hold}
 use Rattle.accounts.specs.declared.Accounts.{Accounts}
 use Rattle.image_model.specs.Reading.{heap-in, accounts-in}
 use Rattle.comparison.specs.declared.Difference.{Difference}
-use Rattle.comparison.specs.declared.Difference.the-variants.{LastSerial, Kind, Quota as QuotaAt, Record as RecordAt, Bytes}
+use Rattle.comparison.specs.declared.Difference.the-variants.{LastSerial, Kind, Edition, Quota as QuotaAt, Record as RecordAt, Bytes}
 
 -- a heap and its accounts; and those that an image says
 pub record State : Type 0 where
@@ -77,6 +77,7 @@ unfoldable pub differences : State → State → List Difference
 differences a b =
     number-part LastSerial (a .accounts .«last_serial») (b .accounts .«last_serial»)
     ++ (number-part Kind (a .accounts .kind) (b .accounts .kind)
+    ++ (number-part Edition (a .accounts .edition) (b .accounts .edition)
     ++ (quota-part 0 (a .accounts .quotas) (b .accounts .quotas)
     ++ (record-part 0 (a .accounts .holds) (b .accounts .holds)
-    ++ byte-part 0 (a .heap) (b .heap))))
+    ++ byte-part 0 (a .heap) (b .heap)))))

@@ -6,19 +6,21 @@ use mathlib.Core.Logic.{_⊎_, _≢_}
 use lib.ListN.{length, getD}
 use Rattle.comparison.specs.Differences.{State}
 use Rattle.comparison.specs.declared.Difference.{Difference}
-use Rattle.comparison.specs.declared.Difference.the-variants.{LastSerial, Kind, Quota, Record, Bytes}
+use Rattle.comparison.specs.declared.Difference.the-variants.{LastSerial, Kind, Edition, Quota, Record, Bytes}
 
 -- where a difference stands: in which part, from where, and up to where
 abbrev pub part-of : Difference → ℕ
 part-of LastSerial = 0
 part-of Kind = 1
-part-of (Quota q) = 2
-part-of (Record p) = 3
-part-of (Bytes at n) = 4
+part-of Edition = 2
+part-of (Quota q) = 3
+part-of (Record p) = 4
+part-of (Bytes at n) = 5
 
 abbrev pub start-of : Difference → ℕ
 start-of LastSerial = 0
 start-of Kind = 0
+start-of Edition = 0
 start-of (Quota q) = q
 start-of (Record p) = p
 start-of (Bytes at n) = at
@@ -26,6 +28,7 @@ start-of (Bytes at n) = at
 abbrev pub stop-of : Difference → ℕ
 stop-of LastSerial = 0
 stop-of Kind = 0
+stop-of Edition = 0
 stop-of (Quota q) = q
 stop-of (Record p) = p
 stop-of (Bytes at n) = at + n

@@ -4,14 +4,14 @@ use mathlib.Core.List.{List, [], _∷_, _++_}
 use lib.ListN.{drop}
 use Rattle.comparison.specs.Differences.{State, number-part, quota-part, record-part, byte-part, differences}
 use Rattle.comparison.specs.declared.Difference.{Difference}
-use Rattle.comparison.specs.declared.Difference.the-variants.{LastSerial, Kind, Quota as QuotaAt, Record as RecordAt, Bytes}
+use Rattle.comparison.specs.declared.Difference.the-variants.{LastSerial, Kind, Edition, Quota as QuotaAt, Record as RecordAt, Bytes}
 use Rattle.comparison.specs.declared.Position.{Position}
-use Rattle.comparison.specs.declared.Position.the-variants.{Start, Kind as FromKind, Quota, Record, Byte}
+use Rattle.comparison.specs.declared.Position.the-variants.{Start, Kind as FromKind, Edition as FromEdition, Quota, Record, Byte}
 use Rattle.comparison.specs.declared.NextAnswer.{NextAnswer}
 use Rattle.comparison.specs.declared.NextAnswer.the-variants.{Differs, Nothing}
 
--- the bytes from an offset on; the records from a place on, then all bytes; the quotas from a number on, then all records and bytes; the kind, then
--- all behind it
+-- the bytes from an offset on; the records from a place on, then all bytes; the quotas from a number on, then all records and bytes; the edition
+-- and the kind, then all behind it
 module _ (a b : State) where
   unfoldable pub from-byte : ℕ → List Difference
   from-byte at = byte-part at (drop at (a .heap)) (drop at (b .heap))
@@ -22,12 +22,16 @@ module _ (a b : State) where
   unfoldable pub from-quota : ℕ → List Difference
   from-quota q = quota-part q (drop q (a .accounts .quotas)) (drop q (b .accounts .quotas)) ++ from-record 0
 
+  unfoldable pub from-edition : List Difference
+  from-edition = number-part Edition (a .accounts .edition) (b .accounts .edition) ++ from-quota 0
+
   unfoldable pub from-kind : List Difference
-  from-kind = number-part Kind (a .accounts .kind) (b .accounts .kind) ++ from-quota 0
+  from-kind = number-part Kind (a .accounts .kind) (b .accounts .kind) ++ from-edition
 
 unfoldable pub differences-from : Position → State → State → List Difference
 differences-from Start a b = differences a b
 differences-from FromKind a b = from-kind a b
+differences-from FromEdition a b = from-edition a b
 differences-from (Quota q) a b = from-quota a b q
 differences-from (Record p) a b = from-record a b p
 differences-from (Byte at) a b = from-byte a b at
@@ -35,7 +39,8 @@ differences-from (Byte at) a b = from-byte a b at
 -- the position behind a difference
 unfoldable pub behind : Difference → Position
 behind LastSerial = FromKind
-behind Kind = Quota 0
+behind Kind = FromEdition
+behind Edition = Quota 0
 behind (QuotaAt q) = Quota (q + 1)
 behind (RecordAt p) = Record (p + 1)
 behind (Bytes at n) = Byte (at + n)

@@ -11,7 +11,7 @@ use accounts::QUOTAS;
 ghost use mathlib.Core.Path.{_≡_};
 ghost use Prim.Native.Nat.{min};
 ghost use Rattle.comparison.specs.Differences.{state-in, differences};
-ghost use Rattle.comparison.specs.Positions.{from-byte, from-record, from-quota, from-kind, first-of, next-of};
+ghost use Rattle.comparison.specs.Positions.{from-byte, from-record, from-quota, from-edition, from-kind, first-of, next-of};
 
 // The smaller of two numbers.
 fn least(a: u32, b: u32) -> u32
@@ -70,6 +70,18 @@ fn from_quota(first: &[u8], second: &[u8], number: usize) -> NextAnswer
     from_record(first, second, 0)
 }
 
+// The edition, or what is first behind it.
+fn from_edition(first: &[u8], second: &[u8]) -> NextAnswer
+    ensures { λ r. ⌜ r ≡ first-of (from-edition (state-in (now (first .entry))) (state-in (now (second .entry)))) ⌝ }
+{
+    let one = image::accounts_in(first);
+    let two = image::accounts_in(second);
+    if one.edition != two.edition {
+        return NextAnswer::Differs(Difference::Edition, Position::Quota(0));
+    }
+    from_quota(first, second, 0)
+}
+
 // The kind, or what is first behind it.
 fn from_kind(first: &[u8], second: &[u8]) -> NextAnswer
     ensures { λ r. ⌜ r ≡ first-of (from-kind (state-in (now (first .entry))) (state-in (now (second .entry)))) ⌝ }
@@ -77,9 +89,9 @@ fn from_kind(first: &[u8], second: &[u8]) -> NextAnswer
     let one = image::accounts_in(first);
     let two = image::accounts_in(second);
     if one.kind != two.kind {
-        return NextAnswer::Differs(Difference::Kind, Position::Quota(0));
+        return NextAnswer::Differs(Difference::Kind, Position::Edition);
     }
-    from_quota(first, second, 0)
+    from_edition(first, second)
 }
 
 // The first difference of all.
@@ -101,6 +113,7 @@ pub fn next_difference(first: &[u8], second: &[u8], from: Position) -> NextAnswe
     match from {
         Position::Start => from_start(first, second),
         Position::Kind => from_kind(first, second),
+        Position::Edition => from_edition(first, second),
         Position::Quota(number) => from_quota(first, second, number),
         Position::Record(place) => from_record(first, second, place),
         Position::Byte(at) => from_byte(first, second, at),

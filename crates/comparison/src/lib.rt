@@ -8,11 +8,12 @@ mod going;
 pub use comparing::compare;
 pub use going::next_difference;
 
-// One difference, named without its values: the last serial, the heap's kind, a quota by its number, a hold record by its place, a run of heap bytes by its
-// offset and length.
+// One difference, named without its values: the last serial, the heap's kind, its edition, a quota by its number, a hold record by its place, a run of heap
+// bytes by its offset and length.
 pub enum Difference {
     LastSerial,
     Kind,
+    Edition,
     Quota(usize),
     Record(usize),
     Bytes(usize, usize),
@@ -32,10 +33,11 @@ pub enum CompareAnswer {
     Refused(ImageRefusal, Which),
 }
 
-// From where on differences are looked for: from the last serial, from the kind, from a quota, a hold record or a heap byte.
+// From where on differences are looked for: from the last serial, from the kind, from the edition, from a quota, a hold record or a heap byte.
 pub enum Position {
     Start,
     Kind,
+    Edition,
     Quota(usize),
     Record(usize),
     Byte(usize),

@@ -7,11 +7,11 @@ use mathlib.Core.List.{[], _∷_}
 use mathlib.Core.Option.{Option, none, some}
 use lib.ListN.{getD}
 use Rattle.comparison.specs.declared.Difference.{Difference}
-use Rattle.comparison.specs.declared.Difference.the-variants.{LastSerial, Kind, Quota as QuotaAt, Record as RecordAt, Bytes}
+use Rattle.comparison.specs.declared.Difference.the-variants.{LastSerial, Kind, Edition, Quota as QuotaAt, Record as RecordAt, Bytes}
 use Rattle.comparison.specs.declared.Which.{Which}
 use Rattle.comparison.specs.declared.Which.the-variants.{First, Second, Neither}
 use Rattle.comparison.specs.declared.Position.{Position}
-use Rattle.comparison.specs.declared.Position.the-variants.{Start, Kind as FromKind, Quota, Record, Byte}
+use Rattle.comparison.specs.declared.Position.the-variants.{Start, Kind as FromKind, Edition as FromEdition, Quota, Record, Byte}
 use Rattle.comparison.specs.declared.NextAnswer.{NextAnswer}
 use Rattle.comparison.specs.declared.NextAnswer.the-variants.{Differs, Nothing}
 use Rattle.comparison.specs.Compare.{Compared}
@@ -23,11 +23,12 @@ use Rattle.comparison_api.proofs.Rows
 
 -- from numbers, the difference, the image, the position
 abbrev difference-from : ℕ → ℕ → ℕ → Option Difference
-difference-from k p n = getD (none ∷ some LastSerial ∷ some (QuotaAt p) ∷ some (RecordAt p) ∷ some (Bytes p n) ∷ some Kind ∷ []) k none
+difference-from k p n = getD (none ∷ some LastSerial ∷ some (QuotaAt p) ∷ some (RecordAt p) ∷ some (Bytes p n) ∷ some Kind ∷ some Edition ∷ []) k none
 
 difference-back : (d : Difference) → difference-from (kind-number d) (place-number d) (length-number d) ≡ some d
 difference-back LastSerial = refl
 difference-back Kind = refl
+difference-back Edition = refl
 difference-back (QuotaAt q) = refl
 difference-back (RecordAt p) = refl
 difference-back (Bytes at n) = refl
@@ -57,6 +58,7 @@ pub position-back : (p : Position) → position-of (part-number p) (place-in p) 
 unfolding position-of
 position-back Start = refl
 position-back FromKind = refl
+position-back FromEdition = refl
 position-back (Quota q) = refl
 position-back (Record p) = refl
 position-back (Byte at) = refl

@@ -29,6 +29,7 @@ fn kind_of(difference: Difference) -> u32
     match difference {
         Difference::LastSerial => 1,
         Difference::Kind => 5,
+        Difference::Edition => 6,
         Difference::Quota(_) => 2,
         Difference::Record(_) => 3,
         Difference::Bytes(_, _) => 4,
@@ -41,6 +42,7 @@ fn place_of(difference: Difference) -> usize
     match difference {
         Difference::LastSerial => 0,
         Difference::Kind => 0,
+        Difference::Edition => 0,
         Difference::Quota(number) => number,
         Difference::Record(place) => place,
         Difference::Bytes(offset, _) => offset,
@@ -53,6 +55,7 @@ fn length_of(difference: Difference) -> usize
     match difference {
         Difference::LastSerial => 0,
         Difference::Kind => 0,
+        Difference::Edition => 0,
         Difference::Quota(_) => 0,
         Difference::Record(_) => 0,
         Difference::Bytes(_, length) => length,
@@ -88,7 +91,7 @@ pub(crate) fn reply_of_compare(answer: CompareAnswer) -> CompareReply
     }
 }
 
-// The position of a part's number and a place in it; a number above 4 is taken as 3.
+// The position of a part's number and a place in it; a number above 5 is taken as 3.
 pub(crate) fn position_of(part: u32, at: usize) -> Position
     ensures { λ r. ⌜ r ≡ position-of part at ⌝ }
 {
@@ -104,6 +107,9 @@ pub(crate) fn position_of(part: u32, at: usize) -> Position
     if part == 4 {
         return Position::Kind;
     }
+    if part == 5 {
+        return Position::Edition;
+    }
     Position::Byte(at)
 }
 
@@ -114,6 +120,7 @@ fn part_of(from: Position) -> u32
     match from {
         Position::Start => 0,
         Position::Kind => 4,
+        Position::Edition => 5,
         Position::Quota(_) => 1,
         Position::Record(_) => 2,
         Position::Byte(_) => 3,
@@ -126,6 +133,7 @@ fn place_in(from: Position) -> usize
     match from {
         Position::Start => 0,
         Position::Kind => 0,
+        Position::Edition => 0,
         Position::Quota(number) => number,
         Position::Record(place) => place,
         Position::Byte(offset) => offset,

@@ -5,7 +5,7 @@ use mathlib.Core.List.{List, [], _∷_, _++_, map}
 use Prim.Native.Nat.{ℕ, _-_}
 use lib.ListN.{set, replicate}
 use Rattle.accounts.specs.declared.Accounts.{Accounts}
-use Rattle.accounts.specs.Accounts.{QUOTAS, HOLDS, zero-hold, with-permissions, with-quotas, with-holds, with-kind}
+use Rattle.accounts.specs.Accounts.{QUOTAS, HOLDS, zero-hold, with-permissions, with-quotas, with-holds, with-kind, with-edition}
 use Rattle.framing.specs.Frames.{cut}
 use Rattle.image_model.specs.Stream.{form-1, form-2, stream, image-of}
 use Rattle.image_model.proofs.Rows.{heap, quota, hold, lent, written, not-written, small}
@@ -19,6 +19,7 @@ accounts =
       «last_serial» = 1;
       holds = replicate 3 zero-hold ++ (hold 1 0 1 ∷ replicate 123 zero-hold ++ (hold 1 7 2 ∷ replicate (HOLDS - 128) zero-hold));
       kind = 0;
+      edition = 0;
     }
 
 -- its images, and those of their streams with another byte at a place
@@ -73,7 +74,7 @@ other-rows : (map up (set second 600 9 ∷ second-but 20 8 ∷ second-but 16 85 
 unfolding moving up down
 other-rows = (refl, refl)
 
--- the same accounts with a permission cleared, with a grant of quota 8, with a record at place 128, of the second kind
+-- the same accounts with a permission cleared, with a grant of quota 8, with a record at place 128, of the second kind, of edition 2
 barred : Accounts
 barred = with-quotas (set (accounts .quotas) 31 (with-permissions 3 (quota 0 0))) accounts
 
@@ -86,11 +87,16 @@ held-128 = with-holds (set (set (accounts .holds) 127 zero-hold) 128 (hold 1 7 2
 waiting : Accounts
 waiting = with-kind 1 accounts
 
--- down: 28 before 25, and 26 before both; no third kind
+edited : Accounts
+edited = with-edition 1 accounts
+
+-- down: 28 before 25, and 26 before both; no third kind and no third edition
 down-rows : map down
-    (second-but 0 1 ∷ second-but 3 2 ∷ second-but 20 8 ∷ second-but 16 85
+    (second-but 0 1 ∷ second-but 3 2 ∷ second-but 2 2 ∷ second-but 2 255 ∷ second-but 20 8 ∷ second-but 16 85
     ∷ image-of form-2 heap barred ∷ image-of form-2 heap granted-8 ∷ image-of form-2 heap held-128 ∷ image-of form-2 heap waiting ∷ second-but 3 1
-    ∷ cut (set (stream form-2 heap barred) 16 85) ∷ cut (set (stream form-2 heap waiting) 16 85) ∷ second ∷ [])
-    ≡ 23 ∷ 23 ∷ 24 ∷ 26 ∷ 28 ∷ 28 ∷ 28 ∷ 28 ∷ 28 ∷ 26 ∷ 26 ∷ 25 ∷ []
-unfolding moving down barred granted-8 held-128 waiting
+    ∷ image-of form-2 heap edited ∷ second-but 2 1
+    ∷ cut (set (stream form-2 heap barred) 16 85) ∷ cut (set (stream form-2 heap waiting) 16 85)
+    ∷ cut (set (stream form-2 heap edited) 16 85) ∷ second ∷ [])
+    ≡ 23 ∷ 23 ∷ 23 ∷ 23 ∷ 24 ∷ 26 ∷ 28 ∷ 28 ∷ 28 ∷ 28 ∷ 28 ∷ 28 ∷ 28 ∷ 26 ∷ 26 ∷ 26 ∷ 25 ∷ []
+unfolding moving down barred granted-8 held-128 waiting edited
 down-rows = refl

@@ -4,7 +4,6 @@ use Prim.Native.Nat.{ℕ}
 use mathlib.Core.Path.{_≡_, ap, sym, _∙_}
 use mathlib.Core.List.{List}
 use Rattle.accounts.specs.declared.Accounts.{Accounts}
-use Rattle.rounding.specs.Rounding.{unit}
 use Rattle.model.specs.Answers.{Values, handle-values, amount-values, handle-from, amount-from}
 use Rattle.model.specs.Calls.{Outcome}
 use Rattle.model.specs.Step.{Answered, performed}
@@ -44,5 +43,5 @@ module _ (t : List ℕ) (p : Performed) (f : Outcome) where
       by-answer (λ v. OfAmount (amount-from v)) (r .accounts) (OfAmount (r .answer)) (amount-values (r .answer)) e (ap OfAmount (amount-back (r .answer))) g
 
 -- what one call performs is what the same call performs
-pub by-call : (s : List ℕ) (k : Accounts) (t : Answered) (c x : Call) → c ≡ x → t ≡ performed unit x s k → t ≡ performed unit c s k
-by-call s k t c x e d = d ∙ sym (ap (λ (y : Call). performed unit y s k) e)
+pub by-call : (unit : ℕ → ℕ) (s : List ℕ) (k : Accounts) (t : Answered) (c x : Call) → c ≡ x → t ≡ performed unit x s k → t ≡ performed unit c s k
+by-call unit s k t c x e d = d ∙ sym (ap (λ (y : Call). performed unit y s k) e)

@@ -5,7 +5,7 @@ use model::Answer;
 use model::Call;
 use quotas::AmountResult;
 ghost use mathlib.Core.Path.{_≡_};
-ghost use Rattle.rounding.specs.Rounding.{unit};
+ghost use Rattle.rounding.specs.Rounding.{table};
 ghost use Rattle.model.specs.Step.{performed};
 
 // What a call of a history gives: the accounts after it, and its answer.
@@ -50,7 +50,8 @@ fn unchanged(accounts: Accounts, answer: Answer) -> Performed
 
 // The call is made, and its answer is given with the accounts after it.
 pub fn perform(heap: &mut [u8], accounts: Accounts, call: Call) -> Performed
-    ensures { λ r. ⌜ record { heap = now (heap .exit); accounts = r .accounts; answer = r .answer } ≡ performed unit call (now (heap .entry)) accounts ⌝ }
+    ensures { λ r. ⌜ record { heap = now (heap .exit); accounts = r .accounts; answer = r .answer }
+        ≡ performed (table (accounts .edition)) call (now (heap .entry)) accounts ⌝ }
 {
     match call {
         Call::Allocate { quota, length } => of_handle(calls::allocate(

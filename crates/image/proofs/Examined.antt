@@ -7,12 +7,10 @@ use mathlib.Core.Option.{none, some}
 use Prim.Native.Nat.{ℕ, zero, suc, _≤_}
 use native.Mathlib.Omega.{arith}
 use lib.ListN.{take, drop}
-use Rattle.rounding.specs.Rounding.{unit}
 use Rattle.accounts.specs.declared.Accounts.{Accounts}
 use Rattle.accounts.specs.Accounts.{zero-accounts}
 use Rattle.layout.specs.Bytes.{number}
 use Rattle.model.specs.Lists.{or-else}
-use Rattle.model.specs.Consistent.{sound as is-sound}
 use Rattle.model.specs.Refusals.{first-refusal}
 use Rattle.framing.specs.Frames.{padded, stream-of}
 use Rattle.image_model.specs.declared.Form.{Form}
@@ -21,7 +19,7 @@ use Rattle.image_model.specs.declared.ImageRefusal.the-variants.{Unsound}
 use Rattle.image_model.specs.Stream.{form-1, form-numbered, head-length}
 use Rattle.image_model.specs.Reading.{form-in, form-of, size-in, accounts-in, heap-of, heap-in}
 use Rattle.image_model.specs.Answers.{image-refusal-number}
-use Rattle.image_model.specs.Images.{line-26, shape-lines, examine-lines}
+use Rattle.image_model.specs.Images.{own-sound, line-26, shape-lines, examine-lines}
 use Rattle.image_model.proofs.Answers.{image-refusal-is}
 use Rattle.image.specs.declared.Shape.the-variants.{Refused}
 use Rattle.image.specs.declared.Parsed.{Parsed}
@@ -57,12 +55,12 @@ examined-refused i p r told e =
 
 -- one that they do not refuse: what the test of its state finds
 module _ (i : List ℕ) (f : Form) (n : ℕ) (k : Accounts) (w : Found i f n k) (at : ℕ) (is : at ≡ head-length f) where
-  module _ (r : Bool) (told : r ≡ is-sound unit (padded n (drop at (stream-of i))) k) where
-    state-is : r ≡ is-sound unit (heap-in i) (accounts-in i)
+  module _ (r : Bool) (told : r ≡ own-sound (padded n (drop at (stream-of i))) k) where
+    state-is : r ≡ own-sound (heap-in i) (accounts-in i)
     unfolding heap-in heap-of size-in
     state-is =
         let start : at ≡ head-length (form-of i) = is ∙ ap head-length (w .form) in
-        told ∙ (λ j. is-sound unit (padded (w .size j) (drop (start j) (stream-of i))) (w .accounts j))
+        told ∙ (λ j. own-sound (padded (w .size j) (drop (start j) (stream-of i))) (w .accounts j))
 
     passed : first-refusal (examine-lines i) ≡ first-refusal (line-26 i ∷ [])
     unfolding examine-lines

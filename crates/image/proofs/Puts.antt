@@ -8,9 +8,10 @@ use native.Mathlib.Omega.{arith}
 use lib.ListN.{length, drop, length-append}
 use lib.Dec.{ltb, eqb}
 use borrow.Author.Tests.{ltb-true, ltb-false, lt-ltb, le-ltb, le-leb, lt-leb}
-use Rattle.rounding.specs.Rounding.{unit}
+use Rattle.rounding.specs.Rounding.{table}
 use Rattle.accounts.specs.declared.Accounts.{Accounts}
 use Rattle.accounts.specs.Accounts.{unused}
+use Rattle.layout.specs.Bytes.{bytes}
 use Rattle.model.specs.declared.Refusal.{Refusal}
 use Rattle.model.specs.declared.Verdict.{Verdict}
 use Rattle.model.specs.declared.Verdict.the-variants.{Accepted, Refused}
@@ -84,17 +85,18 @@ module _ (f : Form) (fits : FormFits f) (o s : List ℕ) (k : Accounts) (carried
       ap (as-image o′) (sym g) ∙ ap framed (w ∙ ap (write-frames o) stream-is) ∙ framed-put (ltb (length o) (512 * count)) refl
 
 -- behind the check: what it refuses is refused, what it accepts is put
-module _ (f : Form) (o s : List ℕ) (k : Accounts) (v : Verdict) (told : verdict-values v ≡ check unit s k .values) where
+module _ (f : Form) (o s : List ℕ) (k : Accounts) (v : Verdict) (told : verdict-values v ≡ check (table (k .edition)) s k .values) where
   pub write-refused : (r : Refusal) → v ≡ Refused r → imaged o (NotWritten (Call r)) ≡ write-image f o s k
   unfolding imaged write-image unless-written write-lines
   write-refused r e =
       let n = number-some r in
-      let g : first-refusal (line-1 s ∷ line-2 unit s k ∷ put-lines f o s k) ≡ suc (n .0) = check-refuses unit s k v told (put-lines f o s k) r e ∙ n .1 in
+      let g : first-refusal (line-1 s ∷ line-2 (table (k .edition)) s k ∷ put-lines f o s k) ≡ suc (n .0) =
+      check-refuses (table (k .edition)) s k v told (put-lines f o s k) r e ∙ n .1 in
       rw (n .1, g)
 
   pub write-accepted : v ≡ Accepted → put-image f o s k ≡ write-image f o s k
   unfolding put-image write-image write-lines
-  write-accepted e = rw (check-accepts unit s k v told (put-lines f o s k) e)
+  write-accepted e = rw (check-accepts (table (k .edition)) s k v told (put-lines f o s k) e)
 
 -- the length of an image, where a heap has that length and where none has
 pub length-none : (f : Form) (n : ℕ) → allowed n ≡ false → 0 ≡ length-for f n
@@ -125,6 +127,6 @@ module _ (f : Form) (k : Accounts) where
         unfolding carries
         carried-permissions e = rw (lean, sym ge ∙ granted, sym re ∙ records, sym pe ∙ e)
 
-        pub carried-marks : p ≡ true → (n : ℕ) → n ≡ 256 * k .kind → n < 65536 → eqb n 0 ≡ carries f k
+        pub carried-marks : p ≡ true → (n : ℕ) → bytes 2 n ≡ bytes 1 (k .edition) ++ bytes 1 (k .kind) → n < 65536 → eqb n 0 ≡ carries f k
         unfolding carries
         carried-marks e n is h = marks-zero k n is h ∙ sym (rw (lean, sym ge ∙ granted, sym re ∙ records, sym pe ∙ e))

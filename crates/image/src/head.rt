@@ -21,7 +21,7 @@ pub(crate) fn write_head(head: &mut [u8], form: Form, size: u32, accounts: Accou
     let quotas = accounts.quotas;
     let holds = accounts.holds;
     layout::write_u16(head, 0, form.number);
-    layout::write_u16(head, 2, marks(full, accounts.kind));
+    layout::write_u16(head, 2, marks(full, accounts.kind, accounts.edition));
     layout::write_u32(head, 4, size);
     layout::write_u32(head, 8, accounts.last_serial);
     write_entries(head, quotas, count, full);

@@ -8,6 +8,7 @@ use crate::forms::entry_at;
 use crate::forms::form_numbered;
 use crate::forms::heap_at;
 use crate::marks::marks_right;
+use crate::marks::read_edition;
 use crate::marks::read_kind;
 use crate::numbers::read_pair;
 use crate::numbers::read_quad;
@@ -77,6 +78,7 @@ pub(crate) fn read_accounts(image: &[u8], form: Form) -> Accounts
         last_serial: read_quad(image, 8),
         holds: read_records(image, entry_at(quotas, full), records),
         kind: read_kind(image, full),
+        edition: read_edition(image, full),
     }
 }
 

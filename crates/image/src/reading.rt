@@ -12,13 +12,12 @@ use model::Verdict;
 ghost use mathlib.Core.Path.{_≡_};
 ghost use mathlib.Core.Bool.{true};
 ghost use lib.ListN.{length, drop};
-ghost use Rattle.rounding.specs.Rounding.{unit};
 ghost use Rattle.accounts.specs.Accounts.{zero-accounts};
-ghost use Rattle.model.specs.Consistent.{allowed, sound as is-sound};
+ghost use Rattle.model.specs.Consistent.{allowed};
 ghost use Rattle.framing.specs.Frames.{padded, stream-of};
 ghost use Rattle.image_model.specs.declared.ReadAnswer.the-variants.{Refused};
 ghost use Rattle.image_model.specs.Answers.{restored-to};
-ghost use Rattle.image_model.specs.Images.{read-image};
+ghost use Rattle.image_model.specs.Images.{own-sound, read-image};
 ghost use Rattle.image.specs.Parsing.{FormFits, restore};
 
 // Bytes for the longest heap.
@@ -29,7 +28,7 @@ fn heap_space() -> [u8; GREATEST_HEAP] {
 // Whether the stream's bytes from a place on are a heap that is consistent with the accounts. They are copied out, as many as there is room for.
 fn is_sound_in(image: &[u8], from: u32, room: &mut [u8], accounts: Accounts) -> bool
     requires { ⌜ allowed (length (now room)) ≡ true ⌝ }
-    ensures { λ r. ⌜ r ≡ is-sound unit (padded (length (now (room .entry))) (drop from (stream-of (now (image .entry))))) accounts ⌝ }
+    ensures { λ r. ⌜ r ≡ own-sound (padded (length (now (room .entry))) (drop from (stream-of (now (image .entry))))) accounts ⌝ }
 {
     framing::copy_stream(image, from, room);
     let Verdict::Accepted = checker::check(room, accounts) else {
@@ -41,7 +40,7 @@ fn is_sound_in(image: &[u8], from: u32, room: &mut [u8], accounts: Accounts) -> 
 // Whether an image's heap, of so many bytes, is consistent with the accounts. The lent heap has no part in it: it stays as it is where they are not.
 pub(crate) fn is_sound(image: &[u8], from: u32, size: usize, accounts: Accounts) -> bool
     requires { ⌜ allowed size ≡ true ⌝ }
-    ensures { λ r. ⌜ r ≡ is-sound unit (padded size (drop from (stream-of (now (image .entry))))) accounts ⌝ }
+    ensures { λ r. ⌜ r ≡ own-sound (padded size (drop from (stream-of (now (image .entry))))) accounts ⌝ }
 {
     let mut room = heap_space();
     is_sound_in(image, from, &mut room[..size], accounts)

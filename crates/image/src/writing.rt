@@ -41,7 +41,7 @@ fn is_carried(form: Form, accounts: Accounts) -> bool
     if !are_permitted(quotas) {
         return false;
     }
-    marks(true, accounts.kind) == 0
+    marks(true, accounts.kind, accounts.edition) == 0
 }
 
 // Bytes for the longest head.

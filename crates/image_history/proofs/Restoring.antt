@@ -8,11 +8,10 @@ use mathlib.Core.List.{List, [], _∷_, _++_}
 use Prim.Native.Nat.{ℕ, zero, suc}
 use lib.ListN.{length, take}
 use Rattle.accounts.specs.declared.Accounts.{Accounts}
-use Rattle.rounding.specs.Rounding.{unit, Units}
+use Rattle.rounding.specs.Rounding.{table, Units}
 use Rattle.layout.specs.Bytes.{Octets}
-use Rattle.model.specs.Step.{step}
 use Rattle.ledger.specs.Ledger.{Ledger, Event, Saved, Restored, read-ledger, ledger-of}
-use Rattle.ledger.specs.History.{Run, Restorable, Restoring, History}
+use Rattle.ledger.specs.History.{Run, by-own, Restorable, Restoring, History}
 use Rattle.ledger.specs.Demand3.{Holds}
 use Rattle.ledger.proofs.Lengths.{saved-as-long}
 use Rattle.ledger.proofs.Rejoining.{saved-history, Same, history-restorable, rejoined-ledger, rejoined-holds}
@@ -32,7 +31,7 @@ written-image f o s k = take (write-image f o s k .length) (write-image f o s k 
 
 module _ (i h : List ℕ) (octets : Octets i) (accepted : read-image i h .refusal ≡ 0) where
   -- what an image gives back may be restored
-  pub accepted-restorable : Restorable unit (read-image i h .heap) (read-image i h .accounts)
+  pub accepted-restorable : Restorable (table (read-image i h .accounts .edition)) (read-image i h .heap) (read-image i h .accounts)
   accepted-restorable =
       let a = read-written i h octets accepted .0 in
       rw (accepted-read i h accepted) (record {
@@ -49,12 +48,12 @@ module _ (i h : List ℕ) (octets : Octets i) (accepted : read-image i h .refusa
 
   -- so it is a beginning, with the ledger that is read off it
   pub restored-begins : (run : Run)
-      → History unit run (read-ledger (read-image i h .heap) (read-image i h .accounts)) [] (read-image i h .heap) (read-image i h .accounts)
+      → History table run (read-ledger (read-image i h .heap) (read-image i h .accounts)) [] (read-image i h .heap) (read-image i h .accounts)
   restored-begins run = Restoring refl accepted-restorable
 
   -- and a history goes on with it
-  pub restored-goes-on : (run : Run) (begun : Ledger) (es : List Event) (k : Accounts) → History unit run begun es h k
-      → History unit run begun (Restored (read-image i h .heap) (read-image i h .accounts) ∷ es) (read-image i h .heap) (read-image i h .accounts)
+  pub restored-goes-on : (run : Run) (begun : Ledger) (es : List Event) (k : Accounts) → History table run begun es h k
+      → History table run begun (Restored (read-image i h .heap) (read-image i h .accounts) ∷ es) (read-image i h .heap) (read-image i h .accounts)
   restored-goes-on run begun es k past = (h, k, past, accepted-length, accepted-restorable, refl, refl)
 
 -- a refused read leaves the heap, so the history goes on with the accounts from before
@@ -65,9 +64,9 @@ refused-keeps i s f = go (read-image i s .refusal) refl
     go zero e = absurd (f e)
     go (suc n) e = ap (λ (r : Restored-to). r .heap) (refused-read i s n e)
 
-pub refused-goes-on : (unit : ℕ → ℕ) (i s : List ℕ) (run : Run) (begun : Ledger) (es : List Event) (k : Accounts) → (read-image i s .refusal ≡ 0 → ⊥)
-    → History unit run begun es s k → History unit run begun es (read-image i s .heap) k
-refused-goes-on unit i s run begun es k f past = rw (refused-keeps i s f) past
+pub refused-goes-on : (tables : ℕ → ℕ → ℕ) (i s : List ℕ) (run : Run) (begun : Ledger) (es : List Event) (k : Accounts) → (read-image i s .refusal ≡ 0 → ⊥)
+    → History tables run begun es s k → History tables run begun es (read-image i s .heap) k
+refused-goes-on tables i s run begun es k f past = rw (refused-keeps i s f) past
 
 -- an image was written of s and k, in a form that is known
 module _ (f : Form) (o s : List ℕ) (k : Accounts) (known : Known f) (typed : Typed k) (saved : write-image f o s k .refusal ≡ 0) (octets : Octets s) where
@@ -85,37 +84,37 @@ module _ (f : Form) (o s : List ℕ) (k : Accounts) (known : Known f) (typed : T
   saved-restored h e = accepted-read (written-image f o s k) h e ∙ (λ j. record { heap = says .0 j; accounts = says .1 j; refusal = 0 })
 
 -- a written image is an event of the history, and changes nothing
-pub saved-goes-on : (unit : ℕ → ℕ) (run : Run) (begun : Ledger) (es : List Event) (s : List ℕ) (k : Accounts) → History unit run begun es s k
-    → History unit run begun (Saved s k ∷ es) s k
-saved-goes-on unit run begun es s k past = (past, refl, refl)
+pub saved-goes-on : (tables : ℕ → ℕ → ℕ) (run : Run) (begun : Ledger) (es : List Event) (s : List ℕ) (k : Accounts) → History tables run begun es s k
+    → History tables run begun (Saved s k ∷ es) s k
+saved-goes-on tables run begun es s k past = (past, refl, refl)
 
 -- what a read of an image leaves that was written in the history: the heap and the accounts written; a history with the restore in it; the image's own
 -- history again; and a ledger that says what it said when the image was written
-pub record Continues (unit : ℕ → ℕ) (begun : Ledger) (early mid : List Event) (s₁ : List ℕ) (k₁ : Accounts) (r : Restored-to) : Type 0 where
+pub record Continues (tables : ℕ → ℕ → ℕ) (begun : Ledger) (early mid : List Event) (s₁ : List ℕ) (k₁ : Accounts) (r : Restored-to) : Type 0 where
   pub state : r ≡ record { heap = s₁; accounts = k₁; refusal = 0 }
-  pub goes-on : History unit (step unit) begun (Restored (r .heap) (r .accounts) ∷ (mid ++ (Saved s₁ k₁ ∷ early))) (r .heap) (r .accounts)
-  pub again : History unit (step unit) begun early (r .heap) (r .accounts)
+  pub goes-on : History tables (by-own tables) begun (Restored (r .heap) (r .accounts) ∷ (mid ++ (Saved s₁ k₁ ∷ early))) (r .heap) (r .accounts)
+  pub again : History tables (by-own tables) begun early (r .heap) (r .accounts)
   pub ledger : Same (ledger-of begun (Restored (r .heap) (r .accounts) ∷ (mid ++ (Saved s₁ k₁ ∷ early)))) (ledger-of begun early)
 
-module _ (unit : ℕ → ℕ) (units : Units unit) (begun : Ledger) (early mid : List Event) (s₁ : List ℕ) (k₁ : Accounts) where
+module _ (tables : ℕ → ℕ → ℕ) (units : (e : ℕ) → Units (tables e)) (begun : Ledger) (early mid : List Event) (s₁ : List ℕ) (k₁ : Accounts) where
   -- at any later point of the history the image is accepted
-  pub restore-continues : (s : List ℕ) (k : Accounts) → History unit (step unit) begun (mid ++ (Saved s₁ k₁ ∷ early)) s k
+  pub restore-continues : (s : List ℕ) (k : Accounts) → History tables (by-own tables) begun (mid ++ (Saved s₁ k₁ ∷ early)) s k
       → (f : Form) (o : List ℕ) → Known f → Typed k₁ → write-image f o s₁ k₁ .refusal ≡ 0
-      → Continues unit begun early mid s₁ k₁ (read-image (written-image f o s₁ k₁) s)
+      → Continues tables begun early mid s₁ k₁ (read-image (written-image f o s₁ k₁) s)
   restore-continues s k past f o known typed saved =
-      let own = saved-history unit (step unit) begun early s₁ k₁ mid s k past in
-      let fit = history-restorable unit units begun early s₁ k₁ own in
-      let long = saved-as-long unit units begun early s₁ k₁ mid s k past in
-      subst (Continues unit begun early mid s₁ k₁) (sym (write-then-read f o s₁ k₁ s saved known (fit .octets) typed long))
+      let own = saved-history tables (by-own tables) begun early s₁ k₁ mid s k past in
+      let fit = history-restorable tables units begun early s₁ k₁ own in
+      let long = saved-as-long tables units begun early s₁ k₁ mid s k past in
+      subst (Continues tables begun early mid s₁ k₁) (sym (write-then-read f o s₁ k₁ s saved known (fit .octets) typed long))
       (record {
         state = refl;
         goes-on = (s, k, past, sym long, fit, refl, refl);
         again = own;
-        ledger = rejoined-ledger unit units begun early mid s₁ k₁ s k past;
+        ledger = rejoined-ledger tables units begun early mid s₁ k₁ s k past;
       })
 
   -- and whatever happens since, demand 3 speaks of the image's history and of that
   pub restore-holds : (since : List Event) (s : List ℕ) (k : Accounts)
-      → History unit (step unit) begun (since ++ (Restored s₁ k₁ ∷ (mid ++ (Saved s₁ k₁ ∷ early)))) s k
-      → (front back : List Event) → since ++ early ≡ back ++ front → Holds unit (step unit) begun front back s k
-  restore-holds since s k past = rejoined-holds unit units begun early mid since s₁ k₁ s k past
+      → History tables (by-own tables) begun (since ++ (Restored s₁ k₁ ∷ (mid ++ (Saved s₁ k₁ ∷ early)))) s k
+      → (front back : List Event) → since ++ early ≡ back ++ front → Holds (tables (k .edition)) (by-own tables) begun front back s k
+  restore-holds since s k past = rejoined-holds tables units begun early mid since s₁ k₁ s k past

@@ -45,6 +45,7 @@ module _ (f : Form) (t : List ℕ) where
         «last_serial» = number (take 4 (drop 8 t));
         holds = read-holds ++ drop (f .records) (blank f .holds);
         kind = 0;
+        edition = 0;
       }
 
   keeps : (accounts-of f t .quotas ≡ read-accounts .quotas) × (accounts-of f t .«last_serial» ≡ read-accounts .«last_serial»)
@@ -105,9 +106,9 @@ module _ (f : Form) (t : List ℕ) where
       let z : All RecordFits (blank f .holds) = rw (blank-is f .1) (all-same RecordFits HOLDS zero-hold (lit< tt, lit< tt, lit< tt)) in
       rw (keeps .2) (all-both RecordFits read-holds (drop (f .records) (blank f .holds)) a (all-drop RecordFits (f .records) (blank f .holds) z))
 
-  kind-fits : Octets t → accounts-of f t .kind < 2 ^ 8
+  settings-fit : Octets t → (accounts-of f t .kind < 2 ^ 8) × (accounts-of f t .edition < 2 ^ 8)
   unfolding accounts-of read-accounts
-  kind-fits o = marks-narrow f (marks-in t) read-accounts (octets-take 2 (drop 2 t) (octets-drop 2 t o))
+  settings-fit o = marks-narrow f (marks-in t) read-accounts (octets-take 2 (drop 2 t) (octets-drop 2 t o))
 
   pub typed-read : Known f → Octets t → Typed (accounts-of f t)
   unfolding read-accounts
@@ -126,7 +127,8 @@ module _ (f : Form) (t : List ℕ) where
         serial = λ i. all-places RecordFits zero-hold (accounts-of f t .holds) r (lit< tt, lit< tt, lit< tt) i .0;
         quota = λ i. all-places RecordFits zero-hold (accounts-of f t .holds) r (lit< tt, lit< tt, lit< tt) i .1;
         count = λ i. all-places RecordFits zero-hold (accounts-of f t .holds) r (lit< tt, lit< tt, lit< tt) i .2;
-        kind = kind-fits o;
+        kind = settings-fit o .0;
+        edition = settings-fit o .1;
       }
 
 -- the parts, put back

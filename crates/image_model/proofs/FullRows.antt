@@ -21,6 +21,7 @@ accounts =
       «last_serial» = 1;
       holds = hold 1 0 1 ∷ replicate (HOLDS - 2) zero-hold ++ (hold 1 1 3 ∷ []);
       kind = 0;
+      edition = 0;
     }
 
 times : ℕ → List ℕ → List ℕ
@@ -74,7 +75,7 @@ refused =
     -- 23: another form, a byte behind it; 24: form 1 with too many frames for it
     (but 0 3 into 64 is 23)
     ∷ (but 1 1 into 64 is 23)
-    ∷ (but 2 1 into 64 is 23)
+    ∷ (but 2 2 into 64 is 23)
     ∷ (but 3 2 into 64 is 23)
     ∷ (but 0 1 into 64 is 24)
     -- 24: permissions above 7 of the first quota and the last; each byte behind them; spare bytes of the first record and the last; a frame too many;

@@ -155,7 +155,8 @@ module _ (f : Form) (e : Known f) (s : List ℕ) (k : Accounts) (y : Typed k) (t
       let l = number-here 4 8 (k .«last_serial») t behind-serial at-8 (y .last) in
       let a = quotas-read c z in
       let b = holds-read c in
-      (λ i. with-marks f (marks-read i) (record { quotas = a i; «last_serial» = l i; holds = b i; kind = 0 })) ∙ marks-back f k (y .kind) (marks-carried f k c)
+      (λ i. with-marks f (marks-read i) (record { quotas = a i; «last_serial» = l i; holds = b i; kind = 0; edition = 0 }))
+      ∙ marks-back f k (y .kind) (y .edition) (marks-carried f k c)
 
   pub heap-read : length s < 2 ^ 32 → heap-of f t ≡ s
   unfolding heap-of

@@ -13,14 +13,14 @@ use Rattle.image_model.specs.Images.{write-image, read-image}
 use Rattle.image_model.proofs.Rows.{small, lent, written, not-written, Refused, _into_is_, got, wanted}
 
 -- two quarantined blocks of 16 bytes and a free one; and a free block alone
-waiting : List ℕ
+unfoldable pub waiting : List ℕ
 waiting = 2 ∷ 0 ∷ 0 ∷ 0 ∷ replicate 4 255 ++ (replicate 8 0 ++ (2 ∷ 0 ∷ 2 ∷ 0 ∷ replicate 4 255 ++ (replicate 8 9 ++ (4 ∷ 0 ∷ 2 ∷ replicate 29 0))))
 
-empty : List ℕ
+unfoldable pub empty : List ℕ
 empty = 8 ∷ replicate 63 0
 
 -- nothing is held, in a heap of a kind
-of-kind : ℕ → Accounts
+unfoldable pub of-kind : ℕ → Accounts
 of-kind n = with-kind n (with-last-serial 7 (opened plain (100 ∷ replicate (QUOTAS - 1) 0)))
 
 -- byte 3 is the kind in form 2, and zero in form 1
@@ -47,7 +47,7 @@ unfolding small of-kind waiting empty image lent written not-written
 write-rows = (refl, refl, refl, refl, refl, refl, refl, refl)
 
 -- the image of a stream with other bytes from a place on
-but : List ℕ → ℕ → List ℕ → List ℕ
+unfoldable pub but : List ℕ → ℕ → List ℕ → List ℕ
 but t at bs = cut (overwrite at bs t)
 
 two : List ℕ
@@ -70,8 +70,8 @@ refused =
     -- 23: another kind, a byte in front of a right one, any kind in form 1; also where the heap's length is wrong
     (but two 3 (2 ∷ []) into 64 is 23)
     ∷ (but two 3 (255 ∷ []) into 64 is 23)
-    ∷ (but two 2 (1 ∷ []) into 64 is 23)
-    ∷ (but two 2 (1 ∷ 0 ∷ []) into 64 is 23)
+    ∷ (but two 2 (2 ∷ []) into 64 is 23)
+    ∷ (but two 2 (2 ∷ 0 ∷ []) into 64 is 23)
     ∷ (but two 3 (2 ∷ 65 ∷ []) into 64 is 23)
     ∷ (but one 3 (1 ∷ []) into 64 is 23)
     ∷ (but (stream form-1 waiting (of-kind 1)) 3 (1 ∷ []) into 64 is 23)

@@ -3,6 +3,7 @@ pub mod Computing
 pub mod Rows
 pub mod FullRows
 pub mod KindRows
+pub mod EditionRows
 pub mod Refusals
 pub mod Items
 pub mod Parts

@@ -14,7 +14,8 @@ use borrow.Author.Tests.{eqb-true, lt-ltb, not-true, not-false}
 use Rattle.accounts.specs.declared.Quota.{Quota}
 use Rattle.accounts.specs.declared.Hold.{Hold}
 use Rattle.accounts.specs.declared.Accounts.{Accounts}
-use Rattle.accounts.specs.Accounts.{QUOTAS, HOLDS, ALL-PERMISSIONS, permissible, zero-hold, with-permissions, with-kind, granted, opened, used, unused}
+use Rattle.accounts.specs.Accounts.{QUOTAS, HOLDS, ALL-PERMISSIONS, permissible, zero-hold, with-permissions, granted, opened, used, unused}
+use Rattle.accounts.specs.Accounts.{with-kind, with-edition}
 use Rattle.layout.specs.Bytes.{bytes, Octets}
 use Rattle.model.specs.Lists.{all}
 use Rattle.model.proofs.Bools.{and-left, and-right}
@@ -25,6 +26,7 @@ use Rattle.image_model.specs.declared.Form.{Form}
 use Rattle.image_model.proofs.Rows.{head-rows}
 use Rattle.image_model.proofs.FullRows
 use Rattle.image_model.proofs.KindRows
+use Rattle.image_model.proofs.EditionRows
 use Rattle.image_model.proofs.Items.{All, all-drop, all-map, all-tested, tested-all, all-two, all-of, none-behind, filled-behind, zeros-are, are-zeros}
 use Rattle.image_model.proofs.Parts.{bytes-split-here, one-at}
 
@@ -171,48 +173,59 @@ module _ (f : Form) where
   unfolding marks-of bytes
   marks-length k = go (f .full)
     where
-      go : (x : Bool) → length (cond x (bytes 1 0 ++ bytes 1 (k .kind)) (replicate 2 0)) ≡ 2
+      go : (x : Bool) → length (cond x (bytes 1 (k .edition) ++ bytes 1 (k .kind)) (replicate 2 0)) ≡ 2
       go true = refl
       go false = refl
 
-  pub marks-tested : (k : Accounts) → k .kind < 2 → marks-right f (marks-of f k) ≡ true
+  pub marks-tested : (k : Accounts) → k .kind < 2 → k .edition < 2 → marks-right f (marks-of f k) ≡ true
   unfolding marks-of marks-right bytes
-  marks-tested k h = go (f .full)
+  marks-tested k h g = go (f .full)
     where
       marks : Bool → List ℕ
-      marks x = cond x (bytes 1 0 ++ bytes 1 (k .kind)) (replicate 2 0)
+      marks x = cond x (bytes 1 (k .edition) ++ bytes 1 (k .kind)) (replicate 2 0)
 
-      go : (x : Bool) → cond x (eqb (getD (marks x) 0 0) 0 && ltb (getD (marks x) 1 0) 2) (all-zero (marks x)) ≡ true
-      go true = let e : k .kind % 256 ≡ k .kind = mod-eq-of-lt (omega arith) in rw e (lt-ltb (k .kind) 2 h)
+      go : (x : Bool) → cond x (ltb (getD (marks x) 0 0) 2 && ltb (getD (marks x) 1 0) 2) (all-zero (marks x)) ≡ true
+      go true =
+          let e : k .edition % 256 ≡ k .edition = mod-eq-of-lt (omega arith) in
+          let d : k .kind % 256 ≡ k .kind = mod-eq-of-lt (omega arith) in
+          rw (e, d, lt-ltb (k .edition) 2 g) (lt-ltb (k .kind) 2 h)
       go false = are-zeros 2
 
-  -- what the form says of the kind is all that there is to say
-  pub marks-back : (k : Accounts) → k .kind < 2 ^ 8 → (f .full || all-zero (marks-of form-2 k)) ≡ true
-      → with-marks f (marks-of f k) (record { quotas = k .quotas; «last_serial» = k .«last_serial»; holds = k .holds; kind = 0 }) ≡ k
+  -- what the form says of the kind and the edition is all that there is to say
+  pub marks-back : (k : Accounts) → k .kind < 2 ^ 8 → k .edition < 2 ^ 8 → (f .full || all-zero (marks-of form-2 k)) ≡ true
+      → with-marks f (marks-of f k) (record { quotas = k .quotas; «last_serial» = k .«last_serial»; holds = k .holds; kind = 0; edition = 0 }) ≡ k
   unfolding marks-of with-marks bytes form-2 all-zero all
-  marks-back k h e = go (f .full) e
+  marks-back k h g e = go (f .full) e
     where
-      same : k .kind % 256 ≡ k .kind
-      same = mod-eq-of-lt h
+      same-kind : k .kind % 256 ≡ k .kind
+      same-kind = mod-eq-of-lt h
 
-      go : (x : Bool) → (x || (eqb 0 (k .kind % 256) && true)) ≡ true
-          → with-kind (cond x (getD (cond x (bytes 1 0 ++ bytes 1 (k .kind)) (replicate 2 0)) 1 0) 0) k ≡ k
-      go true y = λ i. with-kind (same i) k
-      go false y = let z = eqb-true 0 (k .kind % 256) (and-left (eqb 0 (k .kind % 256)) true y) ∙ same in λ i. with-kind (z i) k
+      same-edition : k .edition % 256 ≡ k .edition
+      same-edition = mod-eq-of-lt g
+
+      marks : Bool → List ℕ
+      marks x = cond x (bytes 1 (k .edition) ++ bytes 1 (k .kind)) (replicate 2 0)
+
+      go : (x : Bool) → (x || (eqb 0 (k .edition % 256) && (eqb 0 (k .kind % 256) && true))) ≡ true
+          → with-edition (cond x (getD (marks x) 0 0) 0) (with-kind (cond x (getD (marks x) 1 0) 0) k) ≡ k
+      go true y = λ i. with-edition (same-edition i) (with-kind (same-kind i) k)
+      go false y =
+          let a = eqb-true 0 (k .edition % 256) (and-left (eqb 0 (k .edition % 256)) _ y) ∙ same-edition in
+          let b = eqb-true 0 (k .kind % 256) (and-left (eqb 0 (k .kind % 256)) true (and-right (eqb 0 (k .edition % 256)) _ y)) ∙ same-kind in
+          λ i. with-edition (a i) (with-kind (b i) k)
 
   -- bytes that are right are those of the accounts that they say, which are otherwise as they were
   pub marks-again : (m : List ℕ) (k : Accounts) → Octets m → length m ≡ 2 → marks-right f m ≡ true → marks-of f (with-marks f m k) ≡ m
   unfolding marks-of marks-right with-marks
   marks-again m k o l e = go (f .full) e
     where
-      go : (x : Bool) → cond x (eqb (getD m 0 0) 0 && ltb (getD m 1 0) 2) (all-zero m) ≡ true
-          → cond x (bytes 1 0 ++ bytes 1 (cond x (getD m 1 0) 0)) (replicate 2 0) ≡ m
+      go : (x : Bool) → cond x (ltb (getD m 0 0) 2 && ltb (getD m 1 0) 2) (all-zero m) ≡ true
+          → cond x (bytes 1 (cond x (getD m 0 0) 0) ++ bytes 1 (cond x (getD m 1 0) 0)) (replicate 2 0) ≡ m
       go true e =
-          let z = eqb-true (getD m 0 0) 0 (and-left (eqb (getD m 0 0) 0) _ e) in
           let n : drop 2 m ≡ [] = no-bytes (drop 2 m) (simp length-drop (omega arith)) in
           let last : bytes 1 (getD m 1 0) ≡ drop 1 m =
           rw (← one-at 1 m (omega arith)) (rw (n, append-nil) at (bytes-split-here 1 1 m o (omega arith))) in
-          rw (last, ← z, ← one-at 0 m (omega arith)) (bytes-split-here 1 0 m o (omega arith))
+          rw (last, ← one-at 0 m (omega arith)) (bytes-split-here 1 0 m o (omega arith))
       go false e = sym (rw l at (zeros-are m e))
 
   pub marks-keep : (m : List ℕ) (k : Accounts)
@@ -220,14 +233,14 @@ module _ (f : Form) where
   unfolding with-marks
   marks-keep m k = (refl, refl, refl)
 
-  -- they say a number that fits; and where the form is not full, accounts whose marks in form 2 are zero
-  pub marks-narrow : (m : List ℕ) (k : Accounts) → Octets m → with-marks f m k .kind < 2 ^ 8
+  -- they say numbers that fit; and where the form is not full, accounts whose marks in form 2 are zero
+  pub marks-narrow : (m : List ℕ) (k : Accounts) → Octets m → (with-marks f m k .kind < 2 ^ 8) × (with-marks f m k .edition < 2 ^ 8)
   unfolding with-marks
-  marks-narrow m k o = go (f .full)
+  marks-narrow m k o = (go 1 (f .full), go 0 (f .full))
     where
-      go : (x : Bool) → cond x (getD m 1 0) 0 < 2 ^ 8
-      go true = o 1
-      go false = lit< tt
+      go : (j : ℕ) (x : Bool) → cond x (getD m j 0) 0 < 2 ^ 8
+      go j true = o j
+      go j false = lit< tt
 
   pub marks-blank : (m : List ℕ) (k : Accounts) → f .full ≡ false → all-zero (marks-of form-2 (with-marks f m k)) ≡ true
   unfolding marks-of with-marks bytes form-2

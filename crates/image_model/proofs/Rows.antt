@@ -1,5 +1,5 @@
 -- The definitions computed at small heaps, in form 1: two images in full, and each refusal of the writer and the reader on both sides of its line.
--- Form 2 is `FullRows`, and heaps of the second kind are `KindRows`.
+-- Form 2 is `FullRows`, heaps of the second kind are `KindRows`, and those of edition 2 `EditionRows`.
 -- Assumes nothing.
 use mathlib.Core.Path.{_≡_, refl}
 use mathlib.Core.List.{List, [], _∷_, _++_, map}
@@ -39,6 +39,7 @@ accounts =
       «last_serial» = 1;
       holds = hold 1 0 1 ∷ replicate 52 zero-hold ++ (hold 1 1 3 ∷ replicate (HOLDS - 54) zero-hold);
       kind = 0;
+      edition = 0;
     }
 
 unfoldable pub small : Unit {0}

@@ -7,7 +7,7 @@ use Prim.Native.Nat.{ℕ, suc, _+_, _≤_}
 use native.Mathlib.Omega.{arith}
 use lib.Dec.{eqb}
 use borrow.Author.Tests.{eqb-true}
-use Rattle.rounding.specs.Rounding.{unit}
+use Rattle.rounding.specs.Rounding.{table}
 use Rattle.accounts.specs.declared.Quota.{Quota}
 use Rattle.accounts.specs.declared.Hold.{Hold}
 use Rattle.accounts.specs.declared.Accounts.{Accounts}
@@ -15,9 +15,10 @@ use Rattle.accounts.specs.Accounts.{permissible}
 use Rattle.model.specs.declared.Handle.{Handle}
 use Rattle.model.specs.Lists.{all}
 use Rattle.model.specs.Objects.{blocks-of, objects}
-use Rattle.model.specs.Consistent.{charges, balanced-from, sound as is-sound}
+use Rattle.model.specs.Consistent.{charges, balanced-from}
 use Rattle.model.proofs.Bools.{and-left, and-right}
 use Rattle.model.proofs.Consistent.{balance-exactly, consistent-facts, sound-consistent, sound-permissible}
+use Rattle.image_model.specs.Images.{own-sound}
 use Rattle.image_model.proofs.Items.{All, all-two}
 use Rattle.image_model.proofs.Places.{QuotaSound}
 
@@ -33,10 +34,10 @@ unfolding all
 mapped-all p g [] e = tt
 mapped-all p g (x ∷ xs) e = (and-left (p (g x)) (all p (map g xs)) e, mapped-all p g xs (and-right (p (g x)) (all p (map g xs)) e))
 
-pub quotas-sound : (s : List ℕ) (k : Accounts) → is-sound unit s k ≡ true → All QuotaSound (k .quotas)
+pub quotas-sound : (s : List ℕ) (k : Accounts) → own-sound s k ≡ true → All QuotaSound (k .quotas)
 quotas-sound s k e =
     let os = objects (blocks-of s) in
-    let b = balance-exactly os (k .holds) (k .quotas) .1 (consistent-facts s k (sound-consistent unit s k e) .balance) in
+    let b = balance-exactly os (k .holds) (k .quotas) .1 (consistent-facts s k (sound-consistent (table (k .edition)) s k e) .balance) in
     all-two (λ (q : Quota). q .remainder ≤ q .grant) (λ (q : Quota). permissible (q .permissions) ≡ true) (k .quotas)
     (solvent os (k .holds) 0 (k .quotas) b)
-    (mapped-all permissible (λ (q : Quota). q .permissions) (k .quotas) (sound-permissible unit s k e))
+    (mapped-all permissible (λ (q : Quota). q .permissions) (k .quotas) (sound-permissible (table (k .edition)) s k e))

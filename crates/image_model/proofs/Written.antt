@@ -10,13 +10,13 @@ use native.Mathlib.Omega.{arith}
 use lib.ListN.{length, drop, replicate}
 use lib.Dec.{leb, eqb}
 use borrow.Author.Tests.{leb-true, eq-eqb, ne-eqb}
-use Rattle.rounding.specs.Rounding.{unit}
+use Rattle.rounding.specs.Rounding.{table}
 use Rattle.accounts.specs.declared.Accounts.{Accounts}
 use Rattle.model.specs.Lists.{is-none, or-else}
-use Rattle.model.specs.Consistent.{allowed, sound as is-sound}
+use Rattle.model.specs.Consistent.{allowed}
 use Rattle.model.specs.Refusals.{_when_, first-refusal}
 use Rattle.model.proofs.Bools.{and-right}
-use Rattle.model.proofs.Consistent.{sound-range, range-kind}
+use Rattle.model.proofs.Consistent.{sound-range, range-kind, range-edition}
 use Rattle.framing.specs.Frames.{frames-for, cut, stream-of, frames-right}
 use Rattle.framing.proofs.Cut.{cut-right}
 use Rattle.image_model.specs.Items.{all-zero}
@@ -130,8 +130,9 @@ module _ (f : Form) (s : List ℕ) (k : Accounts) (a : Accepts f s k) where
   not-23 : line-23 i ≡ (23 when false)
   unfolding line-23 is-none
   not-23 =
+      let r = sound-range (table (k .edition)) s k (a .sound) in
       let m : marks-right f (marks-in (stream-of i)) ≡ true = rw (marks-read f (a .known) s k (a .typed) (stream-of i) zeros whole)
-      (marks-tested f k (range-kind k (sound-range unit s k (a .sound)))) in
+      (marks-tested f k (range-kind k r) (range-edition k r)) in
       rw (form-found, form-is, m)
 
   not-24 : line-24 i ≡ (24 when false)

@@ -2,11 +2,11 @@
 use Prim.Native.Nat.{ℕ, zero, suc, _/_, _%_}
 use mathlib.Core.Path.{_≡_}
 use mathlib.Core.List.{List, [], _∷_, _++_}
-use mathlib.Core.Bool.{true, not, _||_}
+use mathlib.Core.Bool.{Bool, true, not, _||_}
 use mathlib.Core.Option.{some}
 use lib.ListN.{length}
 use lib.Dec.{ltb, eqb}
-use Rattle.rounding.specs.Rounding.{unit}
+use Rattle.rounding.specs.Rounding.{table}
 use Rattle.accounts.specs.declared.Accounts.{Accounts}
 use Rattle.accounts.specs.Accounts.{zero-accounts}
 use Rattle.layout.specs.Bytes.{Octets, overwrite}
@@ -19,6 +19,10 @@ use Rattle.image_model.specs.Reading.{marks-in, form-in, form-of, size-i
 use Rattle.image_model.specs.Answers.{Imaged, Restored-to}
 use Rattle.image_model.specs.declared.Form.{Form}
 
+-- rule 23.5: a state is sound by the table of its own edition
+abbrev pub own-sound : List ℕ → Accounts → Bool
+own-sound s k = is-sound (table (k .edition)) s k
+
 -- 28: the form has no room for something in the accounts
 unfoldable pub line-28 : Form → Accounts → Line
 line-28 f k = 28 when not (carries f k)
@@ -28,7 +32,7 @@ unfoldable pub put-lines : Form → List ℕ → List ℕ → Accounts → List 
 put-lines f o s k = line-28 f k ∷ (25 when ltb (length o) (image-length f (length s))) ∷ []
 
 unfoldable pub write-lines : Form → List ℕ → List ℕ → Accounts → List Line
-write-lines f o s k = line-1 s ∷ line-2 unit s k ∷ put-lines f o s k
+write-lines f o s k = line-1 s ∷ line-2 (table (k .edition)) s k ∷ put-lines f o s k
 
 -- 21: the image has no byte, or not whole frames
 unfoldable pub line-21 : List ℕ → Line
@@ -54,7 +58,7 @@ line-25 i h = 25 when not (eqb (length h) (size-in i))
 
 -- 26: heap and accounts are not consistent
 unfoldable pub line-26 : List ℕ → Line
-line-26 i = 26 when not (is-sound unit (heap-in i) (accounts-in i))
+line-26 i = 26 when not (own-sound (heap-in i) (accounts-in i))
 
 unfoldable pub shape-lines : List ℕ → List Line
 shape-lines i = line-21 i ∷ line-22 i ∷ line-23 i ∷ line-24 i ∷ []
@@ -93,6 +97,6 @@ pub record Accepts (f : Form) (s : List ℕ) (k : Accounts) : Type 0 where
   pub known : form-numbered (f .number) ≡ some f
   pub extent : allowed (length s) ≡ true
   pub octets : Octets s
-  pub sound : is-sound unit s k ≡ true
+  pub sound : own-sound s k ≡ true
   pub typed : Typed k
   pub carried : carries f k ≡ true

@@ -47,6 +47,7 @@ module _ (f : Form) (t : List ℕ) where
         «last_serial» = number (take 4 (drop 8 t));
         holds = each record-of record-width (f .records) (drop (records-at f) t) ++ drop (f .records) (blank f .holds);
         kind = 0;
+        edition = 0;
       })
 
   unfoldable pub heap-of : List ℕ

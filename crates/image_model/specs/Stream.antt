@@ -1,6 +1,6 @@
 -- What an image carries (rules 13.2 to 13.4): a head with the accounts, then the heap, as one stream of bytes; and the stream in frames.
 -- One definition serves every form. What forms differ in beyond their three numbers stands in four places, each marked below: a full form says all
--- that accounts have, and the other ones have nothing there but two zero bytes, and so every permission and a plain heap.
+-- that accounts have, and the other ones have nothing there but two zero bytes, and so every permission and a plain heap of edition 1.
 use Prim.Native.Nat.{ℕ, _+_, _*_, _<_, _^_}
 use mathlib.Core.Path.{_≡_}
 use mathlib.Core.List.{List, [], _++_}
@@ -11,7 +11,8 @@ use lib.Dec.{eqb, ltb}
 use Rattle.accounts.specs.declared.Quota.{Quota}
 use Rattle.accounts.specs.declared.Hold.{Hold}
 use Rattle.accounts.specs.declared.Accounts.{Accounts}
-use Rattle.accounts.specs.Accounts.{QUOTAS, HOLDS, ALL-PERMISSIONS, permissible, zero-quota, zero-hold, with-permissions, with-kind, plain, opened, unused}
+use Rattle.accounts.specs.Accounts.{QUOTAS, HOLDS, ALL-PERMISSIONS, permissible, zero-quota, zero-hold, with-permissions, plain, opened, unused}
+use Rattle.accounts.specs.Accounts.{with-kind, with-edition}
 use Rattle.layout.specs.Bytes.{bytes}
 use Rattle.model.specs.Lists.{all}
 use Rattle.framing.specs.Frames.{frames-for, cut}
@@ -42,16 +43,16 @@ tail-of f s q = with-permissions (cond (f .full) (getD s 0 0) ALL-PERMISSIONS) q
 unfoldable pub tail-right : Form → List ℕ → Bool
 tail-right f s = not (f .full) || (permissible (getD s 0 0) && all-zero (drop 1 s))
 
--- Second place: the two bytes behind the form's number, in a full form a zero byte and the kind. The bytes, whether they are right, and the accounts
+-- Second place: the two bytes behind the form's number, in a full form the edition and the kind. The bytes, whether they are right, and the accounts
 -- with what they say
 unfoldable pub marks-of : Form → Accounts → List ℕ
-marks-of f k = cond (f .full) (bytes 1 0 ++ bytes 1 (k .kind)) (replicate 2 0)
+marks-of f k = cond (f .full) (bytes 1 (k .edition) ++ bytes 1 (k .kind)) (replicate 2 0)
 
 unfoldable pub marks-right : Form → List ℕ → Bool
-marks-right f m = cond (f .full) (eqb (getD m 0 0) 0 && ltb (getD m 1 0) 2) (all-zero m)
+marks-right f m = cond (f .full) (ltb (getD m 0 0) 2 && ltb (getD m 1 0) 2) (all-zero m)
 
 unfoldable pub with-marks : Form → List ℕ → Accounts → Accounts
-with-marks f m k = with-kind (cond (f .full) (getD m 1 0) 0) k
+with-marks f m k = with-edition (cond (f .full) (getD m 0 0) 0) (with-kind (cond (f .full) (getD m 1 0) 0) k)
 
 -- Third place: whether the form has room for everything in these accounts. A full form has; another one where no quota behind those that it carries has
 -- a grant, no record behind those that it carries is used, every quota has every permission, and a full form's marks would be zero
@@ -128,3 +129,4 @@ pub record Typed (k : Accounts) : Type 0 where
   pub quota : (i : ℕ) → getD (k .holds) i zero-hold .quota < 2 ^ 8
   pub count : (i : ℕ) → getD (k .holds) i zero-hold .count < 2 ^ 8
   pub kind : k .kind < 2 ^ 8
+  pub edition : k .edition < 2 ^ 8

@@ -31,14 +31,16 @@ unfolding released
 released-kinds q o t d =
     let k = t .accounts in
     let e = refund-kept q (given-back q o k) k in
-    (rw (e .same-kind) (settle-kinds (k .kind) (range-kind k (d .1)) _ (t .blocks) (d .0)), range-like k (d .1) _ (e .same-kind) (e .same-last))
+    let r = range-like k (d .1) _ (e .same-kind) (e .same-edition) (e .same-last) in
+    (rw (e .same-kind) (settle-kinds (k .kind) (range-kind k (d .1)) _ (t .blocks) (d .0)), r)
 
 pub freed-kinds : (q back : ℕ) (t : State) → Kinded t → Kinded (freed q back t)
 unfolding freed
 freed-kinds q back t d =
     let k = t .accounts in
     let e = refund-kept q back k in
-    (rw (e .same-kind) (settle-kinds (k .kind) (range-kind k (d .1)) _ (t .blocks) (d .0)), range-like k (d .1) _ (e .same-kind) (e .same-last))
+    let r = range-like k (d .1) _ (e .same-kind) (e .same-edition) (e .same-last) in
+    (rw (e .same-kind) (settle-kinds (k .kind) (range-kind k (d .1)) _ (t .blocks) (d .0)), r)
 
 apart-of : (t : State) → Good t → free-apart (t .blocks) ≡ true
 unfolding well-cut
@@ -50,7 +52,7 @@ allocated-kinds q o t g r d =
     let k = t .accounts in
     let e = charge-kept q (charge-of (o .length)) k in
     let c = carved (o .base) (o .length) (o .serial) (t .blocks) (apart-of t g) (r .fits) in
-    (rw (e .same-kind) (carve-kinds c (k .kind) (r .narrow) (d .0)), range-next k (d .1) _ (e .same-kind) (r .narrow))
+    (rw (e .same-kind) (carve-kinds c (k .kind) (r .narrow) (d .0)), range-next k (d .1) _ (e .same-kind) (e .same-edition) (r .narrow))
 
 pub copied-kinds : (old new : Handle) (t : State) → Kinded t → Kinded (copied old new t)
 unfolding copied
@@ -68,8 +70,10 @@ claimed-kinds q o t d = go (claims-first k q o)
         cond x (with-holds (take-record (o .serial) q (k .holds)) (charge q (charge-of (o .length)) k)) (with-holds (raise-count (o .serial) q (k .holds)) k)
 
     go : (x : Bool) → Kinded (record { blocks = t .blocks; accounts = after x })
-    go true = let e = charge-kept q (charge-of (o .length)) k in (rw (e .same-kind) (d .0), range-like k (d .1) _ (e .same-kind) (e .same-last))
-    go false = (d .0, range-like k (d .1) _ refl refl)
+    go true =
+        let e = charge-kept q (charge-of (o .length)) k in
+        (rw (e .same-kind) (d .0), range-like k (d .1) _ (e .same-kind) (e .same-edition) (e .same-last))
+    go false = (d .0, range-like k (d .1) _ refl refl refl)
 
 -- and so it is of the heap that is written of a state
 pub written-kinds : (t : State) → Good t → Kinded t → Kinded (state-of (render (t .blocks)) (t .accounts))

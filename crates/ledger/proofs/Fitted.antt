@@ -53,10 +53,10 @@ sound-of unit l s k a f p =
 pub restored-fits : (unit : ℕ → ℕ) (s : List ℕ) (k : Accounts) → Restorable unit s k → Fitted unit (read-ledger s k)
 restored-fits unit s k r o m = sound-fits unit s k (r .sound) o (restored-agrees unit s k r .matches .objects o .1 m)
 
-pub beginning-fits : (unit : ℕ → ℕ) (begun : Ledger) (s : List ℕ) (k : Accounts) → Begins unit begun s k → Fitted unit begun
+pub beginning-fits : (tables : ℕ → ℕ → ℕ) (begun : Ledger) (s : List ℕ) (k : Accounts) → Begins tables begun s k → Fitted (tables (k .edition)) begun
 unfolding empty
-beginning-fits unit begun s k (Opening settings grants e o) = rw e (λ x m. absurd (List·Memᴰ·not-nil m))
-beginning-fits unit begun s k (Restoring e r) = rw e (restored-fits unit s k r)
+beginning-fits tables begun s k (Opening settings grants e o) = rw e (λ x m. absurd (List·Memᴰ·not-nil m))
+beginning-fits tables begun s k (Restoring e r) = rw e (restored-fits (tables (k .edition)) s k r)
 
 -- no change of holds adds an object, and an object that is added is the answered one
 module _ (unit : ℕ → ℕ) (l : Ledger) (h : Fitted unit l) where

@@ -34,7 +34,7 @@ use Rattle.invariant.proofs.Heaps.{render-total}
 use Rattle.invariant.proofs.Transitions.{Room}
 use Rattle.invariant.proofs.Passed.{Allocatable, allocate-passed, reallocate-passed}
 use Rattle.ledger.specs.Ledger.{Ledger, Event, Called, Wrote, Saved, Restored, ledger-of}
-use Rattle.ledger.specs.History.{History}
+use Rattle.ledger.specs.History.{by-own, History}
 use Rattle.ledger.proofs.Agreement.{Agrees}
 use Rattle.ledger.proofs.Steps.{good, again, room}
 use Rattle.ledger.proofs.Theorem.{history-agrees}
@@ -104,13 +104,15 @@ module _ (unit : ℕ → ℕ) (units : Units unit) (l : Ledger) (s : List ℕ) (
   step-length (ClearPermissions q n) = accepted-length s k (first-refusal (quota-lines unit s k q)) _ (λ e. refl)
 
 -- so the heap is as long as when an image of it was written
-module _ (unit : ℕ → ℕ) (units : Units unit) (begun : Ledger) (early : List Event) (s₁ : List ℕ) (k₁ : Accounts) where
-  pub saved-as-long : (mid : List Event) (s : List ℕ) (k : Accounts) → History unit (step unit) begun (mid ++ (Saved s₁ k₁ ∷ early)) s k → length s ≡ length s₁
+module _ (tables : ℕ → ℕ → ℕ) (units : (e : ℕ) → Units (tables e)) (begun : Ledger) (early : List Event) (s₁ : List ℕ) (k₁ : Accounts) where
+  pub saved-as-long : (mid : List Event) (s : List ℕ) (k : Accounts) → History tables (by-own tables) begun (mid ++ (Saved s₁ k₁ ∷ early)) s k
+      → length s ≡ length s₁
   saved-as-long [] s k h = ap length (h .1)
   saved-as-long (Called c v ∷ mid) s k h =
       let es = mid ++ (Saved s₁ k₁ ∷ early) in
       subst (λ (t : Outcome). length (t .heap) ≡ length s₁) (h .3)
-      (step-length unit units (ledger-of begun es) (h .0) (h .1) (history-agrees unit units begun es (h .0) (h .1) (h .2)) c
+      (step-length (tables (h .1 .edition)) (units (h .1 .edition)) (ledger-of begun es) (h .0) (h .1)
+      (history-agrees tables units begun es (h .0) (h .1) (h .2)) c
       ∙ saved-as-long mid (h .0) (h .1) (h .2))
   saved-as-long (Wrote ∷ mid) s k h = h .2 .same-length ∙ saved-as-long mid (h .0) k (h .1)
   saved-as-long (Saved s₂ k₂ ∷ mid) s k h = saved-as-long mid s k (h .0)

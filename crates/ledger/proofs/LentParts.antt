@@ -64,6 +64,7 @@ module _ (unit : ℕ → ℕ) (s : List ℕ) (k : Accounts) (h : Handle) where
   part-written s′ l o f = record { same-length = l; octets = o; inside = λ i e. f i (lent-inside i e) }
 
   -- so a history goes on with it
-  pub part-history : (run : Run) (begun : Ledger) (es : List Event) (s′ : List ℕ) → History unit run begun es s k → length s′ ≡ length s → Octets s′
-      → ((i : ℕ) → (InRange i (lend unit s k h .values .range) → ⊥) → getD s′ i 0 ≡ getD s i 0) → History unit run begun (Wrote ∷ es) s′ k
-  part-history run begun es s′ past l o f = (s, past, part-written s′ l o f)
+  pub part-history : (tables : ℕ → ℕ → ℕ) (run : Run) (begun : Ledger) (es : List Event) (s′ : List ℕ) → History tables run begun es s k
+      → length s′ ≡ length s → Octets s′
+      → ((i : ℕ) → (InRange i (lend unit s k h .values .range) → ⊥) → getD s′ i 0 ≡ getD s i 0) → History tables run begun (Wrote ∷ es) s′ k
+  part-history tables run begun es s′ past l o f = (s, past, part-written s′ l o f)

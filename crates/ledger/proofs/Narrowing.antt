@@ -16,7 +16,7 @@ use Rattle.model.specs.declared.Call.the-variants.{Allocate, Reallocate}
 use Rattle.model.proofs.Lookup.{Narrowed}
 use Rattle.model.proofs.Narrowing.{object-found}
 use Rattle.ledger.specs.Ledger.{Ledger, Event, unrestored, ledger-of}
-use Rattle.ledger.specs.History.{History}
+use Rattle.ledger.specs.History.{by-own, History}
 use Rattle.ledger.specs.Demand3.{objects-in, HeldIn}
 use Rattle.ledger.proofs.Agreement.{Agrees}
 use Rattle.ledger.proofs.Steps.{step-agrees}
@@ -47,14 +47,15 @@ module _ (unit : ℕ → ℕ) (units : Units unit) where
         (step-agrees unit units (Reallocate q old n) l s k a .sound) h _ w
         (reallocated-live-there unit units l s k a q old n e)
 
-  -- an object of the ledger, and one of an earlier ledger whose serial was held at every point since
+-- an object of the ledger, and one of an earlier ledger whose serial was held at every point since
+module _ (tables : ℕ → ℕ → ℕ) (units : (e : ℕ) → Units (tables e)) where
   module _ (begun : Ledger) (s : List ℕ) (k : Accounts) (h o : Handle) (w : Narrowed h o) where
-    pub recorded-found : (es : List Event) → History unit (step unit) begun es s k → List·Memᴰ o (objects-in (ledger-of begun es)) → lookup h s ≡ some o
-    recorded-found es past m = let a = history-agrees unit units begun es s k past in object-found s k (a .sound) h o w (a .matches .objects o .1 m)
+    pub recorded-found : (es : List Event) → History tables (by-own tables) begun es s k → List·Memᴰ o (objects-in (ledger-of begun es)) → lookup h s ≡ some o
+    recorded-found es past m = let a = history-agrees tables units begun es s k past in object-found s k (a .sound) h o w (a .matches .objects o .1 m)
 
-    pub held-found : (front back : List Event) → History unit (step unit) begun (back ++ front) s k → unrestored back ≡ true
+    pub held-found : (front back : List Event) → History tables (by-own tables) begun (back ++ front) s k → unrestored back ≡ true
         → List·Memᴰ o (objects-in (ledger-of begun front))
         → ((late early : List Event) → back ≡ late ++ early → HeldIn (o .serial) (ledger-of begun (early ++ front))) → lookup h s ≡ some o
     held-found front back past u m since =
-        object-found s k (history-agrees unit units begun (back ++ front) s k past .sound) h o w
-        (demand-3-of unit units .always begun front back s k past .stays u o m since)
+        object-found s k (history-agrees tables units begun (back ++ front) s k past .sound) h o w
+        (demand-3-of tables units .always begun front back s k past .stays u o m since)

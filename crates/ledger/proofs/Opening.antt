@@ -14,8 +14,11 @@ use Rattle.accounts.specs.declared.Quota.{Quota}
 use Rattle.accounts.specs.declared.Accounts.{Accounts}
 use Rattle.accounts.specs.declared.Settings.{Settings}
 use Rattle.accounts.specs.Accounts.{QUOTAS, HOLDS, ALL-PERMISSIONS, permissible, zero-quota, zero-hold, permissions, granted, opened, used, kind-number}
+use Rattle.accounts.specs.Accounts.{edition-number}
 use Rattle.accounts.specs.declared.Kind.{Kind}
 use Rattle.accounts.specs.declared.Kind.the-variants.{Plain, Quarantine}
+use Rattle.accounts.specs.declared.Edition.{Edition}
+use Rattle.accounts.specs.declared.Edition.the-variants.{First, Second}
 use Rattle.layout.specs.Blocks.{render}
 use Rattle.model.specs.Lists.{all, total}
 use Rattle.model.specs.Answers.{accepted}
@@ -124,14 +127,16 @@ grants-again : (grants : List ℕ) → map (λ (x : Quota). x .grant) (map grant
 grants-again [] = refl
 grants-again (g ∷ gs) = rw (grants-again gs)
 
--- the kind is one of the two, and no block is quarantined
+-- kind and edition are each one of two, and no block is quarantined
 fresh-range : (t : Settings) (grants : List ℕ) → in-range (opened t grants) ≡ true
 unfolding in-range opened
-fresh-range t grants = go (t .kind)
+fresh-range t grants = go (t .kind) (t .edition)
   where
-    go : (x : Kind) → (leb 0 greatest-serial && ltb (kind-number x) 2) ≡ true
-    go Plain = refl
-    go Quarantine = refl
+    go : (x : Kind) (y : Edition) → (leb 0 greatest-serial && (ltb (kind-number x) 2 && ltb (edition-number y) 2)) ≡ true
+    go Plain First = refl
+    go Plain Second = refl
+    go Quarantine First = refl
+    go Quarantine Second = refl
 
 fresh-kinds : (t : Settings) (H : ℕ) (grants : List ℕ) → Kinded (fresh t H grants)
 unfolding fresh all in-kind
@@ -180,9 +185,9 @@ unfolding all
 opening-permissible t grants s k o = ap (all permissible) (opening-permissions t grants s k o)
 
 -- so every number is a quota's permissions at a beginning
-pub beginning-permissible : (unit : ℕ → ℕ) (begun : Ledger) (s : List ℕ) (k : Accounts) → Begins unit begun s k → all permissible (permissions k) ≡ true
-beginning-permissible unit begun s k (Opening t grants e o) = opening-permissible t grants s k o
-beginning-permissible unit begun s k (Restoring e r) = sound-permissible unit s k (r .sound)
+pub beginning-permissible : (tables : ℕ → ℕ → ℕ) (begun : Ledger) (s : List ℕ) (k : Accounts) → Begins tables begun s k → all permissible (permissions k) ≡ true
+beginning-permissible tables begun s k (Opening t grants e o) = opening-permissible t grants s k o
+beginning-permissible tables begun s k (Restoring e r) = sound-permissible (tables (k .edition)) s k (r .sound)
 
 -- a state that is restored agrees with the ledger that is read off it
 pub restored-agrees : (unit : ℕ → ℕ) (s : List ℕ) (k : Accounts) → Restorable unit s k → Agrees (read-ledger s k) s k
@@ -191,6 +196,16 @@ restored-agrees unit s k r =
     consistent-agrees s k (r .extent) (r .octets) (sound-consistent unit s k e) (r .quotas) (r .narrow) (sound-kinds unit s k e, sound-range unit s k e)
 
 -- every beginning agrees with its ledger
-pub beginning-agrees : (unit : ℕ → ℕ) (begun : Ledger) (s : List ℕ) (k : Accounts) → Begins unit begun s k → Agrees begun s k
-beginning-agrees unit begun s k (Opening t grants e o) = rw e (opening-agrees t grants s k o)
-beginning-agrees unit begun s k (Restoring e r) = rw e (restored-agrees unit s k r)
+pub beginning-agrees : (tables : ℕ → ℕ → ℕ) (begun : Ledger) (s : List ℕ) (k : Accounts) → Begins tables begun s k → Agrees begun s k
+beginning-agrees tables begun s k (Opening t grants e o) = rw e (opening-agrees t grants s k o)
+beginning-agrees tables begun s k (Restoring e r) = rw e (restored-agrees (tables (k .edition)) s k r)
+
+-- the accounts have the edition of the ledger
+opening-edition : (t : Settings) (grants s : List ℕ) (k : Accounts) → Opened t grants s k → k .edition ≡ edition-number (t .edition)
+unfolding opened
+opening-edition t grants s k o = rw (← opened-fresh t grants s k o .accounts) refl
+
+pub beginning-edition : (tables : ℕ → ℕ → ℕ) (begun : Ledger) (s : List ℕ) (k : Accounts) → Begins tables begun s k → k .edition ≡ begun .edition
+unfolding empty read-ledger
+beginning-edition tables begun s k (Opening t grants e o) = rw e (opening-edition t grants s k o)
+beginning-edition tables begun s k (Restoring e r) = rw e refl

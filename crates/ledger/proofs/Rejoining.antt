@@ -11,7 +11,7 @@ use Rattle.rounding.specs.Rounding.{Units}
 use Rattle.model.specs.Step.{step}
 use Rattle.model.specs.declared.Handle.{Handle}
 use Rattle.ledger.specs.Ledger.{Entry, Span, Ledger, Event, Called, Wrote, Saved, Restored, holds-of, read-ledger, record-event, ledger-of}
-use Rattle.ledger.specs.History.{Run, Restorable, History}
+use Rattle.ledger.specs.History.{by-own, Run, Restorable, History}
 use Rattle.ledger.specs.Demand3.{objects-in, Holds}
 use Rattle.ledger.proofs.Agreement.{Agrees}
 use Rattle.ledger.proofs.Opening.{restored-agrees}
@@ -19,9 +19,10 @@ use Rattle.ledger.proofs.Fitted.{sound-of}
 use Rattle.ledger.proofs.Theorem.{history-agrees, history-fits, history-permissible, demand-3-of}
 
 -- of anything that performs calls
-module _ (unit : ℕ → ℕ) (run : Run) (begun : Ledger) (early : List Event) (s₁ : List ℕ) (k₁ : Accounts) where
+module _ (tables : ℕ → ℕ → ℕ) (run : Run) (begun : Ledger) (early : List Event) (s₁ : List ℕ) (k₁ : Accounts) where
   -- the state that an image was written of was reached by what came before
-  pub saved-history : (mid : List Event) (s : List ℕ) (k : Accounts) → History unit run begun (mid ++ (Saved s₁ k₁ ∷ early)) s k → History unit run begun early s₁ k₁
+  pub saved-history : (mid : List Event) (s : List ℕ) (k : Accounts) → History tables run begun (mid ++ (Saved s₁ k₁ ∷ early)) s k
+      → History tables run begun early s₁ k₁
   saved-history [] s k h = rw (← h .1, ← h .2) (h .0)
   saved-history (Called c v ∷ mid) s k h = saved-history mid (h .0) (h .1) (h .2)
   saved-history (Wrote ∷ mid) s k h = saved-history mid (h .0) k (h .1)
@@ -29,8 +30,8 @@ module _ (unit : ℕ → ℕ) (run : Run) (begun : Ledger) (early : List Event) 
   saved-history (Restored s₂ k₂ ∷ mid) s k h = saved-history mid (h .0) (h .1) (h .2)
 
   -- what came between the image and its restore is gone
-  pub rejoins : (mid since : List Event) (s : List ℕ) (k : Accounts) → History unit run begun (since ++ (Restored s₁ k₁ ∷ (mid ++ (Saved s₁ k₁ ∷ early)))) s k
-      → History unit run begun (since ++ early) s k
+  pub rejoins : (mid since : List Event) (s : List ℕ) (k : Accounts) → History tables run begun (since ++ (Restored s₁ k₁ ∷ (mid ++ (Saved s₁ k₁ ∷ early)))) s k
+      → History tables run begun (since ++ early) s k
   rejoins mid [] s k h = rw (h .5, h .6) (saved-history mid (h .0) (h .1) (h .2))
   rejoins mid (Called c v ∷ since) s k h = (h .0, h .1, rejoins mid since (h .0) (h .1) (h .2), h .3)
   rejoins mid (Wrote ∷ since) s k h = (h .0, rejoins mid since (h .0) k (h .1), h .2)
@@ -56,29 +57,30 @@ agree-same l m s k a b =
       quarantined = λ x. (λ i. b .waits .both x .0 (a .waits .both x .1 i), λ i. a .waits .both x .0 (b .waits .both x .1 i));
     }
 
-module _ (unit : ℕ → ℕ) (units : Units unit) (begun : Ledger) where
+module _ (tables : ℕ → ℕ → ℕ) (units : (e : ℕ) → Units (tables e)) (begun : Ledger) where
   -- every state of a history may be written as an image and restored
-  pub history-restorable : (es : List Event) (s : List ℕ) (k : Accounts) → History unit (step unit) begun es s k → Restorable unit s k
+  pub history-restorable : (es : List Event) (s : List ℕ) (k : Accounts) → History tables (by-own tables) begun es s k → Restorable (tables (k .edition)) s k
   history-restorable es s k h =
-      let a = history-agrees unit units begun es s k h in
-      let sound = sound-of unit _ s k a (history-fits unit units begun es s k h) (history-permissible unit units begun es s k h) in
+      let a = history-agrees tables units begun es s k h in
+      let sound = sound-of (tables (k .edition)) _ s k a (history-fits tables units begun es s k h) (history-permissible tables units begun es s k h) in
       record { extent = a .extent; octets = a .octets; sound = sound; quotas = a .quotas; narrow = a .narrow }
 
   -- and the ledger read off it says what its ledger says
-  pub history-read : (es : List Event) (s : List ℕ) (k : Accounts) → History unit (step unit) begun es s k → Same (read-ledger s k) (ledger-of begun es)
-  history-read es s k h = agree-same _ _ s k (restored-agrees unit s k (history-restorable es s k h)) (history-agrees unit units begun es s k h)
+  pub history-read : (es : List Event) (s : List ℕ) (k : Accounts) → History tables (by-own tables) begun es s k → Same (read-ledger s k) (ledger-of begun es)
+  history-read es s k h = agree-same _ _ s k (restored-agrees (tables (k .edition)) s k (history-restorable es s k h))
+      (history-agrees tables units begun es s k h)
 
   -- so after a restore the ledger says what it said when the image was written
   pub rejoined-ledger : (early mid : List Event) (s₁ : List ℕ) (k₁ : Accounts) (s : List ℕ) (k : Accounts)
-      → History unit (step unit) begun (mid ++ (Saved s₁ k₁ ∷ early)) s k
+      → History tables (by-own tables) begun (mid ++ (Saved s₁ k₁ ∷ early)) s k
       → Same (ledger-of begun (Restored s₁ k₁ ∷ (mid ++ (Saved s₁ k₁ ∷ early)))) (ledger-of begun early)
   unfolding ledger-of record-event
-  rejoined-ledger early mid s₁ k₁ s k h = history-read early s₁ k₁ (saved-history unit (step unit) begun early s₁ k₁ mid s k h)
+  rejoined-ledger early mid s₁ k₁ s k h = history-read early s₁ k₁ (saved-history tables (by-own tables) begun early s₁ k₁ mid s k h)
 
   -- and demand 3 speaks of the events before the image and those since, at every split of them
   pub rejoined-holds : (early mid since : List Event) (s₁ : List ℕ) (k₁ : Accounts) (s : List ℕ) (k : Accounts)
-      → History unit (step unit) begun (since ++ (Restored s₁ k₁ ∷ (mid ++ (Saved s₁ k₁ ∷ early)))) s k
-      → (front back : List Event) → since ++ early ≡ back ++ front → Holds unit (step unit) begun front back s k
+      → History tables (by-own tables) begun (since ++ (Restored s₁ k₁ ∷ (mid ++ (Saved s₁ k₁ ∷ early)))) s k
+      → (front back : List Event) → since ++ early ≡ back ++ front → Holds (tables (k .edition)) (by-own tables) begun front back s k
   rejoined-holds early mid since s₁ k₁ s k h front back e =
-      demand-3-of unit units .always begun front back s k
-      (subst (λ (es : List Event). History unit (step unit) begun es s k) e (rejoins unit (step unit) begun early s₁ k₁ mid since s k h))
+      demand-3-of tables units .always begun front back s k
+      (subst (λ (es : List Event). History tables (by-own tables) begun es s k) e (rejoins tables (by-own tables) begun early s₁ k₁ mid since s k h))

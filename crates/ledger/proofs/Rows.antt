@@ -8,6 +8,7 @@ use lib.ListN.{replicate}
 use Rattle.rounding.specs.Rounding.{unit}
 use Rattle.accounts.specs.declared.Settings.{Settings}
 use Rattle.accounts.specs.declared.Kind.the-variants.{Quarantine}
+use Rattle.accounts.specs.declared.Edition.the-variants.{First}
 use Rattle.accounts.specs.Accounts.{QUOTAS, plain}
 use Rattle.model.specs.Objects.{objects-of}
 use Rattle.model.specs.Answers.{accepted, refused, given, amount-of}
@@ -86,7 +87,7 @@ image-rows = (refl, refl, refl, refl, refl, refl, refl)
 
 -- in a heap of the second kind, what is quarantined after each list
 pub waiting : Settings
-waiting = record { kind = Quarantine }
+waiting = record { kind = Quarantine; edition = First }
 
 pub spans : List Event → List Span
 spans es = ledger-of (empty waiting grants) es .quarantined

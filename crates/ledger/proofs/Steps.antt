@@ -172,6 +172,14 @@ cleared-kind q n k = go (ltb q QUOTAS)
     go true = refl
     go false = refl
 
+cleared-edition : (q n : ℕ) (k : Accounts) → clear-permissions q n k .edition ≡ k .edition
+unfolding clear-permissions
+cleared-edition q n k = go (ltb q QUOTAS)
+  where
+    go : (t : Bool) → cond t (clear-at q n k) k .edition ≡ k .edition
+    go true = refl
+    go false = refl
+
 clear-agrees : (l : Ledger) (s : List ℕ) (k : Accounts) → Agrees l s k → (q n : ℕ) → Agrees l s (clear-permissions q n k)
 clear-agrees l s k a q n =
     let c = clear-kept q n k in
@@ -181,7 +189,11 @@ clear-agrees l s k a q n =
       sound = c .same-consistent s ∙ a .sound;
       quotas = c .same-count ∙ a .quotas;
       narrow = λ j. rw (c .same-grants j) (a .narrow j);
-      kinded = (rw (cleared-kind q n k) (a .kinded .0), range-like k (a .kinded .1) (clear-permissions q n k) (cleared-kind q n k) (c .same-last));
+      kinded = (
+        rw (cleared-kind q n k) (a .kinded .0),
+        range-like k (a .kinded .1) (clear-permissions q n k) (cleared-kind q n k) (cleared-edition q n k)
+            (c .same-last),
+      );
       kind = cleared-kind q n k ∙ a .kind;
       grants = clear-keeps q n (λ x. true) k .grants ∙ a .grants;
       matches = rw (c .same-holds) (a .matches);

@@ -1,36 +1,38 @@
--- Demand 3 (rules 10.3 to 10.11, 22.11 and 22.13), entire: it holds of `step`, for every table of units and both kinds of heaps.
+-- Demand 3 (rules 10.3 to 10.11, 22.11 and 22.13), entire: it holds of `step`, for every family of tables of units and both kinds
+-- of heaps.
 -- Along a history ledger, heap and accounts agree: an opening does, and each call and each write keeps it. What demand 3 says of a history is what
 -- agreement says of its end.
 -- Assumes nothing.
 use Prim.Native.Nat.{ℕ, _<_}
 use native.Mathlib.Omega.{arith}
-use mathlib.Core.Path.{_≡_, refl, subst, ap, _∙_}
+use mathlib.Core.Path.{_≡_, refl, sym, subst, ap, _∙_}
 use mathlib.Core.List.{List, [], _∷_, _++_, List·Memᴰ}
 use mathlib.Core.Bool.{Bool, true, false, cond, false≢true}
 use lib.ListN.{length, getD}
 use lib.Dec.{eqb}
 use Rattle.accounts.specs.declared.Accounts.{Accounts}
 use Rattle.accounts.specs.Accounts.{permissions, permissible}
-use Rattle.rounding.specs.Rounding.{unit, Units}
-use Rattle.rounding.proofs.Rounding.{unit-is}
+use Rattle.rounding.specs.Rounding.{Units, table}
+use Rattle.rounding.proofs.Editions.{table-is}
 use Rattle.model.specs.Lists.{all}
 use Rattle.model.specs.Answers.{zero-handle}
 use Rattle.model.specs.Calls.{Outcome}
-use Rattle.model.specs.Step.{step}
+use Rattle.model.specs.Step.{step, own-step}
 use Rattle.model.specs.declared.Handle.{Handle}
 use Rattle.model.proofs.Lists.{getD-member}
 use Rattle.model.proofs.Consistent.{serials-exactly, sound-permissible}
+use Rattle.model.proofs.StepFrame.{step-keeps}
 use Rattle.model.proofs.Permissions.{step-permissible}
 use Rattle.model.specs.Answers.{Values}
 use Rattle.model.specs.declared.Call.{Call}
 use Rattle.model.specs.declared.Call.the-variants.{Allocate, AllocateArray, Claim, Release, FreeAll, Reallocate, Lend, Remaining, CanRelease, ListBlock}
 use Rattle.model.specs.declared.Call.the-variants.{ClearPermissions, Sweep}
 use Rattle.ledger.specs.Ledger.{Ledger, Event, Called, Wrote, Saved, Restored, leave, add-object, add-hold, take-hold, take-all, record-accepted}
-use Rattle.ledger.specs.Ledger.{record-call, record-event, unrestored, ledger-of}
-use Rattle.ledger.specs.History.{History}
+use Rattle.ledger.specs.Ledger.{record-call, record-event, unrestored, ledger-of, read-ledger}
+use Rattle.ledger.specs.History.{History, by-own}
 use Rattle.ledger.specs.Demand3.{Within, objects-in, HeldIn, Holds, Demand3}
 use Rattle.ledger.proofs.Agreement.{Agrees}
-use Rattle.ledger.proofs.Opening.{restored-agrees, beginning-agrees, beginning-permissible}
+use Rattle.ledger.proofs.Opening.{restored-agrees, beginning-agrees, beginning-permissible, beginning-edition}
 use Rattle.ledger.proofs.Writing.{written-agrees}
 use Rattle.ledger.proofs.Steps.{step-agrees}
 use Rattle.ledger.proofs.Fields.{live-once-of, apart-of, off-headers-of, inside-of, record-held-of, hold-recorded-of, records-once-of, balanced-of, answered-of}
@@ -49,37 +51,37 @@ apart-places l s k a i j i<j j<n at u v =
     let y = m .objects (getD os j zero-handle) .1 (getD-member zero-handle os j j<n) in
     serials-exactly os .0 (m .once) i j i<j j<n (ap (λ (o : Handle). o .serial) (apart-of l s k a (getD os i zero-handle) (getD os j zero-handle) x y at u v))
 
--- the ledger keeps the kind and the grants
+-- the ledger keeps the kind, the edition and the grants
 abbrev Kept : Ledger → Ledger → Type 0
-Kept m l = (m .kind ≡ l .kind) × (m .grants ≡ l .grants)
+Kept m l = (m .kind ≡ l .kind) × (m .edition ≡ l .edition) × (m .grants ≡ l .grants)
 
 accepted-kept : (c : Call) (v : Values) (l : Ledger) → Kept (record-accepted c v l) l
 unfolding record-accepted add-object add-hold take-hold take-all leave
-accepted-kept (Allocate q n) v l = (refl, refl)
-accepted-kept (AllocateArray q count size) v l = (refl, refl)
-accepted-kept (Claim q h) v l = (refl, refl)
-accepted-kept (Release q h) v l = (refl, refl)
-accepted-kept (FreeAll q) v l = (refl, refl)
-accepted-kept Sweep v l = (refl, refl)
-accepted-kept (Reallocate q h n) v l = (refl, refl)
-accepted-kept (Lend h) v l = (refl, refl)
-accepted-kept (Remaining q) v l = (refl, refl)
-accepted-kept (CanRelease q h) v l = (refl, refl)
-accepted-kept (ListBlock at) v l = (refl, refl)
-accepted-kept (ClearPermissions q n) v l = (refl, refl)
+accepted-kept (Allocate q n) v l = (refl, refl, refl)
+accepted-kept (AllocateArray q count size) v l = (refl, refl, refl)
+accepted-kept (Claim q h) v l = (refl, refl, refl)
+accepted-kept (Release q h) v l = (refl, refl, refl)
+accepted-kept (FreeAll q) v l = (refl, refl, refl)
+accepted-kept Sweep v l = (refl, refl, refl)
+accepted-kept (Reallocate q h n) v l = (refl, refl, refl)
+accepted-kept (Lend h) v l = (refl, refl, refl)
+accepted-kept (Remaining q) v l = (refl, refl, refl)
+accepted-kept (CanRelease q h) v l = (refl, refl, refl)
+accepted-kept (ListBlock at) v l = (refl, refl, refl)
+accepted-kept (ClearPermissions q n) v l = (refl, refl, refl)
 
 recorded-kept : (t : Bool) (c : Call) (v : Values) (l : Ledger) → Kept (cond t (record-accepted c v l) l) l
 recorded-kept true c v l = accepted-kept c v l
-recorded-kept false c v l = (refl, refl)
+recorded-kept false c v l = (refl, refl, refl)
 
 -- so they are those of the beginning, where no image was read
 ledger-kept : (begun : Ledger) (es : List Event) → unrestored es ≡ true → Kept (ledger-of begun es) begun
 unfolding ledger-of record-event record-call unrestored
-ledger-kept begun [] u = (refl, refl)
+ledger-kept begun [] u = (refl, refl, refl)
 ledger-kept begun (Called c v ∷ es) u =
     let a = recorded-kept (eqb (v .refusal) 0) c v (ledger-of begun es) in
     let b = ledger-kept begun es u in
-    (a .0 ∙ b .0, a .1 ∙ b .1)
+    (a .0 ∙ b .0, a .1 ∙ b .1, a .2 ∙ b .2)
 ledger-kept begun (Wrote ∷ es) u = ledger-kept begun es u
 ledger-kept begun (Saved s k ∷ es) u = ledger-kept begun es u
 ledger-kept begun (Restored s k ∷ es) u = absurd (false≢true u)
@@ -97,42 +99,59 @@ Lasts begun front back =
     unrestored back ≡ true → (o : Handle) → List·Memᴰ o (objects-in (ledger-of begun front)) → Since begun front back (o .serial)
     → List·Memᴰ o (objects-in (ledger-of begun (back ++ front)))
 
-module _ (unit : ℕ → ℕ) (units : Units unit) where
+module _ (tables : ℕ → ℕ → ℕ) (units : (e : ℕ) → Units (tables e)) where
   -- along a history ledger, heap and accounts agree
-  pub history-agrees : (begun : Ledger) (es : List Event) (s : List ℕ) (k : Accounts) → History unit (step unit) begun es s k → Agrees (ledger-of begun es) s k
+  pub history-agrees : (begun : Ledger) (es : List Event) (s : List ℕ) (k : Accounts) → History tables (by-own tables) begun es s k
+      → Agrees (ledger-of begun es) s k
   unfolding ledger-of record-event
-  history-agrees begun [] s k h = beginning-agrees unit begun s k h
+  history-agrees begun [] s k h = beginning-agrees tables begun s k h
   history-agrees begun (Called c v ∷ es) s k h =
       subst (λ (t : Outcome). Agrees (record-call c (t .values) (ledger-of begun es)) (t .heap) (t .accounts)) (h .3)
-      (step-agrees unit units c (ledger-of begun es) (h .0) (h .1) (history-agrees begun es (h .0) (h .1) (h .2)))
+      (step-agrees (tables (h .1 .edition)) (units (h .1 .edition)) c (ledger-of begun es) (h .0) (h .1) (history-agrees begun es (h .0) (h .1) (h .2)))
   history-agrees begun (Wrote ∷ es) s k h = written-agrees (ledger-of begun es) (h .0) s k (history-agrees begun es (h .0) k (h .1)) (h .2)
   history-agrees begun (Saved s₀ k₀ ∷ es) s k h = history-agrees begun es s k (h .0)
-  history-agrees begun (Restored s₁ k₁ ∷ es) s k h = rw (← h .5, ← h .6) (restored-agrees unit s k (h .4))
+  history-agrees begun (Restored s₁ k₁ ∷ es) s k h = rw (← h .5, ← h .6) (restored-agrees (tables (k .edition)) s k (h .4))
+
+  -- along a history the accounts have the ledger's edition
+  pub history-edition : (begun : Ledger) (es : List Event) (s : List ℕ) (k : Accounts) → History tables (by-own tables) begun es s k
+      → k .edition ≡ ledger-of begun es .edition
+  unfolding ledger-of record-event record-call read-ledger
+  history-edition begun [] s k h = beginning-edition tables begun s k h
+  history-edition begun (Called c v ∷ es) s k h =
+      ap (λ (t : Outcome). t .accounts .edition) (sym (h .3)) ∙ step-keeps (tables (h .1 .edition)) c (h .0) (h .1) .same-edition
+      ∙ history-edition begun es (h .0) (h .1) (h .2) ∙ sym (recorded-kept (eqb (v .refusal) 0) c v (ledger-of begun es) .1)
+  history-edition begun (Wrote ∷ es) s k h = history-edition begun es (h .0) k (h .1)
+  history-edition begun (Saved s₀ k₀ ∷ es) s k h = history-edition begun es s k (h .0)
+  history-edition begun (Restored s₁ k₁ ∷ es) s k h = rw (← h .5, ← h .6) refl
 
   -- along a history every object of the ledger fits its unit
-  pub history-fits : (begun : Ledger) (es : List Event) (s : List ℕ) (k : Accounts) → History unit (step unit) begun es s k → Fitted unit (ledger-of begun es)
+  pub history-fits : (begun : Ledger) (es : List Event) (s : List ℕ) (k : Accounts) → History tables (by-own tables) begun es s k
+      → Fitted (tables (k .edition)) (ledger-of begun es)
   unfolding ledger-of record-event
-  history-fits begun [] s k h = beginning-fits unit begun s k h
+  history-fits begun [] s k h = beginning-fits tables begun s k h
   history-fits begun (Called c v ∷ es) s k h =
-      subst (λ (t : Outcome). Fitted unit (record-call c (t .values) (ledger-of begun es))) (h .3)
-      (step-fits unit units c (ledger-of begun es) (h .0) (h .1) (history-fits begun es (h .0) (h .1) (h .2)))
+      let e = h .1 .edition in
+      subst (λ (t : Outcome). Fitted (tables (t .accounts .edition)) (record-call c (t .values) (ledger-of begun es))) (h .3)
+      (subst (λ (n : ℕ). Fitted (tables n) (record-call c (step (tables e) c (h .0) (h .1) .values) (ledger-of begun es)))
+      (sym (step-keeps (tables e) c (h .0) (h .1) .same-edition))
+      (step-fits (tables e) (units e) c (ledger-of begun es) (h .0) (h .1) (history-fits begun es (h .0) (h .1) (h .2))))
   history-fits begun (Wrote ∷ es) s k h = history-fits begun es (h .0) k (h .1)
   history-fits begun (Saved s₀ k₀ ∷ es) s k h = history-fits begun es s k (h .0)
-  history-fits begun (Restored s₁ k₁ ∷ es) s k h = rw (← h .5, ← h .6) (restored-fits unit s k (h .4))
+  history-fits begun (Restored s₁ k₁ ∷ es) s k h = rw (← h .5, ← h .6) (restored-fits (tables (k .edition)) s k (h .4))
 
   -- along a history every quota's number is permissions
-  pub history-permissible : (begun : Ledger) (es : List Event) (s : List ℕ) (k : Accounts) → History unit (step unit) begun es s k
+  pub history-permissible : (begun : Ledger) (es : List Event) (s : List ℕ) (k : Accounts) → History tables (by-own tables) begun es s k
       → all permissible (permissions k) ≡ true
-  history-permissible begun [] s k h = beginning-permissible unit begun s k h
+  history-permissible begun [] s k h = beginning-permissible tables begun s k h
   history-permissible begun (Called c v ∷ es) s k h =
       subst (λ (t : Outcome). all permissible (permissions (t .accounts)) ≡ true) (h .3)
-      (step-permissible unit c (h .0) (h .1) (history-permissible begun es (h .0) (h .1) (h .2)))
+      (step-permissible (tables (h .1 .edition)) c (h .0) (h .1) (history-permissible begun es (h .0) (h .1) (h .2)))
   history-permissible begun (Wrote ∷ es) s k h = history-permissible begun es (h .0) k (h .1)
   history-permissible begun (Saved s₀ k₀ ∷ es) s k h = history-permissible begun es s k (h .0)
-  history-permissible begun (Restored s₁ k₁ ∷ es) s k h = sound-permissible unit s k (h .4 .sound)
+  history-permissible begun (Restored s₁ k₁ ∷ es) s k h = sound-permissible (tables (k .edition)) s k (h .4 .sound)
 
   -- an event takes away no object whose serial is held after it
-  history-lasts : (begun : Ledger) (front back : List Event) (s : List ℕ) (k : Accounts) → History unit (step unit) begun (back ++ front) s k
+  history-lasts : (begun : Ledger) (front back : List Event) (s : List ℕ) (k : Accounts) → History tables (by-own tables) begun (back ++ front) s k
       → Lasts begun front back
   unfolding ledger-of record-event unrestored
   history-lasts begun front [] s k h u o m f = m
@@ -140,17 +159,18 @@ module _ (unit : ℕ → ℕ) (units : Units unit) where
       let l = ledger-of begun (es ++ front) in
       let before = history-lasts begun front es (h .0) (h .1) (h .2) u o m (sooner begun front (Called c v) es (o .serial) f) in
       subst (λ (t : Outcome). HeldIn (o .serial) (record-call c (t .values) l) → List·Memᴰ o (objects-in (record-call c (t .values) l))) (h .3)
-      (step-lasts unit l (h .0) (h .1) c (history-agrees begun (es ++ front) (h .0) (h .1) (h .2)) o before) (f [] (Called c v ∷ es) refl)
+      (step-lasts (tables (h .1 .edition)) l (h .0) (h .1) c (history-agrees begun (es ++ front) (h .0) (h .1) (h .2)) o before) (f [] (Called c v ∷ es) refl)
   history-lasts begun front (Wrote ∷ es) s k h u o m f = history-lasts begun front es (h .0) k (h .1) u o m (sooner begun front Wrote es (o .serial) f)
   history-lasts begun front (Saved s₀ k₀ ∷ es) s k h u o m f = history-lasts begun front es s k (h .0) u o m (sooner begun front (Saved s₀ k₀) es (o .serial) f)
   history-lasts begun front (Restored s₁ k₁ ∷ es) s k h u o m f = absurd (false≢true u)
 
   -- what demand 3 says of a history is what agreement says of its end
   holds-after : (begun : Ledger) (front back : List Event) (s : List ℕ) (k : Accounts) → Lasts begun front back
-      → Agrees (ledger-of begun (back ++ front)) s k → Fitted unit (ledger-of begun (back ++ front)) → all permissible (permissions k) ≡ true
-      → Holds unit (step unit) begun front back s k
-  holds-after begun front back s k lasts a f p =
+      → Agrees (ledger-of begun (back ++ front)) s k → Fitted (tables (k .edition)) (ledger-of begun (back ++ front)) → all permissible (permissions k) ≡ true
+      → k .edition ≡ ledger-of begun (back ++ front) .edition → Holds (tables (k .edition)) (by-own tables) begun front back s k
+  holds-after begun front back s k lasts a f p e =
       let l = ledger-of begun (back ++ front) in
+      let unit = tables (k .edition) in
       record {
         as-defined = λ c. refl;
         live-recorded = λ o. a .matches .objects o .0;
@@ -169,26 +189,28 @@ module _ (unit : ℕ → ℕ) (units : Units unit) where
         quarantined-once = a .waits .once;
         kind-kept = a .kind;
         kind-begun = λ u. ledger-kept begun (back ++ front) u .0;
+        edition-kept = e;
+        edition-begun = λ u. ledger-kept begun (back ++ front) u .1;
         grants-kept = a .grants;
-        grants-begun = λ u. ledger-kept begun (back ++ front) u .1;
+        grants-begun = λ u. ledger-kept begun (back ++ front) u .2;
         balanced = balanced-of l s k a;
         answered = answered-of l s k a unit (sound-of unit l s k a f p);
-        no-space = λ c r e x. space-decided unit units s k c r e x .no-space;
-        space = λ c r e x. space-decided unit units s k c r e x .space;
+        no-space = λ c r e x. space-decided unit (units (k .edition)) s k c r e x .no-space;
+        space = λ c r e x. space-decided unit (units (k .edition)) s k c r e x .space;
         length-allowed = a .extent;
         kept-sound = sound-of unit l s k a f p;
       }
 
   -- THE THEOREM
-  pub demand-3-of : Demand3 unit (step unit)
+  pub demand-3-of : Demand3 tables (by-own tables)
   demand-3-of =
       record {
         always =
             λ begun front back s k h.
             holds-after begun front back s k (history-lasts begun front back s k h) (history-agrees begun (back ++ front) s k h)
-            (history-fits begun (back ++ front) s k h) (history-permissible begun (back ++ front) s k h);
+            (history-fits begun (back ++ front) s k h) (history-permissible begun (back ++ front) s k h) (history-edition begun (back ++ front) s k h);
       }
 
--- and so of the table of rule 6.1
-pub demand-3 : Demand3 unit (step unit)
-demand-3 = demand-3-of unit unit-is
+-- and so of both editions' tables (rules 6.1 and 23.1)
+pub demand-3 : Demand3 table own-step
+demand-3 = demand-3-of table table-is

@@ -119,6 +119,9 @@ pub record Holds (unit : ℕ → ℕ) (run : Run) (begun : Ledger) (front back :
   -- rule 22.1: the heap is of the ledger's kind, which is that of the beginning unless an image was read
   pub kind-kept : k .kind ≡ ledger-of begun (back ++ front) .kind
   pub kind-begun : unrestored (back ++ front) ≡ true → ledger-of begun (back ++ front) .kind ≡ begun .kind
+  -- rule 23.3: so with the edition
+  pub edition-kept : k .edition ≡ ledger-of begun (back ++ front) .edition
+  pub edition-begun : unrestored (back ++ front) ≡ true → ledger-of begun (back ++ front) .edition ≡ begun .edition
   -- rule 10.8: the ledger's grants, which are those of the beginning unless an image was read, are remainders and costs, and remaining answers the remainder
   pub grants-kept : map (λ (x : Quota). x .grant) (k .quotas) ≡ ledger-of begun (back ++ front) .grants
   pub grants-begun : unrestored (back ++ front) ≡ true → ledger-of begun (back ++ front) .grants ≡ begun .grants
@@ -134,5 +137,7 @@ pub record Holds (unit : ℕ → ℕ) (run : Run) (begun : Ledger) (front back :
   pub length-allowed : allowed (length s) ≡ true
   pub kept-sound : sound unit s k ≡ true
 
-pub record Demand3 (unit : ℕ → ℕ) (run : Run) : Type 0 where
-  pub always : (begun : Ledger) (front back : List Event) (s : List ℕ) (k : Accounts) → History unit run begun (back ++ front) s k → Holds unit run begun front back s k
+-- for a family of tables, one for each edition; a state goes by that of its own
+pub record Demand3 (tables : ℕ → ℕ → ℕ) (run : Run) : Type 0 where
+  pub always : (begun : Ledger) (front back : List Event) (s : List ℕ) (k : Accounts) → History tables run begun (back ++ front) s k
+      → Holds (tables (k .edition)) run begun front back s k

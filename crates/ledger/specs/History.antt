@@ -14,6 +14,7 @@ use Rattle.model.specs.Answers.{accepted}
 use Rattle.model.specs.Objects.{objects-of}
 use Rattle.model.specs.Consistent.{allowed, sound as is-sound}
 use Rattle.model.specs.Calls.{Outcome, open-heap}
+use Rattle.model.specs.Step.{step}
 use Rattle.model.specs.declared.Handle.{Handle}
 use Rattle.model.specs.declared.Call.{Call}
 use Rattle.ledger.specs.Ledger.{Ledger, Event, Called, Wrote, Saved, Restored, empty, read-ledger}
@@ -21,6 +22,10 @@ use Rattle.ledger.specs.Ledger.{Ledger, Event, Called, Wrote, Saved, Res
 -- whatever performs a call on a heap and its accounts
 abbrev pub Run : Type 0
 Run = Call → List ℕ → Accounts → Outcome
+
+-- the calls of the rules, each by the table of the heap's own edition
+abbrev pub by-own : (ℕ → ℕ → ℕ) → Run
+by-own tables c s k = step (tables (k .edition)) c s k
 
 -- an accepted opening: any bytes of an allowed length, any 32-bit grants
 pub record Opened (settings : Settings) (grants : List ℕ) (s : List ℕ) (k : Accounts) : Type 0 where
@@ -39,9 +44,9 @@ pub record Restorable (unit : ℕ → ℕ) (s : List ℕ) (k : Accounts) : Type 
 
 -- how a history begins, and the ledger at its beginning: with an accepted opening and the empty ledger of its settings and grants, or with a state that was
 -- read and the ledger read off it
-pub data Begins (unit : ℕ → ℕ) (begun : Ledger) (s : List ℕ) (k : Accounts) : Type 0 where
-  Opening : (settings : Settings) (grants : List ℕ) → begun ≡ empty settings grants → Opened settings grants s k → Begins unit begun s k
-  Restoring : begun ≡ read-ledger s k → Restorable unit s k → Begins unit begun s k
+pub data Begins (tables : ℕ → ℕ → ℕ) (begun : Ledger) (s : List ℕ) (k : Accounts) : Type 0 where
+  Opening : (settings : Settings) (grants : List ℕ) → begun ≡ empty settings grants → Opened settings grants s k → Begins tables begun s k
+  Restoring : begun ≡ read-ledger s k → Restorable (tables (k .edition)) s k → Begins tables begun s k
 
 -- a byte lies in one of these objects
 unfoldable pub in-object : ℕ → List Handle → Bool
@@ -54,11 +59,11 @@ pub record Written (s s′ : List ℕ) : Type 0 where
   pub inside : (i : ℕ) → in-object i (objects-of s) ≡ false → getD s′ i 0 ≡ getD s i 0
 
 -- the events, the newest first, that lead to a heap and its accounts
-abbrev pub History : (ℕ → ℕ) → Run → Ledger → List Event → List ℕ → Accounts → Type 0
-History unit run begun [] s k = Begins unit begun s k
-History unit run begun (Called c v ∷ es) s k =
-    (s₀ : List ℕ) × (k₀ : Accounts) × History unit run begun es s₀ k₀ × (run c s₀ k₀ ≡ record { heap = s; accounts = k; values = v })
-History unit run begun (Wrote ∷ es) s k = (s₀ : List ℕ) × History unit run begun es s₀ k × Written s₀ s
-History unit run begun (Saved s₀ k₀ ∷ es) s k = History unit run begun es s k × (s ≡ s₀) × (k ≡ k₀)
-History unit run begun (Restored s₁ k₁ ∷ es) s k =
-    (s₀ : List ℕ) × (k₀ : Accounts) × History unit run begun es s₀ k₀ × (length s ≡ length s₀) × Restorable unit s k × (s ≡ s₁) × (k ≡ k₁)
+abbrev pub History : (ℕ → ℕ → ℕ) → Run → Ledger → List Event → List ℕ → Accounts → Type 0
+History tables run begun [] s k = Begins tables begun s k
+History tables run begun (Called c v ∷ es) s k =
+    (s₀ : List ℕ) × (k₀ : Accounts) × History tables run begun es s₀ k₀ × (run c s₀ k₀ ≡ record { heap = s; accounts = k; values = v })
+History tables run begun (Wrote ∷ es) s k = (s₀ : List ℕ) × History tables run begun es s₀ k × Written s₀ s
+History tables run begun (Saved s₀ k₀ ∷ es) s k = History tables run begun es s k × (s ≡ s₀) × (k ≡ k₀)
+History tables run begun (Restored s₁ k₁ ∷ es) s k =
+    (s₀ : List ℕ) × (k₀ : Accounts) × History tables run begun es s₀ k₀ × (length s ≡ length s₀) × Restorable (tables (k .edition)) s k × (s ≡ s₁) × (k ≡ k₁)

@@ -9,7 +9,7 @@ use Rattle.accounts.specs.declared.Quota.{Quota}
 use Rattle.accounts.specs.declared.Hold.{Hold}
 use Rattle.accounts.specs.declared.Accounts.{Accounts}
 use Rattle.accounts.specs.declared.Settings.{Settings}
-use Rattle.accounts.specs.Accounts.{QUOTAS, kind-number}
+use Rattle.accounts.specs.Accounts.{QUOTAS, kind-number, edition-number}
 use Rattle.layout.specs.Blocks.{Block, size, quarantined}
 use Rattle.model.specs.Objects.{blocks-of, objects-of}
 use Rattle.model.specs.Holds.{count-of}
@@ -37,18 +37,19 @@ block-of o = record { from = o .base - 8; to = o .base + o .length }
 -- rules 9.2 and 22.10: kind and grants of the opening, and the entries and the quarantined blocks, none to begin with
 pub record Ledger : Type 0 where
   pub kind : ℕ
+  pub edition : ℕ
   pub grants : List ℕ
   pub entries : List Entry
   pub quarantined : List Span
 
 unfoldable pub empty : Settings → List ℕ → Ledger
-empty g grants = record { kind = kind-number (g .kind); grants = grants; entries = []; quarantined = [] }
+empty g grants = record { kind = kind-number (g .kind); edition = edition-number (g .edition); grants = grants; entries = []; quarantined = [] }
 
 abbrev pub with-entries : List Entry → Ledger → Ledger
-with-entries es l = record { kind = l .kind; grants = l .grants; entries = es; quarantined = l .quarantined }
+with-entries es l = record { kind = l .kind; edition = l .edition; grants = l .grants; entries = es; quarantined = l .quarantined }
 
 abbrev pub with-quarantined : List Span → Ledger → Ledger
-with-quarantined xs l = record { kind = l .kind; grants = l .grants; entries = l .entries; quarantined = xs }
+with-quarantined xs l = record { kind = l .kind; edition = l .edition; grants = l .grants; entries = l .entries; quarantined = xs }
 
 abbrev pub holds-of : ℕ → Entry → ℕ
 holds-of q e = getD (e .holds) q 0
@@ -128,6 +129,7 @@ unfoldable pub read-ledger : List ℕ → Accounts → Ledger
 read-ledger s k =
     record {
       kind = k .kind;
+      edition = k .edition;
       grants = map (λ (x : Quota). x .grant) (k .quotas);
       entries = map (read-entry (k .holds)) (objects-of s);
       quarantined = quarantined-of s;

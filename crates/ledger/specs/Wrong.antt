@@ -1,11 +1,11 @@
--- The wrong heaps of rules 10.13 and 22.14: what each does instead of `step`. That demand 3 does not hold of them is `proofs/Wrong.antt`.
+-- The wrong heaps of rules 10.13, 22.14 and 23.9: what each does instead of `step`. That demand 3 does not hold of them is `proofs/Wrong.antt`.
 use Prim.Native.Nat.{ℕ, _+_}
 use mathlib.Core.List.{List}
 use mathlib.Core.Bool.{cond}
 use lib.Dec.{eqb}
 use Rattle.accounts.specs.declared.Accounts.{Accounts}
-use Rattle.accounts.specs.Accounts.{remaining, refund, with-kind}
-use Rattle.rounding.specs.Rounding.{unit}
+use Rattle.accounts.specs.Accounts.{remaining, refund, with-kind, with-edition}
+use Rattle.rounding.specs.Rounding.{unit, table}
 use Rattle.model.specs.Answers.{refused, given, amount-of}
 use Rattle.model.specs.Calls.{Outcome, unchanged}
 use Rattle.model.specs.Step.{step}
@@ -122,3 +122,13 @@ unfoldable pub never-sweeps : Call → List ℕ → Accounts → Outcome
 never-sweeps c s k =
     let t = step unit c s k in
     at-sweep (unchanged s k (t .values)) c t
+
+-- a heap of edition 2 that goes by the table of edition 1
+unfoldable pub rounds-by-first : Call → List ℕ → Accounts → Outcome
+rounds-by-first c s k = step unit c s k
+
+-- a heap that any call makes one of edition 1
+unfoldable pub forgets-edition : Call → List ℕ → Accounts → Outcome
+forgets-edition c s k =
+    let t = step (table (k .edition)) c s k in
+    record { heap = t .heap; accounts = with-edition 0 (t .accounts); values = t .values }

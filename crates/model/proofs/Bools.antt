@@ -8,6 +8,9 @@ use Rattle.model.proofs.Marked
 use Rattle.model.proofs.Cases
 use Rattle.model.proofs.Lines
 use Rattle.model.proofs.Inconsistent
+use Rattle.model.proofs.Units
+use Rattle.model.proofs.Quarantine
+use Rattle.model.proofs.Editions
 
 pub and-left : (a b : Bool) → (a && b) ≡ true → a ≡ true
 and-left true b e = refl

@@ -3,7 +3,7 @@ use Rattle.accounts.specs.Accounts.{opened, remaining, set-remaining, less-paid
 use Rattle.accounts.specs.Accounts.{clear-permissions}
 use Rattle.layout.specs.Bytes.{bytes, number}
 use Rattle.layout.specs.Blocks.{header-bytes, read-header, starts-block, render-from, render, read-block, in-front, parse-from, parse}
-use Rattle.rounding.specs.Rounding.{unit, object-length, alignment}
+use Rattle.rounding.specs.Rounding.{unit, unit-2, table, object-length, alignment}
 use Rattle.model.specs.Lists.{all, any, keep, total, first, change-first, is-none, or-else}
 use Rattle.model.specs.Objects.{objects-from, objects, blocks-of, objects-of, whole, names, lookup, lookup-whole, found}
 use Rattle.model.specs.Consistent.{allowed, long-enough, starts-free, free-apart, well-cut, serials-differ, serials-given, record-valid, records-differ}
@@ -22,7 +22,7 @@ use Rattle.model.specs.Step.{step}
 unfoldable pub computing-but-sound : Unit {0}
 unfolding opened remaining set-remaining less-paid paid-back charge refund used unused is-for permits clear-permissions
     bytes number header-bytes read-header starts-block render-from render read-block in-front parse-from parse
-    unit object-length alignment
+    unit unit-2 table object-length alignment
     all any keep total first change-first is-none or-else
     objects-from objects blocks-of objects-of whole names lookup lookup-whole found
     allowed long-enough starts-free free-apart well-cut serials-differ serials-given record-valid records-differ is-of held has-record charged-for

@@ -362,21 +362,26 @@ module _ (unit : ℕ → ℕ) (s : List ℕ) (k : Accounts) (e : sound unit s k 
       and-right (all (in-kind (k .kind)) (blocks-of s)) _
       (and-right (all permissible (permissions k)) _ (and-right (all (in-units unit) (objects-of s)) _ sound-settings))
 
--- accounts in range: the last serial and the kind; and others that are in range with them
+-- accounts in range: the last serial, the kind and the edition; and others that are in range with them
 module _ (k : Accounts) (e : in-range k ≡ true) where
   pub range-serial : k .«last_serial» < QUARANTINED
   unfolding in-range
   range-serial = omega (arith, leb-true (k .«last_serial») greatest-serial (and-left (leb (k .«last_serial») greatest-serial) _ e))
 
+  range-settings : ltb (k .kind) 2 && ltb (k .edition) 2 ≡ true
+  unfolding in-range
+  range-settings = and-right (leb (k .«last_serial») greatest-serial) _ e
+
   pub range-kind : k .kind < 2
-  unfolding in-range
-  range-kind = ltb-true (k .kind) 2 (and-right (leb (k .«last_serial») greatest-serial) _ e)
+  range-kind = ltb-true (k .kind) 2 (and-left (ltb (k .kind) 2) _ range-settings)
 
-  pub range-next : (r : Accounts) → r .kind ≡ k .kind → r .«last_serial» < QUARANTINED → in-range r ≡ true
-  unfolding in-range
-  range-next r same l =
-      and-both (leb (r .«last_serial») greatest-serial) _ (le-leb (r .«last_serial») greatest-serial (omega arith))
-      (rw same (and-right (leb (k .«last_serial») greatest-serial) _ e))
+  pub range-edition : k .edition < 2
+  range-edition = ltb-true (k .edition) 2 (and-right (ltb (k .kind) 2) _ range-settings)
 
-  pub range-like : (r : Accounts) → r .kind ≡ k .kind → r .«last_serial» ≡ k .«last_serial» → in-range r ≡ true
-  range-like r same l = range-next r same (rw l range-serial)
+  pub range-next : (r : Accounts) → r .kind ≡ k .kind → r .edition ≡ k .edition → r .«last_serial» < QUARANTINED → in-range r ≡ true
+  unfolding in-range
+  range-next r kind edition l =
+      and-both (leb (r .«last_serial») greatest-serial) _ (le-leb (r .«last_serial») greatest-serial (omega arith)) (rw (kind, edition) range-settings)
+
+  pub range-like : (r : Accounts) → r .kind ≡ k .kind → r .edition ≡ k .edition → r .«last_serial» ≡ k .«last_serial» → in-range r ≡ true
+  range-like r kind edition l = range-next r kind edition (rw l range-serial)

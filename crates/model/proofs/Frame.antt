@@ -25,12 +25,15 @@ use Rattle.model.specs.Calls.{State, allocated, claimed, given-back, rel
 use Rattle.model.specs.declared.Handle.{Handle}
 use Rattle.model.proofs.Bools.{and-left, and-right, and-both, and-no}
 
--- from k to k′ every grant stays, every quota but those that pay, each record at a place that passes a test, and how many quotas and records there are
+-- from k to k′ every grant stays, every quota but those that pay, each record at a place that passes a test, how many quotas and records there are, and the
+-- heap's kind and edition
 pub record Kept (pays p : ℕ → Bool) (k k′ : Accounts) : Type 0 where
   pub grants : map (λ (x : Quota). x .grant) (k′ .quotas) ≡ map (λ (x : Quota). x .grant) (k .quotas)
   pub others : (j : ℕ) → pays j ≡ false → getD (k′ .quotas) j zero-quota ≡ getD (k .quotas) j zero-quota
   pub records : (i : ℕ) → p i ≡ true → getD (k′ .holds) i zero-hold ≡ getD (k .holds) i zero-hold
   pub places : length (k′ .holds) ≡ length (k .holds)
+  pub same-kind : k′ .kind ≡ k .kind
+  pub same-edition : k′ .edition ≡ k .edition
 
 -- the quotas are as many as their grants
 pub kept-quotas : {pays p : ℕ → Bool} {k k′ : Accounts} → Kept pays p k k′ → length (k′ .quotas) ≡ length (k .quotas)
@@ -38,7 +41,7 @@ kept-quotas {pays} {p} {k} {k′} a =
     sym (length-map (k′ .quotas) (λ (x : Quota). x .grant)) ∙ ap length (a .grants) ∙ length-map (k .quotas) (λ (x : Quota). x .grant)
 
 pub kept-same : (pays p : ℕ → Bool) (k : Accounts) → Kept pays p k k
-kept-same pays p k = record { grants = refl; others = λ j e. refl; records = λ i e. refl; places = refl }
+kept-same pays p k = record { grants = refl; others = λ j e. refl; records = λ i e. refl; places = refl; same-kind = refl; same-edition = refl }
 
 pub kept-then : (pays p : ℕ → Bool) (k l m : Accounts) → Kept pays p k l → Kept pays p l m → Kept pays p k m
 kept-then pays p k l m a b =
@@ -47,11 +50,21 @@ kept-then pays p k l m a b =
       others = λ j e. b .others j e ∙ a .others j e;
       records = λ i e. b .records i e ∙ a .records i e;
       places = b .places ∙ a .places;
+      same-kind = b .same-kind ∙ a .same-kind;
+      same-edition = b .same-edition ∙ a .same-edition;
     }
 
 -- a narrower test keeps as much
 pub kept-narrow : (pays p r : ℕ → Bool) (k l : Accounts) → ((i : ℕ) → r i ≡ true → p i ≡ true) → Kept pays p k l → Kept pays r k l
-kept-narrow pays p r k l f a = record { grants = a .grants; others = a .others; records = λ i e. a .records i (f i e); places = a .places }
+kept-narrow pays p r k l f a =
+    record {
+      grants = a .grants;
+      others = a .others;
+      records = λ i e. a .records i (f i e);
+      places = a .places;
+      same-kind = a .same-kind;
+      same-edition = a .same-edition;
+    }
 
 module _ (q : ℕ) (p : ℕ → Bool) (k : Accounts) where
   set-keeps : (n : ℕ) → Kept (eqb q) p k (set-remaining q n k)
@@ -62,6 +75,8 @@ module _ (q : ℕ) (p : ℕ → Bool) (k : Accounts) where
         others = λ j e. getD-set-other (k .quotas) q j (with-remainder n (quota-at q k)) zero-quota (λ x. eqb-false q j e (sym x));
         records = λ i e. refl;
         places = refl;
+        same-kind = refl;
+        same-edition = refl;
       }
 
   when-keeps : (t : Bool) (n : ℕ) → Kept (eqb q) p k (cond t (set-remaining q n k) k)
@@ -89,6 +104,8 @@ clear-keeps q n p k = go (ltb q QUOTAS)
           others = λ j e. getD-set-other (k .quotas) q j (with-permissions (left-permissions q n k) (quota-at q k)) zero-quota (λ x. eqb-false q j e (sym x));
           records = λ i e. refl;
           places = refl;
+          same-kind = refl;
+          same-edition = refl;
         }
 
 -- a place is the first whose record passes a test
@@ -157,7 +174,14 @@ other-after u p f (h ∷ hs) (suc i) apart a b = go (u h) (p h) refl (apart h) a
 module _ (q : ℕ) (p : Hold → Bool) (f : Hold → Hold) (k : Accounts) where
   change-keeps : Kept (eqb q) (other-place p (k .holds)) k (with-holds (change-first p f (k .holds)) k)
   change-keeps =
-      record { grants = refl; others = λ j e. refl; records = λ i e. change-other p f (k .holds) i e; places = change-length p f (k .holds) }
+      record {
+        grants = refl;
+        others = λ j e. refl;
+        records = λ i e. change-other p f (k .holds) i e;
+        places = change-length p f (k .holds);
+        same-kind = refl;
+        same-edition = refl;
+      }
 
 -- an unused record is for no serial and quota
 unused-apart : (serial q : ℕ) (h : Hold) → unused h ≡ true → is-for serial q h ≡ false
@@ -209,12 +233,22 @@ drop-keeps q k =
           λ i e.
           rw (dropped-zero q) at (List·getD-map (dropped q) (k .holds) i zero-hold) ∙ dropped-other q (getD (k .holds) i zero-hold) e;
       places = length-map (k .holds) (dropped q);
+      same-kind = refl;
+      same-edition = refl;
     }
 
 -- a change of records beside a payment
 pub kept-beside : (pays p : ℕ → Bool) (k k₁ : Accounts) (hs : List Hold) → Kept pays p k k₁ → Kept pays p k (with-holds hs k)
     → Kept pays p k (with-holds hs k₁)
-kept-beside pays p k k₁ hs a b = record { grants = a .grants; others = a .others; records = b .records; places = b .places }
+kept-beside pays p k k₁ hs a b =
+    record {
+      grants = a .grants;
+      others = a .others;
+      records = b .records;
+      places = b .places;
+      same-kind = a .same-kind;
+      same-edition = a .same-edition;
+    }
 
 module _ (q : ℕ) (o : Handle) where
   -- a new record is taken and its charge is paid
@@ -228,7 +262,14 @@ module _ (q : ℕ) (o : Handle) where
   unfolding allocated
   allocated-keeps t =
       let a = paid-keeps (t .accounts) in
-      record { grants = a .grants; others = a .others; records = a .records; places = a .places }
+      record {
+        grants = a .grants;
+        others = a .others;
+        records = a .records;
+        places = a .places;
+        same-kind = a .same-kind;
+        same-edition = a .same-edition;
+      }
 
   -- the record that a claim is about: a new one where the quota has none for the object
   abbrev pub beside-claim : Accounts → ℕ → Bool

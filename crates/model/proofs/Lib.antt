@@ -5,6 +5,7 @@ pub mod Units
 pub mod Lines
 pub mod Inconsistent
 pub mod Quarantine
+pub mod Editions
 pub mod Bools
 pub mod Lists
 pub mod Base

@@ -62,7 +62,7 @@ unless-keeps w p zero s k done a = a
 unless-keeps w p (suc n) s k done a = kept-same w p k
 
 module _ (unit : ℕ → ℕ) where
-  -- each call keeps every grant, every other quota, every record at another place, and how many quotas and records there are
+  -- each call keeps every grant, every other quota, every record at another place, how many quotas and records there are, and kind and edition
   pub step-keeps : (c : Call) (s : List ℕ) (k : Accounts) → Kept (pays c) (bystander c s k) k (step unit c s k .accounts)
   unfolding step allocate allocate-array claim release free-all sweep reallocate lend remaining-of can-release list-block clear
   step-keeps (Allocate q n) s k =
@@ -172,7 +172,7 @@ module _ (unit : ℕ → ℕ) where
   step-serial (ClearPermissions q n) s k = unless-same (first-refusal (quota-lines unit s k q)) s k _ (clear-serial q n k)
 
 -- what a call leaves of the accounts beside what its rule names: every grant, every quota but its own, every record but those that it is about, how
--- many quotas and records there are, and the last serial but for the one that it gives
+-- many quotas and records there are, kind and edition, and the last serial but for the one that it gives
 pub record Framed (c : Call) (s : List ℕ) (k : Accounts) (t : Outcome) : Type 0 where
   pub kept : Kept (pays c) (bystander c s k) k (t .accounts)
   pub quotas : length (t .accounts .quotas) ≡ length (k .quotas)

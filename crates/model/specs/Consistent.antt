@@ -112,16 +112,16 @@ in-units unit o = fits-unit unit (o .base) (o .length)
 unfoldable pub in-kind : ℕ → Block → Bool
 in-kind kind b = not (quarantined b) || eqb kind 1
 
--- rules 22.2 and 22.9: the greatest serial that an object has; the last serial is at most that, and the kind is one of two
+-- rules 22.2, 22.9 and 23.3: the greatest serial that an object has; the last serial is at most that, the kind is one of two, and so is the edition
 abbrev pub greatest-serial : ℕ
 greatest-serial = 4294967294
 
 unfoldable pub in-range : Accounts → Bool
-in-range k = leb (k .«last_serial») greatest-serial && ltb (k .kind) 2
+in-range k = leb (k .«last_serial») greatest-serial && (ltb (k .kind) 2 && ltb (k .edition) 2)
 
 -- what line 2 asks for: the state is consistent (5.1 to 5.8), every base and length fits its object's unit (5.10), every quota's permissions are
--- such (15.2), and blocks, last serial and kind are as section 22 wants them. Rules that speak of a table of units or of settings stand here, so that the
--- laws of `consistent` know of none.
+-- such (15.2), and blocks, last serial, kind and edition are as sections 22 and 23 want them. Rules that speak of a table of units or of settings stand
+-- here, so that the laws of `consistent` know of none. The table is that of the edition in the accounts (23.5): who calls this hands it over.
 unfoldable pub sound : (ℕ → ℕ) → List ℕ → Accounts → Bool
 sound unit s k =
     consistent s k

@@ -14,4 +14,5 @@ pub mod Units
 pub mod Lines
 pub mod Inconsistent
 pub mod Quarantine
+pub mod Editions
 pub mod Joining

@@ -4,6 +4,7 @@ use mathlib.Core.List.{List, [], _∷_}
 use mathlib.Core.Option.{some}
 use lib.ListN.{replicate, take}
 use Rattle.accounts.specs.declared.Kind.the-variants.{Quarantine}
+use Rattle.accounts.specs.declared.Edition.the-variants.{First}
 use Rattle.accounts.specs.declared.Accounts.{Accounts}
 use Rattle.accounts.specs.Accounts.{QUOTAS, zero-hold, with-holds, with-kind}
 use Rattle.model.specs.Answers.{refused, given, amount-of, listed}
@@ -16,7 +17,7 @@ use Rattle.model.specs.declared.Call.the-variants.{Allocate, Claim, Rele
 -- a fresh heap with quarantine, of H bytes, where quota 0 has 1,000 and quota 1 has 100
 unfoldable pub waiting-heap : ℕ → Outcome
 waiting-heap H =
-    let t = open-heap (record { kind = Quarantine }) (replicate H 255) (1000 ∷ 100 ∷ replicate (QUOTAS - 2) 0) in
+    let t = open-heap (record { kind = Quarantine; edition = First }) (replicate H 255) (1000 ∷ 100 ∷ replicate (QUOTAS - 2) 0) in
     state (t .heap) (with-holds (take places (t .accounts .holds)) (t .accounts))
 
 -- accounts of a heap of some kind, with a last serial and nothing held

@@ -2,6 +2,7 @@
 use Prim.Native.Nat.{ℕ}
 use mathlib.Core.List.{List}
 use Rattle.accounts.specs.declared.Accounts.{Accounts}
+use Rattle.rounding.specs.Rounding.{table}
 use Rattle.model.specs.Answers.{answer-of}
 use Rattle.model.specs.Calls.{Outcome, allocate, allocate-array, claim, release, free-all, reallocate, lend, remaining-of, can-release, list-block}
 use Rattle.model.specs.Calls.{clear, sweep}
@@ -35,3 +36,7 @@ module _ (unit : ℕ → ℕ) where
   performed c s k =
       let t = step c s k in
       record { heap = t .heap; accounts = t .accounts; answer = answer-of c (t .values) }
+
+-- rule 23.4: a call goes by the table of the heap's own edition
+abbrev pub own-step : Call → List ℕ → Accounts → Outcome
+own-step c s k = step (table (k .edition)) c s k

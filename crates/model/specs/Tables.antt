@@ -72,6 +72,7 @@ accounts-to n qs last hs =
       «last_serial» = last;
       holds = hs ++ replicate (n - length hs) zero-hold;
       kind = 0;
+      edition = 0;
     }
 
 unfoldable pub accounts-of : List Quota → ℕ → List Hold → Accounts

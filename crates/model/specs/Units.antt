@@ -28,6 +28,7 @@ accounts-with (placed base length behind) =
       «last_serial» = 1;
       holds = record { serial = 1; quota = 0; count = 1 } ∷ replicate (HOLDS - 1) zero-hold;
       kind = 0;
+      edition = 0;
     }
 
 -- the refusal that the check gives with a table of units

@@ -14,8 +14,8 @@ use lib.Dec.{ltb, eqb}
 use borrow.Author.Tests.{eq-eqb, ne-eqb}
 use Rattle.accounts.specs.declared.Hold.{Hold}
 use Rattle.accounts.specs.declared.Accounts.{Accounts}
-use Rattle.rounding.specs.Rounding.{unit, Units}
-use Rattle.rounding.proofs.Rounding.{unit-is}
+use Rattle.rounding.specs.Rounding.{Units, table}
+use Rattle.rounding.proofs.Editions.{table-is}
 use Rattle.model.specs.Lists.{is-none}
 use Rattle.model.specs.Answers.{lent, zero-handle}
 use Rattle.model.specs.Objects.{objects-of, lookup}
@@ -26,11 +26,12 @@ use Rattle.model.specs.Calls.{Outcome, unless, unchanged, can-release, lend}
 use Rattle.model.specs.Step.{step}
 use Rattle.model.specs.declared.Handle.{Handle}
 use Rattle.model.specs.declared.Call.the-variants.{Claim, Release}
+use Rattle.model.proofs.StepFrame.{step-keeps}
 use Rattle.model.proofs.Consistent.{sound-consistent, consistent-facts}
 use Rattle.model.proofs.Lookup.{Narrowed, names-exactly, lookup-named, found-serial}
 use Rattle.invariant.proofs.Counts.{counted-used, member-count}
 use Rattle.ledger.specs.Ledger.{Ledger, Event, Called, ledger-of}
-use Rattle.ledger.specs.History.{History}
+use Rattle.ledger.specs.History.{by-own, History}
 use Rattle.ledger.specs.Demand3.{Holds, objects-in}
 use Rattle.ledger.proofs.Narrowing.{held-found}
 use Rattle.ledger.proofs.Theorem.{demand-3-of}
@@ -78,46 +79,52 @@ module _ (unit : ℕ → ℕ) (s : List ℕ) (k : Accounts) (a : allowed (length
   unfolding lend lend-lines first-refusal line-1 line-2 line-5 is-none unless
   lend-refuses e = rw (a, w, e)
 
-module _ (unit : ℕ → ℕ) where
+module _ (tables : ℕ → ℕ → ℕ) where
   -- a send, accepted or not
   record Accepted (s : List ℕ) (k : Accounts) (u : Queue) (h : Handle) : Type 0 where
-    zero : send unit s k u h .refusal ≡ 0
-    claims : claimed-by unit s k u h .values .refusal ≡ 0
-    can : can-release unit s k (u .sender) h .values .refusal ≡ 0
-    heap : released-by unit s k u h .heap ≡ send unit s k u h .heap
-    accounts : released-by unit s k u h .accounts ≡ send unit s k u h .accounts
+    zero : send (tables (k .edition)) s k u h .refusal ≡ 0
+    claims : claimed-by tables s k u h .values .refusal ≡ 0
+    can : can-release (tables (k .edition)) s k (u .sender) h .values .refusal ≡ 0
+    heap : released-by tables s k u h .heap ≡ send (tables (k .edition)) s k u h .heap
+    accounts : released-by tables s k u h .accounts ≡ send (tables (k .edition)) s k u h .accounts
 
   record Refused (s : List ℕ) (k : Accounts) (u : Queue) (h : Handle) : Type 0 where
-    some : 0 < send unit s k u h .refusal
-    heap : s ≡ send unit s k u h .heap
-    accounts : k ≡ send unit s k u h .accounts
+    some : 0 < send (tables (k .edition)) s k u h .refusal
+    heap : s ≡ send (tables (k .edition)) s k u h .heap
+    accounts : k ≡ send (tables (k .edition)) s k u h .accounts
 
   send-cases : (s : List ℕ) (k : Accounts) (u : Queue) (h : Handle) → Accepted s k u h ⊎ Refused s k u h
   unfolding send sent-unless send-lines line-53 line-51
-  send-cases s k u h = go (first-refusal (send-lines unit s k u h)) refl
+  send-cases s k u h = go (first-refusal (send-lines (tables (k .edition)) s k u h)) refl
     where
-      go : (n : ℕ) → first-refusal (send-lines unit s k u h) ≡ n → Accepted s k u h ⊎ Refused s k u h
+      go : (n : ℕ) → first-refusal (send-lines (tables (k .edition)) s k u h) ≡ n → Accepted s k u h ⊎ Refused s k u h
       go zero e =
-          let x = none-refuses (ltb PLACES (u .count)) (eqb (u .count) PLACES) (claimed-by unit s k u h) (can-release unit s k (u .sender) h) e in
+          let x = none-refuses (ltb PLACES (u .count)) (eqb (u .count) PLACES) (claimed-by tables s k u h)
+          (can-release (tables (k .edition)) s k (u .sender) h) e in
           inl (record { zero = rw e; claims = x .0; can = x .1; heap = rw e; accounts = rw e })
       go (suc n) e = inr (record { some = rw e (omega arith); heap = rw e; accounts = rw e })
 
   -- the events of a send
-  accepted-events : (s : List ℕ) (k : Accounts) (u : Queue) (h : Handle) → send unit s k u h .refusal ≡ 0
-      → send-events unit s k u h
-      ≡ Called (Release (u .sender) h) (released-by unit s k u h .values) ∷ Called (Claim (u .receiver) h) (claimed-by unit s k u h .values) ∷ []
-  unfolding send-events
-  accepted-events s k u h e = rw (eq-eqb (send unit s k u h .refusal) 0 e)
+  -- a claim keeps the edition, and with it the table
+  same-table : (s : List ℕ) (k : Accounts) (u : Queue) (h : Handle) → claimed-by tables s k u h .accounts .edition ≡ k .edition
+  unfolding step
+  same-table s k u h = step-keeps (tables (k .edition)) (Claim (u .receiver) h) s k .same-edition
 
-  refused-events : (s : List ℕ) (k : Accounts) (u : Queue) (h : Handle) → 0 < send unit s k u h .refusal → send-events unit s k u h ≡ []
+  accepted-events : (s : List ℕ) (k : Accounts) (u : Queue) (h : Handle) → send (tables (k .edition)) s k u h .refusal ≡ 0
+      → send-events tables s k u h
+      ≡ Called (Release (u .sender) h) (released-by tables s k u h .values) ∷ Called (Claim (u .receiver) h) (claimed-by tables s k u h .values) ∷ []
   unfolding send-events
-  refused-events s k u h e = rw (ne-eqb (send unit s k u h .refusal) 0 (λ x. omega arith))
+  accepted-events s k u h e = rw (eq-eqb (send (tables (k .edition)) s k u h .refusal) 0 e)
 
-module _ (unit : ℕ → ℕ) (units : Units unit) (begun : Ledger) where
+  refused-events : (s : List ℕ) (k : Accounts) (u : Queue) (h : Handle) → 0 < send (tables (k .edition)) s k u h .refusal → send-events tables s k u h ≡ []
+  unfolding send-events
+  refused-events s k u h e = rw (ne-eqb (send (tables (k .edition)) s k u h .refusal) 0 (λ x. omega arith))
+
+module _ (tables : ℕ → ℕ → ℕ) (units : (e : ℕ) → Units (tables e)) (begun : Ledger) where
   -- a count above 0 is a hold of the ledger, and a live object is held
-  module _ (es : List Event) (s : List ℕ) (k : Accounts) (past : History unit (step unit) begun es s k) where
-    abbrev after : Holds unit (step unit) begun es [] s k
-    after = demand-3-of unit units .always begun es [] s k past
+  module _ (es : List Event) (s : List ℕ) (k : Accounts) (past : History tables (by-own tables) begun es s k) where
+    abbrev after : Holds (tables (k .edition)) (by-own tables) begun es [] s k
+    after = demand-3-of tables units .always begun es [] s k past
 
     counted-holds : (q serial : ℕ) → 0 < count-of serial q (k .holds) → HoldsIn q serial (ledger-of begun es)
     counted-holds q serial p =
@@ -128,7 +135,7 @@ module _ (unit : ℕ → ℕ) (units : Units unit) (begun : Ledger) where
     live-held : (o : Handle) → List·Memᴰ o (objects-of s) → (q : ℕ) × HoldsIn q (o .serial) (ledger-of begun es)
     unfolding objects-of
     live-held o m =
-        let f = consistent-facts s k (sound-consistent unit s k (after .kept-sound)) .recorded o m in
+        let f = consistent-facts s k (sound-consistent (tables (k .edition)) s k (after .kept-sound)) .recorded o m in
         let r = after .record-held (f .0) (f .1) (f .2) in
         (f .0 .quota, (r .0, r .1, r .2 ∙ f .3, omega (arith, r .3, r .4)))
 
@@ -142,62 +149,67 @@ module _ (unit : ℕ → ℕ) (units : Units unit) (begun : Ledger) where
             let r = live-held o (lookup-named h s o e .1) in
             absurd (f (r .0) (subst (λ (n : ℕ). HoldsIn (r .0) n (ledger-of begun es)) (found-serial h s o e ∙ same) (r .1)))
 
-  module _ (es : List Event) (s : List ℕ) (k : Accounts) (past : History unit (step unit) begun es s k) (u : Queue) (h : Handle) where
+  module _ (es : List Event) (s : List ℕ) (k : Accounts) (past : History tables (by-own tables) begun es s k) (u : Queue) (h : Handle) where
     abbrev sent-events : List Event
-    sent-events = send-events unit s k u h ++ es
+    sent-events = send-events tables s k u h ++ es
 
     -- it joins the list
-    joined : Accepted unit s k u h ⊎ Refused unit s k u h → History unit (step unit) begun sent-events (send unit s k u h .heap) (send unit s k u h .accounts)
+    joined : Accepted tables s k u h ⊎ Refused tables s k u h
+        → History tables (by-own tables) begun sent-events (send (tables (k .edition)) s k u h .heap) (send (tables (k .edition)) s k u h .accounts)
     unfolding step
     joined (inl a) =
-        rw (accepted-events unit s k u h (a .zero)) (
-          claimed-by unit s k u h .heap,
-          claimed-by unit s k u h .accounts,
+        rw (accepted-events tables s k u h (a .zero)) (
+          claimed-by tables s k u h .heap,
+          claimed-by tables s k u h .accounts,
           (s, k, past, refl),
-          λ i. record { heap = a .heap i; accounts = a .accounts i; values = released-by unit s k u h .values },
+          ap (λ (n : ℕ). step (tables n) (Release (u .sender) h) (claimed-by tables s k u h .heap) (claimed-by tables s k u h .accounts))
+              (same-table tables s k u h)
+              ∙ (λ i. record { heap = a .heap i; accounts = a .accounts i; values = released-by tables s k u h .values }),
         )
-    joined (inr a) = rw (refused-events unit s k u h (a .some), ← a .heap, ← a .accounts) past
+    joined (inr a) = rw (refused-events tables s k u h (a .some), ← a .heap, ← a .accounts) past
 
     -- an accepted send
-    module _ (a : Accepted unit s k u h) where
-      made : released-by unit s k u h ≡ left unit units begun es s k past (u .sender) (u .receiver) h (a .claims) (a .can)
-      made = both-made unit units begun es s k past (u .sender) (u .receiver) h (a .claims) (a .can)
+    module _ (a : Accepted tables s k u h) where
+      made : released-by tables s k u h ≡ left tables units begun es s k past (u .sender) (u .receiver) h (a .claims) (a .can)
+      made = both-made tables units begun es s k past (u .sender) (u .receiver) h (a .claims) (a .can)
 
-      both-done : released-by unit s k u h .values .refusal ≡ 0
+      both-done : released-by tables s k u h .values .refusal ≡ 0
       both-done = ap (λ (t : Outcome). t .values .refusal) made
 
       holds-now : HoldsIn (u .receiver) (packet h s .serial) (ledger-of begun sent-events)
       holds-now =
-          counted-holds sent-events (send unit s k u h .heap) (send unit s k u h .accounts) (joined (inl a)) (u .receiver) (packet h s .serial)
+          counted-holds sent-events (send (tables (k .edition)) s k u h .heap) (send (tables (k .edition)) s k u h .accounts) (joined (inl a))
+          (u .receiver) (packet h s .serial)
           (subst (λ (x : Accounts). 0 < count-of (packet h s .serial) (u .receiver) (x .holds)) (sym (ap (λ (t : Outcome). t .accounts) made) ∙ a .accounts)
-          (receiver-has unit units begun es s k past (u .sender) (u .receiver) h (a .claims) (a .can)))
+          (receiver-has tables units begun es s k past (u .sender) (u .receiver) h (a .claims) (a .can)))
 
       recorded-now : List·Memᴰ (packet h s) (objects-in (ledger-of begun sent-events))
       recorded-now =
-          after sent-events (send unit s k u h .heap) (send unit s k u h .accounts) (joined (inl a)) .live-recorded (packet h s)
+          after sent-events (send (tables (k .edition)) s k u h .heap) (send (tables (k .edition)) s k u h .accounts) (joined (inl a)) .live-recorded
+          (packet h s)
           (subst (λ (x : List ℕ). List·Memᴰ (packet h s) (objects-of x)) (sym (ap (λ (t : Outcome). t .heap) made) ∙ a .heap)
-          (packet-lives unit units begun es s k past (u .sender) (u .receiver) h (a .claims) (a .can)))
+          (packet-lives tables units begun es s k past (u .sender) (u .receiver) h (a .claims) (a .can)))
 
       narrowed : Narrowed h (packet h s)
       narrowed =
           names-exactly h (packet h s) .0
-          (lookup-named h s (packet h s) (named unit units begun es s k past (u .sender) (u .receiver) h (a .claims) (a .can)) .0)
+          (lookup-named h s (packet h s) (named tables units begun es s k past (u .sender) (u .receiver) h (a .claims) (a .can)) .0)
 
-    accepted : send unit s k u h .refusal ≡ 0 → Accepted unit s k u h
-    accepted e = ⊎-elim (λ a. a) (λ a. absurd (omega (arith, e, a .some))) (send-cases unit s k u h)
+    accepted : send (tables (k .edition)) s k u h .refusal ≡ 0 → Accepted tables s k u h
+    accepted e = ⊎-elim (λ a. a) (λ a. absurd (omega (arith, e, a .some))) (send-cases tables s k u h)
 
-    joins-of : Joins unit begun es s k u h
+    joins-of : Joins tables begun es s k u h
     joins-of =
         record {
-          joined = joined (send-cases unit s k u h);
+          joined = joined (send-cases tables s k u h);
           claims = λ e. accepted e .claims;
           releases = λ e. both-done (accepted e);
           held = λ e. holds-now (accepted e);
         }
 
     -- any point behind it
-    lives-of : send unit s k u h .refusal ≡ 0 → (later : List Event) (s′ : List ℕ) (k′ : Accounts)
-        → History unit (step unit) begun (later ++ sent-events) s′ k′ → Lives unit begun sent-events later s′ k′ (u .receiver) h (packet h s)
+    lives-of : send (tables (k .edition)) s k u h .refusal ≡ 0 → (later : List Event) (s′ : List ℕ) (k′ : Accounts)
+        → History tables (by-own tables) begun (later ++ sent-events) s′ k′ → Lives tables begun sent-events later s′ k′ (u .receiver) h (packet h s)
     lives-of e later s′ k′ now =
         let o = packet h s in
         let b = accepted e in
@@ -205,19 +217,19 @@ module _ (unit : ℕ → ℕ) (units : Units unit) (begun : Ledger) where
         record {
           live =
               λ r f.
-              lend-gives unit s′ k′ (w .length-allowed) (w .kept-sound) h o
-              (held-found unit units begun s′ k′ h o (narrowed b) sent-events later now r (recorded-now b)
+              lend-gives (tables (k′ .edition)) s′ k′ (w .length-allowed) (w .kept-sound) h o
+              (held-found tables units begun s′ k′ h o (narrowed b) sent-events later now r (recorded-now b)
               (λ late early q. (let x = f late early q in (x .0, u .receiver, x .1, x .2, x .3))));
           gone =
               λ f.
-              lend-refuses unit s′ k′ (w .length-allowed) (w .kept-sound) h
+              lend-refuses (tables (k′ .edition)) s′ k′ (w .length-allowed) (w .kept-sound) h
               (names-none (later ++ sent-events) s′ k′ now h (o .serial) (narrowed b .serial) f);
           still-given = λ v rest. given-still v h rest;
         }
 
--- THE THEOREM, for every table of units, and so for that of rule 6.1
-pub packets-of : (unit : ℕ → ℕ) → Units unit → Packets unit
-packets-of unit units = record { joins = joins-of unit units; lives = lives-of unit units }
+-- THE THEOREM, for every family of tables, and so for those of both editions
+pub packets-of : (tables : ℕ → ℕ → ℕ) → ((e : ℕ) → Units (tables e)) → Packets tables
+packets-of tables units = record { joins = joins-of tables units; lives = lives-of tables units }
 
-pub packets : Packets unit
-packets = packets-of unit unit-is
+pub packets : Packets table
+packets = packets-of table table-is

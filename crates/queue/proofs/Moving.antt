@@ -26,6 +26,7 @@ use Rattle.model.proofs.Bools.{and-right}
 use Rattle.model.proofs.Refusals.{call-accepted-exactly}
 use Rattle.model.proofs.Lookup.{lookup-named}
 use Rattle.model.proofs.Settle.{object-held}
+use Rattle.model.proofs.Frame.{Kept, claimed-keeps}
 use Rattle.invariant.proofs.Good.{Ordered, Good}
 use Rattle.invariant.proofs.Heaps.{good-heap, good-ordered}
 use Rattle.invariant.proofs.Members.{keep-exactly}
@@ -35,16 +36,20 @@ use Rattle.invariant.proofs.Transitions.{claimed-counts, released-objects}
 use Rattle.invariant.proofs.Passed.{Claimable, claim-passed, Releasable, release-passed}
 use Rattle.invariant.proofs.Releasing.{sound-fitting, Possible, Fitting, possible-good, does}
 use Rattle.ledger.specs.Ledger.{Ledger, Event, Called, ledger-of}
-use Rattle.ledger.specs.History.{History}
+use Rattle.ledger.specs.History.{by-own, History}
 use Rattle.ledger.proofs.Agreement.{Agrees}
 use Rattle.ledger.proofs.Steps.{good, again}
 use Rattle.ledger.proofs.Theorem.{history-agrees, demand-3-of}
 use Rattle.queue.proofs.Rows
 
-module _ (unit : ℕ → ℕ) (units : Units unit) (begun : Ledger) (es : List Event) (s : List ℕ) (k : Accounts) (past : History unit (step unit) begun es s k)
-    (from to : ℕ) (h : Handle) (c : claim unit s k to h .values .refusal ≡ 0) (r : can-release unit s k from h .values .refusal ≡ 0) where
+module _ (tables : ℕ → ℕ → ℕ) (units : (e : ℕ) → Units (tables e)) (begun : Ledger) (es : List Event) (s : List ℕ) (k : Accounts)
+    (past : History tables (by-own tables) begun es s k) (from to : ℕ) (h : Handle) (c : claim (tables (k .edition)) s k to h .values .refusal ≡ 0)
+    (r : can-release (tables (k .edition)) s k from h .values .refusal ≡ 0) where
+  abbrev unit : ℕ → ℕ
+  unit = tables (k .edition)
+
   agrees : Agrees (ledger-of begun es) s k
-  agrees = history-agrees unit units begun es s k past
+  agrees = history-agrees tables units begun es s k past
 
   good-now : Good (state-of s k)
   good-now = good (ledger-of begun es) s k agrees
@@ -90,19 +95,25 @@ module _ (unit : ℕ → ℕ) (units : Units unit) (begun : Ledger) (es : List E
   abbrev claimed-events : List Event
   claimed-events = Called (Claim to h) (claim unit s k to h .values) ∷ es
 
-  claimed-past : History unit (step unit) begun claimed-events s (claimed to object k)
+  claimed-past : History tables (by-own tables) begun claimed-events s (claimed to object k)
   unfolding step
   claimed-past = (s, k, past, claim-is)
 
   held-agrees : Agrees (ledger-of begun claimed-events) s (claimed to object k)
-  held-agrees = history-agrees unit units begun claimed-events s (claimed to object k) claimed-past
+  held-agrees = history-agrees tables units begun claimed-events s (claimed to object k) claimed-past
 
   held-good : Good held
   held-good = good (ledger-of begun claimed-events) s (claimed to object k) held-agrees
 
+  -- a claim keeps the edition
+  pub held-edition : claimed to object k .edition ≡ k .edition
+  held-edition = claimed-keeps to object k .same-edition
+
   held-fitting : Fitting unit held
   held-fitting =
-      sound-fitting unit s (claimed to object k) (demand-3-of unit units .always begun claimed-events [] s (claimed to object k) claimed-past .kept-sound)
+      sound-fitting unit s (claimed to object k)
+      (subst (λ (n : ℕ). sound (tables n) s (claimed to object k) ≡ true) held-edition
+      (demand-3-of tables units .always begun claimed-events [] s (claimed to object k) claimed-past .kept-sound))
 
   held-ordered : Ordered (claimed to object k .holds)
   held-ordered = good-ordered held held-good

@@ -7,7 +7,7 @@ use mathlib.Core.Option.{none}
 use lib.ListN.{replicate}
 use Rattle.accounts.specs.declared.Hold.{Hold}
 use Rattle.accounts.specs.Accounts.{zero-hold}
-use Rattle.rounding.specs.Rounding.{unit}
+use Rattle.rounding.specs.Rounding.{unit, table}
 use Rattle.model.specs.Answers.{zero-handle}
 use Rattle.model.specs.Calls.{Outcome, lend, release}
 use Rattle.model.specs.Marked.{handle}
@@ -74,7 +74,7 @@ moved-rows : (sent (one-object 1 100 7) (empty-queue 0 1) (handle 12 4 1)
     })
     × (sent (one-object 2 100 7) (empty-queue 0 1) packet .accounts
     ≡ accounts-of (quota 100 76 ∷ quota 100 76 ∷ quota 50 50 ∷ []) 1 (hold 1 0 1 ∷ hold 1 1 1 ∷ []))
-    × (send-events unit (one-object 1 100 7 .heap) (one-object 1 100 7 .accounts) (empty-queue 0 1) packet
+    × (send-events table (one-object 1 100 7 .heap) (one-object 1 100 7 .accounts) (empty-queue 0 1) packet
     ≡ Called (Release 0 packet) (record { refusal = 0; handle = zero-handle; amount = 24; range = record { start = 0; end = 0 }; block = none })
     ∷ Called (Claim 1 packet) (record { refusal = 0; handle = zero-handle; amount = 16; range = record { start = 0; end = 0 }; block = none }) ∷ [])
 unfolding rows

@@ -7,7 +7,7 @@ use model::Refusal;
 use model::Verdict;
 ghost use mathlib.Core.Path.{_≡_};
 ghost use Prim.Native.Nat.{_<_};
-ghost use Rattle.rounding.specs.Rounding.{unit};
+ghost use Rattle.rounding.specs.Rounding.{table};
 ghost use Rattle.queue.specs.Queue.{PLACES, empty-queue, with-handle, without-oldest, send as send-of, receive as receive-of};
 ghost use Rattle.queue.specs.Results.{queue-refusal-number, send-outcome, receive-outcome};
 
@@ -136,7 +136,7 @@ fn not_sent(accounts: Accounts, queue: Queue, refusal: QueueRefusal) -> SendResu
 
 // A handle is sent: the receiver claims the object and the sender releases it. Where one of the two would be refused, nothing has changed.
 pub fn send(heap: &mut [u8], accounts: Accounts, queue: Queue, handle: Handle) -> SendResult
-    ensures { λ r. ⌜ send-outcome (now (heap .exit)) r ≡ send-of unit (now (heap .entry)) accounts queue handle ⌝ }
+    ensures { λ r. ⌜ send-outcome (now (heap .exit)) r ≡ send-of (table (accounts .edition)) (now (heap .entry)) accounts queue handle ⌝ }
 {
     if PLACES < queue.count as usize {
         return not_sent(accounts, queue, QueueRefusal::Damaged);

@@ -7,7 +7,7 @@ use accounts::Accounts;
 use model::Handle;
 use queue::Queue;
 ghost use mathlib.Core.Path.{_≡_};
-ghost use Rattle.rounding.specs.Rounding.{unit};
+ghost use Rattle.rounding.specs.Rounding.{table};
 ghost use Rattle.queue.specs.Queue.{empty-queue, send, receive};
 ghost use Rattle.queue_api.specs.Replies.{send-reply, receive-reply};
 
@@ -27,7 +27,7 @@ pub extern "C" fn lokhazim_queue_send(
     queue: Queue,
     handle: Handle,
 ) -> SendReply
-    ensures { λ r. ⌜ send-reply (now (heap .exit)) r ≡ send unit (now (heap .entry)) accounts queue handle ⌝ }
+    ensures { λ r. ⌜ send-reply (now (heap .exit)) r ≡ send (table (accounts .edition)) (now (heap .entry)) accounts queue handle ⌝ }
 {
     reply_of_send(queue::send(heap, accounts, queue, handle))
 }

@@ -14,7 +14,7 @@ use model::Verdict;
 ghost use mathlib.Core.Path.{_≡_};
 ghost use Prim.Native.Nat.{_≤_, _<_};
 ghost use Rattle.accounts.specs.Accounts.{QUOTAS};
-ghost use Rattle.rounding.specs.Rounding.{unit};
+ghost use Rattle.rounding.specs.Rounding.{table};
 ghost use Rattle.model.specs.Refusals.{greatest-length};
 ghost use Rattle.model.specs.Calls.{claim as claim-of};
 ghost use Rattle.quotas.specs.Results.{amount-outcome};
@@ -60,7 +60,7 @@ fn claim_first(accounts: Accounts, quota: u32, hold: Hold, length: u32) -> Amoun
 
 // Rules 8.13 to 8.15 and 15.5: a quota holds an object once more, or pays and holds it for the first time. The answer is the object's length.
 pub fn claim(heap: &[u8], accounts: Accounts, quota: u32, handle: Handle) -> AmountResult
-    ensures { λ r. ⌜ amount-outcome (now (heap .entry)) r ≡ claim-of unit (now (heap .entry)) accounts quota handle ⌝ }
+    ensures { λ r. ⌜ amount-outcome (now (heap .entry)) r ≡ claim-of (table (accounts .edition)) (now (heap .entry)) accounts quota handle ⌝ }
 {
     if let Verdict::Refused(refusal) = checker::check(heap, accounts) {
         return AmountResult::refused(accounts, refusal);

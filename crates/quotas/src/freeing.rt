@@ -11,7 +11,7 @@ use layout::Start;
 use model::Refusal;
 use model::Verdict;
 ghost use mathlib.Core.Path.{_≡_};
-ghost use Rattle.rounding.specs.Rounding.{unit};
+ghost use Rattle.rounding.specs.Rounding.{table};
 ghost use Rattle.model.specs.Calls.{free-all as free-all-of};
 ghost use Rattle.finder.specs.Walk.{Bounded};
 ghost use Rattle.quotas.specs.Results.{amount-outcome};
@@ -91,7 +91,7 @@ fn free_unkept(heap: &mut [u8], kind: u8, kept: [bool; HOLDS])
 
 // Every hold of a quota is given up, and all that it has spent is given back; objects that no quota holds are freed.
 pub fn free_all(heap: &mut [u8], accounts: Accounts, quota: u32) -> AmountResult
-    ensures { λ r. ⌜ amount-outcome (now (heap .exit)) r ≡ free-all-of unit (now (heap .entry)) accounts quota ⌝ }
+    ensures { λ r. ⌜ amount-outcome (now (heap .exit)) r ≡ free-all-of (table (accounts .edition)) (now (heap .entry)) accounts quota ⌝ }
 {
     if let Verdict::Refused(refusal) = checker::check(heap, accounts) {
         return AmountResult::refused(accounts, refusal);

@@ -1,6 +1,7 @@
 // Opening a heap (rules 8.2 to 8.4): its bytes are cleared, and its accounts begin.
 use crate::Opened;
 use accounts::Accounts;
+use accounts::Edition;
 use accounts::Kind;
 use accounts::QUOTAS;
 use accounts::Settings;
@@ -47,10 +48,13 @@ pub fn open(heap: &mut [u8], grants: [u32; QUOTAS], settings: Settings) -> Opene
     }
 }
 
-// A plain heap is opened.
+// A plain heap of edition 1 is opened.
 pub fn open_plain(heap: &mut [u8], grants: [u32; QUOTAS]) -> Opened
     ensures { λ r. ⌜ opened-outcome (now (heap .exit)) r ≡ open-heap plain (now (heap .entry)) grants ⌝ }
 {
-    let settings = Settings { kind: Kind::Plain };
+    let settings = Settings {
+        kind: Kind::Plain,
+        edition: Edition::First,
+    };
     open(heap, grants, settings)
 }

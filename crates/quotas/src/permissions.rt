@@ -5,13 +5,13 @@ use accounts::QUOTAS;
 use model::Refusal;
 use model::Verdict;
 ghost use mathlib.Core.Path.{_≡_};
-ghost use Rattle.rounding.specs.Rounding.{unit};
+ghost use Rattle.rounding.specs.Rounding.{table};
 ghost use Rattle.model.specs.Calls.{clear as clear-of};
 ghost use Rattle.quotas.specs.Results.{amount-outcome};
 
 // Rule 15.4: those permissions of a quota are cleared whose bit is set in a number: bit 0 is allocate, 1 claim, 2 free-all. The answer is what is left.
 pub fn clear_permissions(heap: &[u8], accounts: Accounts, quota: u32, bits: u32) -> AmountResult
-    ensures { λ r. ⌜ amount-outcome (now (heap .entry)) r ≡ clear-of unit (now (heap .entry)) accounts quota bits ⌝ }
+    ensures { λ r. ⌜ amount-outcome (now (heap .entry)) r ≡ clear-of (table (accounts .edition)) (now (heap .entry)) accounts quota bits ⌝ }
 {
     if let Verdict::Refused(refusal) = checker::check(heap, accounts) {
         return AmountResult::refused(accounts, refusal);

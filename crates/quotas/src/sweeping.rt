@@ -6,7 +6,7 @@ use layout::QUARANTINED;
 use layout::Start;
 use model::Verdict;
 ghost use mathlib.Core.Path.{_≡_};
-ghost use Rattle.rounding.specs.Rounding.{unit};
+ghost use Rattle.rounding.specs.Rounding.{table};
 ghost use Rattle.model.specs.Calls.{sweep as sweep-of};
 ghost use Rattle.finder.specs.Walk.{Bounded};
 ghost use Rattle.quotas.specs.Results.{amount-outcome};
@@ -59,7 +59,7 @@ fn sweep_blocks(heap: &mut [u8]) -> usize
 
 // Every quarantined block becomes free, and the sum of their sizes is answered.
 pub fn sweep(heap: &mut [u8], accounts: Accounts) -> AmountResult
-    ensures { λ r. ⌜ amount-outcome (now (heap .exit)) r ≡ sweep-of unit (now (heap .entry)) accounts ⌝ }
+    ensures { λ r. ⌜ amount-outcome (now (heap .exit)) r ≡ sweep-of (table (accounts .edition)) (now (heap .entry)) accounts ⌝ }
 {
     if let Verdict::Refused(refusal) = checker::check(heap, accounts) {
         return AmountResult::refused(accounts, refusal);

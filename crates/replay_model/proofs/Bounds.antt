@@ -11,7 +11,6 @@ use lib.Dec.{ltb, eqb}
 use borrow.Author.Tests.{ltb-true, ltb-false, eqb-true}
 use lib.ListN.{length, getD, replicate, length-append}
 use Rattle.accounts.specs.declared.Accounts.{Accounts}
-use Rattle.rounding.specs.Rounding.{unit}
 use Rattle.layout.specs.Blocks.{Block, size, total-size, parse}
 use Rattle.finder.proofs.Parsed.{total-parsed}
 use Rattle.model.specs.Lists.{total, or-else}
@@ -19,7 +18,7 @@ use Rattle.model.specs.Answers.{Values}
 use Rattle.model.specs.Objects.{blocks-of}
 use Rattle.accounts.specs.Accounts.{plain}
 use Rattle.model.specs.Calls.{Outcome, listing-from, open-heap}
-use Rattle.model.specs.Step.{step}
+use Rattle.model.specs.Step.{own-step}
 use Rattle.model.specs.declared.ListedBlock.{ListedBlock}
 use Rattle.model.specs.declared.Call.{Call}
 use Rattle.model.specs.declared.Call.the-variants.{Allocate, AllocateArray, Claim as Claims, Release, FreeAll, Reallocate}
@@ -211,11 +210,11 @@ run-most (l ∷ []) s k r = omega (arith, ending-most l s (reached-length s k r)
 run-most (l ∷ (m ∷ ls)) s k r = go (line-call l) refl (λ s′ k′. run-most (m ∷ ls) s′ k′)
   where
     go : (o : Option Call) → line-call l ≡ o → ((s′ : List ℕ) (k′ : Accounts) → Reached s′ k′ → length (run-lines (m ∷ ls) s′ k′) ≤ 6 * spans (m ∷ ls) + list-most)
-        → length (on-call o (λ c. answer-line c (step unit c s k .values) ++ run-lines (m ∷ ls) (step unit c s k .heap) (step unit c s k .accounts)))
+        → length (on-call o (λ c. answer-line c (own-step c s k .values) ++ run-lines (m ∷ ls) (own-step c s k .heap) (own-step c s k .accounts)))
         ≤ 6 * (length l + 1 + spans (m ∷ ls)) + list-most
     go none e ih = omega (arith, bad-most)
     go (some c) e ih =
-        let t = step unit c s k in
+        let t = own-step c s k in
         omega (
           arith,
           length-append (answer-line c (t .values)) (run-lines (m ∷ ls) (t .heap) (t .accounts)),

@@ -9,10 +9,10 @@ use Prim.Native.Nat.{ℕ, _≤_}
 use borrow.Author.Tests.{le-ltb, eq-eqb}
 use lib.ListN.{length, replicate}
 use Rattle.accounts.specs.declared.Accounts.{Accounts}
-use Rattle.rounding.specs.Rounding.{unit}
+use Rattle.rounding.specs.Rounding.{table}
 use Rattle.accounts.specs.Accounts.{plain}
 use Rattle.model.specs.Calls.{Outcome, open-heap}
-use Rattle.model.specs.Step.{step}
+use Rattle.model.specs.Step.{own-step}
 use Rattle.model.specs.declared.Call.{Call}
 use Rattle.ledger.specs.Ledger.{Event, Called, empty}
 use Rattle.ledger.specs.History.{History}
@@ -25,28 +25,28 @@ use Rattle.replay_model.proofs.Openings.{opening-granted, begins}
 
 -- the lines of a history lead to a history
 module _ (grants : List ℕ) where
-  ran-history : (ls : List (List ℕ)) (s : List ℕ) (k : Accounts) (es : List Event) → History unit (step unit) (empty plain grants) es s k
-      → History unit (step unit) (empty plain grants) (ran-lines ls s k es .events) (ran-lines ls s k es .heap) (ran-lines ls s k es .accounts)
+  ran-history : (ls : List (List ℕ)) (s : List ℕ) (k : Accounts) (es : List Event) → History table own-step (empty plain grants) es s k
+      → History table own-step (empty plain grants) (ran-lines ls s k es .events) (ran-lines ls s k es .heap) (ran-lines ls s k es .accounts)
   unfolding ran-lines ran-call
   ran-history [] s k es h = h
   ran-history (l ∷ []) s k es h = h
   ran-history (l ∷ (m ∷ ls)) s k es h = go (line-call l) (λ s′ k′ es′. ran-history (m ∷ ls) s′ k′ es′)
     where
       after : Call → Ran
-      after c = ran-lines (m ∷ ls) (step unit c s k .heap) (step unit c s k .accounts) (Called c (step unit c s k .values) ∷ es)
+      after c = ran-lines (m ∷ ls) (own-step c s k .heap) (own-step c s k .accounts) (Called c (own-step c s k .values) ∷ es)
 
       stopped : Ran
       stopped = record { heap = s; accounts = k; events = es; last = bad-line }
 
       go : (o : Option Call)
-          → ((s′ : List ℕ) (k′ : Accounts) (es′ : List Event) → History unit (step unit) (empty plain grants) es′ s′ k′
-          → History unit (step unit) (empty plain grants) (ran-lines (m ∷ ls) s′ k′ es′ .events) (ran-lines (m ∷ ls) s′ k′ es′ .heap)
+          → ((s′ : List ℕ) (k′ : Accounts) (es′ : List Event) → History table own-step (empty plain grants) es′ s′ k′
+          → History table own-step (empty plain grants) (ran-lines (m ∷ ls) s′ k′ es′ .events) (ran-lines (m ∷ ls) s′ k′ es′ .heap)
           (ran-lines (m ∷ ls) s′ k′ es′ .accounts))
-          → History unit (step unit) (empty plain grants) (ran-call o stopped after .events) (ran-call o stopped after .heap)
+          → History table own-step (empty plain grants) (ran-call o stopped after .events) (ran-call o stopped after .heap)
           (ran-call o stopped after .accounts)
       go none ih = h
       go (some c) ih =
-          let t = step unit c s k in
+          let t = own-step c s k in
           ih (t .heap) (t .accounts) (Called c (t .values) ∷ es) (s, k, h, refl)
 
 -- what is printed are the answers of the events, and the end
@@ -58,18 +58,18 @@ ran-printed (l ∷ []) s k es = refl
 ran-printed (l ∷ (m ∷ ls)) s k es = go (line-call l) (λ s′ k′ es′. ran-printed (m ∷ ls) s′ k′ es′)
   where
     after : Call → Ran
-    after c = ran-lines (m ∷ ls) (step unit c s k .heap) (step unit c s k .accounts) (Called c (step unit c s k .values) ∷ es)
+    after c = ran-lines (m ∷ ls) (own-step c s k .heap) (own-step c s k .accounts) (Called c (own-step c s k .values) ∷ es)
 
     stopped : Ran
     stopped = record { heap = s; accounts = k; events = es; last = bad-line }
 
     go : (o : Option Call)
         → ((s′ : List ℕ) (k′ : Accounts) (es′ : List Event) → answer-lines es′ ++ run-lines (m ∷ ls) s′ k′ ≡ answer-lines (ran-lines (m ∷ ls) s′ k′ es′ .events) ++ ran-lines (m ∷ ls) s′ k′ es′ .last)
-        → answer-lines es ++ on-call o (λ c. answer-line c (step unit c s k .values) ++ run-lines (m ∷ ls) (step unit c s k .heap) (step unit c s k .accounts))
+        → answer-lines es ++ on-call o (λ c. answer-line c (own-step c s k .values) ++ run-lines (m ∷ ls) (own-step c s k .heap) (own-step c s k .accounts))
         ≡ answer-lines (ran-call o stopped after .events) ++ ran-call o stopped after .last
     go none ih = refl
     go (some c) ih =
-        let t = step unit c s k in
+        let t = own-step c s k in
         sym (append-assoc (answer-lines es) (answer-line c (t .values)) (run-lines (m ∷ ls) (t .heap) (t .accounts)))
         ∙ ih (t .heap) (t .accounts) (Called c (t .values) ∷ es)
 
@@ -102,5 +102,5 @@ replay-history s l m ls o h e q z =
       holds =
           λ front back d.
           demand-3 .always (empty plain (o .grants)) front back (r .heap) (r .accounts)
-          (subst (λ (es : List Event). History unit (step unit) (empty plain (o .grants)) es (r .heap) (r .accounts)) d leads);
+          (subst (λ (es : List Event). History table own-step (empty plain (o .grants)) es (r .heap) (r .accounts)) d leads);
     }

@@ -10,7 +10,7 @@ use lib.Dec.{leb, eqb}
 use borrow.Author.Tests.{leb-true, eqb-true}
 use lib.ListN.{length, drop, getD, length-drop}
 use lib.Seq.{getD-drop}
-use Rattle.rounding.specs.Rounding.{unit}
+use Rattle.rounding.specs.Rounding.{table}
 use Rattle.accounts.specs.declared.Accounts.{Accounts}
 use Rattle.accounts.specs.Accounts.{QUOTAS, zero-accounts, plain}
 use Rattle.model.specs.Answers.{Values, accepted}
@@ -118,7 +118,7 @@ unless-accepted zero s k done e z = e
 unless-accepted (suc n) s k done e z = absurd (omega arith)
 
 pub begins : (s grants : List ℕ) → Granted grants → open-heap plain s grants .values .refusal ≡ 0
-    → Begins unit (empty plain grants) (open-heap plain s grants .heap) (open-heap plain s grants .accounts)
+    → Begins table (empty plain grants) (open-heap plain s grants .heap) (open-heap plain s grants .accounts)
 unfolding open-heap
 begins s grants g z =
     let o = open-heap plain s grants in

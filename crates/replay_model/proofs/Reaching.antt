@@ -9,11 +9,11 @@ use lib.ListN.{length}
 use borrow.Author.Tests.{leb-true}
 use Rattle.accounts.specs.declared.Accounts.{Accounts}
 use Rattle.accounts.specs.Accounts.{plain}
-use Rattle.rounding.specs.Rounding.{unit}
+use Rattle.rounding.specs.Rounding.{table}
 use Rattle.model.specs.Answers.{Values}
 use Rattle.model.specs.Consistent.{allowed}
 use Rattle.model.specs.Refusals.{first-refusal, line-1, line-2, check-lines}
-use Rattle.model.specs.Step.{step}
+use Rattle.model.specs.Step.{own-step}
 use Rattle.model.specs.declared.Call.{Call}
 use Rattle.model.proofs.Bools.{and-right}
 use Rattle.ledger.specs.Ledger.{Called, empty}
@@ -23,10 +23,10 @@ use Rattle.replay_model.specs.Events.{Reached}
 
 -- what demand 3 says of a state that a history leads to: the check accepts it, and its length is allowed
 module _ (s : List ℕ) (k : Accounts) (r : Reached s k) where
-  reached-holds : Holds unit (step unit) (empty plain (r .grants)) (r .events) [] s k
+  reached-holds : Holds (table (k .edition)) own-step (empty plain (r .grants)) (r .events) [] s k
   reached-holds = demand-3 .always (empty plain (r .grants)) (r .events) [] s k (r .history)
 
-  pub reached-checked : first-refusal (check-lines unit s k) ≡ 0
+  pub reached-checked : first-refusal (check-lines (table (k .edition)) s k) ≡ 0
   unfolding first-refusal check-lines line-1 line-2
   reached-checked = rw (reached-holds .length-allowed, reached-holds .kept-sound)
 
@@ -37,5 +37,5 @@ module _ (s : List ℕ) (k : Accounts) (r : Reached s k) where
 
 -- a call's state is reached from the state before it
 pub reached-next : (s : List ℕ) (k : Accounts) (c : Call) (s′ : List ℕ) (k′ : Accounts) (v : Values) → Reached s k
-    → record { heap = s′; accounts = k′; values = v } ≡ step unit c s k → Reached s′ k′
+    → record { heap = s′; accounts = k′; values = v } ≡ own-step c s k → Reached s′ k′
 reached-next s k c s′ k′ v r o = record { grants = r .grants; events = Called c v ∷ r .events; history = (s, k, r .history, sym o) }

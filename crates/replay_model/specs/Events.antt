@@ -5,8 +5,8 @@ use lib.ListN.{length, getD}
 use mathlib.Core.List.{List, [], _∷_, _++_}
 use mathlib.Core.Option.{Option, none, some}
 use Rattle.accounts.specs.declared.Accounts.{Accounts}
-use Rattle.rounding.specs.Rounding.{unit}
-use Rattle.model.specs.Step.{step}
+use Rattle.rounding.specs.Rounding.{table}
+use Rattle.model.specs.Step.{own-step}
 use Rattle.model.specs.declared.Call.{Call}
 use Rattle.accounts.specs.Accounts.{QUOTAS, plain}
 use Rattle.ledger.specs.Ledger.{Event, Called, Wrote, Saved, Restored, empty}
@@ -33,7 +33,7 @@ ran-lines [] s k es = record { heap = s; accounts = k; events = es; last = bad-l
 ran-lines (l ∷ []) s k es = record { heap = s; accounts = k; events = es; last = ending l s }
 ran-lines (l ∷ (m ∷ ls)) s k es =
     ran-call (line-call l) (record { heap = s; accounts = k; events = es; last = bad-line })
-    (λ c. ran-lines (m ∷ ls) (step unit c s k .heap) (step unit c s k .accounts) (Called c (step unit c s k .values) ∷ es))
+    (λ c. ran-lines (m ∷ ls) (own-step c s k .heap) (own-step c s k .accounts) (Called c (own-step c s k .values) ∷ es))
 
 -- the answers to events, the oldest first
 unfoldable pub answer-lines : List Event → List ℕ
@@ -47,14 +47,15 @@ answer-lines (Restored s k ∷ es) = answer-lines es
 -- the events into a front and a back
 pub record Historical (s grants : List ℕ) (r : Ran) : Type 0 where
   pub printed : replay s ≡ ok-line [] ++ (answer-lines (r .events) ++ r .last)
-  pub history : History unit (step unit) (empty plain grants) (r .events) (r .heap) (r .accounts)
-  pub holds : (front back : List Event) → r .events ≡ back ++ front → Holds unit (step unit) (empty plain grants) front back (r .heap) (r .accounts)
+  pub history : History table own-step (empty plain grants) (r .events) (r .heap) (r .accounts)
+  pub holds : (front back : List Event) → r .events ≡ back ++ front
+      → Holds (table (r .accounts .edition)) own-step (empty plain grants) front back (r .heap) (r .accounts)
 
 -- a plain heap and its accounts that a history leads to, from an accepted opening
 pub record Reached (s : List ℕ) (k : Accounts) : Type 0 where
   pub grants : List ℕ
   pub events : List Event
-  pub history : History unit (step unit) (empty plain grants) events s k
+  pub history : History table own-step (empty plain grants) events s k
 
 -- grants as an opening takes them: one for each quota, of 32 bits
 pub record Granted (grants : List ℕ) : Type 0 where

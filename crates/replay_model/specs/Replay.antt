@@ -6,12 +6,11 @@ use mathlib.Core.Option.{Option, none, some}
 use lib.Dec.{ltb, eqb}
 use lib.ListN.{length, replicate}
 use Rattle.accounts.specs.declared.Accounts.{Accounts}
-use Rattle.rounding.specs.Rounding.{unit}
 use Rattle.model.specs.Answers.{Values}
 use Rattle.model.specs.Objects.{blocks-of}
 use Rattle.accounts.specs.Accounts.{plain}
 use Rattle.model.specs.Calls.{Outcome, open-heap, listing-from}
-use Rattle.model.specs.Step.{step}
+use Rattle.model.specs.Step.{own-step}
 use Rattle.model.specs.declared.Handle.{Handle}
 use Rattle.model.specs.declared.ListedBlock.{ListedBlock}
 use Rattle.model.specs.declared.Call.{Call}
@@ -92,7 +91,7 @@ unfoldable pub run-lines : List (List ℕ) → List ℕ → Accounts → List �
 run-lines [] s k = bad-line
 run-lines (l ∷ []) s k = ending l s
 run-lines (l ∷ (m ∷ ls)) s k =
-    on-call (line-call l) (λ c. answer-line c (step unit c s k .values) ++ run-lines (m ∷ ls) (step unit c s k .heap) (step unit c s k .accounts))
+    on-call (line-call l) (λ c. answer-line c (own-step c s k .values) ++ run-lines (m ∷ ls) (own-step c s k .heap) (own-step c s k .accounts))
 
 -- rule 11.12: behind a refused opening nothing is read
 unfoldable pub run-opened : Outcome → List (List ℕ) → List ℕ

@@ -10,9 +10,8 @@ use lib.Dec.{eqb}
 use lib.ListN.{length, getD}
 use lib.Seq.{slice}
 use Rattle.accounts.specs.declared.Accounts.{Accounts}
-use Rattle.rounding.specs.Rounding.{unit}
 use Rattle.model.specs.Answers.{Values}
-use Rattle.model.specs.Step.{step}
+use Rattle.model.specs.Step.{own-step}
 use Rattle.model.specs.declared.Call.{Call}
 use Rattle.replay_model.specs.Text.{LINE-FEED}
 use Rattle.replay_model.specs.Lines.{onto, split, lines}
@@ -49,7 +48,8 @@ split-some mark (b ∷ s) = go (eqb b mark) (onto-some b (split mark s))
 
 -- a line that has others behind it
 run-first : (l : List ℕ) (ls : List (List ℕ)) (s : List ℕ) (k : Accounts) → (q : List ℕ) × (qs : List (List ℕ)) × (ls ≡ q ∷ qs)
-    → run-lines (l ∷ ls) s k ≡ on-call (line-call l) (λ c. answer-line c (step unit c s k .values) ++ run-lines ls (step unit c s k .heap) (step unit c s k .accounts))
+    → run-lines (l ∷ ls) s k ≡ on-call (line-call l)
+    (λ c. answer-line c (own-step c s k .values) ++ run-lines ls (own-step c s k .heap) (own-step c s k .accounts))
 unfolding run-lines
 run-first l ls s k x = rw (x .2)
 
@@ -63,7 +63,9 @@ module _ (from : ℕ) (input : List ℕ) (s : List ℕ) (k : Accounts) (end : �
 
   module _ (h : end < length input) where
     next : run-lines (lines (slice from (length input) input)) s k
-        ≡ on-call (line-call (slice from end input)) (λ c. answer-line c (step unit c s k .values) ++ run-lines (lines (slice (end + 1) (length input) input)) (step unit c s k .heap) (step unit c s k .accounts))
+        ≡ on-call (line-call (slice from end input))
+        (λ c. answer-line c (own-step c s k .values) ++ run-lines (lines (slice (end + 1) (length input) input)) (own-step c s k .heap)
+        (own-step c s k .accounts))
     next =
         ap (λ (ls : List (List ℕ)). run-lines ls s k) (split-more LINE-FEED (length input) input (omega arith) from end h m)
         ∙ run-first (slice from end input) (lines (slice (end + 1) (length input) input)) s k (split-some LINE-FEED (slice (end + 1) (length input) input))
@@ -74,7 +76,7 @@ module _ (from : ℕ) (input : List ℕ) (s : List ℕ) (k : Accounts) (end : �
 
     -- a call, which gives an outcome
     pub run-next : (c : Call) (s′ : List ℕ) (k′ : Accounts) (v : Values) → line-call (slice from end input) ≡ some c
-        → record { heap = s′; accounts = k′; values = v } ≡ step unit c s k
+        → record { heap = s′; accounts = k′; values = v } ≡ own-step c s k
         → run-lines (lines (slice from (length input) input)) s k ≡ answer-line c v ++ run-lines (lines (slice (end + 1) (length input) input)) s′ k′
     unfolding on-call
     run-next c s′ k′ v e o =

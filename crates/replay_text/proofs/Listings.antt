@@ -7,7 +7,7 @@ use Prim.Native.Nat.{ℕ, _+_, _≤_}
 use native.Mathlib.Omega.{arith}
 use lib.ListN.{length}
 use lib.Seq.{append-snoc}
-use Rattle.rounding.specs.Rounding.{unit}
+use Rattle.rounding.specs.Rounding.{table}
 use Rattle.accounts.specs.declared.Accounts.{Accounts}
 use Rattle.layout.specs.Blocks.{Block, size}
 use Rattle.model.specs.Lists.{total}
@@ -26,13 +26,15 @@ use Rattle.replay_model.specs.Events.{Reached}
 use Rattle.replay_model.proofs.Reaching.{reached-checked}
 
 -- what the listing's call gives at a place of a state that a history leads to
-module _ (s : List ℕ) (k : Accounts) (r : Reached s k) (place : ℕ) (b : BlockAnswer) (told : outcome s k (block-values b) ≡ list-block unit s k place) where
+module _ (s : List ℕ) (k : Accounts) (r : Reached s k) (place : ℕ) (b : BlockAnswer)
+    (told : outcome s k (block-values b) ≡ list-block (table (k .edition)) s k place) where
   pub given-at : block-values b .block ≡ block-at (blocks-of s) place
-  given-at = ap (λ (o : Outcome). o .values .block) (told ∙ list-block-step unit s k place (reached-checked s k r))
+  given-at = ap (λ (o : Outcome). o .values .block) (told ∙ list-block-step (table (k .edition)) s k place (reached-checked s k r))
 
   pub given-ends : (l : ListedBlock) → b ≡ Listed l → l .offset + l .size ≤ length s
   unfolding block-values
-  given-ends l e = given-inside unit s k place l (sym (ap (λ (o : Outcome). o .values .block) told) ∙ ap (λ (x : BlockAnswer). block-values x .block) e)
+  given-ends l e = given-inside (table (k .edition)) s k place l
+      (sym (ap (λ (o : Outcome). o .values .block) told) ∙ ap (λ (x : BlockAnswer). block-values x .block) e)
 
 -- of the blocks bs, the blocks ys are left, and begin at a place
 pub record Passing (bs : List Block) (place : ℕ) (ys : List Block) : Type 0 where

@@ -1,4 +1,4 @@
--- Laws of the rounding of lengths: of any table of units, and of this one.
+-- Laws of the rounding of lengths: of any table of units, and of edition 1's.
 -- Assumes nothing.
 use Prim.Native.Nat.{ℕ, _+_, _*_, _-_, _/_, _%_, _^_, _≤_, _<_}
 use native.Mathlib.Nat.{mul-mod-left, lt-div-mul-add, div-mul-le-self, div-add-mod', eq-or-lt-of-le, dvd-of-mod-eq-zero, dvd-mul-left-of-dvd, mod-eq-zero-of-dvd}
@@ -64,6 +64,12 @@ multiple-stays k n p e =
     let d : n / k * k ≡ n = omega (arith, div-add-mod' n k) in
     ap (λ (m : ℕ). (m + (k - 1)) / k * k) (sym d) ∙ ap (λ (m : ℕ). m * k) (digits-div (n / k) {m = k} {r = k - 1} (omega arith)) ∙ d
 
+-- so a table in which every rounded length is a multiple of its own unit is stable
+pub multiple-stable : (u : ℕ → ℕ) → ((n : ℕ) → 0 < u n) → ((n : ℕ) → object-length u n % u (object-length u n) ≡ 0)
+    → (n : ℕ) → object-length u (object-length u n) ≡ object-length u n
+unfolding object-length
+multiple-stable u p e n = multiple-stays (u (object-length u n)) (object-length u n) (p (object-length u n)) (e n)
+
 -- a rounded length is a multiple of its own unit
 rounded-multiple : (n : ℕ) → object-length unit n % unit (object-length unit n) ≡ 0
 unfolding object-length
@@ -77,26 +83,13 @@ rounded-multiple n =
 unit-positive : (n : ℕ) → 0 < unit n
 unit-positive n = by-row (λ (k : ℕ). 0 < k) n (λ _. omega arith) (λ _ _. omega arith) (λ _ _. omega arith) (λ _. omega arith)
 
-unit-stable : (n : ℕ) → object-length unit (object-length unit n) ≡ object-length unit n
-unfolding object-length
-unit-stable n = multiple-stays (unit (object-length unit n)) (object-length unit n) (unit-positive (object-length unit n)) (rounded-multiple n)
-
 -- this table is one of units
 pub unit-is : Units unit
 unit-is = record {
   positive = unit-positive;
   eights = λ n. by-row (λ (k : ℕ). k % 8 ≡ 0) n (λ _. refl) (λ _ _. refl) (λ _ _. refl) (λ _. refl);
-  stable = unit-stable;
+  stable = multiple-stable unit unit-positive rounded-multiple;
 }
-
--- no unit is greater than the last row's
-pub unit-most : (n : ℕ) → unit n ≤ 64
-unit-most n = by-row (λ (k : ℕ). k ≤ 64) n (λ _. omega arith) (λ _ _. omega arith) (λ _ _. omega arith) (λ _. omega arith)
-
--- the longest request that line 4 lets pass gets no longer object than the longest heap
-pub within-heap : (n : ℕ) → n ≤ 32760 → object-length unit n ≤ 32768
-unfolding object-length
-within-heap n h = by-row (λ (k : ℕ). (n + (k - 1)) / k * k ≤ 32768) n (λ _. omega arith) (λ _ _. omega arith) (λ _ _. omega arith) (λ _. omega arith)
 
 -- the alignment of rule 6.4 depends on the bits above the lowest 13 only
 document-row : (n k : ℕ) → n / 8192 ≡ k → representable-alignment n ≡ 2 ^ (52 - leading-zeros 52 k + 3)

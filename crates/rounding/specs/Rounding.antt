@@ -1,4 +1,4 @@
--- Rounding of lengths (rules, section 6). Everything is derived from one function, the unit of a length.
+-- Rounding of lengths (rules, sections 6 and 23). Everything is derived from one function, the unit of a length.
 use Prim.Native.Nat.{ℕ, zero, suc, _+_, _*_, _-_, _/_, _%_, _^_, _<_}
 use mathlib.Core.Path.{_≡_}
 use mathlib.Core.Bool.{cond}
@@ -7,6 +7,15 @@ use lib.Dec.{leb, ltb}
 -- rule 6.1; and 6.5: a length below the first row or above the last one has that row's unit
 unfoldable pub unit : ℕ → ℕ
 unit n = cond (leb n 8191) 8 (cond (leb n 16383) 16 (cond (leb n 32767) 32 64))
+
+-- rule 23.1: edition 2
+unfoldable pub unit-2 : ℕ → ℕ
+unit-2 n = cond (leb n 4088) 8 (cond (leb n 8176) 16 (cond (leb n 16352) 32 (cond (leb n 32704) 64 128)))
+
+-- rule 23.3: the table of an edition by its number in the accounts, 0 for edition 1
+unfoldable pub table : ℕ → ℕ → ℕ
+table zero = unit
+table (suc e) = unit-2
 
 -- rule 6.2: the object's length, the least multiple of the unit that is not below the request
 unfoldable pub object-length : (ℕ → ℕ) → ℕ → ℕ
@@ -35,3 +44,11 @@ exponent n = 52 - leading-zeros 52 (n / 2 ^ 13)
 
 unfoldable pub representable-alignment : ℕ → ℕ
 representable-alignment n = 2 ^ (exponent n + 3)
+
+-- rules 6.7 and 23.6: which power of two the unit is for a count of leading zeros, by the edition's number; and the unit so found of a length
+abbrev pub power : ℕ → ℕ → ℕ
+power zero z = cond (leb z 16) 6 (cond (leb z 17) 5 (cond (leb z 18) 4 3))
+power (suc e) z = cond (leb z 16) 7 (cond (leb z 17) 6 (cond (leb z 18) 5 (cond (leb z 19) 4 3)))
+
+unfoldable pub by-zeros : ℕ → ℕ → ℕ
+by-zeros e n = 2 ^ power e (leading-zeros 32 n)

@@ -19,7 +19,7 @@ use Rattle.model.specs.Step.{step}
 use Rattle.model.specs.declared.Handle.{Handle}
 use Rattle.model.proofs.Refusals.{unless-has, unless-where}
 use Rattle.ledger.specs.Ledger.{Ledger, Event, Wrote}
-use Rattle.ledger.specs.History.{in-object, Written, History}
+use Rattle.ledger.specs.History.{by-own, in-object, Written, History}
 use Rattle.ledger.proofs.LentParts.{range-inside}
 use Rattle.ledger.proofs.Theorem.{history-agrees}
 use Rattle.access.specs.Lending.{written, write-object}
@@ -62,8 +62,14 @@ module _ (unit : ℕ → ℕ) (s : List ℕ) (k : Accounts) (h : Handle) (at byt
     write-written = unless-where (λ (t : Outcome). Written s (t .heap)) (first-refusal (lend-lines unit s k h)) s k _ byte-written (λ n. same)
 
 -- a history goes on with a write, accepted or refused
-module _ (unit : ℕ → ℕ) (units : Units unit) (begun : Ledger) (es : List Event) (s : List ℕ) (k : Accounts) (past : History unit (step unit) begun es s k) where
+module _ (tables : ℕ → ℕ → ℕ) (units : (e : ℕ) → Units (tables e)) (begun : Ledger) (es : List Event) (s : List ℕ) (k : Accounts)
+    (past : History tables (by-own tables) begun es s k) where
   pub write-history : (h : Handle) (at byte : ℕ) → byte < 256
-      → History unit (step unit) begun (Wrote ∷ es) (write-object unit s k h at byte .heap) (write-object unit s k h at byte .accounts)
-  write-history h at byte small =
-      (s, rw (write-accounts unit s k h at byte) past, write-written unit s k h at byte (history-agrees unit units begun es s k past .octets) small)
+      → History tables (by-own tables) begun (Wrote ∷ es) (write-object (tables (k .edition)) s k h at byte .heap)
+      (write-object (tables (k .edition)) s k h at byte .accounts)
+  write-history h at byte small = (
+    s,
+    rw (write-accounts (tables (k .edition)) s k h at byte) past,
+    write-written (tables (k .edition)) s k h at byte
+        (history-agrees tables units begun es s k past .octets) small,
+  )

@@ -351,13 +351,14 @@ fn random_damage_to_accounts_is_judged_alike() {
         let state = changed(|s| {
             let quota = prng.index(QUOTAS);
             let record = prng.index(7);
-            match prng.below(8) {
+            match prng.below(9) {
                 0 => s.accounts.quotas[quota].grant = prng.odd_word(),
                 1 => s.accounts.quotas[quota].remainder = prng.odd_word(),
                 2 => s.accounts.last_serial = prng.below(12),
                 3 => s.accounts.holds[record].serial = prng.below(7),
                 4 => s.accounts.holds[record].quota = prng.below(4) as u8,
                 7 => s.accounts.kind = prng.pick(&[1, 2, 255]),
+                8 => s.accounts.edition = prng.pick(&[1, 2, 255]),
                 5 => s.accounts.quotas[quota].permissions = prng.pick(&[0, 3, 7, 8, 255]),
                 _ => s.accounts.holds[record].count = prng.pick(&[0, 1, 2, 255]),
             }

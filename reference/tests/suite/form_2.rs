@@ -109,7 +109,7 @@ fn the_readers_refusals_in_their_order() {
     assert_eq!(refused(&image[..4_608], 64), 22);
     assert_eq!(refused(&with(&image, 4, 3), 64), 23);
     assert_eq!(refused(&with(&image, 5, 2), 64), 23);
-    assert_eq!(refused(&with(&image, 6, 1), 64), 23);
+    assert_eq!(refused(&with(&image, 6, 2), 64), 23);
     assert_eq!(refused(&with(&image, 7, 2), 64), 23);
     assert_eq!(refused(&with(&image, 4, 1), 64), 24, "form 1 is shorter");
     assert_eq!(refused(&with(&image, 8, 65), 64), 24);

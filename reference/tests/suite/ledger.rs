@@ -2,7 +2,7 @@
 
 use lokhazim_reference::{Block, Handle, Kind, Options, HOLDS, QUOTAS};
 
-use crate::state::{Answer, Call};
+use crate::state::{unit_in, Answer, Call};
 
 /// An object of the ledger with each quota's holds on it.
 #[derive(Clone, Debug, PartialEq, Eq)]
@@ -54,32 +54,6 @@ pub struct Ledger {
     pub objects: Vec<Object>,
     pub options: Options,
     pub quarantine: Vec<Block>,
-}
-
-/// The unit of a requested length, or none if the length is not allowed.
-fn unit_of(request: u64) -> Option<u32> {
-    if request == 0 || request > 32_760 {
-        None
-    } else if request < 8_192 {
-        Some(8)
-    } else if request < 16_384 {
-        Some(16)
-    } else {
-        Some(32)
-    }
-}
-
-/// Gives the alignment of an object of this length: 8, doubled at the start of each further row.
-fn alignment_of(length: u32) -> u32 {
-    let starts = [8_192, 16_384, 32_768];
-    8 << starts.iter().filter(|start| **start <= length).count()
-}
-
-/// Gives the object length for a request: the least multiple that covers it.
-fn object_length(request: u64, unit: u32) -> u32 {
-    let multiples = (1..).map(|times| times * unit);
-    let mut enough = multiples.skip_while(|length| u64::from(*length) < request);
-    enough.next().unwrap_or(0)
 }
 
 impl Ledger {
@@ -188,10 +162,21 @@ impl Ledger {
         taken
     }
 
+    /// Gives the object length for a request, the least multiple of its unit that covers it; none
+    /// if the request is not allowed.
+    pub fn object_length(&self, request: u64) -> Option<u32> {
+        let allowed = (1..=32_760).contains(&request);
+        let unit = allowed.then(|| unit_in(self.options.edition, request as u32))?;
+        let multiples = (1..).map(|times| times * unit);
+        let mut enough = multiples.skip_while(|length| u64::from(*length) < request);
+        enough.next()
+    }
+
     /// Gives the base of the lowest suitable run for a length, trying every one.
     pub fn lowest_run(&self, length: u32) -> Option<u32> {
         let taken = self.taken();
-        let bases = (0..=self.heap_length).step_by(alignment_of(length) as usize);
+        let alignment = unit_in(self.options.edition, length);
+        let bases = (0..=self.heap_length).step_by(alignment as usize);
         let mut in_heap = bases.filter(|b| *b >= 8 && b + length <= self.heap_length);
         in_heap.find(|b| {
             let run = &taken[*b as usize - 8..(*b + length) as usize];
@@ -298,11 +283,10 @@ impl Ledger {
     /// Gives the answer of an allocate, array or reallocate.
     fn predict_request(&self, quota: u32, request: u64, old: Option<Handle>) -> Result<Answer, u8> {
         self.permitted(quota, 0)?;
-        let unit = unit_of(request).ok_or(4)?;
+        let length = self.object_length(request).ok_or(4)?;
         if let Some(old) = old {
             self.releasable(quota, self.named(old))?;
         }
-        let length = object_length(request, unit);
         self.payable(quota, length + 8)?;
         if self.last_serial == 4_294_967_294 {
             return Err(10);

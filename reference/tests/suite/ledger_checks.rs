@@ -141,21 +141,17 @@ pub fn space_is_refused_exactly_without_a_run(
         Call::Array(_, n, s) => u64::from(n) * u64::from(s),
         _ => return,
     };
-    let unit = match request {
-        ..8_192 => 8,
-        8_192..16_384 => 16,
-        _ => 32,
+    let has_run = || {
+        let length = before.object_length(request);
+        length
+            .and_then(|length| before.lowest_run(length))
+            .is_some()
     };
     match answer {
-        Ok(_) => assert!(before.lowest_run(round(request, unit)).is_some()),
-        Err(11) => assert!(before.lowest_run(round(request, unit)).is_none()),
+        Ok(_) => assert!(has_run()),
+        Err(11) => assert!(!has_run()),
         Err(_) => {}
     }
-}
-
-/// Rounds a request up to a multiple of its unit.
-fn round(request: u64, unit: u32) -> u32 {
-    (request as u32).div_ceil(unit) * unit
 }
 
 /// Keeps the caller's view of the objects up to date after an accepted call.

@@ -2,7 +2,7 @@
 
 use std::ops::Range;
 
-use lokhazim_reference::{can_release, Handle, Kind, Options, Refusal, QUOTAS};
+use lokhazim_reference::{can_release, Edition, Handle, Kind, Options, Refusal, QUOTAS};
 
 use crate::ledger::Ledger;
 use crate::ledger_checks::*;
@@ -40,7 +40,10 @@ pub const PLAIN: Style = Style {
     last_serial: 0,
     clearing: 0,
     sweeping: 40,
-    options: Options { kind: Kind::Plain },
+    options: Options {
+        kind: Kind::Plain,
+        edition: Edition::First,
+    },
 };
 
 /// How often each refusal was given, and at 0 how often a call was accepted.

@@ -3,6 +3,7 @@
 mod bytes;
 mod comparison;
 mod damage;
+mod editions;
 mod form_2;
 mod images;
 mod ledger;

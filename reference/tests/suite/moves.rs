@@ -77,7 +77,7 @@ fn the_other_form_gives_23_before_24() {
         for form in [0, 3, 255] {
             assert_eq!(moved(by, &with(own, 4, form), 0), Err(23));
         }
-        assert_eq!(moved(by, &with(own, 6, 1), 0), Err(23));
+        assert_eq!(moved(by, &with(own, 6, 2), 0), Err(23));
         assert_eq!(moved(by, &with(own, 7, 2), 0), Err(23));
     }
 }

@@ -1,6 +1,8 @@
 //! The heap walked and its soundness judged a second time, by plain loops.
 
-use lokhazim_reference::{Accounts, Block, QUOTAS};
+use lokhazim_reference::{Accounts, Block, Edition, QUOTAS};
+
+use crate::state::unit_in;
 
 /// Reads so many bytes from an offset as a little-endian number.
 fn number(heap: &[u8], offset: usize, bytes: usize) -> u32 {
@@ -43,6 +45,11 @@ pub fn is_sound(heap: &[u8], accounts: &Accounts) -> bool {
         return false;
     };
     let quarantined = |block: &Block| block.serial == 0xFFFF_FFFF;
+    let edition = match accounts.edition {
+        0 => Edition::First,
+        1 => Edition::Second,
+        _ => return false,
+    };
     let kind_is_sound = match accounts.kind {
         0 => !blocks.iter().any(quarantined),
         1 => true,
@@ -55,7 +62,7 @@ pub fn is_sound(heap: &[u8], accounts: &Accounts) -> bool {
         && serials_are_sound(&live, accounts)
         && records_are_sound(&live, accounts)
         && sums_are_sound(&live, accounts)
-        && live.iter().all(fits_its_unit)
+        && live.iter().all(|block| fits_its_unit(block, edition))
         && accounts.quotas.iter().all(|quota| quota.permissions < 8)
 }
 
@@ -112,16 +119,8 @@ fn sums_are_sound(live: &[Block], accounts: &Accounts) -> bool {
 }
 
 /// Judges whether an object's base and length are multiples of its unit (5.10).
-fn fits_its_unit(block: &Block) -> bool {
+fn fits_its_unit(block: &Block, edition: Edition) -> bool {
     let (base, length) = (block.offset + 8, block.size - 8);
-    let unit = if length >= 32_768 {
-        64
-    } else if length >= 16_384 {
-        32
-    } else if length >= 8_192 {
-        16
-    } else {
-        8
-    };
+    let unit = unit_in(edition, length);
     base % unit == 0 && length % unit == 0
 }

@@ -5,18 +5,13 @@ use crate::prng::Prng;
 use crate::state::*;
 use lokhazim_reference::*;
 
-/// The options of a heap with quarantine.
-const WITH: Options = Options {
-    kind: Kind::Quarantine,
-};
-
 /// The serial of a quarantined block.
 const WAITING: u32 = 4_294_967_295;
 
 /// A heap of 128 bytes with objects of 16, 8 and 24 bytes of quota 0, of which quota 1 holds the
 /// second, and a free block behind them; all objects are full of junk.
 fn three_objects(kind: Kind) -> (State, [Handle; 3]) {
-    let mut state = opened_with(128, &[500, 500], Options { kind });
+    let mut state = opened_with(128, &[500, 500], of_kind(kind));
     let objects = [16, 8, 24].map(|length| state.allocated(0, length));
     state.number(Call::Claim(1, objects[1]));
     for object in objects {
@@ -48,7 +43,7 @@ fn is_sound(state: &State) -> bool {
 #[test]
 fn opening_keeps_the_kind() {
     for (kind, number) in [(Kind::Plain, 0), (Kind::Quarantine, 1)] {
-        let state = opened_with(64, &[7], Options { kind });
+        let state = opened_with(64, &[7], of_kind(kind));
         assert_eq!(state.accounts.kind, number);
         assert_eq!(state.heap, heap_of(&[(64, 0)]));
         assert_eq!(Kind::of(number), Some(kind));
@@ -56,7 +51,7 @@ fn opening_keeps_the_kind() {
     }
     assert_eq!(opened(64, &[7]), opened_with(64, &[7], Options::default()));
     assert_eq!(Kind::of(2), None);
-    let (accounts, answer) = open_with(&mut [1; 56], grants(&[7]), WITH);
+    let (accounts, answer) = open_with(&mut [1; 56], grants(&[7]), of_kind(Kind::Quarantine));
     assert_eq!(answer, Err(Refusal::HeapLength));
     assert_eq!(accounts, Accounts::default(), "all zero, the kind too");
 }
@@ -116,7 +111,7 @@ fn answer_of(state: &mut State, handles: &mut Vec<Handle>, call: Call) -> Result
 #[test]
 fn answers_and_accounts_are_those_of_a_plain_heap() {
     let mut prng = Prng::new(71);
-    let mut states = KINDS.map(|kind| opened_with(32_768, &[900, 900], Options { kind }));
+    let mut states = KINDS.map(|kind| opened_with(32_768, &[900, 900], of_kind(kind)));
     let mut handles = KINDS.map(|_| vec![Handle::default()]);
     for _ in 0..400 {
         let (quota, length) = (prng.below(2), 1 + prng.below(40));
@@ -301,7 +296,7 @@ fn releases_end_alike_in_every_order_in_both_kinds() {
     let mut prng = Prng::new(72);
     for kind in KINDS {
         for _ in 0..20 {
-            let mut state = opened_with(512, &[900, 900], Options { kind });
+            let mut state = opened_with(512, &[900, 900], of_kind(kind));
             let mut releases = Vec::new();
             for _ in 0..12 {
                 let object = state.allocated(0, 1 + prng.below(24));

@@ -8,7 +8,7 @@ use lokhazim_reference::*;
 /// A heap of 64 bytes with quarantine, in which a block waits and another is live.
 fn waiting() -> State {
     let kind = Kind::Quarantine;
-    let mut state = opened_with(64, &[100, 200], Options { kind });
+    let mut state = opened_with(64, &[100, 200], of_kind(kind));
     let gone = state.allocated(0, 16);
     state.allocated(1, 8);
     state.number(Call::Release(0, gone));

@@ -10,6 +10,7 @@ fn any_accounts(prng: &mut Prng) -> Accounts {
     let mut accounts = Accounts {
         last_serial: prng.odd_word(),
         kind: prng.pick(&[0, 0, 1, 1, 2, 255]),
+        edition: prng.pick(&[0, 0, 1, 1, 2, 255]),
         ..Accounts::default()
     };
     for quota in &mut accounts.quotas {
@@ -158,6 +159,7 @@ fn plausible_heaps_are_judged_alike_and_stay_sound() {
             accounts: accounts_of(&pieces, &holds, grants(&[0, 100, 1_000]), last_serial),
         };
         state.accounts.kind = prng.pick(&[0, 1, 1, 1, 1, 2]);
+        state.accounts.edition = prng.pick(&[0, 0, 0, 1, 1, 1, 2]);
         let sound = naive::is_sound(&state.heap, &state.accounts);
         assert_eq!(check(&state.heap, &state.accounts).is_ok(), sound);
         sounds += usize::from(sound);

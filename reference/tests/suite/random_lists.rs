@@ -2,16 +2,15 @@
 
 use std::ops::Range;
 
-use lokhazim_reference::{Options, HOLDS, QUOTAS};
+use lokhazim_reference::{HOLDS, QUOTAS};
 
 use crate::list_run::{lists, Style, PLAIN};
-use crate::state::KINDS;
+use crate::state::all_options;
 
-/// Makes lists in heaps of both kinds, and checks for each kind that calls were accepted and that
-/// each of these refusals was given.
+/// Makes lists in heaps of both kinds and both editions, and checks for each that calls were
+/// accepted and that each of these refusals was given.
 fn in_all_heaps(style: Style, seeds: Range<u64>, numbers: &[usize]) {
-    for kind in KINDS {
-        let options = Options { kind };
+    for options in all_options() {
         let tally = lists(Style { options, ..style }, seeds.clone());
         for number in numbers {
             assert!(tally[*number] > 0, "{number} was never given: {tally:?}");
@@ -78,7 +77,7 @@ fn lists_that_fill_all_hold_records() {
         sweeping: 100,
         ..PLAIN
     };
-    in_all_heaps(style, 400..402, &[9]);
+    in_all_heaps(style, 400..401, &[9]);
 }
 
 #[test]

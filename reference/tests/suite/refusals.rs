@@ -219,7 +219,7 @@ fn charge_equal_to_the_remainder_is_accepted() {
 #[test]
 fn last_serial_may_be_given_once() {
     for kind in KINDS {
-        let mut state = opened_with(64, &[100], Options { kind });
+        let mut state = opened_with(64, &[100], of_kind(kind));
         state.accounts.last_serial = u32::MAX - 2;
         let last = handle(8, 8, u32::MAX - 1);
         assert_eq!(state.allocated(0, 8), last);

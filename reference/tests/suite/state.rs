@@ -96,6 +96,47 @@ pub fn accounts_of(
 /// Both kinds of heaps.
 pub const KINDS: [Kind; 2] = [Kind::Plain, Kind::Quarantine];
 
+/// Both editions of the table of units.
+pub const EDITIONS: [Edition; 2] = [Edition::First, Edition::Second];
+
+/// Gives the options of a kind with the first edition.
+pub fn of_kind(kind: Kind) -> Options {
+    Options {
+        kind,
+        ..Options::default()
+    }
+}
+
+/// Gives the options of a plain heap with an edition.
+pub fn of_edition(edition: Edition) -> Options {
+    Options {
+        edition,
+        ..Options::default()
+    }
+}
+
+/// Gives all that can be chosen at opening.
+pub fn all_options() -> Vec<Options> {
+    let both = |kind| EDITIONS.map(|edition| Options { kind, edition });
+    KINDS.into_iter().flat_map(both).collect()
+}
+
+/// Gives the unit of a length: in the second edition the least, from 8 on by doubling, of which
+/// 511 are enough; in the first 8, doubled at the start of each further row.
+pub fn unit_in(edition: Edition, length: u32) -> u32 {
+    match edition {
+        Edition::First => {
+            let starts = [8_192, 16_384, 32_768];
+            8 << starts.iter().filter(|start| **start <= length).count()
+        }
+        Edition::Second => {
+            let mut units = (3..).map(|power| 1 << power);
+            let enough = units.find(|unit| 511 * unit >= length);
+            enough.expect("units grow")
+        }
+    }
+}
+
 /// Opens a plain heap that is expected to be accepted.
 pub fn opened(length: usize, first_grants: &[u32]) -> State {
     opened_with(length, first_grants, Options::default())

@@ -160,6 +160,7 @@ fn difference(kind: u32, at: usize, length: usize) -> Option<Difference> {
         (3, place, 0) => Some(Difference::Record(place)),
         (4, offset, length) => Some(Difference::Bytes(offset, length)),
         (5, 0, 0) => Some(Difference::Kind),
+        (6, 0, 0) => Some(Difference::Edition),
         other => panic!("the numbers {other:?} name no difference"),
     }
 }

@@ -5,7 +5,7 @@
 
 use lokhazim_reference::{Accounts, Handle, Hold, Quota, HOLDS, QUOTAS};
 
-use crate::state::{Answer, Call};
+use crate::state::{Answer, Call, Choice};
 
 pub mod images;
 pub mod queue;
@@ -38,6 +38,7 @@ struct CAccounts {
     last_serial: u32,
     holds: [CHold; HOLDS],
     kind: u8,
+    edition: u8,
 }
 
 /// A handle as it crosses the boundary.
@@ -105,7 +106,13 @@ struct BlockReply {
 }
 
 extern "C" {
-    fn lokhazim_open(heap: *mut u8, length: usize, grants: CGrants, kind: u32) -> OpenReply;
+    fn lokhazim_open(
+        heap: *mut u8,
+        length: usize,
+        grants: CGrants,
+        kind: u32,
+        edition: u32,
+    ) -> OpenReply;
     fn lokhazim_allocate(
         heap: *mut u8,
         heap_length: usize,
@@ -208,6 +215,7 @@ impl From<&Accounts> for CAccounts {
                 count: hold.count,
             }),
             kind: accounts.kind,
+            edition: accounts.edition,
         }
     }
 }
@@ -227,6 +235,7 @@ impl From<CAccounts> for Accounts {
                 count: hold.count,
             }),
             kind: accounts.kind,
+            edition: accounts.edition,
         }
     }
 }
@@ -287,7 +296,9 @@ pub fn perform(heap: &mut [u8], accounts: &Accounts, call: Call) -> (Accounts, A
     // layout of the boundary, and the functions accept any bytes and any numbers.
     unsafe {
         match call {
-            Call::Open(values, kind) => lokhazim_open(p, len, CGrants { values }, kind).parts(),
+            Call::Open(values, Choice { kind, edition }) => {
+                lokhazim_open(p, len, CGrants { values }, kind, edition).parts()
+            }
             Call::Allocate(q, n) => lokhazim_allocate(p, len, c, q, n).parts(),
             Call::Array(q, n, s) => lokhazim_allocate_array(p, len, c, q, n, s).parts(),
             Call::Claim(q, h) => lokhazim_claim(p, len, c, q, h.into()).parts(),

@@ -4,14 +4,14 @@ mod plan;
 mod written;
 
 use plan::{
-    add_record, base_by_the_request, change_record, further_high_quota, no_record_at_all,
-    object_without_record, quarantined_in_plain, quarantined_with_records, record_of_no_object,
-    record_twice, serial_above_last, serial_twice, short_live_block, short_quarantined_block,
-    two_free_blocks, unfitting_base, unfitting_length,
+    add_record, base_by_the_request, change_record, fitting_edition_1, further_high_quota,
+    no_record_at_all, object_without_record, quarantined_in_plain, quarantined_with_records,
+    record_of_no_object, record_twice, serial_above_last, serial_twice, short_live_block,
+    short_quarantined_block, two_free_blocks, unfitting_base, unfitting_length,
 };
 use written::{
     add_to_quota, charge_each_count, charge_without_header, first_back_size, last_size,
-    moved_amount, set_back, set_kind, set_permissions, set_size, wrapped_sum,
+    moved_amount, set_back, set_edition, set_kind, set_permissions, set_size, wrapped_sum,
 };
 
 use crate::cut::QUARANTINED;
@@ -48,7 +48,7 @@ const fn kind(name: &'static str, sentence: Sentence, way: Way) -> Damage {
 }
 
 /// Every kind of damage.
-pub const DAMAGES: [Damage; 44] = [
+pub const DAMAGES: [Damage; 46] = [
     kind(
         "a live block of 8 bytes",
         Sentence::Cut,
@@ -263,6 +263,16 @@ pub const DAMAGES: [Damage; 44] = [
             p.last_serial = QUARANTINED;
             Some(())
         }),
+    ),
+    kind(
+        "an object that fits the first edition alone",
+        Sentence::Units,
+        Way::Plan(fitting_edition_1),
+    ),
+    kind(
+        "an edition that there is not",
+        Sentence::Edition,
+        Way::State(set_edition),
     ),
 ];
 

@@ -3,6 +3,7 @@
 use lokhazim_reference::{Hold, QUOTAS};
 
 use crate::cut::{is_live, QUARANTINED};
+use crate::ledger::unit;
 use crate::pieces::Piece;
 use crate::seed::Seed;
 use crate::states::Plan;
@@ -69,7 +70,7 @@ fn cut_down(plan: &mut Plan, place: usize) -> Option<()> {
 /// Gives the places of live pieces whose object has a unit above 8.
 fn long(plan: &Plan) -> Vec<usize> {
     let mut places = plan.live();
-    places.retain(|place| plan.pieces[*place].size >= 8_200);
+    places.retain(|place| unit(plan.edition, plan.pieces[*place].size - 8) > 8);
     places
 }
 
@@ -85,7 +86,7 @@ fn change_free(plan: &mut Plan, place: usize, by: i32) -> Option<()> {
 }
 
 /// Less than a unit, up or down.
-const SHIFTS: [i32; 6] = [-24, -16, -8, 8, 16, 24];
+const SHIFTS: [i32; 10] = [-48, -32, -24, -16, -8, 8, 16, 24, 32, 48];
 
 /// Makes a long object longer or shorter by less than a unit.
 pub(super) fn unfitting_length(plan: &mut Plan, seed: &mut Seed) -> Option<()> {
@@ -116,6 +117,21 @@ pub(super) fn base_by_the_request(plan: &mut Plan, seed: &mut Seed) -> Option<()
     let base = (2 * seed.below(100) + 1) * unit;
     let behind = 8 * seed.below(1_000);
     *plan = Plan::of_object(base + length + behind, base, length);
+    Some(())
+}
+
+/// Puts one object into a heap of the second edition where only the first would: its base, or else its
+/// length, is an odd multiple of the first edition's unit, which is half the second's.
+pub(super) fn fitting_edition_1(plan: &mut Plan, seed: &mut Seed) -> Option<()> {
+    let first = seed.pick(&[4_096, 8_192, 16_384]);
+    let unit = unit(0, first);
+    let (base, length) = match seed.percent(50) {
+        true => ((2 * seed.below(100) + 1) * unit, first),
+        false => (2 * unit * seed.between(1, 100), first + unit),
+    };
+    let behind = 8 * seed.below(1_000);
+    *plan = Plan::of_object(base + length + behind, base, length);
+    plan.edition = 1;
     Some(())
 }
 

@@ -1,5 +1,5 @@
 //! Damage to a written state: sizes and back sizes of headers, grants, remainders, permissions, the
-//! kind.
+//! kind, the edition.
 
 use lokhazim_reference::{Hold, QUOTAS};
 
@@ -84,6 +84,13 @@ pub(super) fn set_permissions(
 pub(super) fn set_kind(state: &mut State, seed: &mut Seed) -> Option<()> {
     let any = seed.between(2, 255) as u8;
     state.accounts.kind = seed.pick(&[2, 3, 128, 129, 255, any]);
+    Some(())
+}
+
+/// Sets the edition to a number that is none's.
+pub(super) fn set_edition(state: &mut State, seed: &mut Seed) -> Option<()> {
+    let any = seed.between(2, 255) as u8;
+    state.accounts.edition = seed.pick(&[2, 3, 128, 129, 255, any]);
     Some(())
 }
 

@@ -22,6 +22,7 @@ fn distinct() -> Accounts {
             count: (2 * i + 1) as u8,
         }),
         kind: 171,
+        edition: 92,
     }
 }
 
@@ -93,7 +94,7 @@ fn a_send_hands_back_every_field_that_it_refuses() {
 #[test]
 fn each_grant_reaches_its_quota() {
     let values = core::array::from_fn(|i| (i as u32 + 1).wrapping_mul(0x9E37_79B1));
-    let reply = open(&mut [7; 64], Grants { values }, 0);
+    let reply = open(&mut [7; 64], Grants { values }, 0, 0);
     assert_eq!(reply.refusal, 0);
     assert_eq!(reply.accounts.quotas.map(|quota| quota.grant), values);
     assert_eq!(reply.accounts.quotas.map(|quota| quota.remainder), values);
@@ -105,16 +106,21 @@ fn each_grant_reaches_its_quota() {
     assert_eq!(reply.accounts.holds, [Hold::default(); HOLDS]);
 }
 
-/// Any number but 0 opens a heap with quarantine.
+/// Any number but 0 opens a heap with quarantine, or of the second edition, each by itself.
 #[test]
-fn each_kind_reaches_the_accounts() {
-    let grants = Grants {
-        values: [1; QUOTAS],
+fn each_kind_and_edition_reaches_the_accounts() {
+    let values = [1; QUOTAS];
+    let marks = |length: usize, kind, edition| {
+        let reply = open(&mut [7; 64][..length], Grants { values }, kind, edition);
+        let Accounts { kind, edition, .. } = reply.accounts;
+        (reply.refusal, kind, edition)
     };
-    for (number, kind) in [(0, 0), (1, 1), (2, 1), (255, 1), (256, 1), (u32::MAX, 1)] {
-        let reply = open(&mut [7; 64], grants, number);
-        assert_eq!((reply.refusal, reply.accounts.kind), (0, kind), "{number}");
-        let refused = open(&mut [7; 63], grants, number);
-        assert_eq!((refused.refusal, refused.accounts.kind), (1, 0), "{number}");
+    for (number, mark) in [(0, 0), (1, 1), (2, 1), (255, 1), (256, 1), (u32::MAX, 1)] {
+        for other in [0, 1] {
+            assert_eq!(marks(64, number, other), (0, mark, other as u8), "{number}");
+            assert_eq!(marks(64, other, number), (0, other as u8, mark), "{number}");
+            assert_eq!(marks(63, number, other), (1, 0, 0), "{number}");
+            assert_eq!(marks(63, other, number), (1, 0, 0), "{number}");
+        }
     }
 }

@@ -87,6 +87,7 @@ static void visit_accounts(struct lokhazim_accounts *it)
         visit_hold(&it->holds[i]);
     }
     visit8(&it->kind);
+    visit8(&it->edition);
 }
 
 static void visit_handle(struct lokhazim_handle *it)

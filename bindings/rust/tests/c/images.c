@@ -2,7 +2,7 @@
  * Images from C: a heap with every record used is written and read back, a refused image leaves heap
  * and accounts alone, the caller's null pointer for the length is taken, two images are compared, form 1
  * is written of what it can carry and of nothing else, an image is moved up and down again, and the kind
- * of the heap goes with its image.
+ * and the edition of the heap go with its image.
  */
 #include "lokhazim_image.h"
 
@@ -31,7 +31,7 @@ static void fill(void)
     for (uint32_t i = 0; i < LOKHAZIM_QUOTAS; i++) {
         grants.values[i] = 100000 + i;
     }
-    CHECK(lokhazim_heap_open(heap, sizeof heap, &accounts, grants, LOKHAZIM_PLAIN) == LOKHAZIM_ACCEPTED);
+    CHECK(lokhazim_heap_open(heap, sizeof heap, &accounts, grants, LOKHAZIM_PLAIN, LOKHAZIM_EDITION_1) == LOKHAZIM_ACCEPTED);
     for (uint32_t i = 0; i < LOKHAZIM_HOLDS; i++) {
         struct lokhazim_handle handle;
         CHECK(lokhazim_heap_allocate(heap, sizeof heap, &accounts, i % LOKHAZIM_QUOTAS, 1 + i % 40, &handle) == LOKHAZIM_ACCEPTED);
@@ -41,7 +41,7 @@ static void fill(void)
 
 static int same(const struct lokhazim_accounts *a, const struct lokhazim_accounts *b)
 {
-    int equal = a->last_serial == b->last_serial && a->kind == b->kind;
+    int equal = a->last_serial == b->last_serial && a->kind == b->kind && a->edition == b->edition;
     for (int i = 0; i < LOKHAZIM_QUOTAS; i++) {
         equal &= a->quotas[i].grant == b->quotas[i].grant;
         equal &= a->quotas[i].remainder == b->quotas[i].remainder;
@@ -106,7 +106,7 @@ static void fill_form_1(void)
     struct lokhazim_grants grants = { { 1000 } };
     struct lokhazim_handle handle;
     grants.values[LOKHAZIM_FORM_1_QUOTAS - 1] = 2000;
-    CHECK(lokhazim_heap_open(heap, sizeof heap, &accounts, grants, LOKHAZIM_PLAIN) == LOKHAZIM_ACCEPTED);
+    CHECK(lokhazim_heap_open(heap, sizeof heap, &accounts, grants, LOKHAZIM_PLAIN, LOKHAZIM_EDITION_1) == LOKHAZIM_ACCEPTED);
     CHECK(lokhazim_heap_allocate(heap, sizeof heap, &accounts, LOKHAZIM_FORM_1_QUOTAS - 1, 40, &handle) == LOKHAZIM_ACCEPTED);
     accounts.holds[LOKHAZIM_FORM_1_HOLDS - 1] = accounts.holds[0];
     accounts.holds[0] = (struct lokhazim_hold){ 0, 0, 0 };
@@ -173,30 +173,36 @@ static void moves(void)
     CHECK(reply.refusal == LOKHAZIM_IMAGE_NOT_CARRIED && memcmp(image, back, sizeof back) == 0);
 }
 
-/* The kind stands in form 2, differs by itself and comes back; form 1 has plain heaps alone. */
-static void kinds(void)
+/* Kind and edition stand in form 2, each differs by itself and comes back; form 1 has plain heaps of edition 1 alone. */
+static void marked(uint8_t kind, uint8_t edition)
 {
     const size_t length = LOKHAZIM_IMAGE_MAX;
+    uint32_t differences[3] = { LOKHAZIM_NO_DIFFERENCE, LOKHAZIM_NO_DIFFERENCE, LOKHAZIM_NO_DIFFERENCE };
+    size_t count = 0;
     struct lokhazim_accounts back;
-    struct lokhazim_compare_reply reply;
-    struct lokhazim_next_reply next;
+    struct lokhazim_next_reply next = { 0, 0, 0, 0, 0 };
     memset(&back, 0, sizeof back);
     fill_form_1();
     CHECK(lokhazim_heap_save(heap, sizeof heap, &accounts, image, sizeof image, NULL) == LOKHAZIM_IMAGE_ACCEPTED);
-    accounts.kind = LOKHAZIM_QUARANTINE;
-    not_carried("the heap has quarantine");
+    accounts.kind = kind;
+    accounts.edition = edition;
+    not_carried("the heap has quarantine or is of edition 2");
     CHECK(lokhazim_heap_save(heap, sizeof heap, &accounts, changed, sizeof changed, NULL) == LOKHAZIM_IMAGE_ACCEPTED);
-    CHECK(image[7] == LOKHAZIM_PLAIN && changed[7] == LOKHAZIM_QUARANTINE);
+    CHECK(image[6] == LOKHAZIM_EDITION_1 && image[7] == LOKHAZIM_PLAIN && changed[6] == edition && changed[7] == kind);
     CHECK(lokhazim_heap_restore(other, sizeof other, &back, changed, length) == LOKHAZIM_IMAGE_ACCEPTED && same(&accounts, &back));
 
-    reply = lokhazim_image_compare(image, length, changed, length, 0);
-    CHECK(reply.refusal == 0 && reply.kind == LOKHAZIM_KIND_DIFFERS && reply.place == 0 && reply.length == 0);
-    reply = lokhazim_image_compare(image, length, changed, length, 1);
-    CHECK(reply.refusal == 0 && reply.kind == LOKHAZIM_NO_DIFFERENCE);
-    next = lokhazim_image_compare_next(image, length, changed, length, 0, 0);
-    CHECK(next.kind == LOKHAZIM_KIND_DIFFERS && next.place == 0 && next.length == 0);
-    next = lokhazim_image_compare_next(image, length, changed, length, next.part, next.at);
-    CHECK(next.kind == LOKHAZIM_NO_DIFFERENCE);
+    if (kind != LOKHAZIM_PLAIN) {
+        differences[count++] = LOKHAZIM_KIND_DIFFERS;
+    }
+    if (edition != LOKHAZIM_EDITION_1) {
+        differences[count++] = LOKHAZIM_EDITION_DIFFERS;
+    }
+    for (size_t n = 0; n <= count; n++) {
+        const struct lokhazim_compare_reply reply = lokhazim_image_compare(image, length, changed, length, n);
+        CHECK(reply.refusal == 0 && reply.kind == differences[n] && reply.place == 0 && reply.length == 0);
+        next = lokhazim_image_compare_next(image, length, changed, length, next.part, next.at);
+        CHECK(next.kind == differences[n] && next.place == 0 && next.length == 0);
+    }
     CHECK(lokhazim_image_move_down(changed, length, image, sizeof image).refusal == LOKHAZIM_IMAGE_NOT_CARRIED);
 }
 
@@ -229,6 +235,8 @@ int main(void)
     compare();
     form_1();
     moves();
-    kinds();
+    marked(LOKHAZIM_QUARANTINE, LOKHAZIM_EDITION_1);
+    marked(LOKHAZIM_PLAIN, LOKHAZIM_EDITION_2);
+    marked(LOKHAZIM_QUARANTINE, LOKHAZIM_EDITION_2);
     return EXIT_SUCCESS;
 }

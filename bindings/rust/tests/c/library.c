@@ -27,7 +27,7 @@ static struct lokhazim_handle handles[LOKHAZIM_HOLDS];
 
 static int same(const struct lokhazim_accounts *a, const struct lokhazim_accounts *b)
 {
-    int equal = a->last_serial == b->last_serial && a->kind == b->kind;
+    int equal = a->last_serial == b->last_serial && a->kind == b->kind && a->edition == b->edition;
     for (int i = 0; i < LOKHAZIM_QUOTAS; i++) {
         equal &= a->quotas[i].grant == b->quotas[i].grant;
         equal &= a->quotas[i].remainder == b->quotas[i].remainder;
@@ -58,6 +58,7 @@ static struct lokhazim_accounts distinct(void)
         it.holds[i].count = (uint8_t)(2 * i + 1);
     }
     it.kind = 171;
+    it.edition = 92;
     return it;
 }
 
@@ -68,13 +69,13 @@ static void grants_come_back(void)
     for (uint32_t i = 0; i < LOKHAZIM_QUOTAS; i++) {
         grants.values[i] = 100000 + 1000 * i;
     }
-    ACCEPTED(lokhazim_heap_open(HEAP, &accounts, grants, LOKHAZIM_PLAIN));
+    ACCEPTED(lokhazim_heap_open(HEAP, &accounts, grants, LOKHAZIM_PLAIN, LOKHAZIM_EDITION_1));
     for (int i = 0; i < LOKHAZIM_QUOTAS; i++) {
         CHECK(accounts.quotas[i].grant == grants.values[i]);
         CHECK(accounts.quotas[i].remainder == grants.values[i]);
         CHECK(accounts.quotas[i].permissions == LOKHAZIM_MAY_ALL);
     }
-    CHECK(accounts.last_serial == 0 && accounts.kind == LOKHAZIM_PLAIN);
+    CHECK(accounts.last_serial == 0 && accounts.kind == LOKHAZIM_PLAIN && accounts.edition == LOKHAZIM_EDITION_1);
     CHECK(accounts.holds[0].count == 0 && accounts.holds[LOKHAZIM_HOLDS - 1].count == 0);
 }
 
@@ -103,7 +104,7 @@ static void accounts_come_back(void)
     CHECK(same(&before, &after) && amount == 0);
     REFUSED(INCONSISTENT, lokhazim_heap_reallocate(HEAP, &after, 0, handle, 8, &given));
     CHECK(same(&before, &after));
-    REFUSED(HEAP_LENGTH, lokhazim_heap_open(heap, 65, &after, (struct lokhazim_grants){ { 1 } }, LOKHAZIM_QUARANTINE));
+    REFUSED(HEAP_LENGTH, lokhazim_heap_open(heap, 65, &after, (struct lokhazim_grants){ { 1 } }, LOKHAZIM_QUARANTINE, LOKHAZIM_EDITION_1));
     CHECK(same(&(struct lokhazim_accounts){ .last_serial = 0 }, &after));
 }
 
@@ -178,6 +179,7 @@ static void fields_are_noticed(void)
     NOTICED(accounts.last_serial, LOKHAZIM_HOLDS - 1);
     NOTICED(accounts.last_serial, LOKHAZIM_QUARANTINED);
     NOTICED(accounts.kind, LOKHAZIM_QUARANTINE + 1);
+    NOTICED(accounts.edition, LOKHAZIM_EDITION_2 + 1);
     for (uint32_t i = 0; i < LOKHAZIM_HOLDS; i++) {
         NOTICED(accounts.holds[i].serial, LOKHAZIM_HOLDS + 1);
         NOTICED(accounts.holds[i].quota, LOKHAZIM_QUOTAS);
@@ -231,7 +233,7 @@ static void numbers_in_order(void)
     struct lokhazim_handle given;
     struct lokhazim_handle moved;
     uint32_t refund = 0;
-    ACCEPTED(lokhazim_heap_open(HEAP, &accounts, (struct lokhazim_grants){ { 0, 0, 0, 500 } }, LOKHAZIM_PLAIN));
+    ACCEPTED(lokhazim_heap_open(HEAP, &accounts, (struct lokhazim_grants){ { 0, 0, 0, 500 } }, LOKHAZIM_PLAIN, LOKHAZIM_EDITION_1));
     ACCEPTED(lokhazim_heap_allocate_array(HEAP, &accounts, 3, 5, 12, &given));
     CHECK(given.base == 8 && given.length == 64 && given.serial == 1);
     ACCEPTED(lokhazim_heap_write(HEAP, &accounts, given, 63, 255));
@@ -284,7 +286,7 @@ static void parts_of_an_object(void)
     struct lokhazim_handle moved;
     uint8_t *object = NULL;
     uint32_t amount = 0;
-    ACCEPTED(lokhazim_heap_open(HEAP, &accounts, (struct lokhazim_grants){ { 500, 500 } }, LOKHAZIM_PLAIN));
+    ACCEPTED(lokhazim_heap_open(HEAP, &accounts, (struct lokhazim_grants){ { 500, 500 } }, LOKHAZIM_PLAIN, LOKHAZIM_EDITION_1));
     ACCEPTED(lokhazim_heap_allocate(HEAP, &accounts, 0, 16, &whole));
     for (uint32_t at = 0; at < 16; at++) {
         for (uint32_t bytes = 1; at + bytes <= 16; bytes++) {
@@ -319,7 +321,7 @@ static void permissions_are_read(void)
     for (uint32_t q = 0; q < LOKHAZIM_QUOTAS; q++) {
         grants.values[q] = 500;
     }
-    ACCEPTED(lokhazim_heap_open(HEAP, &accounts, grants, LOKHAZIM_PLAIN));
+    ACCEPTED(lokhazim_heap_open(HEAP, &accounts, grants, LOKHAZIM_PLAIN, LOKHAZIM_EDITION_1));
     ACCEPTED(lokhazim_heap_allocate(HEAP, &accounts, 0, 8, &object));
     for (uint32_t q = 1; q <= LOKHAZIM_MAY_ALL; q++) {
         ACCEPTED(lokhazim_heap_claim(HEAP, &accounts, q, object, NULL));

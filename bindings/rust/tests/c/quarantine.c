@@ -25,7 +25,7 @@ static struct lokhazim_accounts accounts;
 /* Opens the heap for two quotas and makes three objects that fill it. */
 static void begin(uint32_t kind, struct lokhazim_handle objects[3])
 {
-    ACCEPTED(lokhazim_heap_open(HEAP, &accounts, (struct lokhazim_grants){ { 96, 96 } }, kind));
+    ACCEPTED(lokhazim_heap_open(HEAP, &accounts, (struct lokhazim_grants){ { 96, 96 } }, kind, LOKHAZIM_EDITION_1));
     for (int i = 0; i < 3; i++) {
         ACCEPTED(lokhazim_heap_allocate(HEAP, &accounts, 0, 24, &objects[i]));
     }
@@ -101,7 +101,7 @@ static void numbers_of_the_kind(void)
 static void serials_end(void)
 {
     struct lokhazim_handle given;
-    ACCEPTED(lokhazim_heap_open(HEAP, &accounts, (struct lokhazim_grants){ { 96 } }, LOKHAZIM_PLAIN));
+    ACCEPTED(lokhazim_heap_open(HEAP, &accounts, (struct lokhazim_grants){ { 96 } }, LOKHAZIM_PLAIN, LOKHAZIM_EDITION_1));
     accounts.last_serial = LOKHAZIM_SERIAL_MAX - 1;
     ACCEPTED(lokhazim_heap_allocate(HEAP, &accounts, 0, 8, &given));
     CHECK(given.serial == LOKHAZIM_SERIAL_MAX && given.serial == 4294967294u);

@@ -36,7 +36,7 @@ static int same(struct lokhazim_handle a, struct lokhazim_handle b)
 static void make(void)
 {
     const struct lokhazim_grants grants = { { 1000, 1000 } };
-    CHECK(lokhazim_heap_open(heap, sizeof heap, &accounts, grants, LOKHAZIM_PLAIN) == LOKHAZIM_ACCEPTED);
+    CHECK(lokhazim_heap_open(heap, sizeof heap, &accounts, grants, LOKHAZIM_PLAIN, LOKHAZIM_EDITION_1) == LOKHAZIM_ACCEPTED);
     for (size_t i = 0; i < COUNT; i++) {
         CHECK(lokhazim_heap_allocate(heap, sizeof heap, &accounts, 0, 8, &packets[i]) == LOKHAZIM_ACCEPTED);
     }

@@ -13,7 +13,7 @@ use Rattle.model.specs.declared.Verdict.the-variants.{Accepted, Refused}
 use Rattle.model.specs.Answers.{verdict-values}
 use Rattle.model.specs.Consistent.{allowed, in-range}
 use Rattle.model.specs.Calls.{check as check-of}
-use Rattle.rounding.specs.Rounding.{unit}
+use Rattle.rounding.specs.Rounding.{table}
 use Rattle.checker.specs.Contracts.{Indexed, Owing}
 use Rattle.checker.proofs.Verdicts.{fresh, verdict-length, verdict-range, verdict-ill, verdict-insolvent, ready, verdict-walk}
 use Rattle.checker.proofs.check.Statement.{statement}
@@ -29,7 +29,7 @@ allows c = sym (c .before .is-allowed .ensures) ∙ not-false _ (c .if1 .left)
 returns : tie.Need-returns
 returns c =
     let a = c .before .before .before .args in
-    verdict-length unit (a .heap .now) (a .accounts) (sym (c .before .is-allowed .ensures) ∙ not-true _ (c .if1 .taken))
+    verdict-length (table (a .accounts .edition)) (a .heap .now) (a .accounts) (sym (c .before .is-allowed .ensures) ∙ not-true _ (c .if1 .taken))
 
 is-in-range-requires : tie.Need-is-in-range-requires
 is-in-range-requires c κs = search needs
@@ -39,7 +39,8 @@ unfolding in-range
 returns-2 c =
     let f = c .before .before in
     let s = f .before .before .before in
-    verdict-range unit (s .args .heap .now) (s .args .accounts) (allows f) (sym (c .before .is-in-range .ensures) ∙ not-true _ (c .if2 .taken))
+    verdict-range (table (s .args .accounts .edition)) (s .args .heap .now) (s .args .accounts) (allows f)
+    (sym (c .before .is-in-range .ensures) ∙ not-true _ (c .if2 .taken))
 
 cast-end : tie.Need-cast-end
 cast-end c = search needs
@@ -67,7 +68,8 @@ returns-3 c =
     let x = c .before in
     let f = x .before .before .before .before .before in
     let s = f .before .before .before .before .before in
-    verdict-ill unit (s .args .heap .now) (s .args .accounts) (allows (f .before .before)) (ranged f) (long s) (index-is x false (not-true _ (c .if3 .taken)))
+    verdict-ill (table (s .args .accounts .edition)) (s .args .heap .now) (s .args .accounts) (allows (f .before .before)) (ranged f) (long s)
+    (index-is x false (not-true _ (c .if3 .taken)))
 
 owing-requires : tie.Need-owing-requires
 owing-requires c κs = search needs
@@ -84,7 +86,7 @@ returns-4 c =
     let o = c .before in
     let f = o .before .before .before .before .before .before .before .before .before in
     let s = f .before .before .before .before .before in
-    verdict-insolvent unit (s .args .heap .now) (s .args .accounts) (allows (f .before .before)) (ranged f) (long s)
+    verdict-insolvent (table (s .args .accounts .edition)) (s .args .heap .now) (s .args .accounts) (allows (f .before .before)) (ranged f) (long s)
     (owing-is o false (not-true _ (c .if4 .taken)))
 
 walk-requires : tie.Need-walk-requires
@@ -94,7 +96,7 @@ walk-requires c κs =
     let x = o .before .before .before .before in
     let f = x .before .before .before .before .before in
     let s = f .before .before .before .before .before in
-    ready unit (s .args .heap .now) (s .args .accounts) (allows (f .before .before)) (ranged f) (long s)
+    ready (table (s .args .accounts .edition)) (s .args .heap .now) (s .args .accounts) (allows (f .before .before)) (ranged f) (long s)
     (index-is x true (not-false _ (o .before .before .before .if3 .left))) (owing-is o true (not-false _ (e .if4 .left)))
 
 -- the verdict, by the answer of `walk`
@@ -102,14 +104,15 @@ abbrev owing-before : tie.After-walk → tie.After-owing
 owing-before c = c .before .before .before .before .before .before
 
 walked : (c : tie.After-walk) (t : Bool) → c .walk .result ≡ t
-    → verdict-values (cond t Accepted (Refused Inconsistent)) ≡ check-of unit (entry (owing-before c) .args .heap .now) (entry (owing-before c) .args .accounts) .values
+    → verdict-values (cond t Accepted (Refused Inconsistent)) ≡ check-of (table (entry (owing-before c) .args .accounts .edition))
+    (entry (owing-before c) .args .heap .now) (entry (owing-before c) .args .accounts) .values
 walked c t r =
     let e = c .before .before .before .before .before in
     let o = e .before in
     let x = o .before .before .before .before in
     let f = x .before .before .before .before .before in
     let s = f .before .before .before .before .before in
-    verdict-walk unit (s .args .heap .now) (s .args .accounts) (allows (f .before .before)) (ranged f) (long s)
+    verdict-walk (table (s .args .accounts .edition)) (s .args .heap .now) (s .args .accounts) (allows (f .before .before)) (ranged f) (long s)
     (index-is x true (not-false _ (o .before .before .before .if3 .left))) (owing-is o true (not-false _ (e .if4 .left))) t (sym r ∙ c .walk .ensures)
 
 returns-5 : tie.Need-returns-5

@@ -9,7 +9,7 @@ use borrow.Author.Tests.{not-true, not-false}
 use mathlib.Core.Path.{ap, sym, subst, _∙_}
 use mathlib.Core.Bool.{Bool}
 use lib.ListN.{getD}
-use Rattle.rounding.specs.Rounding.{unit}
+use Rattle.rounding.specs.Rounding.{table}
 use Rattle.checker.specs.Contracts.{Visited}
 use Rattle.checker.proofs.Visiting.{visit-behind, visit-apart, visit-waits, visit-late, visit-unfit, payable, visit-settled}
 use Rattle.checker.proofs.visit.Statement.{statement}
@@ -19,13 +19,13 @@ returns : tie.Need-returns
 returns c =
     let s = c .before .before in
     let a = s .args in
-    visit-behind unit (a .kind) (a .last) (a .serial) (a .size) (a .end) (a .before) (s .pre .0) (c .before .if1 .taken) (c .if2 .taken)
+    visit-behind (table (a .edition)) (a .kind) (a .last) (a .serial) (a .size) (a .end) (a .before) (s .pre .0) (c .before .if1 .taken) (c .if2 .taken)
 
 returns-2 : tie.Need-returns-2
 returns-2 c =
     let s = c .before .before in
     let a = s .args in
-    visit-apart unit (a .kind) (a .last) (a .serial) (a .size) (a .end) (a .before) (s .pre .0) (c .before .if1 .taken) (c .if2 .left)
+    visit-apart (table (a .edition)) (a .kind) (a .last) (a .serial) (a .size) (a .end) (a .before) (s .pre .0) (c .before .if1 .taken) (c .if2 .left)
 
 is-waiting-requires : tie.Need-is-waiting-requires
 is-waiting-requires c κs = search needs
@@ -35,17 +35,17 @@ returns-3 c =
     let f = c .before in
     let s = f .before .before in
     let a = s .args in
-    subst (λ (r : Bool). Visited unit (a .kind) (a .last) (a .serial) (a .size) (a .end) (a .before) (a .next .now) (a .heads .now) (a .keys .now)
-    (a .owed .now) r (a .keys .now) (a .owed .now))
+    subst (λ (r : Bool). Visited (table (a .edition)) (a .kind) (a .last) (a .serial) (a .size) (a .end) (a .before) (a .next .now) (a .heads .now)
+    (a .keys .now) (a .owed .now) r (a .keys .now) (a .owed .now))
     (sym (c .is-waiting .ensures))
-    (visit-waits unit (a .kind) (a .last) (a .serial) (a .size) (a .end) (a .before) (s .pre .0) (f .before .if1 .left) (f .if3 .taken))
+    (visit-waits (table (a .edition)) (a .kind) (a .last) (a .serial) (a .size) (a .end) (a .before) (s .pre .0) (f .before .if1 .left) (f .if3 .taken))
 
 returns-4 : tie.Need-returns-4
 returns-4 c =
     let s = c .before .before .before in
     let a = s .args in
-    visit-late unit (a .kind) (a .last) (a .serial) (a .size) (a .end) (a .before) (s .pre .0) (c .before .before .if1 .left) (c .before .if3 .left)
-    (omega arith)
+    visit-late (table (a .edition)) (a .kind) (a .last) (a .serial) (a .size) (a .end) (a .before) (s .pre .0) (c .before .before .if1 .left)
+    (c .before .if3 .left) (omega arith)
 
 is-fitting-requires : tie.Need-is-fitting-requires
 is-fitting-requires c κs = let p = c .before .before .before .pre in (p .1, p .2, p .3, p .4)
@@ -55,7 +55,7 @@ returns-5 c =
     let f = c .before in
     let s = f .before .before .before .before in
     let a = s .args in
-    visit-unfit unit (a .kind) (a .last) (a .serial) (a .size) (a .end) (a .before) (s .pre .0) (f .before .before .before .if1 .left)
+    visit-unfit (table (a .edition)) (a .kind) (a .last) (a .serial) (a .size) (a .end) (a .before) (s .pre .0) (f .before .before .before .if1 .left)
     (f .before .before .if3 .left)
     (sym (f .is-fitting .ensures) ∙ not-true _ (c .if5 .taken))
 
@@ -85,7 +85,7 @@ returns-6 c =
     let f = g .before in
     let s = f .before .before .before .before in
     let a = s .args in
-    visit-settled unit (a .kind) (a .last) (a .serial) (a .size) (a .end) (a .before) (s .pre .0) (f .before .before .before .if1 .left)
+    visit-settled (table (a .edition)) (a .kind) (a .last) (a .serial) (a .size) (a .end) (a .before) (s .pre .0) (f .before .before .before .if1 .left)
     (f .before .before .if3 .left)
     (sym (f .is-fitting .ensures) ∙ not-false _ (g .if5 .left)) (omega arith) (c .settle .result) (c .settle .last .0) (c .settle .last .1 .1 .0)
     (c .settle .ensures)

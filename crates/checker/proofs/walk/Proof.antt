@@ -10,7 +10,7 @@ use mathlib.Core.Path.{_≡_, refl, ap, sym, subst, _∙_}
 use mathlib.Core.Bool.{Bool, true, false, _&&_}
 use mathlib.Core.List.{List}
 use lib.ListN.{length, take, drop}
-use Rattle.rounding.specs.Rounding.{unit}
+use Rattle.rounding.specs.Rounding.{table}
 use mathlib.Core.Option.{some}
 use Rattle.layout.specs.Blocks.{header-at, parse}
 use Rattle.checker.specs.Audit.{all-zero, begin, audit-parsed}
@@ -20,11 +20,11 @@ use Rattle.checker.proofs.walk.Statement.{statement}
 use Rattle.checker.proofs.walk.Tie as tie
 
 abbrev Inv-loop : tie.InvT-loop
-Inv-loop heap keys₀ next heads owed₀ last kind before₀ back₀ rest₀ keys owed before back rest =
-    Walking unit kind heap keys₀ next heads owed₀ last keys owed before back rest
+Inv-loop heap keys₀ next heads owed₀ last kind edition before₀ back₀ rest₀ keys owed before back rest =
+    Walking (table edition) kind heap keys₀ next heads owed₀ last keys owed before back rest
 
 abbrev μ-loop : tie.MeasureT-loop
-μ-loop heap keys₀ next heads owed₀ last kind before₀ back₀ rest₀ keys owed before back rest = length rest
+μ-loop heap keys₀ next heads owed₀ last kind edition before₀ back₀ rest₀ keys owed before back rest = length rest
 
 -- the rest of the heap, and the header that was read of it
 abbrev bytes : tie.After-header-at Inv-loop μ-loop → List ℕ
@@ -97,8 +97,8 @@ abbrev Answers : tie.After-visit Inv-loop μ-loop → Bool → Type 0
 Answers c t =
     let a = turn c .before .before .args in
     let h = header c .header-at .result in
-    Visited unit (a .kind) (a .last) (h .serial) (8 * h .size) (length (a .heap .now) - length (after c)) (turn c .loop .before) (a .next .now)
-    (a .heads .now) (turn c .loop .keys) (turn c .loop .owed) t (c .visit .last .0) (c .visit .last .1 .1 .1 .0)
+    Visited (table (a .edition)) (a .kind) (a .last) (h .serial) (8 * h .size) (length (a .heap .now) - length (after c)) (turn c .loop .before)
+    (a .next .now) (a .heads .now) (turn c .loop .keys) (turn c .loop .owed) t (c .visit .last .0) (c .visit .last .1 .1 .1 .0)
 
 visited : (c : tie.After-visit Inv-loop μ-loop) (t : Bool) → c .visit .result ≡ t → Answers c t
 visited c t e = subst (Answers c) e (c .visit .ensures)

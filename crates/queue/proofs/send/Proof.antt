@@ -1,13 +1,20 @@
 -- `queue::send` meets its contract: first the lines of the queue, next those of a claim and of a release, both with the accounts as they came; after that
 -- the release takes the accounts of the claim.
 -- Assumes nothing.
-use mathlib.Core.Path.{ap, sym, _∙_}
+use Prim.Native.Nat.{ℕ}
+use mathlib.Core.Path.{_≡_, ap, sym, _∙_}
+use mathlib.Core.List.{List}
 use borrow.Author.Needs.{needs}
-use Rattle.rounding.specs.Rounding.{unit}
+use Rattle.rounding.specs.Rounding.{table}
 use Rattle.model.specs.Answers.{amount-values, verdict-values, refusal-number}
-use Rattle.model.specs.Calls.{Outcome}
+use Rattle.accounts.specs.declared.Accounts.{Accounts}
+use Rattle.model.specs.Calls.{Outcome, claim, release}
+use Rattle.model.specs.Step.{step}
+use Rattle.model.specs.declared.Handle.{Handle}
+use Rattle.model.specs.declared.Call.the-variants.{Claim}
 use Rattle.model.specs.declared.AmountAnswer.{AmountAnswer}
 use Rattle.model.specs.declared.Verdict.{Verdict}
+use Rattle.model.proofs.StepFrame.{step-keeps}
 use Rattle.model.proofs.Answers.{refusal-number-is}
 use Rattle.queue.specs.declared.Queue.{Queue}
 use Rattle.queue.specs.Results.{send-number, send-outcome}
@@ -25,7 +32,8 @@ returns : tie.Need-returns
 unfolding send-number
 returns c =
     let a = c .before .before .before .before .args in
-    ap (send-outcome (a .heap .now)) (c .not-sent .ensures) ∙ send-damaged unit (a .heap .now) (a .accounts) (a .queue) (a .handle) (c .before .if1 .taken)
+    ap (send-outcome (a .heap .now)) (c .not-sent .ensures)
+    ∙ send-damaged (table (a .accounts .edition)) (a .heap .now) (a .accounts) (a .queue) (a .handle) (c .before .if1 .taken)
 
 cast-if2 : tie.Need-cast-if2
 cast-if2 c = search needs
@@ -38,7 +46,8 @@ unfolding send-number
 returns-2 c =
     let a = c .before .before .before .before .before .before .args in
     ap (send-outcome (a .heap .now)) (c .not-sent2 .ensures)
-    ∙ send-full unit (a .heap .now) (a .accounts) (a .queue) (a .handle) (c .before .before .before .if1 .left) (c .before .if2 .taken)
+    ∙ send-full (table (a .accounts .edition)) (a .heap .now) (a .accounts) (a .queue) (a .handle) (c .before .before .before .if1 .left)
+    (c .before .if2 .taken)
 
 claim-requires : tie.Need-claim-requires
 claim-requires c κs = search needs
@@ -60,7 +69,8 @@ returns-3 c =
     let a = e .before .before .before .before .before .args in
     let r = c .before .before .answer .given in
     ap (send-outcome (a .heap .now)) (c .not-sent3 .ensures)
-    ∙ send-unclaimed unit (a .heap .now) (a .accounts) (a .queue) (a .handle) (e .before .before .if1 .left) (e .if2 .left) (refusal-number (r .0 .0))
+    ∙ send-unclaimed (table (a .accounts .edition)) (a .heap .now) (a .accounts) (a .queue) (a .handle) (e .before .before .if1 .left) (e .if2 .left)
+    (refusal-number (r .0 .0))
     (sym (ap (λ (t : Outcome). t .values .refusal) (m .before .claim .ensures)) ∙ ap (λ (x : AmountAnswer). amount-values x .refusal) (r .1))
     (refusal-number-is (r .0 .0) .1)
 
@@ -89,7 +99,7 @@ returns-4 c =
     let a = e .before .before .before .before .before .args in
     let r = c .before .before .refusal .given in
     ap (send-outcome (a .heap .now)) (c .not-sent4 .ensures)
-    ∙ send-unreleased unit (a .heap .now) (a .accounts) (a .queue) (a .handle) (e .before .before .if1 .left) (e .if2 .left)
+    ∙ send-unreleased (table (a .accounts .edition)) (a .heap .now) (a .accounts) (a .queue) (a .handle) (e .before .before .if1 .left) (e .if2 .left)
     (sym (ap (λ (t : Outcome). t .values .refusal) (m .claim .ensures)) ∙ ap (λ (x : AmountAnswer). amount-values x .refusal) (told .enum-told .given .1))
     (refusal-number (r .0 .0))
     (sym (ap (λ (t : Outcome). t .values .refusal) (v .can-release .ensures)) ∙ ap (λ (x : Verdict). verdict-values x .refusal) (r .1))
@@ -107,6 +117,11 @@ with-handle-requires c κs = search needs
 same-length-3 : tie.Need-same-length-3
 same-length-3 c = search needs
 
+-- a claim keeps the edition
+claim-edition : (s : List ℕ) (k : Accounts) (q : ℕ) (h : Handle) → claim (table (k .edition)) s k q h .accounts .edition ≡ k .edition
+unfolding step
+claim-edition s k q h = step-keeps (table (k .edition)) (Claim q h) s k .same-edition
+
 returns-5 : tie.Need-returns-5
 unfolding send-number amount-values verdict-values
 returns-5 c =
@@ -119,12 +134,15 @@ returns-5 c =
     let a = e .before .before .before .before .before .args in
     let z =
     sym (ap (λ (t : Outcome). t .values .refusal) (m .claim .ensures)) ∙ ap (λ (x : AmountAnswer). amount-values x .refusal) (told .enum-told .given .1) in
+    let same =
+    ap (λ (t : Outcome). t .accounts .edition) (m .claim .ensures)
+    ∙ claim-edition (a .heap .now) (a .accounts) (a .queue .receiver) (a .handle) in
     ap (λ (u : Queue). record { heap = f .release .last .0; accounts = f .release .result .accounts; queue = u; refusal = 0 }) (c .with-handle .ensures)
-    ∙ send-made unit (a .heap .now) (a .accounts) (a .queue) (a .handle) (e .before .before .if1 .left) (e .if2 .left) z
+    ∙ send-made (table (a .accounts .edition)) (a .heap .now) (a .accounts) (a .queue) (a .handle) (e .before .before .if1 .left) (e .if2 .left) z
     (f .release .last .0) (m .claim .result .accounts) (f .release .result .accounts)
     (amount-values (m .claim .result .answer)) (amount-values (f .release .result .answer)) (m .claim .ensures)
     (sym (ap (λ (t : Outcome). t .values .refusal) (v .can-release .ensures)) ∙ ap (λ (x : Verdict). verdict-values x .refusal) (told₂ .enum-told2 .given .1))
-    (f .release .ensures)
+    (f .release .ensures ∙ ap (λ (n : ℕ). release (table n) (a .heap .now) (m .claim .result .accounts) (a .queue .sender) (a .handle)) same)
 
 pub send-spec : {M : Type 1} → statement M
 send-spec =

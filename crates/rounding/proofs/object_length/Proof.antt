@@ -7,9 +7,14 @@ use borrow.Author.Needs.{needs}
 use native.Mathlib.Nat.{div-mul-le-self, lt-of-le-of-lt}
 use native.Mathlib.Omega.{arith}
 use Rattle.rounding.specs.Rounding.{object-length}
-use Rattle.rounding.proofs.Rounding.{unit-is}
+use Rattle.rounding.proofs.Editions.{table-is}
 use Rattle.rounding.proofs.object_length.Statement.{statement}
 use Rattle.rounding.proofs.object_length.Tie as tie
+
+-- this stands first, so that a wrong unit is refused here
+returns : tie.Need-returns
+unfolding object-length
+returns c = ap (λ (u : ℕ). (c .before .args .length + (u - 1)) / u * u) (c .unit .ensures)
 
 unit-requires : tie.Need-unit-requires
 unit-requires c κs = search needs
@@ -18,20 +23,16 @@ cast-unit : tie.Need-cast-unit
 cast-unit c = search needs
 
 sub-result : tie.Need-sub-result
-sub-result c = omega (arith, unit-is .positive (c .before .args .length))
+sub-result c = omega (arith, table-is (c .before .args .edition) .positive (c .before .args .length))
 
 add-result : tie.Need-add-result
 add-result c = search needs
 
 div-result : tie.Need-div-result
-div-result c = omega (arith, unit-is .positive (c .before .args .length))
+div-result c = omega (arith, table-is (c .before .args .edition) .positive (c .before .args .length))
 
 mul-result : tie.Need-mul-result
 mul-result c = record { fits = lt-of-le-of-lt (div-mul-le-self _ _) (search needs) }
-
-returns : tie.Need-returns
-unfolding object-length
-returns c = ap (λ (u : ℕ). (c .before .args .length + (u - 1)) / u * u) (c .unit .ensures)
 
 pub object-length-spec : {M : Type 1} → statement M
 object-length-spec =

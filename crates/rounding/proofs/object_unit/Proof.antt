@@ -1,15 +1,18 @@
--- `rounding::object_unit` meets its contract: the code's table has the unit's power of two for each count from 0 to 32, and a length's count tells its unit.
+-- `rounding::object_unit` meets its contract: 1, shifted by the power that goes with the length's leading zeros.
 -- Assumes nothing.
 use borrow.Author.Needs.{needs}
 use native.Mathlib.Omega.{arith}
 use Rattle.rounding.proofs.Zeros.{zeros-fit}
-use Rattle.rounding.proofs.ByZeros.{powers-most, shifted-unit}
+use Rattle.rounding.proofs.ByZeros.{power-most, shifted}
 use Rattle.rounding.proofs.object_unit.Statement.{statement}
 use Rattle.rounding.proofs.object_unit.Tie as tie
 
--- this stands first, so that a wrong entry or a wrong count is refused here
+-- this stands first, so that a wrong count is refused here
 returns : tie.Need-returns
-returns c = shifted-unit (c .before .args .length) (c .leading-zeros .result) (c .before .fits .length .fits) (c .leading-zeros .ensures)
+returns c =
+    let b = c .before in
+    let a = b .before .args in
+    shifted (a .edition) (a .length) (b .leading-zeros .result) (c .power .result) (b .leading-zeros .ensures) (c .power .ensures)
 
 leading-zeros-requires : tie.Need-leading-zeros-requires
 leading-zeros-requires c κs = search needs
@@ -17,17 +20,15 @@ leading-zeros-requires c κs = search needs
 cast-zeros : tie.Need-cast-zeros
 cast-zeros c = search needs
 
-array-read-power : tie.Need-array-read-power
-array-read-power c = omega (arith, zeros-fit 32 (c .before .args .length) (c .before .fits .length .fits), c .leading-zeros .ensures)
+power-requires : tie.Need-power-requires
+power-requires c κs =
+    omega (arith, zeros-fit 32 (c .before .args .length) (c .before .fits .length .fits), c .leading-zeros .ensures)
 
 cast-power : tie.Need-cast-power
-cast-power c =
-    let most = powers-most (c .before .args .length) (c .leading-zeros .result) (c .before .fits .length .fits) (c .leading-zeros .ensures) in
-    record { fits = omega (arith, most) }
+cast-power c = record { fits = omega (arith, power-most (c .before .before .args .edition) (c .before .leading-zeros .result), c .power .ensures) }
 
 shl-result : tie.Need-shl-result
-shl-result c = omega (arith, powers-most (c .before .args .length) (c .leading-zeros .result) (c .before .fits .length .fits) (c .leading-zeros .ensures))
+shl-result c = omega (arith, power-most (c .before .before .args .edition) (c .before .leading-zeros .result), c .power .ensures)
 
 pub object-unit-spec : {M : Type 1} → statement M
-object-unit-spec =
-    tie.close (tie.spec leading-zeros-requires cast-zeros array-read-power cast-power shl-result returns)
+object-unit-spec = tie.close (tie.spec leading-zeros-requires cast-zeros power-requires cast-power shl-result returns)

@@ -1,27 +1,26 @@
--- `rounding::unit` meets its contract: each arm gives the unit of its range's row, and the other rows' lengths do not come to it.
+-- `rounding::unit` meets its contract: 0 is edition 1's number, and every other one is taken for edition 2.
 -- Assumes nothing.
-use Prim.Native.Nat.{ℕ}
-use native.Mathlib.Omega.{arith}
-use mathlib.Core.Path.{_≡_, refl}
-use Rattle.rounding.proofs.Rounding.{by-row}
+use borrow.Author.Needs.{needs}
+use mathlib.Core.Path.{sym, _∙_}
+use Rattle.rounding.proofs.Editions.{table-first, table-second}
 use Rattle.rounding.proofs.unit.Statement.{statement}
 use Rattle.rounding.proofs.unit.Tie as tie
 
+first-unit-requires : tie.Need-first-unit-requires
+first-unit-requires c κs = search needs
+
 returns : tie.Need-returns
 returns c =
-    by-row (λ (k : ℕ). 8 ≡ k) (c .before .args .length) (λ _. refl) (λ l _. absurd (omega arith)) (λ l _. absurd (omega arith)) (λ l. absurd (omega arith))
+    let a = c .before .before .args in
+    c .first-unit .ensures ∙ sym (table-first (a .edition) (a .length) (c .before .if1 .taken))
+
+second-unit-requires : tie.Need-second-unit-requires
+second-unit-requires c κs = search needs
 
 returns-2 : tie.Need-returns-2
 returns-2 c =
-    by-row (λ (k : ℕ). 16 ≡ k) (c .before .before .args .length) (λ l. absurd (omega arith)) (λ _ _. refl) (λ l _. absurd (omega arith)) (λ l. absurd (omega arith))
-
-returns-3 : tie.Need-returns-3
-returns-3 c =
-    by-row (λ (k : ℕ). 32 ≡ k) (c .before .before .before .args .length) (λ l. absurd (omega arith)) (λ _ l. absurd (omega arith)) (λ _ _. refl) (λ l. absurd (omega arith))
-
-returns-4 : tie.Need-returns-4
-returns-4 c =
-    by-row (λ (k : ℕ). 64 ≡ k) (c .before .before .before .args .length) (λ l. absurd (omega arith)) (λ _ l. absurd (omega arith)) (λ _ l. absurd (omega arith)) (λ _. refl)
+    let a = c .before .before .args in
+    c .second-unit .ensures ∙ sym (table-second (a .edition) (a .length) (c .before .if1 .left))
 
 pub unit-spec : {M : Type 1} → statement M
-unit-spec = tie.close (tie.spec returns returns-2 returns-3 returns-4)
+unit-spec = tie.close (tie.spec first-unit-requires returns second-unit-requires returns-2)

@@ -5,7 +5,7 @@ use Prim.Native.Nat.{_+_, _≤_}
 use native.Mathlib.Omega.{arith}
 use borrow.Author.Needs.{needs}
 use lib.ListN.{length}
-use Rattle.rounding.specs.Rounding.{unit}
+use Rattle.rounding.specs.Rounding.{table}
 use Rattle.model.specs.declared.Refusal.the-variants.{NoSuchObject}
 use Rattle.access.proofs.Lent.{lend-refused, lend-missing, lend-accepted, lend-inside, spans-refused, spans-lent}
 use Rattle.access.proofs.lending.span_of.Statement.{statement}
@@ -25,8 +25,9 @@ returns c =
     let r = c .before .before in
     let k = r .before .before in
     let a = k .before .before .args in
-    spans-refused unit (a .heap .now) (a .accounts) (a .handle) (c .number .result) (r .refusal .given .0 .0) (c .number .ensures)
-    (lend-refused unit (a .heap .now) (a .accounts) (a .handle) (k .check .result) (k .check .ensures) (r .refusal .given .0 .0) (r .refusal .given .1))
+    spans-refused (table (a .accounts .edition)) (a .heap .now) (a .accounts) (a .handle) (c .number .result) (r .refusal .given .0 .0) (c .number .ensures)
+    (lend-refused (table (a .accounts .edition)) (a .heap .now) (a .accounts) (a .handle) (k .check .result) (k .check .ensures) (r .refusal .given .0 .0)
+    (r .refusal .given .1))
 
 enum-told : tie.Need-enum-told
 enum-told c = search needs
@@ -49,8 +50,9 @@ returns-2 c =
     let f = n .before .before in
     let k = f .before .before .before in
     let a = k .before .before .args in
-    spans-refused unit (a .heap .now) (a .accounts) (a .handle) (c .number2 .result) NoSuchObject (c .number2 .ensures)
-    (lend-missing unit (a .heap .now) (a .accounts) (a .handle) (k .check .result) (k .check .ensures) (f .before .enum-told .given .1)
+    spans-refused (table (a .accounts .edition)) (a .heap .now) (a .accounts) (a .handle) (c .number2 .result) NoSuchObject (c .number2 .ensures)
+    (lend-missing (table (a .accounts .edition)) (a .heap .now) (a .accounts) (a .handle) (k .check .result) (k .check .ensures)
+    (f .before .enum-told .given .1)
     (sym (f .find-object .ensures) ∙ n .enum-told3 .given .1))
 
 cast-start : tie.Need-cast-start
@@ -70,9 +72,9 @@ returns-3 c =
     let a = k .before .before .args in
     let m = b .enum-told2 .given .0 .0 in
     let f = sym (b .before .before .find-object .ensures) ∙ b .enum-told2 .given .1 in
-    spans-lent unit (a .heap .now) (a .accounts) (a .handle)
-    (lend-accepted unit (a .heap .now) (a .accounts) (a .handle) (k .check .result) (k .check .ensures) (t .enum-told .given .1) m f)
-    (lend-inside unit (a .heap .now) (a .accounts) (a .handle) (k .check .result) (k .check .ensures) (t .enum-told .given .1) m f)
+    spans-lent (table (a .accounts .edition)) (a .heap .now) (a .accounts) (a .handle)
+    (lend-accepted (table (a .accounts .edition)) (a .heap .now) (a .accounts) (a .handle) (k .check .result) (k .check .ensures) (t .enum-told .given .1) m f)
+    (lend-inside (table (a .accounts .edition)) (a .heap .now) (a .accounts) (a .handle) (k .check .result) (k .check .ensures) (t .enum-told .given .1) m f)
 
 pub span-of-spec : {M : Type 1} → statement M
 span-of-spec =

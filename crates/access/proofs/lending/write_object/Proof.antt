@@ -6,7 +6,7 @@ use Prim.Native.Nat.{_+_, _≤_}
 use native.Mathlib.Omega.{arith}
 use borrow.Author.Needs.{needs}
 use lib.ListN.{length}
-use Rattle.rounding.specs.Rounding.{unit}
+use Rattle.rounding.specs.Rounding.{table}
 use Rattle.model.specs.Answers.{verdict-values}
 use Rattle.model.specs.Refusals.{first-refusal, lend-lines}
 use Rattle.model.specs.declared.Refusal.the-variants.{NoSuchObject}
@@ -32,7 +32,8 @@ returns c =
     let k = r .before .before in
     let a = k .before .before .before .args in
     refused-is _ (a .heap .now) (a .accounts) _ (r .refusal .given .0 .0)
-    (lend-refused unit (a .heap .now) (a .accounts) (a .handle) (k .check .result) (k .check .ensures) (r .refusal .given .0 .0) (r .refusal .given .1))
+    (lend-refused (table (a .accounts .edition)) (a .heap .now) (a .accounts) (a .handle) (k .check .result) (k .check .ensures) (r .refusal .given .0 .0)
+    (r .refusal .given .1))
 
 enum-told : tie.Need-enum-told
 enum-told c = search needs
@@ -57,18 +58,19 @@ returns-2 c =
     let k = t .before .before in
     let a = k .before .before .before .args in
     refused-is _ (a .heap .now) (a .accounts) _ NoSuchObject
-    (lend-missing unit (a .heap .now) (a .accounts) (a .handle) (k .check .result) (k .check .ensures) (t .enum-told .given .1)
+    (lend-missing (table (a .accounts .edition)) (a .heap .now) (a .accounts) (a .handle) (k .check .result) (k .check .ensures) (t .enum-told .given .1)
     (sym (f .find-object .ensures) ∙ c .enum-told3 .given .1))
 
 -- what the lookup found: the write is accepted, and the range lies in the heap
 accepts : (b : tie.After-enum-told2)
     → let a = b .before .before .before .before .before .before .before .before .before .args in
-    first-refusal (lend-lines unit (a .heap .now) (a .accounts) (a .handle)) ≡ 0
+    first-refusal (lend-lines (table (a .accounts .edition)) (a .heap .now) (a .accounts) (a .handle)) ≡ 0
 accepts b =
     let t = b .before .before .before .before in
     let k = t .before .before in
     let a = k .before .before .before .args in
-    lend-accepted unit (a .heap .now) (a .accounts) (a .handle) (k .check .result) (k .check .ensures) (t .enum-told .given .1) (b .enum-told2 .given .0 .0)
+    lend-accepted (table (a .accounts .edition)) (a .heap .now) (a .accounts) (a .handle) (k .check .result) (k .check .ensures) (t .enum-told .given .1)
+    (b .enum-told2 .given .0 .0)
     (sym (b .before .before .find-object .ensures) ∙ b .enum-told2 .given .1)
 
 inside : (b : tie.After-enum-told2)
@@ -78,7 +80,8 @@ inside b =
     let t = b .before .before .before .before in
     let k = t .before .before in
     let a = k .before .before .before .args in
-    lend-inside unit (a .heap .now) (a .accounts) (a .handle) (k .check .result) (k .check .ensures) (t .enum-told .given .1) (b .enum-told2 .given .0 .0)
+    lend-inside (table (a .accounts .edition)) (a .heap .now) (a .accounts) (a .handle) (k .check .result) (k .check .ensures) (t .enum-told .given .1)
+    (b .enum-told2 .given .0 .0)
     (sym (b .before .before .find-object .ensures) ∙ b .enum-told2 .given .1)
 
 cast-index : tie.Need-cast-index
@@ -98,7 +101,7 @@ unfolding verdict-values
 returns-3 c =
     let b = c .before .before .before in
     let a = b .before .before .before .before .before .before .before .before .before .args in
-    writes unit (a .heap .now) (a .accounts) (a .handle) (accepts b) (a .at) (a .byte) (c .before .if1 .taken)
+    writes (table (a .accounts .edition)) (a .heap .now) (a .accounts) (a .handle) (accepts b) (a .at) (a .byte) (c .before .if1 .taken)
 
 same-length-4 : tie.Need-same-length-4
 same-length-4 c = search needs
@@ -108,7 +111,7 @@ unfolding verdict-values
 returns-4 c =
     let b = c .before .before in
     let a = b .before .before .before .before .before .before .before .before .before .args in
-    passes unit (a .heap .now) (a .accounts) (a .handle) (accepts b) (a .at) (a .byte) (c .if1 .left)
+    passes (table (a .accounts .edition)) (a .heap .now) (a .accounts) (a .handle) (accepts b) (a .at) (a .byte) (c .if1 .left)
 
 pub write-object-spec : {M : Type 1} → statement M
 write-object-spec =

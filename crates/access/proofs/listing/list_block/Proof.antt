@@ -3,7 +3,7 @@
 use mathlib.Core.Path.{ap, _∙_}
 use mathlib.Core.List.{[]}
 use borrow.Author.Needs.{needs}
-use Rattle.rounding.specs.Rounding.{unit}
+use Rattle.rounding.specs.Rounding.{table}
 use Rattle.model.specs.Answers.{Values, block-values}
 use Rattle.model.specs.Refusals.{first-refusal, check-lines}
 use Rattle.model.specs.Calls.{unchanged, list-block}
@@ -25,7 +25,8 @@ returns c =
     let a = c .before .before .before .before .before .args in
     let r = c .before .refusal .given in
     refused-is _ (a .heap .now) (a .accounts) _ (r .0 .0)
-    (check-refuses unit (a .heap .now) (a .accounts) (c .before .before .before .check .result) (c .before .before .before .check .ensures) [] (r .0 .0) (r .1))
+    (check-refuses (table (a .accounts .edition)) (a .heap .now) (a .accounts) (c .before .before .before .check .result)
+    (c .before .before .before .check .ensures) [] (r .0 .0) (r .1))
 
 enum-told : tie.Need-enum-told
 enum-told c = search needs
@@ -39,10 +40,10 @@ returns-2 c =
     let a = c .before .before .before .before .before .args in
     let k = c .before .before .before .check in
     let t = c .before .enum-told .given .1 in
-    let p = check-consistent unit (a .heap .now) (a .accounts) (k .result) (k .ensures) t .1 in
+    let p = check-consistent (table (a .accounts .edition)) (a .heap .now) (a .accounts) (k .result) (k .ensures) t .1 in
     ap (λ (v : Values). unchanged (a .heap .now) (a .accounts) v)
     (ap block-values (c .find-block .ensures) ∙ find-block-is (a .heap .now) (a .at) (consistent-cut (a .heap .now) (a .accounts) p .0))
-    ∙ accepted-is _ (a .heap .now) (a .accounts) _ (check-accepts unit (a .heap .now) (a .accounts) (k .result) (k .ensures) [] t)
+    ∙ accepted-is _ (a .heap .now) (a .accounts) _ (check-accepts (table (a .accounts .edition)) (a .heap .now) (a .accounts) (k .result) (k .ensures) [] t)
 
 pub list-block-spec : {M : Type 1} → statement M
 list-block-spec =

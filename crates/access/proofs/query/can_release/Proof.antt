@@ -4,7 +4,7 @@
 use mathlib.Core.Path.{sym, _∙_}
 use mathlib.Core.List.{[], _∷_}
 use borrow.Author.Needs.{needs}
-use Rattle.rounding.specs.Rounding.{unit}
+use Rattle.rounding.specs.Rounding.{table}
 use Rattle.model.specs.Answers.{verdict-values}
 use Rattle.model.specs.Objects.{lookup, found}
 use Rattle.model.specs.Refusals.{line-3, line-5, line-6, release-lines}
@@ -28,7 +28,9 @@ returns c =
     let r = c .before .refusal .given in
     let k = c .before .before .before .check in
     refused-is _ (a .heap .now) (a .accounts) _ (r .0 .0)
-    (check-refuses unit (a .heap .now) (a .accounts) (k .result) (k .ensures) (line-3 (a .quota) ∷ line-5 (lookup (a .handle) (a .heap .now)) ∷ line-6 (a .accounts) (a .quota) (found (lookup (a .handle) (a .heap .now))) ∷ []) (r .0 .0) (r .1))
+    (check-refuses (table (a .accounts .edition)) (a .heap .now) (a .accounts) (k .result) (k .ensures)
+    (line-3 (a .quota) ∷ line-5 (lookup (a .handle) (a .heap .now)) ∷ line-6 (a .accounts) (a .quota) (found (lookup (a .handle) (a .heap .now))) ∷ [])
+    (r .0 .0) (r .1))
 
 enum-told : tie.Need-enum-told
 enum-told c = search needs
@@ -41,7 +43,8 @@ returns-2 c =
     let o = lookup (a .handle) (a .heap .now) in
     let rest = line-5 o ∷ line-6 (a .accounts) (a .quota) (found o) ∷ [] in
     refused-is _ (a .heap .now) (a .accounts) _ QuotaNumber
-    (check-accepts unit (a .heap .now) (a .accounts) (k .result) (k .ensures) (line-3 (a .quota) ∷ rest) (c .before .enum-told .given .1) ∙ line-3-refuses (a .quota) rest (c .if1 .taken))
+    (check-accepts (table (a .accounts .edition)) (a .heap .now) (a .accounts) (k .result) (k .ensures) (line-3 (a .quota) ∷ rest)
+    (c .before .enum-told .given .1) ∙ line-3-refuses (a .quota) rest (c .if1 .taken))
 
 find-object-requires : tie.Need-find-object-requires
 find-object-requires c κs = search needs
@@ -59,7 +62,7 @@ returns-3 c =
     let a = e .before .before .before .before .args in
     let k = e .before .before .check in
     refused-is _ (a .heap .now) (a .accounts) _ NoSuchObject
-    (quota-missing unit (a .heap .now) (a .accounts) (k .result) (k .ensures) (e .enum-told .given .1) (a .quota) (a .handle)
+    (quota-missing (table (a .accounts .edition)) (a .heap .now) (a .accounts) (k .result) (k .ensures) (e .enum-told .given .1) (a .quota) (a .handle)
     (line-6 (a .accounts) (a .quota) (found (lookup (a .handle) (a .heap .now))) ∷ []) (c .before .before .before .if1 .left) (sym (c .before .before .find-object .ensures) ∙ c .enum-told2 .given .1))
 
 cast-holder : tie.Need-cast-holder
@@ -83,7 +86,8 @@ returns-4 c =
     let a = e .before .before .before .before .args in
     let k = e .before .before .check in
     refused-is _ (a .heap .now) (a .accounts) _ NotHeld
-    (release-refuses unit (a .heap .now) (a .accounts) (k .result) (k .ensures) (e .enum-told .given .1) (a .handle) (b .block .given .0 .0) (sym (f .find-object .ensures) ∙ b .block .given .1)
+    (release-refuses (table (a .accounts .edition)) (a .heap .now) (a .accounts) (k .result) (k .ensures) (e .enum-told .given .1) (a .handle)
+    (b .block .given .0 .0) (sym (f .find-object .ensures) ∙ b .block .given .1)
     (a .quota) (f .before .if1 .left) (sym (c .before .before .find-hold .ensures) ∙ c .enum-told4 .given .1))
 
 returns-5 : tie.Need-returns-5
@@ -95,7 +99,8 @@ returns-5 c =
     let a = e .before .before .before .before .args in
     let k = e .before .before .check in
     accepted-is _ (a .heap .now) (a .accounts) _
-    (release-passes unit (a .heap .now) (a .accounts) (k .result) (k .ensures) (e .enum-told .given .1) (a .handle) (b .block .given .0 .0) (sym (f .find-object .ensures) ∙ b .block .given .1)
+    (release-passes (table (a .accounts .edition)) (a .heap .now) (a .accounts) (k .result) (k .ensures) (e .enum-told .given .1) (a .handle)
+    (b .block .given .0 .0) (sym (f .find-object .ensures) ∙ b .block .given .1)
     (a .quota) (f .before .if1 .left) (c .enum-told3 .given .0 .0) (sym (c .before .before .find-hold .ensures) ∙ c .enum-told3 .given .1))
 
 pub can-release-spec : {M : Type 1} → statement M

@@ -3,7 +3,7 @@
 use mathlib.Core.Path.{sym, _∙_}
 use mathlib.Core.List.{[], _∷_}
 use borrow.Author.Needs.{needs}
-use Rattle.rounding.specs.Rounding.{unit}
+use Rattle.rounding.specs.Rounding.{table}
 use Rattle.model.specs.Answers.{range-values}
 use Rattle.model.specs.Objects.{lookup}
 use Rattle.model.specs.Refusals.{line-5, lend-lines}
@@ -27,7 +27,8 @@ returns c =
     let r = c .before .refusal .given in
     let k = c .before .before .before .check in
     refused-is _ (a .heap .now) (a .accounts) _ (r .0 .0)
-    (check-refuses unit (a .heap .now) (a .accounts) (k .result) (k .ensures) (line-5 (lookup (a .handle) (a .heap .now)) ∷ []) (r .0 .0) (r .1))
+    (check-refuses (table (a .accounts .edition)) (a .heap .now) (a .accounts) (k .result) (k .ensures) (line-5 (lookup (a .handle) (a .heap .now)) ∷ [])
+    (r .0 .0) (r .1))
 
 enum-told : tie.Need-enum-told
 enum-told c = search needs
@@ -48,7 +49,7 @@ returns-2 c =
     let a = e .before .before .before .before .args in
     let k = e .before .before .check in
     refused-is _ (a .heap .now) (a .accounts) _ NoSuchObject
-    (lend-missing unit (a .heap .now) (a .accounts) (k .result) (k .ensures) (e .enum-told .given .1) (a .handle)
+    (lend-missing (table (a .accounts .edition)) (a .heap .now) (a .accounts) (k .result) (k .ensures) (e .enum-told .given .1) (a .handle)
     (sym (c .before .before .find-object .ensures) ∙ c .enum-told3 .given .1))
 
 cast-start : tie.Need-cast-start
@@ -67,7 +68,8 @@ returns-3 c =
     let e = b .before .before .before in
     let a = e .before .before .before .before .args in
     let k = e .before .before .check in
-    lend-is unit (a .heap .now) (a .accounts) (k .result) (k .ensures) (e .enum-told .given .1) (a .handle) (b .enum-told2 .given .0 .0)
+    lend-is (table (a .accounts .edition)) (a .heap .now) (a .accounts) (k .result) (k .ensures) (e .enum-told .given .1) (a .handle)
+    (b .enum-told2 .given .0 .0)
     (sym (b .before .before .find-object .ensures) ∙ b .enum-told2 .given .1)
 
 pub object-range-spec : {M : Type 1} → statement M

@@ -4,7 +4,7 @@ use Prim.Native.Nat.{ℕ}
 use mathlib.Core.Path.{ap, _∙_}
 use mathlib.Core.List.{[], _∷_}
 use borrow.Author.Needs.{needs}
-use Rattle.rounding.specs.Rounding.{unit}
+use Rattle.rounding.specs.Rounding.{table}
 use Rattle.model.specs.Answers.{amount-of, amount-values}
 use Rattle.model.specs.Refusals.{first-refusal, line-3, quota-lines}
 use Rattle.model.specs.Calls.{unchanged, remaining-of}
@@ -25,7 +25,8 @@ returns c =
     let a = c .before .before .before .before .before .args in
     let r = c .before .refusal .given in
     refused-is _ (a .heap .now) (a .accounts) _ (r .0 .0)
-    (check-refuses unit (a .heap .now) (a .accounts) (c .before .before .before .check .result) (c .before .before .before .check .ensures) (line-3 (a .quota) ∷ []) (r .0 .0) (r .1))
+    (check-refuses (table (a .accounts .edition)) (a .heap .now) (a .accounts) (c .before .before .before .check .result)
+    (c .before .before .before .check .ensures) (line-3 (a .quota) ∷ []) (r .0 .0) (r .1))
 
 enum-told : tie.Need-enum-told
 enum-told c = search needs
@@ -36,7 +37,8 @@ returns-2 c =
     let a = c .before .before .before .before .before .args in
     let k = c .before .before .before .check in
     refused-is _ (a .heap .now) (a .accounts) _ QuotaNumber
-    (check-accepts unit (a .heap .now) (a .accounts) (k .result) (k .ensures) (line-3 (a .quota) ∷ []) (c .before .enum-told .given .1) ∙ line-3-refuses (a .quota) [] (c .if1 .taken))
+    (check-accepts (table (a .accounts .edition)) (a .heap .now) (a .accounts) (k .result) (k .ensures) (line-3 (a .quota) ∷ [])
+    (c .before .enum-told .given .1) ∙ line-3-refuses (a .quota) [] (c .if1 .taken))
 
 remaining-requires : tie.Need-remaining-requires
 remaining-requires c κs = search needs
@@ -48,7 +50,8 @@ returns-3 c =
     let k = c .before .before .before .before .check in
     ap (λ (n : ℕ). unchanged (a .heap .now) (a .accounts) (amount-of n)) (c .remaining .ensures)
     ∙ accepted-is _ (a .heap .now) (a .accounts) _
-    (check-accepts unit (a .heap .now) (a .accounts) (k .result) (k .ensures) (line-3 (a .quota) ∷ []) (c .before .before .enum-told .given .1)
+    (check-accepts (table (a .accounts .edition)) (a .heap .now) (a .accounts) (k .result) (k .ensures) (line-3 (a .quota) ∷ [])
+    (c .before .before .enum-told .given .1)
     ∙ line-3-passes (a .quota) [] (c .before .if1 .left))
 
 pub remaining-spec : {M : Type 1} → statement M

@@ -46,7 +46,7 @@ use denote.Triple.Table.{entered, cited}
 use denote.Triple.Walked.{says, Stays, stay-none, stay-none-slice, walkOf, goes-none, goes-none-slice, Walks, ends-at, walked, walk-meets}
 use denote.Exit.{yes}
 use denote.Triple.Clauses.{ensured, lasts}
-use Rattle.rounding.specs.Rounding.{unit}
+use Rattle.rounding.specs.Rounding.{table}
 use Rattle.model.specs.Answers.{block-values}
 use Rattle.model.specs.Calls.{list-block}
 use Rattle.access.specs.Results.{outcome}
@@ -98,7 +98,7 @@ module _ {M : Type 1} (𝓤 : URA M) (H : Heap 𝓤) (A : Atoms 𝓤) (W : Given
 
   -- what the contract says of an answer
   abbrev Says : BlockAnswer → Type 0
-  Says t = outcome (now s) b (block-values t) ≡ list-block unit (now s) b n
+  Says t = outcome (now s) b (block-values t) ≡ list-block (table (b .edition)) (now s) b n
 
   -- the walker
   abbrev placed : Walker
@@ -109,7 +109,7 @@ module _ {M : Type 1} (𝓤 : URA M) (H : Heap 𝓤) (A : Atoms 𝓤) (W : Given
 
   -- what is known of its step
   abbrev Moved : Step → Type 0
-  Moved t = (t .heap ≡ placed .heap) × Stepped unit (now (placed .heap)) b (placed .at) (t .answer) (t .at)
+  Moved t = (t .heap ≡ placed .heap) × Stepped (table (b .edition)) (now (placed .heap)) b (placed .at) (t .answer) (t .at)
 
   -- the lifetime in the signature, and as a local of a body has it
   abbrev α : NamedLft

@@ -45,7 +45,7 @@ use denote.Triple.Table.{entered, cited}
 use denote.Triple.Walked.{says, Stays, stay-none, walkOf, goes-none, Walks, ends-at, walked, walk-meets}
 use denote.Exit.{yes}
 use denote.Triple.Clauses.{ensured, lasts}
-use Rattle.rounding.specs.Rounding.{unit}
+use Rattle.rounding.specs.Rounding.{table}
 use Rattle.access.specs.Listing.{Stepped}
 use Rattle.access.specs.declared.walker.Walker.{Walker}
 use Rattle.access.specs.declared.walker.Step.{Step}
@@ -96,7 +96,7 @@ module _ {M : Type 1} (𝓤 : URA M) (H : Heap 𝓤) (A : Atoms 𝓤) (W : Given
 
   -- what the contract says of what the callee gives
   abbrev Says : Found → Type 0
-  Says r = Stepped unit (d .heap .now) b (d .at) (r .answer) (r .at)
+  Says r = Stepped (table (b .edition)) (d .heap .now) b (d .at) (r .answer) (r .at)
 
   -- the result
   abbrev made : Found → Step

@@ -10,7 +10,7 @@ use borrow.Author.Needs.{needs}
 use lib.ListN.{length}
 use types.Run.{OneOf}
 use denote.Enum.Declared.{tagOf}
-use Rattle.rounding.specs.Rounding.{unit}
+use Rattle.rounding.specs.Rounding.{table}
 use Rattle.model.specs.declared.BlockAnswer.{BlockAnswer}
 use Rattle.model.specs.declared.BlockAnswer.the-variants.{Listed, NoBlock, Refused}
 use Rattle.model.proofs.BlockAnswer as S
@@ -37,17 +37,18 @@ returns : tie.Need-returns
 returns c =
     let a = c .before .before .before .args in
     let g = c .before .list-block in
-    after-none unit (a .heap .now) (a .accounts) (a .at) (g .result) (g .ensures) (unlisted (g .result) (c .match .keys2))
+    after-none (table (a .accounts .edition)) (a .heap .now) (a .accounts) (a .at) (g .result) (g .ensures) (unlisted (g .result) (c .match .keys2))
 
 -- the block that was given
 given : (c : tie.After-struct-known)
     → let a = c .before .before .before .before .before .before .args in
     let b = c .before .before .answer .given .0 .0 in
-    (b .offset + b .size ≤ length (a .heap .now)) × Stepped unit (a .heap .now) (a .accounts) (a .at) (Listed b) (b .offset + b .size)
+    (b .offset + b .size ≤ length (a .heap .now)) × Stepped (table (a .accounts .edition)) (a .heap .now) (a .accounts) (a .at) (Listed b) (b .offset + b .size)
 given c =
     let a = c .before .before .before .before .before .before .args in
     let g = c .before .before .before .before .list-block in
-    after-some unit (a .heap .now) (a .accounts) (a .at) (g .result) (g .ensures) (c .before .before .answer .given .0 .0) (c .before .before .answer .given .1)
+    after-some (table (a .accounts .edition)) (a .heap .now) (a .accounts) (a .at) (g .result) (g .ensures) (c .before .before .answer .given .0 .0)
+    (c .before .before .answer .given .1)
 
 add-t6 : tie.Need-add-t6
 add-t6 c = let l = given c .0 in omega arith

@@ -1,4 +1,4 @@
--- `accounts::Accounts::open` meets its contract: the accounts of a plain heap, with the number of the kind.
+-- `accounts::Accounts::open` meets its contract: the accounts of a plain heap of edition 1, with the numbers of the kind and the edition.
 -- Assumes nothing.
 use borrow.Author.Needs.{needs}
 use Rattle.accounts.specs.Accounts.{opened}
@@ -11,17 +11,21 @@ begin-requires c κs = search needs
 number-requires : tie.Need-number-requires
 number-requires c κs = search needs
 
+number-requires-2 : tie.Need-number-requires-2
+number-requires-2 c κs = search needs
+
 returns : tie.Need-returns
 unfolding opened
 returns c =
-    let b = c .before in
+    let b = c .before .before in
     λ i.
     record {
       quotas = b .begin .ensures i .quotas;
       «last_serial» = b .begin .ensures i .«last_serial»;
       holds = b .begin .ensures i .holds;
-      kind = c .number .ensures i;
+      kind = c .before .number .ensures i;
+      edition = c .number2 .ensures i;
     }
 
 pub open-spec : {M : Type 1} → statement M
-open-spec = tie.close (tie.spec begin-requires number-requires returns)
+open-spec = tie.close (tie.spec begin-requires number-requires number-requires-2 returns)

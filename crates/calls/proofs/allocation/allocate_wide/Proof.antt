@@ -5,7 +5,7 @@ use mathlib.Core.Path.{_≡_}
 use native.Mathlib.Omega.{arith}
 use mathlib.Core.Bool.{true}
 use Rattle.accounts.specs.Accounts.{ALLOCATE, permits}
-use Rattle.rounding.specs.Rounding.{unit}
+use Rattle.rounding.specs.Rounding.{table}
 use Rattle.access.proofs.Lines.{permitted}
 use Rattle.calls.specs.Ready.{Checked}
 use Rattle.calls.proofs.Ready.{checked-is, line-4-zero, line-4-long}
@@ -31,7 +31,8 @@ returns c =
     let x = c .before .before in
     let k = x .before .before in
     let a = k .before .before .before .args in
-    refused-check unit (a .heap .now) (a .t2) (a .quota) (a .length) (k .check .result) (k .check .ensures) (x .refusal .given .0 .0) (x .refusal .given .1)
+    refused-check (table (a .t2 .edition)) (a .heap .now) (a .t2) (a .quota) (a .length) (k .check .result) (k .check .ensures) (x .refusal .given .0 .0)
+    (x .refusal .given .1)
     (c .refused .result)
     (c .refused .ensures)
 
@@ -49,17 +50,19 @@ returns-2 c =
     let t = c .before .before in
     let k = t .before .before in
     let a = k .before .before .before .args in
-    refused-3 unit (a .heap .now) (a .t2) (a .quota) (a .length) (k .check .result) (k .check .ensures) (t .enum-told .given .1) (c .before .if1 .taken)
+    refused-3 (table (a .t2 .edition)) (a .heap .now) (a .t2) (a .quota) (a .length) (k .check .result) (k .check .ensures) (t .enum-told .given .1)
+    (c .before .if1 .taken)
     (c .refused2 .result)
     (c .refused2 .ensures)
 
 -- what is known once the quota's number was tested
-checked : (e : tie.Else1) → let a = e .before .before .before .before .before .before .args in Checked unit (a .heap .now) (a .t2) (a .quota)
+checked : (e : tie.Else1) → let a = e .before .before .before .before .before .before .args in
+    Checked (table (a .t2 .edition)) (a .heap .now) (a .t2) (a .quota)
 checked e =
     let t = e .before in
     let k = t .before .before in
     let a = k .before .before .before .args in
-    checked-is unit (a .heap .now) (a .t2) (k .check .result) (k .check .ensures) (t .enum-told .given .1) (a .quota) (e .if1 .left)
+    checked-is (table (a .t2 .edition)) (a .heap .now) (a .t2) (k .check .result) (k .check .ensures) (t .enum-told .given .1) (a .quota) (e .if1 .left)
 
 mul-if2 : tie.Need-mul-if2
 mul-if2 c = search needs
@@ -77,7 +80,8 @@ returns-3 : tie.Need-returns-3
 returns-3 c =
     let e = c .before .before in
     let a = e .before .before .before .before .before .before .args in
-    refused-12 unit (a .heap .now) (a .t2) (a .quota) (a .length) (checked e) (c .before .if2 .taken) (c .refused3 .result) (c .refused3 .ensures)
+    refused-12 (table (a .t2 .edition)) (a .heap .now) (a .t2) (a .quota) (a .length) (checked e) (c .before .if2 .taken) (c .refused3 .result)
+    (c .refused3 .ensures)
 
 -- what is known once its permission was tested
 may : (e : tie.Else2) → let a = e .before .before .before .before .before .before .before .args in permits ALLOCATE (a .quota) (a .t2) ≡ true
@@ -94,8 +98,8 @@ returns-4 c =
     let m = c .before .before in
     let e = m .before in
     let a = e .before .before .before .before .before .before .args in
-    refused-4 unit (a .heap .now) (a .t2) (a .quota) (a .length) (checked e) (may m)
-    (line-4-zero (a .length) (from-8 unit (a .heap .now) (a .t2) (a .quota) (a .length)) (c .before .if3 .taken))
+    refused-4 (table (a .t2 .edition)) (a .heap .now) (a .t2) (a .quota) (a .length) (checked e) (may m)
+    (line-4-zero (a .length) (from-8 (table (a .t2 .edition)) (a .heap .now) (a .t2) (a .quota) (a .length)) (c .before .if3 .taken))
     (c .refused4 .result) (c .refused4 .ensures)
 
 refused-requires-5 : tie.Need-refused-requires-5
@@ -109,8 +113,8 @@ returns-5 c =
     let m = c .before .before .before in
     let e = m .before in
     let a = e .before .before .before .before .before .before .args in
-    refused-4 unit (a .heap .now) (a .t2) (a .quota) (a .length) (checked e) (may m)
-    (line-4-long (a .length) (from-8 unit (a .heap .now) (a .t2) (a .quota) (a .length)) (c .before .if4 .taken))
+    refused-4 (table (a .t2 .edition)) (a .heap .now) (a .t2) (a .quota) (a .length) (checked e) (may m)
+    (line-4-long (a .length) (from-8 (table (a .t2 .edition)) (a .heap .now) (a .t2) (a .quota) (a .length)) (c .before .if4 .taken))
     (c .refused5 .result) (c .refused5 .ensures)
 
 cast-grant : tie.Need-cast-grant

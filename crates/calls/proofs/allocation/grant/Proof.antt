@@ -7,8 +7,9 @@ use native.Mathlib.Omega.{arith}
 use Rattle.accounts.specs.declared.Accounts.{Accounts}
 use Rattle.accounts.specs.Accounts.{remaining}
 use Rattle.model.specs.declared.HandleAnswer.the-variants.{Given}
-use Rattle.rounding.specs.Rounding.{unit, object-length, alignment}
-use Rattle.rounding.proofs.Rounding.{unit-is, within-heap}
+use Rattle.rounding.specs.Rounding.{table, object-length, alignment, by-zeros}
+use Rattle.rounding.proofs.Editions.{table-is, within-heap}
+use Rattle.rounding.proofs.ByZeros.{zeros-alignment}
 use Rattle.finder.specs.Walk.{find-fit}
 use Rattle.writer.specs.Carving.{Room}
 use Rattle.calls.proofs.Placed.{the-room}
@@ -18,18 +19,31 @@ use borrow.Author.Needs.{needs}
 use Rattle.calls.proofs.allocation.grant.Statement.{statement}
 use Rattle.calls.proofs.allocation.grant.Tie as tie
 
+-- the search for a base is the definition's; this stands first, so that a wrong length or a wrong unit is refused here
+searched : (b : tie.After-find-base) → let a = b .before .before .before .before .before .before .before .before .before .before .before .args in
+    b .find-base .result ≡ find-fit (alignment (table (a .t2 .edition)) (a .length)) (object-length (table (a .t2 .edition)) (a .length)) (a .heap .now)
+searched b =
+    let l = b .before .before in
+    let z = l .before .before .before .before .before .before .before in
+    let e = z .before .before in
+    let a = e .args in
+    let d = a .t2 .edition in
+    let fits = zeros-alignment d (a .length) (omega (arith, within-heap d (a .length) (e .pre .short))) in
+    let aligned = l .object-unit .ensures ∙ ap (by-zeros d) (z .object-length .ensures) ∙ fits in
+    b .find-base .ensures ∙ (λ i. find-fit (aligned i) (z .object-length .ensures i) (a .heap .now))
+
 object-length-requires : tie.Need-object-length-requires
 object-length-requires c κs = search needs
 
 cast-size : tie.Need-cast-size
 cast-size c =
     let e = c .before .before in
-    omega (arith, c .object-length .ensures, within-heap (e .args .length) (e .pre .short))
+    omega (arith, c .object-length .ensures, within-heap (e .args .t2 .edition) (e .args .length) (e .pre .short))
 
 add-charge : tie.Need-add-charge
 add-charge c =
     let e = c .before .before in
-    omega (arith, c .object-length .ensures, within-heap (e .args .length) (e .pre .short))
+    omega (arith, c .object-length .ensures, within-heap (e .args .t2 .edition) (e .args .length) (e .pre .short))
 
 mul-if1 : tie.Need-mul-if1
 mul-if1 c = search needs
@@ -46,7 +60,8 @@ returns c =
     let z = c .before .before in
     let e = z .before .before in
     let a = e .args in
-    refused-8 unit unit-is (a .heap .now) (a .t2) (a .quota) (a .length) (e .pre) (c .refused .result) (omega (arith, c .before .if1 .taken, z .object-length .ensures))
+    refused-8 (table (a .t2 .edition)) (table-is (a .t2 .edition)) (a .heap .now) (a .t2) (a .quota) (a .length) (e .pre) (c .refused .result)
+    (omega (arith, c .before .if1 .taken, z .object-length .ensures))
     (c .refused .ensures)
 
 lowest-unused-requires : tie.Need-lowest-unused-requires
@@ -69,7 +84,8 @@ returns-2 c =
     let z = x .before in
     let e = z .before .before in
     let a = e .args in
-    refused-9 unit unit-is (a .heap .now) (a .t2) (a .quota) (a .length) (e .pre) (c .refused2 .result) (omega (arith, x .if1 .left, z .object-length .ensures))
+    refused-9 (table (a .t2 .edition)) (table-is (a .t2 .edition)) (a .heap .now) (a .t2) (a .quota) (a .length) (e .pre) (c .refused2 .result)
+    (omega (arith, x .if1 .left, z .object-length .ensures))
     (sym (u .lowest-unused .ensures) ∙ c .before .enum-told .given .1) (c .refused2 .ensures)
 
 refused-requires-3 : tie.Need-refused-requires-3
@@ -84,9 +100,10 @@ returns-3 c =
     let z = x .before in
     let e = z .before .before in
     let a = e .args in
-    refused-10 unit unit-is (a .heap .now) (a .t2) (a .quota) (a .length) (e .pre) (c .refused3 .result) (omega (arith, x .if1 .left, z .object-length .ensures))
+    refused-10 (table (a .t2 .edition)) (table-is (a .t2 .edition)) (a .heap .now) (a .t2) (a .quota) (a .length) (e .pre) (c .refused3 .result)
+    (omega (arith, x .if1 .left, z .object-length .ensures))
     (p .place .given .0 .0) (sym (u .lowest-unused .ensures) ∙ p .place .given .1)
-    (omega (arith, c .before .if2 .taken, checked-serial unit (a .heap .now) (a .t2) (a .quota) (e .pre .checked))) (c .refused3 .ensures)
+    (omega (arith, c .before .if2 .taken, checked-serial (table (a .t2 .edition)) (a .heap .now) (a .t2) (a .quota) (e .pre .checked))) (c .refused3 .ensures)
 
 object-unit-requires : tie.Need-object-unit-requires
 object-unit-requires c κs = search needs
@@ -97,24 +114,15 @@ cast-find-base c = search needs
 find-base-requires : tie.Need-find-base-requires
 find-base-requires c κs = search needs
 
--- the search for a base is the definition's
-searched : (b : tie.After-find-base) → let a = b .before .before .before .before .before .before .before .before .before .before .before .args in
-    b .find-base .result ≡ find-fit (alignment unit (a .length)) (object-length unit (a .length)) (a .heap .now)
-unfolding alignment
-searched b =
-    let l = b .before .before in
-    let z = l .before .before .before .before .before .before .before in
-    let a = z .before .before .args in
-    b .find-base .ensures ∙ (λ i. find-fit ((l .object-unit .ensures ∙ ap unit (z .object-length .ensures)) i) (z .object-length .ensures i) (a .heap .now))
-
 -- the object lies in the block that was found
 room : (l : tie.After-block) → let a = l .before .before .before .before .before .before .before .before .before .before .before .before .before .args in
-    Room (l .block .given .0 .0) (l .block .given .0 .1 .0) (object-length unit (a .length))
+    Room (l .block .given .0 .0) (l .block .given .0 .1 .0) (object-length (table (a .t2 .edition)) (a .length))
 room l =
     let b = l .before .before in
     let e = b .before .before .before .before .before .before .before .before .before .before .before in
     let a = e .args in
-    the-room unit unit-is (a .heap .now) (a .t2) (a .length) (e .pre .checked .consistent) (l .block .given .0 .0) (l .block .given .0 .1 .0) (sym (searched b) ∙ l .block .given .1)
+    the-room (table (a .t2 .edition)) (table-is (a .t2 .edition)) (a .heap .now) (a .t2) (a .length) (e .pre .checked .consistent) (l .block .given .0 .0)
+    (l .block .given .0 .1 .0) (sym (searched b) ∙ l .block .given .1)
     (e .pre .checked .extent)
 
 enum-known-block : tie.Need-enum-known-block
@@ -140,7 +148,8 @@ returns-4 c =
     let z = x .before in
     let e = z .before .before in
     let a = e .args in
-    refused-11 unit unit-is (a .heap .now) (a .t2) (a .quota) (a .length) (e .pre) (c .refused4 .result) (omega (arith, x .if1 .left, z .object-length .ensures))
+    refused-11 (table (a .t2 .edition)) (table-is (a .t2 .edition)) (a .heap .now) (a .t2) (a .quota) (a .length) (e .pre) (c .refused4 .result)
+    (omega (arith, x .if1 .left, z .object-length .ensures))
     (p .place .given .0 .0) (sym (u .lowest-unused .ensures) ∙ p .place .given .1) (y .if2 .left) (sym (searched b) ∙ c .before .enum-told2 .given .1) (c .refused4 .ensures)
 
 add-serial : tie.Need-add-serial
@@ -179,7 +188,8 @@ returns-5 c =
     let a = e .args in
     let q = l .block .given in
     let n = a .t2 .«last_serial» + 1 in
-    granted unit unit-is (a .heap .now) (a .t2) (a .quota) (a .length) (e .pre) (c .given .result) (omega (arith, x .if1 .left, z .object-length .ensures)) (p .place .given .0 .0)
+    granted (table (a .t2 .edition)) (table-is (a .t2 .edition)) (a .heap .now) (a .t2) (a .quota) (a .length) (e .pre) (c .given .result)
+    (omega (arith, x .if1 .left, z .object-length .ensures)) (p .place .given .0 .0)
     (sym (u .lowest-unused .ensures) ∙ p .place .given .1) (y .if2 .left) (q .0 .0) (q .0 .1 .0) (sym (searched b) ∙ q .1) (λ i. omega (arith, z .before .slice-known .given i)) (v .carve .last .0)
     (z .object-length .result) (z .object-length .ensures) (v .carve .ensures)
     (c .given .ensures ∙ ap (λ (w : Accounts). record { accounts = w; answer = Given (record { base = q .0 .1 .0; length = z .object-length .result; serial = n }) }) (c .before .booked .ensures))

@@ -3,12 +3,12 @@
 -- Assumes nothing.
 use Prim.Native.Nat.{ℕ, _+_, _-_, min}
 use native.Mathlib.Omega.{arith}
-use mathlib.Core.Path.{_≡_, ap, sym, _∙_}
+use mathlib.Core.Path.{_≡_, ap, sym, subst, _∙_}
 use mathlib.Core.Bool.{true}
 use mathlib.Core.Option.{some}
 use lib.ListN.{length-map}
-use Rattle.rounding.specs.Rounding.{unit}
-use Rattle.rounding.proofs.Rounding.{unit-is}
+use Rattle.rounding.specs.Rounding.{table}
+use Rattle.rounding.proofs.Editions.{table-is}
 use Rattle.layout.specs.Bytes.{Octets, copy-part}
 use Rattle.model.specs.Answers.{handle-values}
 use Rattle.model.specs.Objects.{lookup}
@@ -25,13 +25,13 @@ use Rattle.writer.specs.Freeing.{Inside}
 use Rattle.invariant.proofs.Recorded.{Limits}
 use Rattle.calls.proofs.Ready.{checked-serial}
 use Rattle.calls.proofs.Typed.{grants-narrow}
-use Rattle.calls.specs.Ready.{Checked}
+use Rattle.calls.specs.Ready.{Checked, Holding}
 use Rattle.calls.specs.Results.{handle-outcome}
 use Rattle.access.specs.Results.{outcome}
 use Rattle.calls.proofs.ReleaseAnswers.{holding-inside, dropped}
 use Rattle.calls.proofs.Exchanged.{found-again}
 use Rattle.calls.proofs.ReallocateAnswers.{refuses, by-object, by-record, block-named, block-held}
-use Rattle.calls.proofs.Reallocated.{refused-too, copied-named, copied-place, copied-checked, given-too}
+use Rattle.calls.proofs.Reallocated.{refused-too, copied-named, copied-place, copied-checked, given-too, given-edition}
 use borrow.Author.Needs.{needs}
 use Rattle.calls.proofs.reallocating.exchange.Statement.{statement}
 use Rattle.calls.proofs.reallocating.exchange.Tie as tie
@@ -45,9 +45,8 @@ limits c =
     let quotas = c .good .1 .0 .1 .1 .0 in
     record {
       quotas = simp length-map at (quotas .1 .0 .1);
-      narrow = grants-narrow (c .args .accounts .quotas) (quotas .0)
-          (quotas .1 .1);
-      serial = checked-serial unit (c .args .heap .now) (c .args .accounts) (c .args .quota) (c .pre .checked);
+      narrow = grants-narrow (c .args .accounts .quotas) (quotas .0) (quotas .1 .1);
+      serial = checked-serial (table (c .args .accounts .edition)) (c .args .heap .now) (c .args .accounts) (c .args .quota) (c .pre .checked);
     }
 
 find-whole-requires : tie.Need-find-whole-requires
@@ -70,8 +69,10 @@ returns c =
     let f = c .before .before .before in
     let e = f .before .before .before in
     let a = e .args in
-    refuses unit (a .heap .now) (a .accounts) (a .quota) (a .handle) (a .length) (c .refused .result) NoSuchObject (c .refused .ensures)
-    (by-object unit (a .heap .now) (a .accounts) (a .quota) (a .handle) (a .length) (e .pre) (sym (f .find-whole .ensures) ∙ c .before .enum-told .given .1))
+    refuses (table (a .accounts .edition)) (a .heap .now) (a .accounts) (a .quota) (a .handle) (a .length) (c .refused .result) NoSuchObject
+    (c .refused .ensures)
+    (by-object (table (a .accounts .edition)) (a .heap .now) (a .accounts) (a .quota) (a .handle) (a .length) (e .pre)
+    (sym (f .find-whole .ensures) ∙ c .before .enum-told .given .1))
 
 -- the block that the lookup found
 block-is : (b : tie.After-old) → let a = b .before .before .before .before .before .args in find-whole (a .handle) (a .heap .now) ≡ Found (b .old .given .0 .0)
@@ -101,8 +102,9 @@ returns-2 c =
     let b = p .before .before in
     let e = b .before .before .before .before .before in
     let a = e .args in
-    refuses unit (a .heap .now) (a .accounts) (a .quota) (a .handle) (a .length) (c .refused2 .result) NotHeld (c .refused2 .ensures)
-    (by-record unit (a .heap .now) (a .accounts) (a .quota) (a .handle) (a .length) (e .pre) (b .old .given .0 .0) (block-is b) (sym (p .find-hold .ensures) ∙ c .before .enum-told2 .given .1))
+    refuses (table (a .accounts .edition)) (a .heap .now) (a .accounts) (a .quota) (a .handle) (a .length) (c .refused2 .result) NotHeld (c .refused2 .ensures)
+    (by-record (table (a .accounts .edition)) (a .heap .now) (a .accounts) (a .quota) (a .handle) (a .length) (e .pre) (b .old .given .0 .0) (block-is b)
+    (sym (p .find-hold .ensures) ∙ c .before .enum-told2 .given .1))
 
 -- the handle names the block's object, the quota has a record for it, and the block lies in the heap
 named : (c : tie.After-place) → let b = c .before .before .before .before in let a = b .before .before .before .before .before .args in
@@ -111,7 +113,7 @@ named c =
     let b = c .before .before .before .before in
     let e = b .before .before .before .before .before in
     let a = e .args in
-    block-named unit (a .heap .now) (a .accounts) (a .quota) (a .handle) (a .length) (e .pre) (b .old .given .0 .0) (block-is b)
+    block-named (table (a .accounts .edition)) (a .heap .now) (a .accounts) (a .quota) (a .handle) (a .length) (e .pre) (b .old .given .0 .0) (block-is b)
 
 is-whole : (c : tie.After-place) → let b = c .before .before .before .before in let a = b .before .before .before .before .before .args in
     a .handle ≡ object-met (b .old .given .0 .0)
@@ -127,7 +129,8 @@ held c =
     let b = p .before .before in
     let e = b .before .before .before .before .before in
     let a = e .args in
-    block-held unit (a .heap .now) (a .accounts) (a .quota) (a .handle) (a .length) (e .pre) (b .old .given .0 .0) (block-is b) (c .place .given .0 .0)
+    block-held (table (a .accounts .edition)) (a .heap .now) (a .accounts) (a .quota) (a .handle) (a .length) (e .pre) (b .old .given .0 .0) (block-is b)
+    (c .place .given .0 .0)
     (sym (p .find-hold .ensures) ∙ c .place .given .1)
 
 lies : (c : tie.After-place) → let b = c .before .before .before .before in Inside (b .old .given .0 .0) (b .before .before .before .before .before .args .heap .now)
@@ -137,7 +140,7 @@ lies c =
     let k = b .before .before .before .before in
     let e = k .before in
     let a = e .args in
-    holding-inside unit (a .heap .now) (a .accounts) (octets k) (a .quota) (b .old .given .0 .0) (c .place .given .0 .0)
+    holding-inside (table (a .accounts .edition)) (a .heap .now) (a .accounts) (octets k) (a .quota) (b .old .given .0 .0) (c .place .given .0 .0)
     (record {
       checked = e .pre .checked;
       handle = a .handle;
@@ -164,7 +167,8 @@ returns-3 c =
     let b = t .before .before .before .before in
     let e = b .before .before .before .before .before in
     let a = e .args in
-    refused-too unit unit-is (a .heap .now) (a .accounts) (a .quota) (a .handle) (a .length) (e .pre) (object-met (b .old .given .0 .0)) (is-whole t)
+    refused-too (table (a .accounts .edition)) (table-is (a .accounts .edition)) (a .heap .now) (a .accounts) (a .quota) (a .handle) (a .length) (e .pre)
+    (object-met (b .old .given .0 .0)) (is-whole t)
     (named t) (held t) (g .grant .last .0) (g .grant .result)
     (c .enum-told3 .given .0 .0) (c .enum-told3 .given .1) (g .grant .ensures)
 
@@ -207,7 +211,8 @@ current-requires c κs =
 
 -- release may be asked for in what the copy leaves
 ready : (m : tie.After-copy-part) → let g = m .before .before .before .before .before .before .before .before .before .before .before .before in
-    Checked unit (m .copy-part .last .0) (g .grant .result .accounts) (g .before .before .before .before .before .before .before .before .before .before .before .before .args .quota)
+    let a = g .before .before .before .before .before .before .before .before .before .before .before .before .args in
+    Checked (table (a .accounts .edition)) (m .copy-part .last .0) (g .grant .result .accounts) (a .quota)
 ready m =
     let w = m .before .before .before .before .before .before .before .before in
     let g = w .before .before .before .before in
@@ -216,7 +221,8 @@ ready m =
     let k = b .before .before .before .before in
     let e = k .before in
     let a = e .args in
-    copied-checked unit unit-is (a .heap .now) (a .accounts) (a .quota) (a .handle) (a .length) (e .pre) (object-met (b .old .given .0 .0)) (is-whole t)
+    copied-checked (table (a .accounts .edition)) (table-is (a .accounts .edition)) (a .heap .now) (a .accounts) (a .quota) (a .handle) (a .length) (e .pre)
+    (object-met (b .old .given .0 .0)) (is-whole t)
     (named t) (held t) (octets k) (limits e) (g .grant .last .0) (g .grant .result)
     (g .grant .ensures) (w .answer .given .0 .0) (w .answer .given .1) (m .copy-part .last .0) (copied m)
 
@@ -232,8 +238,10 @@ again n =
     let k = b .before .before .before .before in
     let e = k .before in
     let a = e .args in
-    found-again unit (m .copy-part .last .0) (g .grant .result .accounts) (a .quota) (ready m) (a .handle) (b .old .given .0 .0) (lies t .header)
-    (copied-named unit unit-is (a .heap .now) (a .accounts) (a .quota) (a .handle) (a .length) (e .pre) (object-met (b .old .given .0 .0)) (is-whole t)
+    found-again (table (a .accounts .edition)) (m .copy-part .last .0) (g .grant .result .accounts) (a .quota) (ready m) (a .handle) (b .old .given .0 .0)
+    (lies t .header)
+    (copied-named (table (a .accounts .edition)) (table-is (a .accounts .edition)) (a .heap .now) (a .accounts) (a .quota) (a .handle) (a .length) (e .pre)
+    (object-met (b .old .given .0 .0)) (is-whole t)
     (named t) (held t) (octets k) (limits e) (g .grant .last .0) (g .grant .result)
     (g .grant .ensures) (w .answer .given .0 .0) (w .answer .given .1) (m .copy-part .last .0) (copied m))
     ∙ ap Found (sym (n .current .ensures))
@@ -251,7 +259,8 @@ placed n =
     let e = k .before in
     let a = e .args in
     ap (λ (x : Met). find-hold (x .serial) (a .quota) (g .grant .result .accounts)) (n .current .ensures)
-    ∙ copied-place unit unit-is (a .heap .now) (a .accounts) (a .quota) (a .handle) (a .length) (e .pre) (object-met (b .old .given .0 .0)) (is-whole t)
+    ∙ copied-place (table (a .accounts .edition)) (table-is (a .accounts .edition)) (a .heap .now) (a .accounts) (a .quota) (a .handle) (a .length) (e .pre)
+    (object-met (b .old .given .0 .0)) (is-whole t)
     (named t) (held t) (octets k) (limits e) (g .grant .last .0) (g .grant .result)
     (g .grant .ensures) (w .answer .given .0 .0) (w .answer .given .1) (m .copy-part .last .0) (copied m)
     (t .place .given .0 .0) (sym (t .before .before .find-hold .ensures) ∙ t .place .given .1)
@@ -267,7 +276,11 @@ drop-claim-requires c κs =
     let k = b .before .before .before .before in
     let e = k .before in
     let a = e .args in
-    record { checked = ready m; handle = a .handle; named = again n; place = placed n }
+    let same : g .grant .result .accounts .edition ≡ a .accounts .edition =
+    given-edition (table (a .accounts .edition)) (a .heap .now) (a .accounts) (a .quota) (a .length) (g .grant .last .0) (g .grant .result) (g .grant .ensures)
+    in
+    subst (λ (d : ℕ). Holding (table d) (m .copy-part .last .0) (g .grant .result .accounts) (a .quota) (n .current .result) (t .place .given .0 .0)) (sym same)
+    (record { checked = ready m; handle = a .handle; named = again n; place = placed n })
 
 with-accounts-requires : tie.Need-with-accounts-requires
 with-accounts-requires c κs = search needs
@@ -295,11 +308,13 @@ returns-4 c =
     let s = u .drop-claim .last .0 in
     ap (handle-outcome s) (c .with-accounts .ensures)
     ∙ ap (λ (x : HandleAnswer). outcome s (u .drop-claim .result .accounts) (handle-values x)) (w .answer .given .1)
-    ∙ given-too unit unit-is (a .heap .now) (a .accounts) (a .quota) (a .handle) (a .length) (e .pre) (object-met (b .old .given .0 .0)) (is-whole t)
+    ∙ given-too (table (a .accounts .edition)) (table-is (a .accounts .edition)) (a .heap .now) (a .accounts) (a .quota) (a .handle) (a .length) (e .pre)
+    (object-met (b .old .given .0 .0)) (is-whole t)
     (named t) (held t) (octets k) (limits e) (g .grant .last .0) (g .grant .result)
     (g .grant .ensures) (w .answer .given .0 .0) (w .answer .given .1) (m .copy-part .last .0) (copied m) (u .drop-claim .last .0) (u .drop-claim .result)
     (u .drop-claim .ensures
-    ∙ dropped unit (m .copy-part .last .0) (g .grant .result .accounts) (a .quota) (a .handle) (ready m) (n .current .result) (again n) (t .place .given .0 .0) (placed n))
+    ∙ dropped (table (a .accounts .edition)) (m .copy-part .last .0) (g .grant .result .accounts) (a .quota) (a .handle) (ready m) (n .current .result)
+    (again n) (t .place .given .0 .0) (placed n))
 
 pub exchange-spec : {M : Type 1} → statement M
 exchange-spec =

@@ -5,7 +5,7 @@ use mathlib.Core.Path.{_≡_}
 use native.Mathlib.Omega.{arith}
 use mathlib.Core.Bool.{true}
 use Rattle.accounts.specs.Accounts.{ALLOCATE, permits}
-use Rattle.rounding.specs.Rounding.{unit}
+use Rattle.rounding.specs.Rounding.{table}
 use Rattle.model.specs.declared.Refusal.the-variants.{QuotaNumber, ObjectLength, NotPermitted}
 use Rattle.access.proofs.Lines.{permitted}
 use Rattle.calls.specs.Ready.{Checked}
@@ -32,8 +32,10 @@ returns c =
     let x = c .before .before in
     let k = x .before .before in
     let a = k .before .before .before .args in
-    refuses unit (a .heap .now) (a .t2) (a .quota) (a .handle) (a .length) (c .refused .result) (x .refusal .given .0 .0) (c .refused .ensures)
-    (by-check unit (a .heap .now) (a .t2) (a .quota) (a .handle) (a .length) (k .check .result) (k .check .ensures) (x .refusal .given .0 .0)
+    refuses (table (a .t2 .edition)) (a .heap .now) (a .t2) (a .quota) (a .handle) (a .length) (c .refused .result) (x .refusal .given .0 .0)
+    (c .refused .ensures)
+    (by-check (table (a .t2 .edition)) (a .heap .now) (a .t2) (a .quota) (a .handle) (a .length) (k .check .result) (k .check .ensures)
+    (x .refusal .given .0 .0)
     (x .refusal .given .1))
 
 enum-told : tie.Need-enum-told
@@ -50,17 +52,18 @@ returns-2 c =
     let t = c .before .before in
     let k = t .before .before in
     let a = k .before .before .before .args in
-    refuses unit (a .heap .now) (a .t2) (a .quota) (a .handle) (a .length) (c .refused2 .result) QuotaNumber (c .refused2 .ensures)
-    (by-quota unit (a .heap .now) (a .t2) (a .quota) (a .handle) (a .length) (k .check .result) (k .check .ensures) (t .enum-told .given .1)
+    refuses (table (a .t2 .edition)) (a .heap .now) (a .t2) (a .quota) (a .handle) (a .length) (c .refused2 .result) QuotaNumber (c .refused2 .ensures)
+    (by-quota (table (a .t2 .edition)) (a .heap .now) (a .t2) (a .quota) (a .handle) (a .length) (k .check .result) (k .check .ensures) (t .enum-told .given .1)
     (c .before .if1 .taken))
 
 -- what is known once the quota's number was tested
-checked : (e : tie.Else1) → let a = e .before .before .before .before .before .before .args in Checked unit (a .heap .now) (a .t2) (a .quota)
+checked : (e : tie.Else1) → let a = e .before .before .before .before .before .before .args in
+    Checked (table (a .t2 .edition)) (a .heap .now) (a .t2) (a .quota)
 checked e =
     let t = e .before in
     let k = t .before .before in
     let a = k .before .before .before .args in
-    checked-is unit (a .heap .now) (a .t2) (k .check .result) (k .check .ensures) (t .enum-told .given .1) (a .quota) (e .if1 .left)
+    checked-is (table (a .t2 .edition)) (a .heap .now) (a .t2) (k .check .result) (k .check .ensures) (t .enum-told .given .1) (a .quota) (e .if1 .left)
 
 mul-if2 : tie.Need-mul-if2
 mul-if2 c = search needs
@@ -78,8 +81,8 @@ returns-3 : tie.Need-returns-3
 returns-3 c =
     let e = c .before .before in
     let a = e .before .before .before .before .before .before .args in
-    refuses unit (a .heap .now) (a .t2) (a .quota) (a .handle) (a .length) (c .refused3 .result) NotPermitted (c .refused3 .ensures)
-    (by-permission unit (a .heap .now) (a .t2) (a .quota) (a .handle) (a .length) (checked e) (c .before .if2 .taken))
+    refuses (table (a .t2 .edition)) (a .heap .now) (a .t2) (a .quota) (a .handle) (a .length) (c .refused3 .result) NotPermitted (c .refused3 .ensures)
+    (by-permission (table (a .t2 .edition)) (a .heap .now) (a .t2) (a .quota) (a .handle) (a .length) (checked e) (c .before .if2 .taken))
 
 -- what is known once its permission was tested
 may : (e : tie.Else2) → let a = e .before .before .before .before .before .before .before .args in permits ALLOCATE (a .quota) (a .t2) ≡ true
@@ -96,9 +99,9 @@ returns-4 c =
     let m = c .before .before in
     let e = m .before in
     let a = e .before .before .before .before .before .before .args in
-    refuses unit (a .heap .now) (a .t2) (a .quota) (a .handle) (a .length) (c .refused4 .result) ObjectLength (c .refused4 .ensures)
-    (by-length unit (a .heap .now) (a .t2) (a .quota) (a .handle) (a .length) (checked e) (may m)
-    (line-4-zero (a .length) (from-5 unit (a .heap .now) (a .t2) (a .quota) (a .handle) (a .length)) (c .before .if3 .taken)))
+    refuses (table (a .t2 .edition)) (a .heap .now) (a .t2) (a .quota) (a .handle) (a .length) (c .refused4 .result) ObjectLength (c .refused4 .ensures)
+    (by-length (table (a .t2 .edition)) (a .heap .now) (a .t2) (a .quota) (a .handle) (a .length) (checked e) (may m)
+    (line-4-zero (a .length) (from-5 (table (a .t2 .edition)) (a .heap .now) (a .t2) (a .quota) (a .handle) (a .length)) (c .before .if3 .taken)))
 
 refused-requires-5 : tie.Need-refused-requires-5
 refused-requires-5 c κs = search needs
@@ -111,9 +114,9 @@ returns-5 c =
     let m = c .before .before .before in
     let e = m .before in
     let a = e .before .before .before .before .before .before .args in
-    refuses unit (a .heap .now) (a .t2) (a .quota) (a .handle) (a .length) (c .refused5 .result) ObjectLength (c .refused5 .ensures)
-    (by-length unit (a .heap .now) (a .t2) (a .quota) (a .handle) (a .length) (checked e) (may m)
-    (line-4-long (a .length) (from-5 unit (a .heap .now) (a .t2) (a .quota) (a .handle) (a .length)) (c .before .if4 .taken)))
+    refuses (table (a .t2 .edition)) (a .heap .now) (a .t2) (a .quota) (a .handle) (a .length) (c .refused5 .result) ObjectLength (c .refused5 .ensures)
+    (by-length (table (a .t2 .edition)) (a .heap .now) (a .t2) (a .quota) (a .handle) (a .length) (checked e) (may m)
+    (line-4-long (a .length) (from-5 (table (a .t2 .edition)) (a .heap .now) (a .t2) (a .quota) (a .handle) (a .length)) (c .before .if4 .taken)))
 
 exchange-requires : tie.Need-exchange-requires
 exchange-requires c κs =

@@ -8,7 +8,7 @@ use borrow.Author.Count.{below-none, below-more}
 use mathlib.Core.Path.{_≡_}
 use mathlib.Core.Logic.{_≢_}
 use lib.ListN.{length, getD, length-map}
-use Rattle.rounding.specs.Rounding.{unit}
+use Rattle.rounding.specs.Rounding.{table}
 use Rattle.accounts.specs.Accounts.{HOLDS, zero-hold, hold-at}
 use Rattle.layout.specs.Bytes.{Octets}
 use Rattle.writer.specs.Freeing.{Inside}
@@ -30,7 +30,7 @@ octets c i = c .slice-known .given i .fits
 lies : (c : tie.After-slice-known Inv-loop μ-loop) → Inside (c .before .args .block) (c .before .args .heap .now)
 lies c =
     let a = c .before .args in
-    holding-inside unit (a .heap .now) (a .t2) (octets c) (a .quota) (a .block) (a .place) (c .before .pre)
+    holding-inside (table (a .t2 .edition)) (a .heap .now) (a .t2) (octets c) (a .quota) (a .block) (a .place) (c .before .pre)
 
 -- the table has its length, and the record's place is one of it
 long : (c : tie.Start Inv-loop μ-loop) → length (c .args .t2 .holds) ≡ HOLDS
@@ -39,7 +39,7 @@ long c = simp length-map at (c .good .1 .0 .1 .1 .1 .1 .0 .1 .0 .1)
 placed : (c : tie.After-slice-known Inv-loop μ-loop) → c .before .args .place < HOLDS
 placed c =
     let a = c .before .args in
-    omega (arith, long (c .before), holding-place unit (a .heap .now) (a .t2) (octets c) (a .quota) (a .block) (a .place) (c .before .pre))
+    omega (arith, long (c .before), holding-place (table (a .t2 .edition)) (a .heap .now) (a .t2) (octets c) (a .quota) (a .block) (a .place) (c .before .pre))
 
 mul-hold : tie.Need-mul-hold Inv-loop μ-loop
 mul-hold c = let p = placed c in search needs
@@ -62,7 +62,8 @@ returns c =
     let at = c .before .before .before .before .before in
     let k = at .before in
     let a = k .before .args in
-    fewer-result unit (a .heap .now) (a .t2) (octets k) (a .quota) (a .block) (a .place) (k .before .pre) (omega (arith, c .before .before .before .if1 .taken)) (c .before .put-hold .result) (c .before .put-hold .ensures)
+    fewer-result (table (a .t2 .edition)) (a .heap .now) (a .t2) (octets k) (a .quota) (a .block) (a .place) (k .before .pre)
+    (omega (arith, c .before .before .before .if1 .taken)) (c .before .put-hold .result) (c .before .put-hold .ensures)
     (c .given .result) (c .given .ensures)
 
 sub-length : tie.Need-sub-length Inv-loop μ-loop
@@ -100,7 +101,8 @@ returns-2 c =
     let e = left .before .before .before in
     let k = e .before .before .before in
     let a = k .before .args in
-    held-result unit (a .heap .now) (a .t2) (octets k) (a .quota) (a .block) (a .place) (k .before .pre) (omega (arith, e .if1 .left)) (left .before .refund .result) (left .drop-hold .result) (left .before .refund .ensures)
+    held-result (table (a .t2 .edition)) (a .heap .now) (a .t2) (octets k) (a .quota) (a .block) (a .place) (k .before .pre) (omega (arith, e .if1 .left))
+    (left .before .refund .result) (left .drop-hold .result) (left .before .refund .ensures)
     (left .drop-hold .ensures) (at .loop .at) (c .given2 .result) (c .given2 .ensures) (at .loop .inv .1) (omega (arith, long (k .before), c .before .before .loop-test .taken)) (c .before .if2 .taken)
 
 add-at : tie.Need-add-at Inv-loop μ-loop
@@ -133,7 +135,8 @@ returns-3 c =
     let e = left .before .before .before in
     let k = e .before .before .before in
     let a = k .before .args in
-    freed-result unit (a .heap .now) (a .t2) (octets k) (a .quota) (a .block) (a .place) (k .before .pre) (omega (arith, e .if1 .left)) (left .before .refund .result) (left .drop-hold .result) (left .before .refund .ensures)
+    freed-result (table (a .t2 .edition)) (a .heap .now) (a .t2) (octets k) (a .quota) (a .block) (a .place) (k .before .pre) (omega (arith, e .if1 .left))
+    (left .before .refund .result) (left .drop-hold .result) (left .before .refund .ensures)
     (left .drop-hold .ensures) (at .loop .at) (c .given3 .result) (c .given3 .ensures) (at .loop .inv .1)
     (omega (arith, long (k .before), end .loop-test .left)) _ (f .vacate-block .ensures .0)
 

@@ -2,7 +2,7 @@
 -- hold that is dropped is the definition's.
 -- Assumes nothing.
 use mathlib.Core.Path.{_≡_, sym, _∙_}
-use Rattle.rounding.specs.Rounding.{unit}
+use Rattle.rounding.specs.Rounding.{table}
 use Rattle.accounts.specs.Accounts.{find-hold}
 use Rattle.model.specs.declared.Refusal.the-variants.{NoSuchObject, NotHeld}
 use Rattle.finder.specs.declared.Lookup.the-variants.{Found}
@@ -32,8 +32,9 @@ returns c =
     let f = c .before .before .before in
     let e = f .before .before .before in
     let a = e .args in
-    refuses unit (a .heap .now) (a .accounts) (a .quota) (a .handle) (c .refused .result) NoSuchObject (c .refused .ensures)
-    (by-object unit (a .heap .now) (a .accounts) (a .quota) (a .handle) (e .pre) (sym (f .find-object .ensures) ∙ c .before .enum-told .given .1))
+    refuses (table (a .accounts .edition)) (a .heap .now) (a .accounts) (a .quota) (a .handle) (c .refused .result) NoSuchObject (c .refused .ensures)
+    (by-object (table (a .accounts .edition)) (a .heap .now) (a .accounts) (a .quota) (a .handle) (e .pre)
+    (sym (f .find-object .ensures) ∙ c .before .enum-told .given .1))
 
 -- the block that the lookup found
 block-is : (b : tie.After-block) → let a = b .before .before .before .before .before .args in find-object (a .handle) (a .heap .now) ≡ Found (b .block .given .0 .0)
@@ -63,8 +64,9 @@ returns-2 c =
     let b = p .before .before in
     let e = b .before .before .before .before .before in
     let a = e .args in
-    refuses unit (a .heap .now) (a .accounts) (a .quota) (a .handle) (c .refused2 .result) NotHeld (c .refused2 .ensures)
-    (by-record unit (a .heap .now) (a .accounts) (a .quota) (a .handle) (e .pre) (b .block .given .0 .0) (block-is b) (sym (p .find-hold .ensures) ∙ c .before .enum-told2 .given .1))
+    refuses (table (a .accounts .edition)) (a .heap .now) (a .accounts) (a .quota) (a .handle) (c .refused2 .result) NotHeld (c .refused2 .ensures)
+    (by-record (table (a .accounts .edition)) (a .heap .now) (a .accounts) (a .quota) (a .handle) (e .pre) (b .block .given .0 .0) (block-is b)
+    (sym (p .find-hold .ensures) ∙ c .before .enum-told2 .given .1))
 
 drop-claim-requires : tie.Need-drop-claim-requires
 drop-claim-requires c κs =
@@ -86,7 +88,8 @@ returns-3 c =
     let e = b .before .before .before .before .before in
     let a = e .args in
     d .drop-claim .ensures
-    ∙ dropped unit (a .heap .now) (a .accounts) (a .quota) (a .handle) (e .pre) (b .block .given .0 .0) (block-is b) (i .place .given .0 .0) (sym (p .find-hold .ensures) ∙ i .place .given .1)
+    ∙ dropped (table (a .accounts .edition)) (a .heap .now) (a .accounts) (a .quota) (a .handle) (e .pre) (b .block .given .0 .0) (block-is b)
+    (i .place .given .0 .0) (sym (p .find-hold .ensures) ∙ i .place .given .1)
 
 pub give-up-spec : {M : Type 1} → statement M
 give-up-spec =

@@ -1,7 +1,7 @@
 -- `calls::release` meets its contract: the check and the quota's number are the first three lines, and past them `give_up` gives the definition's
 -- outcome.
 -- Assumes nothing.
-use Rattle.rounding.specs.Rounding.{unit}
+use Rattle.rounding.specs.Rounding.{table}
 use Rattle.model.specs.declared.Refusal.the-variants.{QuotaNumber}
 use Rattle.calls.proofs.Ready.{checked-is}
 use Rattle.calls.proofs.ReleaseAnswers.{refuses, by-check, by-quota}
@@ -26,8 +26,10 @@ returns c =
     let x = c .before .before in
     let k = x .before .before in
     let a = k .before .before .before .args in
-    refuses unit (a .heap .now) (a .accounts) (a .quota) (a .handle) (c .refused .result) (x .refusal .given .0 .0) (c .refused .ensures)
-    (by-check unit (a .heap .now) (a .accounts) (a .quota) (a .handle) (k .check .result) (k .check .ensures) (x .refusal .given .0 .0) (x .refusal .given .1))
+    refuses (table (a .accounts .edition)) (a .heap .now) (a .accounts) (a .quota) (a .handle) (c .refused .result) (x .refusal .given .0 .0)
+    (c .refused .ensures)
+    (by-check (table (a .accounts .edition)) (a .heap .now) (a .accounts) (a .quota) (a .handle) (k .check .result) (k .check .ensures)
+    (x .refusal .given .0 .0) (x .refusal .given .1))
 
 enum-told : tie.Need-enum-told
 enum-told c = search needs
@@ -43,15 +45,17 @@ returns-2 c =
     let t = c .before .before in
     let k = t .before .before in
     let a = k .before .before .before .args in
-    refuses unit (a .heap .now) (a .accounts) (a .quota) (a .handle) (c .refused2 .result) QuotaNumber (c .refused2 .ensures)
-    (by-quota unit (a .heap .now) (a .accounts) (a .quota) (a .handle) (k .check .result) (k .check .ensures) (t .enum-told .given .1) (c .before .if1 .taken))
+    refuses (table (a .accounts .edition)) (a .heap .now) (a .accounts) (a .quota) (a .handle) (c .refused2 .result) QuotaNumber (c .refused2 .ensures)
+    (by-quota (table (a .accounts .edition)) (a .heap .now) (a .accounts) (a .quota) (a .handle) (k .check .result) (k .check .ensures)
+    (t .enum-told .given .1) (c .before .if1 .taken))
 
 give-up-requires : tie.Need-give-up-requires
 give-up-requires c κs =
     let t = c .before .before in
     let k = t .before .before in
     let a = k .before .before .before .args in
-    checked-is unit (a .heap .now) (a .accounts) (k .check .result) (k .check .ensures) (t .enum-told .given .1) (a .quota) (c .before .if1 .left)
+    checked-is (table (a .accounts .edition)) (a .heap .now) (a .accounts) (k .check .result) (k .check .ensures) (t .enum-told .given .1) (a .quota)
+    (c .before .if1 .left)
 
 same-length-3 : tie.Need-same-length-3
 same-length-3 c = search needs

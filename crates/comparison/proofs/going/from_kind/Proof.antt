@@ -1,4 +1,4 @@
--- The kinds differ, or the list is that from the first quota on (`Found`).
+-- The kinds differ, or the list is that from the edition on (`Found`).
 -- Assumes nothing.
 use mathlib.Core.Path.{_∙_}
 use borrow.Author.Needs.{needs}
@@ -20,19 +20,19 @@ returns c =
     kind-differs (a .first .now) (a .second .now) (o .accounts-in .result) (t .accounts-in2 .result) (o .accounts-in .ensures)
     (t .accounts-in2 .ensures) (c .if1 .taken)
 
-from-quota-requires : tie.Need-from-quota-requires
-from-quota-requires c κs = search needs
+from-edition-requires : tie.Need-from-edition-requires
+from-edition-requires c κs = search needs
 
 returns-2 : tie.Need-returns-2
 returns-2 c =
     let t = c .before .before .before .before in
     let o = t .before in
     let a = o .before .before .before .args in
-    c .from-quota .ensures
+    c .from-edition .ensures
     ∙ kind-same (a .first .now) (a .second .now) (o .accounts-in .result) (t .accounts-in2 .result) (o .accounts-in .ensures)
     (t .accounts-in2 .ensures) (c .before .if1 .left)
 
 pub from-kind-spec : {M : Type 1} → statement M
 from-kind-spec =
     tie.close
-    (tie.spec accounts-in-requires accounts-in-requires-2 returns from-quota-requires returns-2)
+    (tie.spec accounts-in-requires accounts-in-requires-2 returns from-edition-requires returns-2)

@@ -20,6 +20,12 @@ enum-told-2 c = search needs
 from-kind-requires : tie.Need-from-kind-requires
 from-kind-requires c κs = search needs
 
+enum-told-3 : tie.Need-enum-told-3
+enum-told-3 c = search needs
+
+from-edition-requires : tie.Need-from-edition-requires
+from-edition-requires c κs = search needs
+
 enum-known-from : tie.Need-enum-known-from
 enum-known-from c = search needs
 
@@ -53,18 +59,24 @@ returns-2 c =
 returns-3 : tie.Need-returns-3
 unfolding next-of differences-from
 returns-3 c =
-    let a = c .before .before .before .before .before .before .args in
-    c .from-quota .ensures ∙ sym (ap (λ (p : Position). next-of p (state-in (a .first .now)) (state-in (a .second .now))) (c .before .before .from .given .1))
+    let a = c .before .before .before .before .before .args in
+    c .from-edition .ensures ∙ sym (ap (λ (p : Position). next-of p (state-in (a .first .now)) (state-in (a .second .now))) (c .before .enum-told3 .given .1))
 
 returns-4 : tie.Need-returns-4
 unfolding next-of differences-from
 returns-4 c =
     let a = c .before .before .before .before .before .before .args in
-    c .from-record .ensures ∙ sym (ap (λ (p : Position). next-of p (state-in (a .first .now)) (state-in (a .second .now))) (c .before .before .from2 .given .1))
+    c .from-quota .ensures ∙ sym (ap (λ (p : Position). next-of p (state-in (a .first .now)) (state-in (a .second .now))) (c .before .before .from .given .1))
 
 returns-5 : tie.Need-returns-5
 unfolding next-of differences-from
 returns-5 c =
+    let a = c .before .before .before .before .before .before .args in
+    c .from-record .ensures ∙ sym (ap (λ (p : Position). next-of p (state-in (a .first .now)) (state-in (a .second .now))) (c .before .before .from2 .given .1))
+
+returns-6 : tie.Need-returns-6
+unfolding next-of differences-from
+returns-6 c =
     let a = c .before .before .before .before .before .before .args in
     c .from-byte .ensures ∙ sym (ap (λ (p : Position). next-of p (state-in (a .first .now)) (state-in (a .second .now))) (c .before .before .from3 .given .1))
 
@@ -76,6 +88,8 @@ next-difference-spec =
     from-start-requires
     enum-told-2
     from-kind-requires
+    enum-told-3
+    from-edition-requires
     enum-known-from
     from-quota-requires
     enum-known-from-2
@@ -86,4 +100,5 @@ next-difference-spec =
     returns-2
     returns-3
     returns-4
-    returns-5)
+    returns-5
+    returns-6)

@@ -21,6 +21,9 @@ enum-told-4 c = search needs
 enum-told-5 : tie.Need-enum-told-5
 enum-told-5 c = search needs
 
+enum-told-6 : tie.Need-enum-told-6
+enum-told-6 c = search needs
+
 returns : tie.Need-returns
 returns c = ap part-number (sym (c .enum-told .given .1))
 
@@ -36,6 +39,9 @@ returns-4 c = ap part-number (sym (c .enum-told4 .given .1))
 returns-5 : tie.Need-returns-5
 returns-5 c = ap part-number (sym (c .enum-told5 .given .1))
 
+returns-6 : tie.Need-returns-6
+returns-6 c = ap part-number (sym (c .enum-told6 .given .1))
+
 pub part-of-spec : {M : Type 1} → statement M
 part-of-spec =
     tie.close
@@ -45,8 +51,10 @@ part-of-spec =
     enum-told-3
     enum-told-4
     enum-told-5
+    enum-told-6
     returns
     returns-2
     returns-3
     returns-4
-    returns-5)
+    returns-5
+    returns-6)

@@ -5,6 +5,7 @@ use Rattle.model.specs.Answers.{verdict-from, amount-from, range-from, block-fr
 use Rattle.model.specs.Step.{step, performed}
 use Rattle.model.specs.declared.Answer.the-variants.{Verdict as OfVerdict, Amount as OfAmount, Range as OfRange, Block as OfBlock}
 use Rattle.model.proofs.Answers.{verdict-back, amount-back, range-back, block-back}
+use Rattle.rounding.specs.Rounding.{table}
 use Rattle.heap.proofs.Answered.{by-answer, by-handle, by-amount, by-call}
 use borrow.Author.Needs.{needs}
 use Rattle.heap.proofs.performing.perform.Statement.{statement}
@@ -126,7 +127,7 @@ unfolding step performed answer-of
 returns c =
     let made = c .before .before .before in
     let a = made .before .before .before .before .before .before .args in
-    by-call (a .heap .now) (a .accounts) _ _ _ (made .before .before .before .call .given .1)
+    by-call (table (a .accounts .edition)) (a .heap .now) (a .accounts) _ _ _ (made .before .before .before .call .given .1)
     (by-handle _ _ _ _ (c .of-handle .ensures) (made .allocate .ensures))
 
 same-length-2 : tie.Need-same-length-2
@@ -137,7 +138,7 @@ unfolding step performed answer-of
 returns-2 c =
     let made = c .before .before .before in
     let a = made .before .before .before .before .before .before .args in
-    by-call (a .heap .now) (a .accounts) _ _ _ (made .before .before .before .call2 .given .1)
+    by-call (table (a .accounts .edition)) (a .heap .now) (a .accounts) _ _ _ (made .before .before .before .call2 .given .1)
     (by-handle _ _ _ _ (c .of-handle2 .ensures) (made .allocate-array .ensures))
 
 same-length-3 : tie.Need-same-length-3
@@ -148,7 +149,7 @@ unfolding step performed answer-of
 returns-3 c =
     let made = c .before in
     let a = made .before .before .before .before .before .before .args in
-    by-call (a .heap .now) (a .accounts) _ _ _ (made .before .before .before .call3 .given .1)
+    by-call (table (a .accounts .edition)) (a .heap .now) (a .accounts) _ _ _ (made .before .before .before .call3 .given .1)
     (by-amount _ _ _ _ (c .of-amount .ensures) (made .claim .ensures))
 
 same-length-4 : tie.Need-same-length-4
@@ -159,7 +160,7 @@ unfolding step performed answer-of
 returns-4 c =
     let made = c .before .before .before in
     let a = made .before .before .before .before .before .before .args in
-    by-call (a .heap .now) (a .accounts) _ _ _ (made .before .before .before .call4 .given .1)
+    by-call (table (a .accounts .edition)) (a .heap .now) (a .accounts) _ _ _ (made .before .before .before .call4 .given .1)
     (by-amount _ _ _ _ (c .of-amount2 .ensures) (made .release .ensures))
 
 same-length-5 : tie.Need-same-length-5
@@ -170,7 +171,7 @@ unfolding step performed answer-of
 returns-5 c =
     let made = c .before .before .before in
     let a = made .before .before .before .before .before .before .args in
-    by-call (a .heap .now) (a .accounts) _ _ _ (made .before .before .before .call5 .given .1)
+    by-call (table (a .accounts .edition)) (a .heap .now) (a .accounts) _ _ _ (made .before .before .before .call5 .given .1)
     (by-amount _ _ _ _ (c .of-amount3 .ensures) (made .free-all .ensures))
 
 same-length-6 : tie.Need-same-length-6
@@ -181,7 +182,7 @@ unfolding step performed answer-of
 returns-6 c =
     let made = c .before .before .before in
     let a = made .before .before .before .before .before .args in
-    by-call (a .heap .now) (a .accounts) _ _ _ (made .before .before .enum-told .given .1)
+    by-call (table (a .accounts .edition)) (a .heap .now) (a .accounts) _ _ _ (made .before .before .enum-told .given .1)
     (by-amount _ _ _ _ (c .of-amount4 .ensures) (made .sweep .ensures))
 
 same-length-7 : tie.Need-same-length-7
@@ -192,7 +193,7 @@ unfolding step performed answer-of
 returns-7 c =
     let made = c .before .before .before in
     let a = made .before .before .before .before .before .before .args in
-    by-call (a .heap .now) (a .accounts) _ _ _ (made .before .before .before .call6 .given .1)
+    by-call (table (a .accounts .edition)) (a .heap .now) (a .accounts) _ _ _ (made .before .before .before .call6 .given .1)
     (by-handle _ _ _ _ (c .of-handle3 .ensures) (made .reallocate .ensures))
 
 same-length-8 : tie.Need-same-length-8
@@ -203,7 +204,7 @@ unfolding step performed answer-of
 returns-8 c =
     let made = c .before in
     let a = made .before .before .before .before .before .before .args in
-    by-call (a .heap .now) (a .accounts) _ _ _ (made .before .before .before .call7 .given .1)
+    by-call (table (a .accounts .edition)) (a .heap .now) (a .accounts) _ _ _ (made .before .before .before .call7 .given .1)
     (by-answer _ _ _ (λ v. OfRange (range-from v)) _ _ _
     (c .unchanged .ensures) (ap OfRange (range-back (made .object-range .result))) (made .object-range .ensures))
 
@@ -215,7 +216,7 @@ unfolding step performed answer-of
 returns-9 c =
     let made = c .before in
     let a = made .before .before .before .before .before .before .args in
-    by-call (a .heap .now) (a .accounts) _ _ _ (made .before .before .before .call8 .given .1)
+    by-call (table (a .accounts .edition)) (a .heap .now) (a .accounts) _ _ _ (made .before .before .before .call8 .given .1)
     (by-answer _ _ _ (λ v. OfAmount (amount-from v)) _ _ _
     (c .unchanged2 .ensures) (ap OfAmount (amount-back (made .remaining .result))) (made .remaining .ensures))
 
@@ -227,7 +228,7 @@ unfolding step performed answer-of
 returns-10 c =
     let made = c .before in
     let a = made .before .before .before .before .before .before .args in
-    by-call (a .heap .now) (a .accounts) _ _ _ (made .before .before .before .call9 .given .1)
+    by-call (table (a .accounts .edition)) (a .heap .now) (a .accounts) _ _ _ (made .before .before .before .call9 .given .1)
     (by-answer _ _ _ (λ v. OfVerdict (verdict-from v)) _ _ _
     (c .unchanged3 .ensures) (ap OfVerdict (verdict-back (made .can-release .result))) (made .can-release .ensures))
 
@@ -239,7 +240,7 @@ unfolding step performed answer-of
 returns-11 c =
     let made = c .before in
     let a = made .before .before .before .before .before .before .args in
-    by-call (a .heap .now) (a .accounts) _ _ _ (made .before .before .before .call10 .given .1)
+    by-call (table (a .accounts .edition)) (a .heap .now) (a .accounts) _ _ _ (made .before .before .before .call10 .given .1)
     (by-answer _ _ _ (λ v. OfBlock (block-from v)) _ _ _
     (c .unchanged4 .ensures) (ap OfBlock (block-back (made .list-from .result))) (made .list-from .ensures))
 
@@ -251,7 +252,7 @@ unfolding step performed answer-of
 returns-12 c =
     let made = c .before in
     let a = made .before .before .before .before .before .before .args in
-    by-call (a .heap .now) (a .accounts) _ _ _ (made .before .before .before .call11 .given .1)
+    by-call (table (a .accounts .edition)) (a .heap .now) (a .accounts) _ _ _ (made .before .before .before .call11 .given .1)
     (by-amount _ _ _ _ (c .of-amount5 .ensures) (made .clear-permissions .ensures))
 
 pub perform-spec : {M : Type 1} → statement M

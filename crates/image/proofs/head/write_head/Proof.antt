@@ -5,12 +5,11 @@ use mathlib.Core.Path.{_≡_, refl, ap, _∙_}
 use borrow.Author.Needs.{needs}
 use Prim.Native.Nat.{ℕ}
 use lib.ListN.{length, take, length-map}
-use Rattle.layout.specs.Bytes.{bytes, overwrite}
+use Rattle.layout.specs.Bytes.{overwrite}
 use Rattle.image_model.specs.Items.{many}
-use Rattle.image_model.specs.Stream.{tail-width, record-bytes, head-length}
+use Rattle.image_model.specs.Stream.{tail-width, marks-of, record-bytes, head-length}
 use Rattle.accounts.specs.Accounts.{QUOTAS, HOLDS}
 use Rattle.image.proofs.Heads.{head-written}
-use Rattle.image.proofs.Marked.{marks-written}
 use Rattle.image.proofs.head.write_head.Statement.{statement}
 use Rattle.image.proofs.head.write_head.Tie as tie
 
@@ -44,7 +43,7 @@ same-length : tie.Need-same-length
 same-length c = search needs
 
 returns : tie.Need-returns
-unfolding tail-width
+unfolding tail-width marks-of
 returns c =
     let w₆ = c .before .before in
     let w₅ = w₆ .before .before .before .before .before in
@@ -61,7 +60,7 @@ returns c =
     head-written (a .form) (start .pre .0) (a .size) k qs hs (a .head .now) (w₁ .write-u16 .last .0) (w₂ .write-u162 .last .0) (w₃ .write-u32 .last .0)
     (w₄ .write-u322 .last .0)
     (w₅ .write-entries .last .0) (w₆ .write-records .last .0) (start .pre .1)
-    (w₁ .write-u16 .ensures) (m .marks .result) (ap (bytes 2) (m .marks .ensures .0) ∙ marks-written (a .form) k)
+    (w₁ .write-u16 .ensures) (m .marks .result) (m .marks .ensures .0)
     (w₂ .write-u162 .ensures) (w₃ .write-u32 .ensures) (w₄ .write-u322 .ensures) (w₅ .write-entries .ensures (a .form) refl)
     (w₆ .write-records .ensures
     ∙ ap (λ (x : ℕ). overwrite x (many record-bytes (take (a .form .records) (k .holds))) (w₅ .write-entries .last .0)) (w₆ .before .entry-at .ensures .0))

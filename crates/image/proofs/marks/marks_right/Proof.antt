@@ -1,5 +1,6 @@
 -- The tests are the definition's (`Marked`).
 -- Assumes nothing.
+use native.Mathlib.Omega.{arith}
 use mathlib.Core.Path.{_∙_}
 use borrow.Author.Needs.{needs}
 use borrow.Author.Tests.{not-true, not-false}
@@ -24,7 +25,7 @@ returns-2 c f e =
     let s = c .before in
     let a = s .before .before .before .args in
     first-mark-wrong (stream-of (a .image .now)) f (e ∙ not-false (a .full) (s .before .if1 .left)) (s .stream-at .result) (s .stream-at .ensures)
-    (c .if2 .taken)
+    (omega (arith, c .if2 .taken))
 
 stream-at-requires-2 : tie.Need-stream-at-requires-2
 stream-at-requires-2 c κs = search needs
@@ -34,7 +35,7 @@ returns-3 c f e =
     let s = c .before .before in
     let a = s .before .before .before .args in
     second-mark (stream-of (a .image .now)) f (e ∙ not-false (a .full) (s .before .if1 .left)) (s .stream-at .result) (s .stream-at .ensures)
-    (c .before .if2 .left) (c .stream-at2 .result) (c .stream-at2 .ensures)
+    (omega (arith, c .before .if2 .left)) (c .stream-at2 .result) (c .stream-at2 .ensures)
 
 pub marks-right-spec : {M : Type 1} → statement M
 marks-right-spec =

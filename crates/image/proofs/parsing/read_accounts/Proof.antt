@@ -1,4 +1,4 @@
--- The quotas, the last serial, the records and the kind stand where the definition reads them.
+-- The quotas, the last serial, the records, the kind and the edition stand where the definition reads them.
 -- Assumes nothing.
 use native.Mathlib.Omega.{arith}
 use mathlib.Core.Path.{refl, ap, sym, _∙_}
@@ -30,10 +30,14 @@ read-records-requires c κs = search needs
 read-kind-requires : tie.Need-read-kind-requires
 read-kind-requires c κs = search needs
 
+read-edition-requires : tie.Need-read-edition-requires
+read-edition-requires c κs = search needs
+
 returns : tie.Need-returns
 unfolding accounts-of with-marks tail-width
 returns c =
-    let r = c .before in
+    let m = c .before in
+    let r = m .before in
     let e = r .before .before .before in
     let a = e .before .before .args in
     let f = a .form in
@@ -41,8 +45,15 @@ returns c =
     let hs =
     r .read-records .ensures f
     ∙ ap (λ (n : ℕ). each record-of record-width (f .records) (drop n t) ++ drop (f .records) (blank f .holds)) (r .before .entry-at .ensures .0) in
-    let kind = c .read-kind .ensures ∙ ap (λ (b : ℕ). cond (f .full) b 0) (sym (mark-at t 1 (omega arith))) in
-    λ i. record { quotas = e .read-entries .ensures f refl i; «last_serial» = r .before .before .read-quad .ensures i; holds = hs i; kind = kind i }
+    let kind = m .read-kind .ensures ∙ ap (λ (b : ℕ). cond (f .full) b 0) (sym (mark-at t 1 (omega arith))) in
+    let edition = c .read-edition .ensures ∙ ap (λ (b : ℕ). cond (f .full) b 0) (sym (mark-at t 0 (omega arith))) in
+    λ i. record {
+      quotas = e .read-entries .ensures f refl i;
+      «last_serial» = r .before .before .read-quad .ensures i;
+      holds = hs i;
+      kind = kind i;
+      edition = edition i;
+    }
 
 pub read-accounts-spec : {M : Type 1} → statement M
 read-accounts-spec =
@@ -53,4 +64,5 @@ read-accounts-spec =
     entry-at-requires
     read-records-requires
     read-kind-requires
+    read-edition-requires
     returns)

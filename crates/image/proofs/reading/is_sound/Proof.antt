@@ -6,9 +6,9 @@ use borrow.Author.Needs.{needs}
 use Prim.Native.Nat.{ℕ}
 use lib.ListN.{length, take, drop}
 use lib.Seq.{length-take-le}
-use Rattle.rounding.specs.Rounding.{unit}
 use Rattle.framing.specs.Frames.{padded, stream-of}
-use Rattle.model.specs.Consistent.{allowed, sound as is-sound}
+use Rattle.model.specs.Consistent.{allowed}
+use Rattle.image_model.specs.Images.{own-sound}
 use Rattle.image_model.proofs.Written.{allowed-most}
 use Rattle.image.proofs.reading.is_sound.Statement.{statement}
 use Rattle.image.proofs.reading.is_sound.Tie as tie
@@ -39,7 +39,7 @@ returns : tie.Need-returns
 returns c =
     let a = c .before .before .before .before .before .args in
     c .before .is-sound-in .ensures
-    ∙ ap (λ (n : ℕ). is-sound unit (padded n (drop (a .from) (stream-of (a .image .now)))) (a .accounts)) (sym (sized (c .before .before)))
+    ∙ ap (λ (n : ℕ). own-sound (padded n (drop (a .from) (stream-of (a .image .now)))) (a .accounts)) (sym (sized (c .before .before)))
 
 pub is-sound-spec : {M : Type 1} → statement M
 is-sound-spec =

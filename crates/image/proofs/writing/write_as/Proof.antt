@@ -3,7 +3,7 @@
 use mathlib.Core.Path.{_∙_}
 use borrow.Author.Needs.{needs}
 use lib.ListN.{length}
-use Rattle.rounding.specs.Rounding.{unit}
+use Rattle.rounding.specs.Rounding.{table}
 use Rattle.access.proofs.Lines.{check-consistent}
 use Rattle.image_model.proofs.Written.{allowed-most}
 use Rattle.image.proofs.Puts.{write-refused, write-accepted}
@@ -22,7 +22,7 @@ put-image-requires c κs =
     let k = t .before .before in
     let start = k .before .before .before in
     let a = start .args in
-    let w = check-consistent unit (a .heap .now) (a .accounts) (k .check .result) (k .check .ensures) (t .enum-told .given .1) in
+    let w = check-consistent (table (a .accounts .edition)) (a .heap .now) (a .accounts) (k .check .result) (k .check .ensures) (t .enum-told .given .1) in
     (start .pre, allowed-most (length (a .heap .now)) (w .0))
 
 enum-known-refusal : tie.Need-enum-known-refusal

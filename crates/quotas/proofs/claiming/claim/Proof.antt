@@ -6,7 +6,7 @@ use mathlib.Core.Path.{ap, sym, _∙_}
 use mathlib.Core.List.{_∷_}
 use borrow.Author.Needs.{needs}
 use Rattle.accounts.specs.Accounts.{CLAIM}
-use Rattle.rounding.specs.Rounding.{unit}
+use Rattle.rounding.specs.Rounding.{table}
 use Rattle.model.specs.Answers.{amount-values}
 use Rattle.model.specs.Objects.{lookup, found}
 use Rattle.model.specs.Refusals.{line-3, line-5, line-12, claim-lines}
@@ -37,7 +37,7 @@ returns c =
     let o = lookup (a .handle) (a .heap .now) in
     ap (amount-outcome (a .heap .now)) (c .refused .ensures)
     ∙ refused-is _ (a .heap .now) (a .t2) _ (r .0 .0)
-    (check-refuses unit (a .heap .now) (a .t2) (k .result) (k .ensures)
+    (check-refuses (table (a .t2 .edition)) (a .heap .now) (a .t2) (k .result) (k .ensures)
     (line-3 (a .quota) ∷ line-12 CLAIM (a .t2) (a .quota) ∷ line-5 o ∷ claim-rest (a .t2) (a .quota) (found o)) (r .0 .0) (r .1))
 
 enum-told : tie.Need-enum-told
@@ -56,7 +56,8 @@ returns-2 c =
     let rest = line-12 CLAIM (a .t2) (a .quota) ∷ line-5 o ∷ claim-rest (a .t2) (a .quota) (found o) in
     ap (amount-outcome (a .heap .now)) (c .refused2 .ensures)
     ∙ refused-is _ (a .heap .now) (a .t2) _ QuotaNumber
-    (check-accepts unit (a .heap .now) (a .t2) (k .result) (k .ensures) (line-3 (a .quota) ∷ rest) (e .enum-told .given .1) ∙ line-3-refuses (a .quota) rest
+    (check-accepts (table (a .t2 .edition)) (a .heap .now) (a .t2) (k .result) (k .ensures) (line-3 (a .quota) ∷ rest) (e .enum-told .given .1)
+    ∙ line-3-refuses (a .quota) rest
     (c .before .if1 .taken))
 
 mul-if2 : tie.Need-mul-if2
@@ -77,7 +78,7 @@ returns-3 c =
     let k = e .before .before .check in
     ap (amount-outcome (a .heap .now)) (c .refused3 .ensures)
     ∙ refused-is _ (a .heap .now) (a .t2) _ NotPermitted
-    (claim-forbidden unit (a .heap .now) (a .t2) (k .result) (k .ensures) (e .enum-told .given .1) (a .handle) (a .quota) (f .if1 .left)
+    (claim-forbidden (table (a .t2 .edition)) (a .heap .now) (a .t2) (k .result) (k .ensures) (e .enum-told .given .1) (a .handle) (a .quota) (f .if1 .left)
     (c .before .if2 .taken))
 
 find-object-requires : tie.Need-find-object-requires
@@ -101,7 +102,7 @@ returns-4 c =
     let k = e .before .before .check in
     ap (amount-outcome (a .heap .now)) (c .refused4 .ensures)
     ∙ refused-is _ (a .heap .now) (a .t2) _ NoSuchObject
-    (claim-missing unit (a .heap .now) (a .t2) (k .result) (k .ensures) (e .enum-told .given .1) (a .handle)
+    (claim-missing (table (a .t2 .edition)) (a .heap .now) (a .t2) (k .result) (k .ensures) (e .enum-told .given .1) (a .handle)
     (sym (f .find-object .ensures) ∙ c .before .enum-told2 .given .1)
     (a .quota) (f .before .before .if1 .left) (permitted CLAIM (a .quota) (a .t2) (f .before .if2 .left)))
 
@@ -112,7 +113,7 @@ sub-length c =
     let e = f .before .before .before in
     let a = e .before .before .before .before .args in
     let k = e .before .before .check in
-    let l = located unit (a .heap .now) (a .t2) (k .result) (k .ensures) (e .enum-told .given .1) (a .handle) (b .block .given .0 .0)
+    let l = located (table (a .t2 .edition)) (a .heap .now) (a .t2) (k .result) (k .ensures) (e .enum-told .given .1) (a .handle) (b .block .given .0 .0)
     (sym (f .find-object .ensures) ∙ b .block .given .1) in
     omega (arith, l .header)
 
@@ -123,7 +124,7 @@ cast-length c =
     let e = f .before .before .before in
     let a = e .before .before .before .before .args in
     let k = e .before .before .check in
-    let l = located unit (a .heap .now) (a .t2) (k .result) (k .ensures) (e .enum-told .given .1) (a .handle) (b .block .given .0 .0)
+    let l = located (table (a .t2 .edition)) (a .heap .now) (a .t2) (k .result) (k .ensures) (e .enum-told .given .1) (a .handle) (b .block .given .0 .0)
     (sym (f .find-object .ensures) ∙ b .block .given .1) in
     record { fits = omega (arith, l .header, l .end) }
 
@@ -149,7 +150,7 @@ returns-5 c =
     let a = e .before .before .before .before .args in
     let k = e .before .before .check in
     ap (amount-outcome (a .heap .now)) (c .claim-again .ensures)
-    ∙ claims-again unit (a .heap .now) (a .t2) (k .result) (k .ensures) (e .enum-told .given .1) (a .handle) (b .block .given .0 .0)
+    ∙ claims-again (table (a .t2 .edition)) (a .heap .now) (a .t2) (k .result) (k .ensures) (e .enum-told .given .1) (a .handle) (b .block .given .0 .0)
     (sym (f .find-object .ensures) ∙ b .block .given .1)
     (a .quota) (f .before .before .if1 .left) (permitted CLAIM (a .quota) (a .t2) (f .before .if2 .left)) (p .at .given .0 .0)
     (sym (d .find-hold .ensures) ∙ p .at .given .1)
@@ -164,7 +165,7 @@ claim-first-requires c κs =
     let e = f .before .before .before in
     let a = e .before .before .before .before .args in
     let k = e .before .before .check in
-    let l = located unit (a .heap .now) (a .t2) (k .result) (k .ensures) (e .enum-told .given .1) (a .handle) (b .block .given .0 .0)
+    let l = located (table (a .t2 .edition)) (a .heap .now) (a .t2) (k .result) (k .ensures) (e .enum-told .given .1) (a .handle) (b .block .given .0 .0)
     (sym (f .find-object .ensures) ∙ b .block .given .1) in
     (omega (arith, f .before .before .if1 .left), omega (arith, l .header, l .end))
 
@@ -178,7 +179,7 @@ returns-6 c =
     let a = e .before .before .before .before .args in
     let k = e .before .before .check in
     ap (amount-outcome (a .heap .now)) (c .claim-first .ensures)
-    ∙ claims-anew unit (a .heap .now) (a .t2) (k .result) (k .ensures) (e .enum-told .given .1) (a .handle) (b .block .given .0 .0)
+    ∙ claims-anew (table (a .t2 .edition)) (a .heap .now) (a .t2) (k .result) (k .ensures) (e .enum-told .given .1) (a .handle) (b .block .given .0 .0)
     (sym (f .find-object .ensures) ∙ b .block .given .1)
     (a .quota) (f .before .before .if1 .left) (permitted CLAIM (a .quota) (a .t2) (f .before .if2 .left))
     (sym (d .find-hold .ensures) ∙ t .enum-told3 .given .1)

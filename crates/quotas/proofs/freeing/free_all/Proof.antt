@@ -6,7 +6,7 @@ use mathlib.Core.Path.{_≡_}
 use mathlib.Core.List.{List}
 use lib.ListN.{length-map}
 use Prim.Native.Nat.{ℕ}
-use Rattle.rounding.specs.Rounding.{unit}
+use Rattle.rounding.specs.Rounding.{table}
 use Rattle.accounts.specs.Accounts.{FREE-ALL}
 use Rattle.accounts.proofs.Laws.{Sized}
 use Rattle.layout.specs.Bytes.{Octets}
@@ -50,8 +50,8 @@ returns c =
     let a = c .before .before .before .before .before .before .before .args in
     let k = c .before .before .before .before .check in
     let x = c .before .before .refusal .given in
-    all-refuses unit (a .heap .now) (a .t2) (a .quota) (c .refused .result) (x .0 .0) (c .refused .ensures)
-    (all-by-check unit (a .heap .now) (a .t2) (a .quota) (k .result) (k .ensures) (x .0 .0) (x .1))
+    all-refuses (table (a .t2 .edition)) (a .heap .now) (a .t2) (a .quota) (c .refused .result) (x .0 .0) (c .refused .ensures)
+    (all-by-check (table (a .t2 .edition)) (a .heap .now) (a .t2) (a .quota) (k .result) (k .ensures) (x .0 .0) (x .1))
 
 enum-told : tie.Need-enum-told
 enum-told c = search needs
@@ -66,8 +66,9 @@ returns-2 : tie.Need-returns-2
 returns-2 c =
     let a = c .before .before .before .before .before .before .before .args in
     let k = c .before .before .before .before .check in
-    all-refuses unit (a .heap .now) (a .t2) (a .quota) (c .refused2 .result) QuotaNumber (c .refused2 .ensures)
-    (all-by-quota unit (a .heap .now) (a .t2) (a .quota) (k .result) (k .ensures) (c .before .before .enum-told .given .1) (c .before .if1 .taken))
+    all-refuses (table (a .t2 .edition)) (a .heap .now) (a .t2) (a .quota) (c .refused2 .result) QuotaNumber (c .refused2 .ensures)
+    (all-by-quota (table (a .t2 .edition)) (a .heap .now) (a .t2) (a .quota) (k .result) (k .ensures) (c .before .before .enum-told .given .1)
+    (c .before .if1 .taken))
 
 mul-if2 : tie.Need-mul-if2
 mul-if2 c = search needs
@@ -86,8 +87,9 @@ returns-3 c =
     let f = c .before .before in
     let a = f .before .before .before .before .before .before .args in
     let k = f .before .before .before .check in
-    all-refuses unit (a .heap .now) (a .t2) (a .quota) (c .refused3 .result) NotPermitted (c .refused3 .ensures)
-    (all-by-permission unit (a .heap .now) (a .t2) (a .quota) (k .result) (k .ensures) (f .before .enum-told .given .1) (f .if1 .left) (c .before .if2 .taken))
+    all-refuses (table (a .t2 .edition)) (a .heap .now) (a .t2) (a .quota) (c .refused3 .result) NotPermitted (c .refused3 .ensures)
+    (all-by-permission (table (a .t2 .edition)) (a .heap .now) (a .t2) (a .quota) (k .result) (k .ensures) (f .before .enum-told .given .1) (f .if1 .left)
+    (c .before .if2 .taken))
 
 spent-requires : tie.Need-spent-requires
 spent-requires c κs = search needs
@@ -115,20 +117,22 @@ walked : (c : tie.After-held-each)
     → Emptiable (start c .args .t2 .kind) (c .held-each .result) (start c .args .heap .now)
     × ((s : List ℕ) → Emptied (start c .args .t2 .kind) (c .held-each .result) (start c .args .heap .now) s
     → (r : AmountResult) → r ≡ record { accounts = c .before .before .before .before .drop-holds .result; answer = Amount (c .before .before .before .before .before .before .spent .result) }
-    → amount-outcome s r ≡ free-all unit (start c .args .heap .now) (start c .args .t2) (start c .args .quota))
+    → amount-outcome s r ≡ free-all (table (start c .args .t2 .edition)) (start c .args .heap .now) (start c .args .t2) (start c .args .quota))
 walked c =
     let a = start c .args in
     let l = c .before .before .before .before in
     let p = l .before .before in
     let k = p .before .before .before .before .before .check in
     let yes = p .before .before .before .enum-told .given .1 in
-    let sound = check-consistent unit (a .heap .now) (a .t2) (k .result) (k .ensures) yes in
+    let sound = check-consistent (table (a .t2 .edition)) (a .heap .now) (a .t2) (k .result) (k .ensures) yes in
     let below = p .before .before .if1 .left in
-    all-freed unit (a .heap .now) (a .t2) (octets (p .before .before .before .before .before .before .before)) (allowed-most _ (sound .0)) (sound .1)
+    all-freed (table (a .t2 .edition)) (a .heap .now) (a .t2) (octets (p .before .before .before .before .before .before .before))
+    (allowed-most _ (sound .0)) (sound .1)
     (sized (start c)) (a .quota) below (p .spent .result) (p .spent .ensures)
     (l .before .refund .result) (l .drop-holds .result) (l .before .refund .ensures) (l .drop-holds .ensures)
     (c .before .live-serials .result) (c .before .live-serials .ensures) (c .held-each .result) (c .held-each .ensures)
-    (all-passes unit (a .heap .now) (a .t2) (a .quota) (k .result) (k .ensures) yes below (permitted FREE-ALL (a .quota) (a .t2) (p .before .if2 .left)))
+    (all-passes (table (a .t2 .edition)) (a .heap .now) (a .t2) (a .quota) (k .result) (k .ensures) yes below
+    (permitted FREE-ALL (a .quota) (a .t2) (p .before .if2 .left)))
 
 free-unkept-requires : tie.Need-free-unkept-requires
 free-unkept-requires c κs = walked (c .before) .0

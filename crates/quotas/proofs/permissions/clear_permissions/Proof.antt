@@ -3,7 +3,7 @@
 use mathlib.Core.Path.{ap, _∙_}
 use mathlib.Core.List.{[], _∷_}
 use borrow.Author.Needs.{needs}
-use Rattle.rounding.specs.Rounding.{unit}
+use Rattle.rounding.specs.Rounding.{table}
 use Rattle.model.specs.Answers.{amount-of, amount-values}
 use Rattle.model.specs.Refusals.{first-refusal, line-3, quota-lines}
 use Rattle.model.specs.Calls.{clear}
@@ -32,7 +32,7 @@ returns c =
     let k = c .before .before .before .before .check in
     ap (amount-outcome (a .heap .now)) (c .refused .ensures)
     ∙ refused-is _ (a .heap .now) (a .accounts) _ (r .0 .0)
-    (check-refuses unit (a .heap .now) (a .accounts) (k .result) (k .ensures) (line-3 (a .quota) ∷ []) (r .0 .0) (r .1))
+    (check-refuses (table (a .accounts .edition)) (a .heap .now) (a .accounts) (k .result) (k .ensures) (line-3 (a .quota) ∷ []) (r .0 .0) (r .1))
 
 enum-told : tie.Need-enum-told
 enum-told c = search needs
@@ -48,7 +48,7 @@ returns-2 c =
     let k = e .before .before .check in
     ap (amount-outcome (a .heap .now)) (c .refused2 .ensures)
     ∙ refused-is _ (a .heap .now) (a .accounts) _ QuotaNumber
-    (check-accepts unit (a .heap .now) (a .accounts) (k .result) (k .ensures) (line-3 (a .quota) ∷ []) (e .enum-told .given .1)
+    (check-accepts (table (a .accounts .edition)) (a .heap .now) (a .accounts) (k .result) (k .ensures) (line-3 (a .quota) ∷ []) (e .enum-told .given .1)
     ∙ line-3-refuses (a .quota) [] (c .before .if1 .taken))
 
 left-permissions-requires : tie.Need-left-permissions-requires
@@ -75,7 +75,7 @@ returns-3 c =
     gives (a .heap .now) (d .clear-permissions .result) (p .left-permissions .result) (c .given .result) (c .given .ensures)
     ∙ (λ i. outcome (a .heap .now) (d .clear-permissions .ensures i) (amount-of (p .left-permissions .ensures i)))
     ∙ accepted-is _ (a .heap .now) (a .accounts) _
-    (check-accepts unit (a .heap .now) (a .accounts) (k .result) (k .ensures) (line-3 (a .quota) ∷ []) (e .enum-told .given .1)
+    (check-accepts (table (a .accounts .edition)) (a .heap .now) (a .accounts) (k .result) (k .ensures) (line-3 (a .quota) ∷ []) (e .enum-told .given .1)
     ∙ line-3-passes (a .quota) [] (f .if1 .left))
 
 pub clear-permissions-spec : {M : Type 1} → statement M

@@ -1,6 +1,6 @@
 -- `quotas::sweep` meets its contract. The refusal is the check's. Past it the heap is that of its blocks, so the walk may start, and leaves the swept blocks.
 -- Assumes nothing.
-use Rattle.rounding.specs.Rounding.{unit}
+use Rattle.rounding.specs.Rounding.{table}
 use borrow.Author.Needs.{needs}
 use native.Mathlib.Omega.{arith}
 use Rattle.layout.specs.Bytes.{Octets}
@@ -30,7 +30,8 @@ returns c =
     let a = c .before .before .before .before .before .before .before .args in
     let k = c .before .before .before .before .check in
     let x = c .before .before .refusal .given in
-    sweep-refuses unit (a .heap .now) (a .accounts) (k .result) (k .ensures) (c .refused .result) (x .0 .0) (c .refused .ensures) (x .1)
+    sweep-refuses (table (a .accounts .edition)) (a .heap .now) (a .accounts) (k .result) (k .ensures) (c .refused .result) (x .0 .0) (c .refused .ensures)
+    (x .1)
 
 enum-told : tie.Need-enum-told
 enum-told c = search needs
@@ -41,8 +42,8 @@ sweep-blocks-requires c κs =
     let k = t .before .before in
     let b = k .before .before in
     let a = b .before .args in
-    sweepable unit (a .heap .now) (a .accounts) (octets b)
-    (check-consistent unit (a .heap .now) (a .accounts) (k .check .result) (k .check .ensures) (t .enum-told .given .1))
+    sweepable (table (a .accounts .edition)) (a .heap .now) (a .accounts) (octets b)
+    (check-consistent (table (a .accounts .edition)) (a .heap .now) (a .accounts) (k .check .result) (k .check .ensures) (t .enum-told .given .1))
 
 cast-given : tie.Need-cast-given
 cast-given c =
@@ -52,8 +53,9 @@ cast-given c =
     let b = k .before .before in
     let a = b .before .args in
     let p =
-    sweepable unit (a .heap .now) (a .accounts) (octets b)
-    (check-consistent unit (a .heap .now) (a .accounts) (k .check .result) (k .check .ensures) (t .enum-told .given .1)) in
+    sweepable (table (a .accounts .edition)) (a .heap .now) (a .accounts) (octets b)
+    (check-consistent (table (a .accounts .edition)) (a .heap .now) (a .accounts) (k .check .result) (k .check .ensures) (t .enum-told .given .1))
+    in
     omega (arith, w .sweep-blocks .ensures (p .0) (p .1) .2)
 
 given-requires : tie.Need-given-requires
@@ -69,8 +71,8 @@ returns-2 c =
     let k = t .before .before in
     let b = k .before .before in
     let a = b .before .args in
-    sweep-gives unit (a .heap .now) (a .accounts) (octets b) (k .check .result) (k .check .ensures) (t .enum-told .given .1) _ (w .sweep-blocks .result)
-    (w .sweep-blocks .ensures) (c .given .result) (c .given .ensures)
+    sweep-gives (table (a .accounts .edition)) (a .heap .now) (a .accounts) (octets b) (k .check .result) (k .check .ensures) (t .enum-told .given .1) _
+    (w .sweep-blocks .result) (w .sweep-blocks .ensures) (c .given .result) (c .given .ensures)
 
 pub sweep-spec : {M : Type 1} → statement M
 sweep-spec =

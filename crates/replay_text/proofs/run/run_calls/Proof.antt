@@ -7,9 +7,9 @@ use Prim.Native.Nat.{ℕ, _+_, _-_, _≤_, _<_}
 use mathlib.Core.Path.{_≡_, refl, ap, sym, subst, _∙_}
 use mathlib.Core.List.{List, _++_}
 use lib.ListN.{length}
-use Rattle.rounding.specs.Rounding.{unit}
+use Rattle.rounding.specs.Rounding.{table}
 use Rattle.model.specs.Answers.{answer-values}
-use Rattle.model.specs.Step.{step}
+use Rattle.model.specs.Step.{own-step}
 use Rattle.model.proofs.Answers.{performed-step}
 use Rattle.access.specs.Results.{outcome}
 use lib.Seq.{slice}
@@ -103,10 +103,10 @@ not-a-call t =
 stepped : (q : tie.After-perform Inv-loop μ-loop)
     → let l = q .before .before .before .before .before .before .before .before in
     outcome (q .perform .last .0) (q .perform .result .accounts) (answer-values (q .perform .result .answer))
-    ≡ step unit (q .before .before .before .call .given .0 .0) (l .loop .heap) (l .loop .current)
+    ≡ own-step (q .before .before .before .call .given .0 .0) (l .loop .heap) (l .loop .current)
 stepped q =
     let l = q .before .before .before .before .before .before .before .before in
-    performed-step unit (q .before .before .before .call .given .0 .0) (l .loop .heap) (l .loop .current) _ (q .perform .ensures)
+    performed-step (table (l .loop .current .edition)) (q .before .before .before .call .given .0 .0) (l .loop .heap) (l .loop .current) _ (q .perform .ensures)
 
 -- its answer and the run of the lines behind it are what is left
 answer-of : tie.After-perform Inv-loop μ-loop → List ℕ
