@@ -76,7 +76,7 @@ module _ (q : ℕ) (l : Ledger) where
   added-from new o m = List·Memᴰ·cases-cons m
 
 -- every object of a ledger is one of another, or has the serial after the last one
-abbrev Grown : Accounts → Ledger → Ledger → Type 0
+abbrev pub Grown : Accounts → Ledger → Ledger → Type 0
 Grown k m l = (o : Handle) → List·Memᴰ o (objects-in m) → (o .serial ≡ k .«last_serial» + 1) ⊎ List·Memᴰ o (objects-in l)
 
 -- a refused call is not recorded
@@ -92,7 +92,7 @@ module _ (unit : ℕ → ℕ) (l : Ledger) (s : List ℕ) (k : Accounts) where
   new-grown q n o m = ⊎-elim (λ e. inl (ap (λ (x : Handle). x .serial) e)) (λ i. inr i) (added-from q l (new-object unit s k n) o m)
 
   -- each call adds at most an object with the next serial
-  step-grown : (c : Call) → Grown k (record-call c (step unit c s k .values) l) l
+  pub step-grown : (c : Call) → Grown k (record-call c (step unit c s k .values) l) l
   unfolding step record-accepted allocate allocate-array claim release free-all sweep reallocate lend remaining-of can-release list-block clear
   step-grown (Allocate q n) = accepted-grown (Allocate q n) l s k (first-refusal (allocate-lines unit s k q n)) _ refl (new-grown q n)
   step-grown (AllocateArray q count size) =

@@ -22,7 +22,7 @@ use Rattle.accounts.specs.declared.Edition.the-variants.{First, Second}
 use Rattle.layout.specs.Blocks.{render}
 use Rattle.model.specs.Lists.{all, total}
 use Rattle.model.specs.Answers.{accepted}
-use Rattle.model.specs.Objects.{objects-from, objects}
+use Rattle.model.specs.Objects.{objects-from, objects, blocks-of}
 use Rattle.model.specs.Consistent.{allowed, long-enough, starts-free, free-apart, well-cut, serials-differ, serials-given, record-valid, records-differ}
 use Rattle.model.specs.Consistent.{charges, in-kind, in-range, greatest-serial}
 use Rattle.model.specs.Refusals.{first-refusal, line-1, open-lines}
@@ -34,6 +34,7 @@ use Rattle.ledger.specs.Demand3.{spans-differ}
 use Rattle.ledger.specs.History.{Opened, Restorable, Begins, Opening, Restoring}
 use Rattle.ledger.proofs.Reading.{consistent-agrees}
 use Rattle.invariant.proofs.Good.{Good}
+use Rattle.invariant.proofs.Heaps.{good-heap}
 use Rattle.ledger.proofs.Agreement.{Tracks, Agrees}
 use Rattle.invariant.proofs.Kinded.{Kinded}
 use Rattle.ledger.proofs.Matching.{no-hold}
@@ -169,6 +170,17 @@ unfolding fresh
 opening-agrees t grants s k o =
     let f = opened-fresh t grants s k o in
     rw (f .heap, f .accounts) at (agrees-from _ _ (fresh-tracked t (f .extent) (f .fits) grants (o .quotas) (o .narrow)))
+
+-- its blocks are those of a fresh heap
+pub opening-blocks : (t : Settings) (grants : List ℕ) (s : List ℕ) (k : Accounts) → Opened t grants s k → (H : ℕ) × (blocks-of s ≡ fresh t H grants .blocks)
+opening-blocks t grants s k o =
+    let f = opened-fresh t grants s k o in
+    (f .extent, rw (f .heap) at (good-heap (fresh t (f .extent) grants) (fresh-good t (f .extent) (f .fits) grants (o .quotas) (o .narrow)) .blocks))
+
+-- and it has all its records
+pub opening-records : (t : Settings) (grants : List ℕ) (s : List ℕ) (k : Accounts) → Opened t grants s k → length (k .holds) ≡ HOLDS
+unfolding opened
+opening-records t grants s k o = rw (← opened-fresh t grants s k o .accounts) (length-replicate HOLDS zero-hold)
 
 -- every permission is set
 granted-permissions : (gs : List ℕ) → map (λ (x : Quota). x .permissions) (map granted gs) ≡ replicate (length gs) ALL-PERMISSIONS

@@ -6,17 +6,17 @@ use Prim.Native.Nat.{ℕ, _+_}
 use native.Mathlib.Nat.{zero-add}
 use native.Mathlib.Omega.{arith}
 use mathlib.Core.Path.{_≡_, refl, ap, sym, _∙_}
-use mathlib.Core.List.{List, [], _∷_, _++_, List·Memᴰ}
+use mathlib.Core.List.{List, [], _∷_, _++_, List·Memᴰ, List·Memᴰ·head, List·Memᴰ·tail, List·Memᴰ·cases-cons}
 use mathlib.Core.Bool.{true, false, _&&_, Bool}
 use mathlib.Core.Option.{some}
-use mathlib.Core.Logic.{_↔_, _⊎_, inl, inr}
+use mathlib.Core.Logic.{_↔_, _⊎_, inl, inr, ⊎-elim}
 use lib.ListN.{length, take, drop, getD, length-take, length-drop, take-append-drop, List·getD-append}
-use lib.Seq.{getD-take, getD-drop, drop-drop, ext-getD}
+use lib.Seq.{getD-take, getD-drop, drop-drop, ext-getD, getD-append-add}
 use lib.Dec.{leb, ltb}
 use borrow.Author.Tests.{leb-true, le-leb, ltb-true, lt-ltb}
 use Rattle.accounts.specs.declared.Accounts.{Accounts}
 use Rattle.layout.specs.Bytes.{Octets}
-use Rattle.layout.specs.Blocks.{Block, size, units, header-of, header-bytes, render-from, render, parse, Writable, AllWritable}
+use Rattle.layout.specs.Blocks.{Block, size, live, units, header-of, header-bytes, render-from, render, parse, Writable, AllWritable}
 use Rattle.layout.proofs.Fields.{header-length}
 use Rattle.layout.proofs.Render.{written-length, written-behind}
 use Rattle.layout.proofs.Parse.{parse-is}
@@ -26,6 +26,7 @@ use Rattle.model.specs.Consistent.{long-enough, starts-free, free-apart, well-c
 use Rattle.model.specs.declared.Handle.{Handle}
 use Rattle.model.proofs.Bools.{and-left, and-right, and-both}
 use Rattle.model.proofs.Lists.{none-exactly}
+use Rattle.model.proofs.Blocks.{objects-free}
 use Rattle.model.proofs.Consistent.{blocks-parsed, consistent-cut, consistent-exactly}
 use Rattle.ledger.specs.Ledger.{Ledger, spans-from, quarantined-of}
 use Rattle.ledger.specs.History.{in-object, Written}
@@ -58,6 +59,7 @@ record Rewritten (at back : ℕ) (bs : List Block) (s : List ℕ) : Type 0 where
   apart : free-apart blocks ≡ free-apart bs
   kinds : (kind : ℕ) → all (in-kind kind) blocks ≡ all (in-kind kind) bs
   spans : spans-from at blocks ≡ spans-from at bs
+  unwritten : (b : Block) → live b ≡ false → List·Memᴰ b blocks → List·Memᴰ b bs
 
 module _ (at back : ℕ) (b : Block) (bs : List Block) (s : List ℕ) (k : Kept at back (b ∷ bs) s) where
   -- s is the first block and as much as the others take
@@ -98,6 +100,25 @@ module _ (at back : ℕ) (b : Block) (bs : List Block) (s : List ℕ) (k : Kept 
           omega arith
       behind i j e f o w (inr m) = outside-exactly j (objects-from (at + size b) bs) .0 f o m w
 
+  -- a block that is not live has its body as it did
+  kept-body : live b ≡ false → take (length (b .body)) (drop 8 s) ≡ b .body
+  unfolding render-from
+  kept-body f =
+      let h = header-bytes (header-of back b) in
+      let e : length h ≡ 8 = header-length (header-of back b) in
+      let l = kept-length in
+      let n : length (take (length (b .body)) (drop 8 s)) ≡ length (b .body) = simp (length-take, length-drop) (omega arith) in
+      ext-getD 0 (take (length (b .body)) (drop 8 s)) (b .body) n (λ i p.
+      (let out =
+      outside-exactly (at + (8 + i)) (objects-from at (b ∷ bs)) .1
+      (λ o m w. omega (arith, objects-lie (at + size b) bs o (rw (objects-free at b bs f) at m) .low)) in
+      getD-take (length (b .body)) (drop 8 s) i 0 (omega arith)
+      ∙ getD-drop 8 s i 0
+      ∙ k .outside (8 + i) (at + (8 + i)) refl out
+      ∙ ap (λ (x : ℕ). getD (h ++ (b .body ++ render-from (units b) bs)) (x + i) 0) (sym e)
+      ∙ getD-append-add h (b .body ++ render-from (units b) bs) i 0
+      ∙ List·getD-append (b .body) (render-from (units b) bs) 0 i (omega arith)))
+
   -- the first block has its body out of s
   rewritten-cons : Writable b → Rewritten (at + size b) (units b) bs (drop (size b) s) → Rewritten at back (b ∷ bs) s
   unfolding render-from objects-from spans-from all long-enough starts-free free-apart in-kind
@@ -115,7 +136,11 @@ module _ (at back : ℕ) (b : Block) (bs : List Block) (s : List ℕ) (k : Kept 
         apart = rw (r .starts, r .apart);
         kinds = λ kind. ap (λ (t : Bool). in-kind kind b && t) (r .kinds kind);
         spans = rw (n, r .spans);
+        unwritten = λ c f m. ⊎-elim (λ e. List·Memᴰ·head (same c f e)) (λ x. List·Memᴰ·tail (r .unwritten c f x)) (List·Memᴰ·cases-cons m);
       }
+    where
+      same : (c : Block) → live c ≡ false → c ≡ record { serial = b .serial; body = take (length (b .body)) (drop 8 s) } → c ≡ b
+      same c f e = e ∙ ap (λ (l : List ℕ). record { serial = b .serial; body = l }) (kept-body (rw e at f))
 
 -- and so block after block
 rewritten : (at back : ℕ) (bs : List Block) (s : List ℕ) → AllWritable bs → Kept at back bs s → Rewritten at back bs s
@@ -131,6 +156,7 @@ rewritten at back [] [] w k =
       apart = refl;
       kinds = λ kind. refl;
       spans = refl;
+      unwritten = λ b f m. m;
     }
 rewritten at back [] (x ∷ s) w k = let e = k .extent in absurd (omega arith)
 rewritten at back (b ∷ bs) s w k =
@@ -155,6 +181,10 @@ module _ (s s′ : List ℕ) (k : Accounts) (o : Octets s) (c : consistent s k �
   pub written-objects : objects-of s′ ≡ objects-of s
   unfolding objects-of objects
   written-objects = rw (blocks-parsed s′ (written-blocks .blocks) written-parsed) (written-blocks .objects)
+
+  -- and so are the blocks that are not live
+  pub written-others : (b : Block) → live b ≡ false → List·Memᴰ b (blocks-of s′) → List·Memᴰ b (blocks-of s)
+  written-others b f m = written-blocks .unwritten b f (rw (blocks-parsed s′ (written-blocks .blocks) written-parsed) at m)
 
   -- heap and accounts stay consistent
   pub written-consistent : consistent s′ k ≡ true

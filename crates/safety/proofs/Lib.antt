@@ -1,0 +1,11 @@
+pub mod Rows
+pub mod Wrong
+pub mod Accepted
+pub mod Stale
+pub mod Clean
+pub mod Outside
+pub mod Left
+pub mod Returned
+pub mod Isolated
+pub mod Untouched
+pub mod Paid

@@ -1,0 +1,9 @@
+pub mod Arguments
+pub mod Stale
+pub mod Images
+pub mod Left
+pub mod Returned
+pub mod Isolated
+pub mod Untouched
+pub mod Paid
+pub mod Wrong
