@@ -1,32 +1,59 @@
-# make run       prove the heap and the replay program, and run it on an example
+# Lokhazim: a proved heap that parts of a firmware share without trusting each other.
+# README.md says more, and what these commands need.
+#
+# make run       tell a story, prove the heap and the replay program (minutes), and run the story
+# make try       tell the story and run it at once, with nothing proved
 # make test      prove everything from nothing, try every must-fail edit, run every test
-# make wrong     try the wrong programs that the gate leaves out
+#
 # make lib       prove the exported calls, and write build/lib/liblokhazim.a with its header
 # make cli       prove the library and build the command build/bin/lokhazim over it
+# make install   install libraries, headers, command and manual: PREFIX=/usr/local DESTDIR=
+# make uninstall remove what install has put there: PREFIX=/usr/local DESTDIR=
+# make dist      write archives of the sources and of an installed tree to build/dist
+#
+# make wrong     try the wrong programs that the gate leaves out
 # make figures   print the library's code size, the stack that calls need, and the bytes of accounts
 # make bench     time the proved calls, the reference and glibc under mcheck_pedantic
 # make fuzz      compare the proved code with the reference from a fresh seed: SECONDS=600 SEED=..
 # make sanitize  compare calls under valgrind: SECONDS=600 SEED=..
+# make clean     remove build/ and target/; what was proved has to be proved again
 
 SECONDS := 60
 SEED :=
+PREFIX ?= /usr/local
+DESTDIR ?=
 
-.PHONY: run test wrong lib cli figures bench fuzz sanitize clean
+.PHONY: help run try test lib cli install uninstall dist wrong figures bench fuzz sanitize clean
+
+help:
+	@sed -n '/^#/!q; s/^# \{0,1\}//p' Makefile
 
 run:
 	@scripts/run
 
+try:
+	@scripts/try
+
 test:
 	@scripts/test
-
-wrong:
-	@scripts/wrong
 
 lib:
 	@scripts/lib
 
 cli:
 	@scripts/cli
+
+install:
+	@scripts/install '$(PREFIX)' '$(DESTDIR)'
+
+uninstall:
+	@scripts/install --remove '$(PREFIX)' '$(DESTDIR)'
+
+dist:
+	@scripts/dist
+
+wrong:
+	@scripts/wrong
 
 figures:
 	@scripts/figures

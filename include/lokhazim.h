@@ -60,6 +60,12 @@ extern "C" {
  */
 #define LOKHAZIM_INTERFACE 5
 
+/* The version of the library, as text and by its three numbers. CHANGELOG.md says what each version brought. */
+#define LOKHAZIM_VERSION "0.5.0"
+#define LOKHAZIM_VERSION_MAJOR 0
+#define LOKHAZIM_VERSION_MINOR 5
+#define LOKHAZIM_VERSION_PATCH 0
+
 /* ---- Numbers ---- */
 
 /* The number of quotas; they are numbered from 0. */
@@ -389,6 +395,49 @@ struct lokhazim_block_reply lokhazim_list_block(
 /* Checks heap and accounts as every call but open does first, and gives refusal 1 or 2 or none. */
 uint32_t lokhazim_check(
     const uint8_t *heap, size_t length, struct lokhazim_accounts accounts);
+
+/* ---- A refusal in words ---- */
+
+/*
+ * What is wrong, and what to do, for any number; never a null pointer. The other headers have such a function for their own
+ * numbers: lokhazim_image_refusal_text, lokhazim_report_refusal_text, lokhazim_settings_refusal_text and
+ * lokhazim_queue_refusal_text.
+ */
+static inline const char *lokhazim_refusal_text(uint32_t refusal)
+{
+    switch (refusal) {
+    case LOKHAZIM_ACCEPTED:
+        return "not refused";
+    case LOKHAZIM_HEAP_LENGTH:
+        return "the heap's length is not allowed; lend 64 to 32,768 bytes, a multiple of 8";
+    case LOKHAZIM_INCONSISTENT:
+        return "the heap's bytes and its accounts don't agree; something else has written to them, so open the heap anew";
+    case LOKHAZIM_QUOTA_NUMBER:
+        return "there is no quota of this number; use 0 to 31";
+    case LOKHAZIM_OBJECT_LENGTH:
+        return "no object can have this length; ask for 1 to 32,760 bytes in all";
+    case LOKHAZIM_NO_SUCH_OBJECT:
+        return "the handle names no live object; use it only while a quota holds the object, and reallocate with the whole "
+               "object's handle";
+    case LOKHAZIM_NOT_HELD:
+        return "this quota doesn't hold the object; claim it, or name the quota that does";
+    case LOKHAZIM_COUNT_LIMIT:
+        return "this quota holds the object 255 times; release it before you claim it again";
+    case LOKHAZIM_QUOTA_EXCEEDED:
+        return "the object costs its length plus 8, and less remains of the quota; release something or ask for less";
+    case LOKHAZIM_HOLDS_EXHAUSTED:
+        return "all 512 hold records are used; release something";
+    case LOKHAZIM_SERIALS_EXHAUSTED:
+        return "every serial was given; open the heap anew";
+    case LOKHAZIM_NO_SPACE:
+        return "no free run of bytes is long enough; release something, sweep a heap with quarantine, or ask for less";
+    case LOKHAZIM_NOT_PERMITTED:
+        return "the quota lacks the permission for this call; it was cleared, and only an opening or an image that is read sets "
+               "it again";
+    default:
+        return "unknown refusal";
+    }
+}
 
 /* ---- A narrower handle ---- */
 

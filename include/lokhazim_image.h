@@ -11,7 +11,7 @@
  * number that they begin with.
  *
  * The functions keep no pointer and take any bytes. Reading and moving need room
- * for a whole heap on the stack (see README): a refused image must not have
+ * for a whole heap on the stack (docs/FIGURES.md): a refused image must not have
  * touched the heap it was to be read into, and a move has no heap lent.
  *
  * Neither pointer is null, and image, heap and accounts don't overlap.
@@ -206,6 +206,37 @@ struct lokhazim_compare_reply lokhazim_image_compare(
  */
 struct lokhazim_next_reply lokhazim_image_compare_next(
     const uint8_t *first, size_t first_length, const uint8_t *second, size_t second_length, uint32_t part, size_t at);
+
+/* ---- A refusal in words ---- */
+
+/* What is wrong, and what to do, for any number; never a null pointer. Below 21 the words are lokhazim_refusal_text's. */
+static inline const char *lokhazim_image_refusal_text(uint32_t refusal)
+{
+    switch (refusal) {
+    case LOKHAZIM_IMAGE_LENGTH:
+        return "the image's length is 0 or no multiple of 512; hand over the whole image and nothing else";
+    case LOKHAZIM_IMAGE_FRAME:
+        return "a frame's check, number or count is wrong; the image is damaged, cut short or longer than it was written";
+    case LOKHAZIM_IMAGE_FORM:
+        return "this is no image of a form that this version reads, or not of the form that is moved this way";
+    case LOKHAZIM_IMAGE_CONTENTS:
+        return "the image states a heap length that it can't have, or has bytes where zeros belong; it was not written by this "
+               "library";
+    case LOKHAZIM_IMAGE_ROOM:
+        return "the lent image is too short, or the lent heap has not the length of the image's; ask for the image's length, or "
+               "examine the image";
+    case LOKHAZIM_IMAGE_INCONSISTENT:
+        return "the heap and the accounts in the image don't agree; it was not written by this library";
+    case LOKHAZIM_IMAGE_HEAP_LENGTHS:
+        return "the heaps of the two images have different lengths; only images of one length are compared";
+    case LOKHAZIM_IMAGE_NOT_CARRIED:
+        return "form 1 has fewer quotas and records, all permissions, no quarantine and edition 1 alone; save form 2";
+    case LOKHAZIM_IMAGE_FORMS_DIFFER:
+        return "the two images are of different forms; move one to the form of the other to compare them";
+    default:
+        return lokhazim_refusal_text(refusal);
+    }
+}
 
 /* ---- The same with the accounts by pointer; each gives its refusal ---- */
 

@@ -95,6 +95,23 @@ struct lokhazim_send_reply lokhazim_queue_send(
 /* Gives the oldest handle, as it was sent. Refusals 53, 52. */
 struct lokhazim_receive_reply lokhazim_queue_receive(struct lokhazim_queue queue);
 
+/* ---- A refusal in words ---- */
+
+/* What is wrong, and what to do, for any number; never a null pointer. Below 51 the words are lokhazim_refusal_text's. */
+static inline const char *lokhazim_queue_refusal_text(uint32_t refusal)
+{
+    switch (refusal) {
+    case LOKHAZIM_QUEUE_FULL:
+        return "the queue is full; receive first";
+    case LOKHAZIM_QUEUE_EMPTY:
+        return "nothing is on its way; send first";
+    case LOKHAZIM_QUEUE_DAMAGED:
+        return "the queue's count is above 16; something else has written to it, so make a new queue";
+    default:
+        return lokhazim_refusal_text(refusal);
+    }
+}
+
 /* ---- The same with pointers; each gives its refusal, 0 where there is none ---- */
 
 /* Sends a handle as lokhazim_queue_send does; *accounts and *queue stay where it is refused. */

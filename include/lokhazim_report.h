@@ -72,6 +72,28 @@ struct lokhazim_import_reply lokhazim_report_import(const uint8_t *text, size_t 
 /* Writes the grants as LOKHAZIM_REPORT_LENGTH characters to the front of a text; bytes behind them stay. No zero byte is added. */
 struct lokhazim_export_reply lokhazim_report_export(uint8_t *text, size_t length, struct lokhazim_grants grants);
 
+/* ---- A refusal in words ---- */
+
+/* What is wrong, and what to do, for any number; never a null pointer. */
+static inline const char *lokhazim_report_refusal_text(uint32_t refusal)
+{
+    switch (refusal) {
+    case LOKHAZIM_REPORT_ACCEPTED:
+        return "not refused";
+    case LOKHAZIM_REPORT_CHARACTER:
+        return "a wrong character, or one at a wrong place; a line is six words of eight digits 0-9 and a-f, single spaces "
+               "between them, and a line feed";
+    case LOKHAZIM_REPORT_RESERVED:
+        return "a word after the first is not zero; only the first word, the grant, may be another number";
+    case LOKHAZIM_REPORT_TOO_MANY:
+        return "something stands behind the last quota's line; a report has at most 32 lines";
+    case LOKHAZIM_REPORT_ROOM:
+        return "the lent text has fewer than 1728 bytes; lend that many";
+    default:
+        return "unknown refusal";
+    }
+}
+
 /* ---- The same over characters, with the grants by pointer; each gives its refusal ---- */
 
 /*

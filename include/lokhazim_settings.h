@@ -113,6 +113,29 @@ struct lokhazim_add_reply lokhazim_settings_add(
 struct lokhazim_entry_reply lokhazim_settings_next(
     const uint8_t *store, size_t length, size_t used, size_t at, uint16_t last);
 
+/* ---- A refusal in words ---- */
+
+/* What is wrong, and what to do, for any number; never a null pointer. */
+static inline const char *lokhazim_settings_refusal_text(uint32_t refusal)
+{
+    switch (refusal) {
+    case LOKHAZIM_SETTINGS_ACCEPTED:
+        return "not refused";
+    case LOKHAZIM_SETTINGS_MALFORMED:
+        return "a store is no run of entries: one is cut short, too long or of a falling version; take another copy of it";
+    case LOKHAZIM_SETTINGS_MISSING:
+        return "neither store has an entry of this name at this version; ask at a higher version, or add one";
+    case LOKHAZIM_SETTINGS_VALUE_LENGTH:
+        return "the value has more than 64 bytes; shorten it, or spread it over several names";
+    case LOKHAZIM_SETTINGS_VERSION_FALLS:
+        return "the version is below that of the store's last entry; add it at that version or a higher one";
+    case LOKHAZIM_SETTINGS_FULL:
+        return "the entry has no room behind the used bytes; lend more bytes, 4 and the value's length";
+    default:
+        return "unknown refusal";
+    }
+}
+
 /* ---- The same with pointers; each gives its refusal ---- */
 
 /*

@@ -289,3 +289,12 @@ fn quotas_up_to_the_last() {
 fn an_opening_with_eight_grants_is_bad() {
     prints("papers-eight-grants", "open 64 1 2 3 4 5 6 7 8\n", "bad\n");
 }
+
+#[test]
+fn the_story_of_the_valve_is_answered_as_it_is_told() {
+    let file = |name: &str| {
+        let path = format!("{}/../examples/{name}", env!("CARGO_MANIFEST_DIR"));
+        std::fs::read_to_string(path).expect("the example is there")
+    };
+    prints("valve", &file("valve.replay"), &file("valve.answers"));
+}

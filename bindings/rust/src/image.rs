@@ -96,7 +96,7 @@ pub fn examine_image(image: &[u8]) -> Result<ImageFacts, ImageRefusal> {
 ///
 /// assert_eq!(
 ///     ImageRefusal::Room.to_string(),
-///     "refusal 25: the lent image is too short, or the lent heap has not the length of the image's; see image_length"
+///     "refusal 25: the lent image is too short, or the lent heap has not the length of the image's; ask for the image's length, or examine the image"
 /// );
 /// ```
 #[derive(Clone, Copy, Debug, PartialEq, Eq, Hash)]
@@ -184,7 +184,7 @@ impl ImageRefusal {
             ImageRefusal::FrameWrong => "a frame's check, number or count is wrong; the image is damaged, cut short or longer than it was written",
             ImageRefusal::FormNumber => "this is no image of a form that this version reads, or not of the form that is moved this way",
             ImageRefusal::Contents => "the image states a heap length that it can't have, or has bytes where zeros belong; it was not written by this library",
-            ImageRefusal::Room => "the lent image is too short, or the lent heap has not the length of the image's; see image_length",
+            ImageRefusal::Room => "the lent image is too short, or the lent heap has not the length of the image's; ask for the image's length, or examine the image",
             ImageRefusal::HeapLengths => "the heaps of the two images have different lengths; only images of one length are compared",
             ImageRefusal::NotCarried => "form 1 has fewer quotas and records, all permissions, no quarantine and edition 1 alone; save form 2",
             ImageRefusal::FormsDiffer => "the two images are of different forms; move one to the form of the other to compare them",

@@ -19,7 +19,7 @@ pub const REPORT_LENGTH: usize = 1_728;
 ///
 /// assert_eq!(
 ///     ReportRefusal::Room.to_string(),
-///     "refusal 34: the lent text has fewer than 1728 bytes; lend REPORT_LENGTH bytes"
+///     "refusal 34: the lent text has fewer than 1728 bytes; lend that many"
 /// );
 /// ```
 #[derive(Clone, Copy, Debug, PartialEq, Eq, Hash)]
@@ -72,7 +72,7 @@ impl ReportRefusal {
             ReportRefusal::Character => "a wrong character, or one at a wrong place; a line is six words of eight digits 0-9 and a-f, single spaces between them, and a line feed",
             ReportRefusal::Reserved => "a word after the first is not zero; only the first word, the grant, may be another number",
             ReportRefusal::TooMany => "something stands behind the last quota's line; a report has at most 32 lines",
-            ReportRefusal::Room => "the lent text has fewer than 1728 bytes; lend REPORT_LENGTH bytes",
+            ReportRefusal::Room => "the lent text has fewer than 1728 bytes; lend that many",
         }
     }
 }
