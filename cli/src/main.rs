@@ -1,4 +1,4 @@
-//! The command `lokhazim`: replays scripts, works on images and settings, and reads audit reports. Every rule is in the proved library;
+//! The command `lokhazim`: replays and draws scripts, works on images and settings, and reads audit reports. Every rule is in the proved library;
 //! this program reads files, calls it and prints.
 //!
 //! Exit status: 0 where all went well, 1 where the library refuses, 2 for wrong words or a file that
@@ -9,6 +9,7 @@
 #[cfg(all(library_missing, not(clippy)))]
 compile_error!("liblokhazim_replay.a is missing: run 'make cli' in the repository");
 
+mod draw;
 mod failure;
 mod files;
 mod image;
@@ -48,6 +49,11 @@ lokhazim: a heap that parts of a firmware share, by its proved library
                                       is refused
     lokhazim image move up IN OUT     write an image of form 1 in form 2; 'move down' writes form 2 in
                                       form 1, where that can carry it: not with quarantine or edition 2
+    lokhazim draw SCRIPT|IMAGE -o FILE.svg
+                                      draw the heap as a strip of blocks with their holders, and of a
+                                      script each object over the calls; FILE.html has a table too;
+                                      '--quarantine' and '--edition 2' open a script's heap so, and with
+                                      quarantine a line can be 'sweep'
     lokhazim report import FILE       print the grants in an audit report, to stand behind 'open H': FILE
                                       has a line for each quota, or is the linker's JSON
     lokhazim report export G..        print grants as a report of 32 lines; missing ones are 0
@@ -60,8 +66,8 @@ lokhazim: a heap that parts of a firmware share, by its proved library
     lokhazim help | version
 
 A script begins with 'open H' and {QUOTAS} grants, then has a call to a line: alloc q n, array q n s,
-claim q b l s, free q b l s, all q, realloc q b l s n. Its heap is plain and of edition 1. SCRIPT, FILE
-and IN can be - for standard input.
+claim q b l s, free q b l s, all q, realloc q b l s n. Its heap is plain and of edition 1. SCRIPT, IMAGE,
+FILE and IN can be - for standard input.
 A file of settings holds the used bytes of a store; an empty one is a store without entries. NAME is
 0 to 255, VERSION 0 to 65535; with --hex a value is two hexadecimal digits for each byte.
 Status 0: done. 1: refused, with the number and the reason. 2: wrong words, or a file that can't be
@@ -109,6 +115,7 @@ fn run(words: &[&str]) -> Result<(), Failure> {
         ["image", "compare", first, second] => image::compare(first, second),
         ["image", "move", "up", image, out] => image::move_to(Form::Second, image, out),
         ["image", "move", "down", image, out] => image::move_to(Form::First, image, out),
+        ["draw", words @ ..] => draw::draw(words),
         ["report", "import", file] => report::import(file),
         ["report", "export", grants @ ..] if !grants.is_empty() => report::export(grants),
         ["settings", "get", board, defaults, name, version] => {

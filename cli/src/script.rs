@@ -1,10 +1,13 @@
-//! Scripts: what they print, and the heap that they leave.
+//! Scripts: what they print, the heap that they leave, and the heap after each call.
 //!
 //! What a line means is decided by the proved replay. To get at the heap that a script leaves, its
 //! calls are made again by the library's own functions, and each answer is held against what the
-//! proved replay prints.
+//! proved replay prints. A heap of other settings than the replay's has its answers from the
+//! library's functions alone; the form of each line is the replay's.
 
-use lokhazim::{Handle, Heap, Refusal, QUOTAS};
+use std::borrow::Cow;
+
+use lokhazim::{Handle, Heap, Kind, Refusal, Settings, QUOTAS};
 
 use crate::failure::Failure;
 use crate::proved::{replay, LONGEST};
@@ -35,78 +38,142 @@ pub fn printed(name: &str, script: &[u8]) -> Printed {
     Printed { text, bad }
 }
 
+/// A call of a script that was made, or the opening.
+pub struct Call {
+    /// Its line, from 1.
+    pub line: usize,
+    /// The line's words.
+    pub words: String,
+    /// The quota that it names; none in an opening and a sweep.
+    pub quota: Option<u32>,
+    /// The numbers of its answer.
+    pub answer: Result<Vec<u32>, Refusal>,
+}
+
+impl Call {
+    /// The answer as the replay prints it.
+    pub fn printed(&self) -> String {
+        match &self.answer {
+            Ok(numbers) => numbers
+                .iter()
+                .fold("ok".to_owned(), |text, number| format!("{text} {number}")),
+            Err(refusal) => format!("no {}", refusal.number()),
+        }
+    }
+}
+
 /// Runs a script and hands the heap that it leaves to a function.
 pub fn left_by<T>(
     name: &str,
     script: &[u8],
     use_heap: impl FnOnce(&Heap) -> Result<T, Failure>,
 ) -> Result<T, Failure> {
-    let printed = printed(name, script);
+    followed(name, script, Settings::default(), |_, _| Ok(()), use_heap)
+}
+
+/// Runs a script on a heap of these settings. Hands each call, the opening first, to a function with
+/// the heap behind it, and the heap that the script leaves to another.
+pub fn followed<T>(
+    name: &str,
+    script: &[u8],
+    settings: Settings,
+    mut each: impl FnMut(Call, &Heap) -> Result<(), Failure>,
+    end: impl FnOnce(&Heap) -> Result<T, Failure>,
+) -> Result<T, Failure> {
+    let printed = printed(name, &judged(script, settings.kind));
     if let Some(bad) = printed.bad {
         return Err(Failure::Refused(bad));
     }
     let mut answers = printed.text.lines();
-    let mut lines = script.split(|byte| *byte == b'\n').map(numbers);
-    let (_, opening) = lines.next().unwrap_or_default();
     let refused = |refusal| Failure::Refused(format!("{name}: the opening: {refusal}"));
     if answers.next() != Some("ok") {
         return Err(refused(Refusal::HeapLength));
     }
-    let [length, grants @ ..] = opening.as_slice() else {
-        return Err(differs(name, 1));
-    };
-    let grants: [u32; QUOTAS] = grants.try_into().map_err(|_| differs(name, 1))?;
-    let mut memory = vec![0; *length as usize];
-    let mut heap = Heap::open(&mut memory, grants).map_err(refused)?;
-    for (line, (word, values)) in (2..).zip(lines.filter(|(word, _)| !word.is_empty())) {
-        let answer = answer(&mut heap, &word, &values).ok_or_else(|| differs(name, line))?;
-        if answers.next() != Some(answer.as_str()) {
+    let text = String::from_utf8_lossy(script);
+    let mut lines = text.lines();
+    let opened = opening(lines.next().unwrap_or_default());
+    let (call, length, grants) = opened.ok_or_else(|| differs(name, 1))?;
+    let mut memory = vec![0; length];
+    let mut heap = Heap::open_with(&mut memory, grants, settings).map_err(refused)?;
+    each(call, &heap)?;
+    for (line, words) in (2..).zip(lines) {
+        let call = made(&mut heap, line, words).ok_or_else(|| differs(name, line))?;
+        let same = answers.next() == Some(call.printed().as_str());
+        if !same && settings == Settings::default() {
             return Err(differs(name, line));
         }
+        each(call, &heap)?;
     }
-    use_heap(&heap)
+    end(&heap)
 }
 
-/// The word and the numbers of a line of the replay.
-fn numbers(line: &[u8]) -> (String, Vec<u32>) {
-    let text = String::from_utf8_lossy(line);
-    let mut words = text.split(' ');
-    let first = words.next().unwrap_or_default().to_owned();
+/// An opening as a call that is accepted, with the heap's length and the grants.
+fn opening(words: &str) -> Option<(Call, usize, [u32; QUOTAS])> {
+    let (_, numbers) = parted(words);
+    let (length, grants) = numbers.split_first()?;
+    let call = Call {
+        line: 1,
+        words: words.to_owned(),
+        quota: None,
+        answer: Ok(Vec::new()),
+    };
+    Some((call, *length as usize, grants.try_into().ok()?))
+}
+
+/// The script by which the replay judges the form of each line. It knows no sweep, which a heap with
+/// quarantine needs: a line `sweep` is judged as `all 0`, of the same length.
+fn judged(script: &[u8], kind: Kind) -> Cow<'_, [u8]> {
+    if kind == Kind::Plain {
+        return Cow::Borrowed(script);
+    }
+    let lines = script.split(|byte| *byte == b'\n');
+    let lines: Vec<&[u8]> = lines
+        .map(|line| if line == b"sweep" { b"all 0" } else { line })
+        .collect();
+    Cow::Owned(lines.join(&b'\n'))
+}
+
+/// The word and the numbers of a line.
+fn parted(line: &str) -> (&str, Vec<u32>) {
+    let mut words = line.split(' ');
+    let first = words.next().unwrap_or_default();
     (first, words.filter_map(|word| word.parse().ok()).collect())
 }
 
-/// Makes the call of a line and gives its answer as the replay prints it.
-fn answer(heap: &mut Heap, word: &str, values: &[u32]) -> Option<String> {
+/// Makes the call of a line.
+fn made(heap: &mut Heap, line: usize, words: &str) -> Option<Call> {
     let handle = |b: u32, l: u32, s: u32| Handle {
         base: b,
         length: l,
         serial: s,
     };
-    Some(match (word, values) {
-        ("alloc", &[q, n]) => of_handle(heap.allocate(q, n)),
-        ("array", &[q, n, s]) => of_handle(heap.allocate_array(q, n, s)),
-        ("claim", &[q, b, l, s]) => of_amount(heap.claim(q, handle(b, l, s))),
-        ("free", &[q, b, l, s]) => of_amount(heap.release(q, handle(b, l, s))),
-        ("all", &[q]) => of_amount(heap.free_all(q)),
-        ("realloc", &[q, b, l, s, n]) => of_handle(heap.reallocate(q, handle(b, l, s), n)),
+    let (word, values) = parted(words);
+    let answer = match (word, values.as_slice()) {
+        ("alloc", &[q, n]) => heap.allocate(q, n).map(of_handle),
+        ("array", &[q, n, s]) => heap.allocate_array(q, n, s).map(of_handle),
+        ("claim", &[q, b, l, s]) => heap.claim(q, handle(b, l, s)).map(of_amount),
+        ("free", &[q, b, l, s]) => heap.release(q, handle(b, l, s)).map(of_amount),
+        ("all", &[q]) => heap.free_all(q).map(of_amount),
+        ("realloc", &[q, b, l, s, n]) => heap.reallocate(q, handle(b, l, s), n).map(of_handle),
+        ("sweep", &[]) => heap.sweep().map(of_amount),
         _ => return None,
+    };
+    Some(Call {
+        line,
+        words: words.to_owned(),
+        quota: values.first().copied(),
+        answer,
     })
 }
 
-/// An answer with a handle as the replay prints it.
-fn of_handle(answer: Result<Handle, Refusal>) -> String {
-    match answer {
-        Ok(h) => format!("ok {} {} {}", h.base, h.length, h.serial),
-        Err(refusal) => format!("no {}", refusal.number()),
-    }
+/// The numbers of an answer with a handle.
+fn of_handle(handle: Handle) -> Vec<u32> {
+    vec![handle.base, handle.length, handle.serial]
 }
 
-/// An answer with an amount as the replay prints it.
-fn of_amount(answer: Result<u32, Refusal>) -> String {
-    match answer {
-        Ok(amount) => format!("ok {amount}"),
-        Err(refusal) => format!("no {}", refusal.number()),
-    }
+/// The number of an answer with an amount.
+fn of_amount(amount: u32) -> Vec<u32> {
+    vec![amount]
 }
 
 /// The failure of a line whose call does not answer as the proved replay does: the two libraries

@@ -5,19 +5,9 @@ mod support;
 use std::fs;
 use std::path::Path;
 
-use support::{expect, folder, lokhazim, names};
+use support::{expect, folder, lokhazim, names, open};
 
-use lokhazim::{grants, Edition, Heap, Kind, Settings, FORM_1_QUOTAS, QUOTAS};
-
-/// The line of an opening with these grants, and 0 for every other quota.
-fn open(length: u32, first: &[u32]) -> String {
-    let mut grants = [0; QUOTAS];
-    grants[..first.len()].copy_from_slice(first);
-    format!(
-        "open {length} {}\n",
-        grants.map(|grant| grant.to_string()).join(" ")
-    )
-}
+use lokhazim::{grants, Edition, Heap, Kind, Settings, FORM_1_QUOTAS};
 
 /// The example of the rule book's replay section.
 fn script() -> String {

@@ -4,6 +4,8 @@ use std::fs;
 use std::path::{Path, PathBuf};
 use std::process::{Command, Output, Stdio};
 
+use lokhazim::QUOTAS;
+
 /// A folder of a test's own, empty at first.
 pub fn folder(name: &str) -> PathBuf {
     let folder = Path::new(env!("CARGO_TARGET_TMPDIR")).join(name);
@@ -41,4 +43,14 @@ pub fn names(folder: &Path) -> Vec<String> {
         .collect();
     names.sort();
     names
+}
+
+/// The line of an opening with these grants, and 0 for every other quota.
+pub fn open(length: u32, first: &[u32]) -> String {
+    let mut grants = [0; QUOTAS];
+    grants[..first.len()].copy_from_slice(first);
+    format!(
+        "open {length} {}\n",
+        grants.map(|grant| grant.to_string()).join(" ")
+    )
 }
