@@ -9,8 +9,8 @@ use Rattle.accounts.specs.declared.Quota.{Quota}
 use Rattle.accounts.specs.declared.Hold.{Hold}
 use Rattle.accounts.specs.declared.Accounts.{Accounts}
 use Rattle.accounts.specs.declared.Place.the-variants.{At, Nothing}
-use Rattle.accounts.specs.declared.Kind.the-variants.{Plain, Quarantine}
-use Rattle.accounts.specs.declared.Edition.the-variants.{First, Second}
+use Rattle.accounts.specs.declared.settings.Kind.the-variants.{Plain, Quarantine}
+use Rattle.accounts.specs.declared.settings.Edition.the-variants.{First, Second}
 use Rattle.accounts.specs.Accounts.{QUOTAS, HOLDS, zero-hold, zero-accounts, with-quotas, with-last-serial, with-kind, with-edition, granted, plain}
 use Rattle.accounts.specs.Accounts.{opened}
 use Rattle.accounts.specs.Accounts.{ALLOCATE, CLAIM, FREE-ALL, permissible, permissions, permits, cleared, left-permissions, clear-permissions}

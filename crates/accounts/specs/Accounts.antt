@@ -7,11 +7,11 @@ use lib.Dec.{leb, ltb, eqb}
 use Rattle.accounts.specs.declared.Quota.{Quota}
 use Rattle.accounts.specs.declared.Hold.{Hold}
 use Rattle.accounts.specs.declared.Accounts.{Accounts}
-use Rattle.accounts.specs.declared.Kind.{Kind}
-use Rattle.accounts.specs.declared.Kind.the-variants.{Plain, Quarantine}
-use Rattle.accounts.specs.declared.Edition.{Edition}
-use Rattle.accounts.specs.declared.Edition.the-variants.{First, Second}
-use Rattle.accounts.specs.declared.Settings.{Settings}
+use Rattle.accounts.specs.declared.settings.Kind.{Kind}
+use Rattle.accounts.specs.declared.settings.Kind.the-variants.{Plain, Quarantine}
+use Rattle.accounts.specs.declared.settings.Edition.{Edition}
+use Rattle.accounts.specs.declared.settings.Edition.the-variants.{First, Second}
+use Rattle.accounts.specs.declared.settings.Settings.{Settings}
 use Rattle.accounts.specs.declared.Place.{Place}
 use Rattle.accounts.specs.declared.Place.the-variants.{At, Nothing}
 

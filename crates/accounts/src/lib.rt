@@ -1,10 +1,16 @@
 // The accounts of a shared heap: quotas, the last serial and hold records, taken by value and given back by value (rules, section 3).
 ghost use Prim.Native.Nat.{_<_};
 ghost use mathlib.Core.Path.{_≡_};
-ghost use Rattle.accounts.specs.Accounts.{zero-hold, zero-accounts, kind-number, edition-number, begun, charged, refunded, used, is-for, dropped, opened};
+ghost use Rattle.accounts.specs.Accounts.{zero-hold, zero-accounts, begun, charged, refunded, used, is-for, dropped, opened};
 ghost use Rattle.accounts.specs.Accounts.{remaining, spent, charge, refund, with-holds, with-last-serial};
 ghost use Rattle.accounts.specs.Accounts.{with-permissions, bit-left, cleared, left-permissions, clear-permissions};
 ghost use Rattle.accounts.specs.Accounts.{find-hold, lowest-unused, hold-at, put-hold, drop-hold, drop-records};
+
+mod settings;
+
+pub use settings::Edition;
+pub use settings::Kind;
+pub use settings::Settings;
 
 // The number of quotas.
 pub const QUOTAS: usize = 32;
@@ -50,24 +56,6 @@ pub struct Accounts {
     pub edition: u8,
 }
 
-// What becomes of a block that nobody holds: it is free at once, or waits for a sweep.
-pub enum Kind {
-    Plain,
-    Quarantine,
-}
-
-// Which table of units lengths are rounded by.
-pub enum Edition {
-    First,
-    Second,
-}
-
-// What an opening chooses beside the grants.
-pub struct Settings {
-    pub kind: Kind,
-    pub edition: Edition,
-}
-
 // The place of a hold record, if there is one.
 pub enum Place {
     At(usize),
@@ -92,30 +80,6 @@ fn cleared(bits: u32, permissions: u8) -> u8
     let claim = bit_left(bits / 2, permissions / 2);
     let free_all = bit_left(bits / 4, permissions / 4);
     allocate + (2 * claim + 4 * free_all)
-}
-
-impl Kind {
-    // The kind as a number of the accounts.
-    pub fn number(self) -> u8
-        ensures { λ r. ⌜ r ≡ kind-number self ⌝ }
-    {
-        match self {
-            Kind::Plain => 0,
-            Kind::Quarantine => 1,
-        }
-    }
-}
-
-impl Edition {
-    // The edition as a number of the accounts.
-    pub fn number(self) -> u8
-        ensures { λ r. ⌜ r ≡ edition-number self ⌝ }
-    {
-        match self {
-            Edition::First => 0,
-            Edition::Second => 1,
-        }
-    }
 }
 
 impl Quota {

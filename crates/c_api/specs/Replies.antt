@@ -5,11 +5,11 @@ use mathlib.Core.List.{List}
 use mathlib.Core.Option.{Option, none, some}
 use mathlib.Core.Bool.{cond}
 use lib.Dec.{eqb}
-use Rattle.accounts.specs.declared.Kind.{Kind}
-use Rattle.accounts.specs.declared.Kind.the-variants.{Plain, Quarantine}
-use Rattle.accounts.specs.declared.Edition.{Edition}
-use Rattle.accounts.specs.declared.Edition.the-variants.{First, Second}
-use Rattle.accounts.specs.declared.Settings.{Settings}
+use Rattle.accounts.specs.declared.settings.Kind.{Kind}
+use Rattle.accounts.specs.declared.settings.Kind.the-variants.{Plain, Quarantine}
+use Rattle.accounts.specs.declared.settings.Edition.{Edition}
+use Rattle.accounts.specs.declared.settings.Edition.the-variants.{First, Second}
+use Rattle.accounts.specs.declared.settings.Settings.{Settings}
 use Rattle.model.specs.declared.ListedBlock.{ListedBlock}
 use Rattle.model.specs.Answers.{Values, zero-handle, zero-range, refused}
 use Rattle.model.specs.Calls.{Outcome}

@@ -12,13 +12,13 @@ use lib.Dec.{leb, eqb, lit<, ltb}
 use borrow.Author.Tests.{leb-true, eqb-true}
 use Rattle.accounts.specs.declared.Quota.{Quota}
 use Rattle.accounts.specs.declared.Accounts.{Accounts}
-use Rattle.accounts.specs.declared.Settings.{Settings}
+use Rattle.accounts.specs.declared.settings.Settings.{Settings}
 use Rattle.accounts.specs.Accounts.{QUOTAS, HOLDS, ALL-PERMISSIONS, permissible, zero-quota, zero-hold, permissions, granted, opened, used, kind-number}
 use Rattle.accounts.specs.Accounts.{edition-number}
-use Rattle.accounts.specs.declared.Kind.{Kind}
-use Rattle.accounts.specs.declared.Kind.the-variants.{Plain, Quarantine}
-use Rattle.accounts.specs.declared.Edition.{Edition}
-use Rattle.accounts.specs.declared.Edition.the-variants.{First, Second}
+use Rattle.accounts.specs.declared.settings.Kind.{Kind}
+use Rattle.accounts.specs.declared.settings.Kind.the-variants.{Plain, Quarantine}
+use Rattle.accounts.specs.declared.settings.Edition.{Edition}
+use Rattle.accounts.specs.declared.settings.Edition.the-variants.{First, Second}
 use Rattle.layout.specs.Blocks.{render}
 use Rattle.model.specs.Lists.{all, total}
 use Rattle.model.specs.Answers.{accepted}

@@ -6,9 +6,9 @@ use mathlib.Core.List.{List, [], _∷_, map}
 use mathlib.Core.Bool.{true, false}
 use lib.ListN.{replicate}
 use Rattle.rounding.specs.Rounding.{unit}
-use Rattle.accounts.specs.declared.Settings.{Settings}
-use Rattle.accounts.specs.declared.Kind.the-variants.{Quarantine}
-use Rattle.accounts.specs.declared.Edition.the-variants.{First}
+use Rattle.accounts.specs.declared.settings.Settings.{Settings}
+use Rattle.accounts.specs.declared.settings.Kind.the-variants.{Quarantine}
+use Rattle.accounts.specs.declared.settings.Edition.the-variants.{First}
 use Rattle.accounts.specs.Accounts.{QUOTAS, plain}
 use Rattle.model.specs.Objects.{objects-of}
 use Rattle.model.specs.Answers.{accepted, refused, given, amount-of}

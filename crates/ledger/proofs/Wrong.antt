@@ -10,9 +10,9 @@ use mathlib.Core.Logic.{_⊎_, inl, inr}
 use lib.ListN.{length, replicate, getD, length-append}
 use lib.Dec.{ltb}
 use borrow.Author.Tests.{ltb-true}
-use Rattle.accounts.specs.declared.Settings.{Settings}
-use Rattle.accounts.specs.declared.Kind.the-variants.{Plain, Quarantine}
-use Rattle.accounts.specs.declared.Edition.the-variants.{First, Second}
+use Rattle.accounts.specs.declared.settings.Settings.{Settings}
+use Rattle.accounts.specs.declared.settings.Kind.the-variants.{Plain, Quarantine}
+use Rattle.accounts.specs.declared.settings.Edition.the-variants.{First, Second}
 use Rattle.accounts.specs.Accounts.{QUOTAS, plain}
 use Rattle.rounding.specs.Rounding.{unit, table}
 use Rattle.model.specs.Lists.{all}

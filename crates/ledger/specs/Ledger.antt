@@ -8,7 +8,7 @@ use lib.Dec.{ltb, eqb}
 use Rattle.accounts.specs.declared.Quota.{Quota}
 use Rattle.accounts.specs.declared.Hold.{Hold}
 use Rattle.accounts.specs.declared.Accounts.{Accounts}
-use Rattle.accounts.specs.declared.Settings.{Settings}
+use Rattle.accounts.specs.declared.settings.Settings.{Settings}
 use Rattle.accounts.specs.Accounts.{QUOTAS, kind-number, edition-number}
 use Rattle.layout.specs.Blocks.{Block, size, quarantined}
 use Rattle.model.specs.Objects.{blocks-of, objects-of}

@@ -12,7 +12,7 @@ use mathlib.Core.Logic.{_↔_}
 use lib.Dec.{leb}
 use borrow.Author.Tests.{leb-true}
 use Rattle.accounts.specs.declared.Accounts.{Accounts}
-use Rattle.accounts.specs.declared.Settings.{Settings}
+use Rattle.accounts.specs.declared.settings.Settings.{Settings}
 use Rattle.accounts.specs.Accounts.{zero-accounts}
 use Rattle.model.specs.Lists.{all, any}
 use Rattle.model.specs.Answers.{Values, refused}

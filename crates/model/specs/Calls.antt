@@ -5,7 +5,7 @@ use mathlib.Core.Bool.{cond}
 use lib.ListN.{length, replicate}
 use lib.Dec.{eqb}
 use Rattle.accounts.specs.declared.Accounts.{Accounts}
-use Rattle.accounts.specs.declared.Settings.{Settings}
+use Rattle.accounts.specs.declared.settings.Settings.{Settings}
 use Rattle.accounts.specs.Accounts.{zero-accounts, opened, with-holds, with-last-serial, charge, refund, remaining, drop-records, left-permissions}
 use Rattle.accounts.specs.Accounts.{clear-permissions}
 use Rattle.layout.specs.Blocks.{Block, size, render, quarantined}

@@ -3,9 +3,9 @@
 use Prim.Native.Nat.{ℕ, _-_}
 use mathlib.Core.List.{List, [], _∷_}
 use lib.ListN.{replicate, take}
-use Rattle.accounts.specs.declared.Kind.the-variants.{Plain, Quarantine}
-use Rattle.accounts.specs.declared.Edition.the-variants.{Second}
-use Rattle.accounts.specs.declared.Settings.{Settings}
+use Rattle.accounts.specs.declared.settings.Kind.the-variants.{Plain, Quarantine}
+use Rattle.accounts.specs.declared.settings.Edition.the-variants.{Second}
+use Rattle.accounts.specs.declared.settings.Settings.{Settings}
 use Rattle.accounts.specs.Accounts.{QUOTAS, plain, with-holds, with-edition}
 use Rattle.rounding.specs.Rounding.{table}
 use Rattle.model.specs.Answers.{Values, refused, given, amount-of}

@@ -3,8 +3,8 @@ use Prim.Native.Nat.{ℕ, _-_}
 use mathlib.Core.List.{List, [], _∷_}
 use mathlib.Core.Option.{some}
 use lib.ListN.{replicate, take}
-use Rattle.accounts.specs.declared.Kind.the-variants.{Quarantine}
-use Rattle.accounts.specs.declared.Edition.the-variants.{First}
+use Rattle.accounts.specs.declared.settings.Kind.the-variants.{Quarantine}
+use Rattle.accounts.specs.declared.settings.Edition.the-variants.{First}
 use Rattle.accounts.specs.declared.Accounts.{Accounts}
 use Rattle.accounts.specs.Accounts.{QUOTAS, zero-hold, with-holds, with-kind}
 use Rattle.model.specs.Answers.{refused, given, amount-of, listed}

@@ -12,7 +12,7 @@ use borrow.Author.Tests.{eqb-true, not-false, leb-true}
 use Rattle.accounts.specs.declared.Quota.{Quota}
 use Rattle.accounts.specs.declared.Hold.{Hold}
 use Rattle.accounts.specs.declared.Accounts.{Accounts}
-use Rattle.accounts.specs.declared.Settings.{Settings}
+use Rattle.accounts.specs.declared.settings.Settings.{Settings}
 use Rattle.accounts.specs.Accounts.{QUOTAS, HOLDS, ALL-PERMISSIONS, kind-number, edition-number, zero-hold, grants, granted, opened, used, permissions}
 use Rattle.accounts.specs.Accounts.{with-permissions, with-last-serial}
 use Rattle.rounding.specs.Rounding.{Units, table}

@@ -5,7 +5,7 @@ use mathlib.Core.List.{List, [], map}
 use mathlib.Core.Bool.{true}
 use lib.ListN.{length, replicate}
 use Rattle.accounts.specs.declared.Accounts.{Accounts}
-use Rattle.accounts.specs.declared.Settings.{Settings}
+use Rattle.accounts.specs.declared.settings.Settings.{Settings}
 use Rattle.accounts.specs.Accounts.{QUOTAS, HOLDS, ALL-PERMISSIONS, kind-number, edition-number, grants, permissions}
 use Rattle.accounts.specs.Accounts.{with-permissions, with-quotas, with-last-serial}
 use Rattle.model.specs.Calls.{open-heap}

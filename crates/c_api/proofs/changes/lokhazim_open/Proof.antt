@@ -2,7 +2,7 @@
 -- Assumes nothing.
 use mathlib.Core.Path.{ap, _∙_}
 use borrow.Author.Needs.{needs}
-use Rattle.accounts.specs.declared.Settings.{Settings}
+use Rattle.accounts.specs.declared.settings.Settings.{Settings}
 use Rattle.model.specs.Calls.{open-heap}
 use Rattle.c_api.proofs.changes.lokhazim_open.Statement.{statement}
 use Rattle.c_api.proofs.changes.lokhazim_open.Tie as tie
