@@ -8,6 +8,7 @@
 use std::fmt::Write;
 
 use lokhazim_reference::{HOLDS, QUOTAS};
+use lokhazim_seed::Seed;
 
 /// The bytes of the heap.
 pub const HEAP_BYTES: usize = 32_768;
@@ -61,12 +62,12 @@ pub struct Plan {
 impl Plan {
     /// Makes the plan for a number of live objects: so many rounds behind the first, of so many steps.
     pub fn new(live: usize, rounds: usize, steps: usize) -> Plan {
-        let mut random = Random(SEED + live as u64);
+        let mut seed = Seed::new(SEED + live as u64);
         Plan {
             live,
-            first: (1..live).map(|_| random.length(live)).collect(),
+            first: (1..live).map(|_| length(&mut seed, live)).collect(),
             rounds: (0..=rounds)
-                .map(|_| (0..steps).map(|_| random.step(live)).collect())
+                .map(|_| (0..steps).map(|_| step(&mut seed, live)).collect())
                 .collect(),
         }
     }
@@ -93,38 +94,20 @@ pub fn first_quota(place: usize) -> u32 {
     (place % QUOTAS) as u32
 }
 
-/// A small generator of random numbers (SplitMix64).
-struct Random(u64);
+/// Gives a length from 1 to the longest for so many live objects.
+fn length(seed: &mut Seed, live: usize) -> u32 {
+    (seed.draw() % longest(live)) as u32 + 1
+}
 
-impl Random {
-    /// Gives the next number.
-    fn next(&mut self) -> u64 {
-        self.0 = self.0.wrapping_add(0x9E37_79B9_7F4A_7C15);
-        let a = (self.0 ^ (self.0 >> 30)).wrapping_mul(0xBF58_476D_1CE4_E5B9);
-        let b = (a ^ (a >> 27)).wrapping_mul(0x94D0_49BB_1331_11EB);
-        b ^ (b >> 31)
-    }
-
-    /// Gives a number below a bound.
-    fn below(&mut self, bound: usize) -> usize {
-        (self.next() % bound as u64) as usize
-    }
-
-    /// Gives a length from 1 to the longest for so many live objects.
-    fn length(&mut self, live: usize) -> u32 {
-        (self.next() % longest(live)) as u32 + 1
-    }
-
-    /// Gives a step for so many live objects.
-    fn step(&mut self, live: usize) -> Step {
-        Step {
-            quota: self.below(QUOTAS) as u32,
-            length: self.length(live),
-            claimed: self.below(live),
-            released: self.below(live),
-            moved: self.below(live - 1),
-            new_length: self.length(live),
-        }
+/// Gives a step for so many live objects.
+fn step(seed: &mut Seed, live: usize) -> Step {
+    Step {
+        quota: seed.place(QUOTAS) as u32,
+        length: length(seed, live),
+        claimed: seed.place(live),
+        released: seed.place(live),
+        moved: seed.place(live - 1),
+        new_length: length(seed, live),
     }
 }
 

@@ -4,17 +4,14 @@
 
 use crate::layout::QUARANTINED_SERIAL;
 use crate::options::Options;
-use crate::permissions::Permission;
-use crate::Refusal;
+use crate::permissions::{Permission, ALL_PERMISSIONS};
+use crate::refusal::Refusal;
 
 /// The number of quotas.
 pub const QUOTAS: usize = 32;
 
 /// The number of hold records.
 pub const HOLDS: usize = 512;
-
-/// The permission bits of a quota from which nothing was cleared.
-pub const ALL_PERMISSIONS: u8 = 0b111;
 
 /// One quota: what it was granted, what is left of it and what it may do.
 #[derive(Clone, Copy, Debug, Default, PartialEq, Eq)]

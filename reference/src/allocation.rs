@@ -7,9 +7,9 @@ use crate::claims::{held_object, release_once};
 use crate::layout::{store, write_headers, Block, Handle, Layout, HEADER_BYTES};
 use crate::options::Options;
 use crate::permissions::Permission;
+use crate::refusal::Refusal;
 use crate::rounding::Rounded;
 use crate::sound::{length_is_allowed, sound_layout};
-use crate::Refusal;
 
 /// Opens a plain heap with the first edition of the table of units.
 pub fn open(heap: &mut [u8], grants: [u32; QUOTAS]) -> (Accounts, Result<(), Refusal>) {

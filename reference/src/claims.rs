@@ -4,8 +4,8 @@
 use crate::accounts::{Accounts, QuotaNumber};
 use crate::layout::{store, Block, Handle, Layout};
 use crate::permissions::Permission;
+use crate::refusal::Refusal;
 use crate::sound::sound_layout;
-use crate::Refusal;
 
 /// Adds one hold of the quota on the object and gives the whole object's length (rules 8.13 to
 /// 8.15).

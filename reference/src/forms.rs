@@ -3,8 +3,9 @@
 //! A stream is made by appending its fields and read by taking them off its front. One pair of
 //! functions serves every form; a form is only the list of what it has room for.
 
-use crate::accounts::{Accounts, Hold, Quota, ALL_PERMISSIONS, HOLDS, QUOTAS};
+use crate::accounts::{Accounts, Hold, Quota, HOLDS, QUOTAS};
 use crate::options::Options;
+use crate::permissions::ALL_PERMISSIONS;
 
 /// The stream bytes that carry the form's number and the two bytes behind it.
 pub(crate) const FORM_BYTES: usize = 4;

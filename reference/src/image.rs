@@ -6,8 +6,8 @@ use crate::accounts::Accounts;
 use crate::forms::{Fields, Form, FORM_1, FORM_2, FORM_BYTES};
 use crate::frames::{blocks_for, cut, join, BLOCK_BYTES};
 use crate::options::Options;
+use crate::refusal::Refusal;
 use crate::sound::{check, length_is_allowed};
-use crate::Refusal;
 
 /// Why an image was not written or not read.
 #[derive(Clone, Copy, Debug, PartialEq, Eq, Hash)]

@@ -10,29 +10,39 @@
 #![forbid(unsafe_code)]
 #![warn(missing_docs)]
 
-mod accounts;
-mod allocation;
-mod claims;
-mod comparison;
-mod forms;
+// Each module imports only from the groups above its own.
 mod frames;
-mod image;
-mod layout;
-mod moves;
 mod options;
 mod permissions;
-mod queries;
-mod queue;
 mod refusal;
-mod replay;
-mod report;
-mod rounding;
 mod settings;
+
+mod rounding;
+
+mod layout;
+
+mod accounts;
+
+mod forms;
+mod report;
 mod sound;
 
-pub use accounts::{Accounts, Hold, Quota, ALL_PERMISSIONS, HOLDS, QUOTAS};
+mod claims;
+mod clearing;
+mod image;
+mod queries;
+
+mod allocation;
+mod comparison;
+mod moves;
+mod queue;
+
+mod replay;
+
+pub use accounts::{Accounts, Hold, Quota, HOLDS, QUOTAS};
 pub use allocation::{allocate, allocate_array, open, open_with, reallocate};
 pub use claims::{can_release, claim, free_all, release, sweep};
+pub use clearing::clear_permissions;
 pub use comparison::{differences, Difference, Which};
 pub use image::{
     image_length, image_length_form_1, read_image, write_form_1, write_image, ImageRefusal,
@@ -40,7 +50,7 @@ pub use image::{
 pub use layout::{Block, Handle, HEADER_BYTES, QUARANTINED_SERIAL, SIZE_UNIT};
 pub use moves::{move_down, move_up};
 pub use options::{Edition, Kind, Options};
-pub use permissions::clear_permissions;
+pub use permissions::ALL_PERMISSIONS;
 pub use queries::{block_at, lend, lend_mut, remaining, Walker};
 pub use queue::{receive, send, Queue, QueueRefusal, QUEUE_PLACES};
 pub use refusal::Refusal;

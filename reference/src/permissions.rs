@@ -1,8 +1,7 @@
-//! What a quota may do, and the call that takes some of it away for good.
+//! What a quota may do.
 
-use crate::accounts::{Accounts, QuotaNumber, ALL_PERMISSIONS};
-use crate::sound::sound_layout;
-use crate::Refusal;
+/// The permission bits of a quota from which nothing was cleared.
+pub const ALL_PERMISSIONS: u8 = 0b111;
 
 /// A permission of a quota.
 #[derive(Clone, Copy, Debug, PartialEq, Eq)]
@@ -25,24 +24,4 @@ impl Permission {
         let mut set = by_bit.filter(|(bit, _)| bits >> bit & 1 == 1);
         set.any(|(_, permission)| permission == self)
     }
-}
-
-/// Takes from the quota the permissions whose bits are set in the number, and gives the bits
-/// that are left.
-// OPEN: that the number has 32 bits, of which those above bit 2 say nothing, is a choice.
-pub fn clear_permissions(
-    heap: &[u8],
-    accounts: &mut Accounts,
-    quota: u32,
-    bits: u32,
-) -> Result<u32, Refusal> {
-    sound_layout(heap, accounts)?;
-    let quota = QuotaNumber::new(quota)?;
-    let permissions = accounts.permissions_mut(quota);
-    for bit in 0..ALL_PERMISSIONS.count_ones() {
-        if bits >> bit & 1 == 1 {
-            *permissions &= !(1 << bit);
-        }
-    }
-    Ok(u32::from(*permissions))
 }

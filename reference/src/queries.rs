@@ -4,8 +4,8 @@ use std::ops::Range;
 
 use crate::accounts::{Accounts, QuotaNumber};
 use crate::layout::{Block, Handle};
+use crate::refusal::Refusal;
 use crate::sound::sound_layout;
-use crate::Refusal;
 
 /// Gives the range of the heap that the handle has of an object.
 pub fn lend(heap: &[u8], accounts: &Accounts, handle: Handle) -> Result<Range<usize>, Refusal> {

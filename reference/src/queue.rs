@@ -5,7 +5,7 @@ use std::collections::VecDeque;
 use crate::accounts::Accounts;
 use crate::claims::{can_release, claim, release};
 use crate::layout::Handle;
-use crate::Refusal;
+use crate::refusal::Refusal;
 
 /// The most handles that a queue can hold.
 pub const QUEUE_PLACES: usize = 16;

@@ -2,11 +2,13 @@
 
 use std::fmt::Write;
 
+use crate::accounts::{Accounts, QUOTAS};
+use crate::allocation::{allocate, allocate_array, open, reallocate};
+use crate::claims::{claim, free_all, release};
+use crate::layout::Handle;
+use crate::queries::Walker;
+use crate::refusal::Refusal;
 use crate::sound::length_is_allowed;
-use crate::{
-    allocate, allocate_array, claim, free_all, open, reallocate, release, Accounts, Handle,
-    Refusal, Walker, QUOTAS,
-};
 
 /// The most bytes that an input may have.
 pub const MAX_INPUT: usize = 65_536;

@@ -1,7 +1,7 @@
 //! Rounding of a requested length to the length of the object (rules, section 6).
 
 use crate::options::Edition;
-use crate::Refusal;
+use crate::refusal::Refusal;
 
 /// The largest length or product that may be requested.
 pub const MAX_REQUEST: u64 = 32_760;

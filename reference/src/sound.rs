@@ -4,10 +4,11 @@
 
 use std::collections::BTreeSet;
 
-use crate::accounts::{Accounts, Hold, ALL_PERMISSIONS, QUOTAS};
+use crate::accounts::{Accounts, Hold, QUOTAS};
 use crate::layout::{walk, Block, Found, Layout, HEADER_BYTES, QUARANTINED_SERIAL, SIZE_UNIT};
 use crate::options::{Edition, Kind, Options};
-use crate::Refusal;
+use crate::permissions::ALL_PERMISSIONS;
+use crate::refusal::Refusal;
 
 /// The shortest heap allowed, in bytes.
 pub const MIN_HEAP: usize = 64;

@@ -5,13 +5,13 @@
 use std::sync::OnceLock;
 
 use lokhazim_reference::HOLDS;
-use lokhazim_tests::calls::Pair;
-use lokhazim_tests::compare::Failure;
-use lokhazim_tests::damage::DAMAGES;
-use lokhazim_tests::histories::{self, Beginning};
+use lokhazim_tests::cases::damage::DAMAGES;
+use lokhazim_tests::judge::compare::Failure;
+use lokhazim_tests::judge::tally::Tally;
+use lokhazim_tests::run::calls::Pair;
+use lokhazim_tests::run::histories::{self, Beginning};
+use lokhazim_tests::run::unsound;
 use lokhazim_tests::state::Call;
-use lokhazim_tests::tally::Tally;
-use lokhazim_tests::unsound;
 
 /// The seed of every generated call in the gate.
 const SEED: u64 = 20_260_102;

@@ -1,8 +1,8 @@
 //! Lists of releases in two orders, from fixed seeds: bytes, accounts and answers are compared, and
 //! what the lists must have reached is checked.
 
-use lokhazim_tests::calls::Pair;
-use lokhazim_tests::cleanup::lists;
+use lokhazim_tests::run::calls::Pair;
+use lokhazim_tests::run::cleanup::lists;
 use lokhazim_tests::state::Call;
 
 /// The seed of every list in the gate.

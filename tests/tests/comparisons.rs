@@ -1,14 +1,14 @@
 //! Images compared by the proved code and by the reference, from fixed seeds.
 
 use lokhazim_reference::{Accounts, Difference, MAX_HEAP, QUOTAS};
-use lokhazim_tests::boundary::images::{all_differences, compare};
-use lokhazim_tests::calls::Pair;
-use lokhazim_tests::comparisons::pairs;
-use lokhazim_tests::forms::{Form, FORMS, FORM_1, FORM_2};
-use lokhazim_tests::image_cases::image_of;
+use lokhazim_tests::cases::states::Plan;
+use lokhazim_tests::judge::forms::{Form, FORMS, FORM_1, FORM_2};
+use lokhazim_tests::run::boundary::images::{all_differences, compare};
+use lokhazim_tests::run::calls::Pair;
+use lokhazim_tests::run::comparisons::pairs;
+use lokhazim_tests::run::image_cases::image_of;
 use lokhazim_tests::seed::Seed;
 use lokhazim_tests::state::{Call, State, PLAIN};
-use lokhazim_tests::states::Plan;
 
 /// The seed of every case.
 const SEED: u64 = 20_261_117;
@@ -121,7 +121,7 @@ fn a_run_at_the_first_byte() {
 fn striped(byte: u8) -> State {
     let mut seed = Seed::new(SEED);
     let mut state = Plan::new(&mut seed, MAX_HEAP as u32).render(&mut seed);
-    let objects: Vec<_> = lokhazim_tests::cut::blocks(&state.heap)
+    let objects: Vec<_> = lokhazim_tests::judge::cut::blocks(&state.heap)
         .into_iter()
         .filter(|block| block.serial != 0)
         .collect();

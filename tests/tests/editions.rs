@@ -3,15 +3,15 @@
 //! objects of every length in `units.rs`, images in `images.rs`.
 
 use lokhazim_reference::{Accounts, Handle, MAX_HEAP, QUOTAS};
-use lokhazim_tests::calls::Pair;
-use lokhazim_tests::cut::{header, put, QUARANTINED};
-use lokhazim_tests::judge::{broken, Sentence};
-use lokhazim_tests::ledger::unit;
-use lokhazim_tests::run::Run;
+use lokhazim_tests::cases::states::{sound, Plan};
+use lokhazim_tests::judge::cut::{header, put, QUARANTINED};
+use lokhazim_tests::judge::ledger::unit;
+use lokhazim_tests::judge::rules::{broken, Sentence};
+use lokhazim_tests::run::calls::Pair;
+use lokhazim_tests::run::unsound::check_is_the_judges;
+use lokhazim_tests::run::wanted::Run;
 use lokhazim_tests::seed::Seed;
 use lokhazim_tests::state::{Call, Choice, State, EDITIONS, PLAIN, SECOND};
-use lokhazim_tests::states::{sound, Plan};
-use lokhazim_tests::unsound::check_is_the_judges;
 
 /// The seed of the states.
 const SEED: u64 = 20_261_117;

@@ -1,21 +1,21 @@
 //! Images through the exported boundary and the reference, from fixed seeds.
 
 use lokhazim_reference::{Accounts, HOLDS, MAX_HEAP, MIN_HEAP, QUOTAS};
-use lokhazim_tests::calls::Pair;
-use lokhazim_tests::compare::Failure;
-use lokhazim_tests::cut::{header, put, quarantined, GREATEST_SERIAL, QUARANTINED};
-use lokhazim_tests::forms::{
+use lokhazim_tests::cases::harms::HARMS;
+use lokhazim_tests::cases::states::{sound_in, Plan};
+use lokhazim_tests::judge::compare::Failure;
+use lokhazim_tests::judge::cut::{header, put, quarantined, GREATEST_SERIAL, QUARANTINED};
+use lokhazim_tests::judge::forms::{
     place_of, put_byte, put_word, Form, EDITION, FORMS, FORM_1, FORM_2, KIND,
 };
-use lokhazim_tests::harms::HARMS;
-use lokhazim_tests::image_cases::{
+use lokhazim_tests::judge::tally::Tally;
+use lokhazim_tests::run::calls::Pair;
+use lokhazim_tests::run::image_cases::{
     every_byte, forged, harmed, image_of, narrow, round_trip, states, OVERFULL,
 };
-use lokhazim_tests::images::lengths_agree;
+use lokhazim_tests::run::images::lengths_agree;
 use lokhazim_tests::seed::Seed;
 use lokhazim_tests::state::{Call, State, PLAIN};
-use lokhazim_tests::states::{sound_in, Plan};
-use lokhazim_tests::tally::Tally;
 
 /// The seed of every case.
 const SEED: u64 = 20_261_116;

@@ -1,17 +1,19 @@
 //! Images moved to the other form by the proved code and by the reference, from fixed seeds.
 
 use lokhazim_reference::{HOLDS, MAX_HEAP, QUOTAS};
-use lokhazim_tests::calls::Pair;
-use lokhazim_tests::compare::Failure;
-use lokhazim_tests::forms::{place_of, put_byte, seal, Form, EDITION, FORMS, FORM_1, FORM_2, KIND};
-use lokhazim_tests::harms::HARMS;
-use lokhazim_tests::histories::{self, Beginning};
-use lokhazim_tests::image_cases::image_of;
-use lokhazim_tests::moves::{forged, harmed, states, there_and_back};
+use lokhazim_tests::cases::harms::HARMS;
+use lokhazim_tests::cases::states::{sound_in, Plan};
+use lokhazim_tests::judge::compare::Failure;
+use lokhazim_tests::judge::forms::{
+    place_of, put_byte, seal, Form, EDITION, FORMS, FORM_1, FORM_2, KIND,
+};
+use lokhazim_tests::judge::tally::Tally;
+use lokhazim_tests::run::calls::Pair;
+use lokhazim_tests::run::histories::{self, Beginning};
+use lokhazim_tests::run::image_cases::image_of;
+use lokhazim_tests::run::moves::{forged, harmed, states, there_and_back};
 use lokhazim_tests::seed::Seed;
 use lokhazim_tests::state::State;
-use lokhazim_tests::states::{sound_in, Plan};
-use lokhazim_tests::tally::Tally;
 
 /// The seed of every case.
 const SEED: u64 = 20_261_118;

@@ -2,8 +2,8 @@
 //! code and the reference answer alike, and as the rules say.
 
 use lokhazim_reference::{Accounts, Handle, QUOTAS};
-use lokhazim_tests::calls::Pair;
-use lokhazim_tests::cut::{header, live_handles, put};
+use lokhazim_tests::judge::cut::{header, live_handles, put};
+use lokhazim_tests::run::calls::Pair;
 use lokhazim_tests::state::{Answer, Call, State, PLAIN};
 
 /// The length of the heap of most states here.

@@ -2,14 +2,14 @@
 //! objects.
 
 use lokhazim_reference::{Handle, QUOTAS};
-use lokhazim_tests::calls::Pair;
-use lokhazim_tests::cut::live_handles;
-use lokhazim_tests::histories::once;
-use lokhazim_tests::ledger::Ledger;
-use lokhazim_tests::narrowing::{beside_handle, narrowed_handle};
+use lokhazim_tests::cases::narrowing::{beside_handle, narrowed_handle};
+use lokhazim_tests::cases::states::{permitted, sound, Plan};
+use lokhazim_tests::judge::cut::live_handles;
+use lokhazim_tests::judge::ledger::Ledger;
+use lokhazim_tests::run::calls::Pair;
+use lokhazim_tests::run::histories::once;
 use lokhazim_tests::seed::Seed;
 use lokhazim_tests::state::{Answer, Call, State};
-use lokhazim_tests::states::{permitted, sound, Plan};
 
 /// The seed of the states.
 const SEED: u64 = 20_260_108;

@@ -1,9 +1,9 @@
 //! The runs of section 12 of the rules, by both replay programs and by the calls.
 
 use lokhazim_reference::{Accounts, Handle, QUOTAS};
-use lokhazim_tests::calls::Pair;
-use lokhazim_tests::programs::{Feed, Programs};
-use lokhazim_tests::script::open_line;
+use lokhazim_tests::cases::script::open_line;
+use lokhazim_tests::run::calls::Pair;
+use lokhazim_tests::run::programs::{Feed, Programs};
 use lokhazim_tests::state::{Answer, Call, State, PLAIN};
 
 /// Runs both programs on lines and checks that they print these lines.

@@ -2,13 +2,13 @@
 //! answer alike, and as the rules say.
 
 use lokhazim_reference::{Accounts, Handle, ALL_PERMISSIONS, QUOTAS};
-use lokhazim_tests::calls::Pair;
-use lokhazim_tests::forms::{FORM_1, FORM_2};
-use lokhazim_tests::image_cases::image_of;
-use lokhazim_tests::judge::{broken, Sentence};
+use lokhazim_tests::cases::states::permitted;
+use lokhazim_tests::judge::forms::{FORM_1, FORM_2};
+use lokhazim_tests::judge::rules::{broken, Sentence};
+use lokhazim_tests::run::calls::Pair;
+use lokhazim_tests::run::image_cases::image_of;
+use lokhazim_tests::run::unsound::check_is_the_judges;
 use lokhazim_tests::state::{Answer, Call, State, PLAIN};
-use lokhazim_tests::states::permitted;
-use lokhazim_tests::unsound::check_is_the_judges;
 
 /// The object of every state here.
 const OBJECT: Handle = Handle {

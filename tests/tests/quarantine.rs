@@ -2,12 +2,12 @@
 //! reference answer alike, and as the rules say.
 
 use lokhazim_reference::{Accounts, Handle, HOLDS, MAX_HEAP, QUOTAS};
-use lokhazim_tests::calls::Pair;
-use lokhazim_tests::cut::{header, put, quarantined, GREATEST_SERIAL, QUARANTINED};
-use lokhazim_tests::judge::{broken, Sentence};
-use lokhazim_tests::run::Run;
+use lokhazim_tests::judge::cut::{header, put, quarantined, GREATEST_SERIAL, QUARANTINED};
+use lokhazim_tests::judge::rules::{broken, Sentence};
+use lokhazim_tests::run::calls::Pair;
+use lokhazim_tests::run::unsound::check_is_the_judges;
+use lokhazim_tests::run::wanted::Run;
 use lokhazim_tests::state::{Call, Choice, State, CHOICES, KINDS, PLAIN, QUARANTINE};
-use lokhazim_tests::unsound::check_is_the_judges;
 
 /// The run of the rule book: released blocks wait side by side, take no request and no handle, and a
 /// sweep joins them with each other and with free ones.

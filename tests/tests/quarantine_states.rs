@@ -1,12 +1,12 @@
 //! Sweeps (rules, section 22) of states that no replay reaches.
 
 use lokhazim_reference::MAX_HEAP;
-use lokhazim_tests::calls::Pair;
-use lokhazim_tests::cut::quarantined;
-use lokhazim_tests::histories::once;
+use lokhazim_tests::cases::states::{sound, Plan};
+use lokhazim_tests::judge::cut::quarantined;
+use lokhazim_tests::run::calls::Pair;
+use lokhazim_tests::run::histories::once;
 use lokhazim_tests::seed::Seed;
 use lokhazim_tests::state::{Answer, Call, State};
-use lokhazim_tests::states::{sound, Plan};
 
 /// The seed of the states.
 const SEED: u64 = 20_261_116;

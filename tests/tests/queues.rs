@@ -2,14 +2,14 @@
 //! line, any queue on any state, and histories with sends and receives.
 
 use lokhazim_reference::{Accounts, Handle, Hold, Queue, HOLDS, QUOTAS};
-use lokhazim_tests::boundary::queue::new;
-use lokhazim_tests::calls::Pair;
-use lokhazim_tests::cut::live_handles;
-use lokhazim_tests::damage::damaged_together;
-use lokhazim_tests::queues::{any_handle, any_queue, history, Queues};
+use lokhazim_tests::cases::damage::damaged_together;
+use lokhazim_tests::cases::states::{sound, Plan};
+use lokhazim_tests::judge::cut::live_handles;
+use lokhazim_tests::run::boundary::queue::new;
+use lokhazim_tests::run::calls::Pair;
+use lokhazim_tests::run::queues::{any_handle, any_queue, history, Queues};
 use lokhazim_tests::seed::Seed;
 use lokhazim_tests::state::{Call, State, PLAIN};
-use lokhazim_tests::states::{sound, Plan};
 
 /// The seed of every case.
 const SEED: u64 = 20_261_117;

@@ -2,8 +2,8 @@
 //! report changed, lines moved, cut and joined, and lent texts around 1,728 bytes.
 
 use lokhazim_reference::{QUOTAS, REPORT_BYTES};
-use lokhazim_tests::boundary::report::Imported;
-use lokhazim_tests::reports::{line, lines, random, Reports, LINE};
+use lokhazim_tests::run::boundary::report::Imported;
+use lokhazim_tests::run::reports::{line, lines, random, Reports, LINE};
 use lokhazim_tests::seed::Seed;
 
 /// The seed of every case.

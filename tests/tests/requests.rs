@@ -2,7 +2,7 @@
 //! base is the lowest multiple of the unit of the object's length (rules 6.1 to 6.3 and 23.3).
 
 use lokhazim_reference::{Accounts, QUOTAS};
-use lokhazim_tests::calls::Pair;
+use lokhazim_tests::run::calls::Pair;
 use lokhazim_tests::state::{Answer, Call, Choice, State, PLAIN, SECOND};
 
 /// The heap of every request here.

@@ -1,16 +1,16 @@
 //! What the harness makes and saves: states are as they claim, and a saved call is read as it was.
 
 use lokhazim_reference::{HOLDS, QUOTAS};
-use lokhazim_tests::case::{read_case, write_case};
-use lokhazim_tests::choice::{one_of_each, Habits, MIXED};
-use lokhazim_tests::cut::{blocks, live_handles, quarantined, GREATEST_SERIAL};
-use lokhazim_tests::forged::View;
-use lokhazim_tests::forms::{lacks_permission, FORM_1};
-use lokhazim_tests::judge::broken;
-use lokhazim_tests::ledger::unit;
+use lokhazim_tests::cases::choice::{one_of_each, Habits, MIXED};
+use lokhazim_tests::cases::forged::View;
+use lokhazim_tests::cases::states::sound;
+use lokhazim_tests::judge::case::{read_case, write_case};
+use lokhazim_tests::judge::cut::{blocks, live_handles, quarantined, GREATEST_SERIAL};
+use lokhazim_tests::judge::forms::{lacks_permission, FORM_1};
+use lokhazim_tests::judge::ledger::unit;
+use lokhazim_tests::judge::rules::broken;
 use lokhazim_tests::seed::Seed;
 use lokhazim_tests::state::Call;
-use lokhazim_tests::states::sound;
 
 #[test]
 fn a_state_that_is_made_sound_breaks_no_sentence() {

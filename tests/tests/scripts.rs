@@ -4,12 +4,12 @@
 
 use std::sync::OnceLock;
 
-use lokhazim_tests::malformed::{make, KINDS};
-use lokhazim_tests::programs::{Feed, Programs};
-use lokhazim_tests::rounds;
+use lokhazim_tests::cases::malformed::{make, KINDS};
+use lokhazim_tests::cases::themes::THEMES;
+use lokhazim_tests::judge::tally::Tally;
+use lokhazim_tests::run::programs::{Feed, Programs};
+use lokhazim_tests::run::rounds;
 use lokhazim_tests::seed::Seed;
-use lokhazim_tests::tally::Tally;
-use lokhazim_tests::themes::THEMES;
 
 /// The seed of every generated script in the gate.
 const SEED: u64 = 20_260_101;

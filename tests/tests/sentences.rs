@@ -1,8 +1,8 @@
 //! Each rule about the ledger notices what it is for: a right step, and then one thing wrong.
 
 use lokhazim_reference::{Accounts, Handle, QUOTAS};
-use lokhazim_tests::ledger::Ledger;
-use lokhazim_tests::sentences::{wrong, Step};
+use lokhazim_tests::judge::ledger::Ledger;
+use lokhazim_tests::judge::sentences::{wrong, Step};
 use lokhazim_tests::state::{Answer, Call, State, PLAIN, QUARANTINE, SECOND};
 
 /// A call with everything before and after it, to be changed.

@@ -2,9 +2,9 @@
 //! bytes, versions that fall, used lengths beyond the bytes, room to the byte, and random stores.
 
 use lokhazim_reference::Store;
-use lokhazim_tests::boundary::settings::{next, EntryReply, FindReply};
+use lokhazim_tests::run::boundary::settings::{next, EntryReply, FindReply};
+use lokhazim_tests::run::settings::{damaged, entry, good, Made, Settings};
 use lokhazim_tests::seed::Seed;
-use lokhazim_tests::settings::{damaged, entry, good, Made, Settings};
 
 /// The seed of every case.
 const SEED: u64 = 20_261_116;

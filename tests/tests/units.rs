@@ -1,12 +1,12 @@
 //! States of both editions in which an object fits its unit or does not, on both sides of the rule
 //! (5.10): the proved code, the reference and the harness's own reading judge them alike.
 
-use lokhazim_tests::calls::Pair;
-use lokhazim_tests::judge::{broken, Sentence};
+use lokhazim_tests::cases::states::Plan;
+use lokhazim_tests::judge::rules::{broken, Sentence};
+use lokhazim_tests::run::calls::Pair;
+use lokhazim_tests::run::unsound::check_is_the_judges;
 use lokhazim_tests::seed::Seed;
 use lokhazim_tests::state::State;
-use lokhazim_tests::states::Plan;
-use lokhazim_tests::unsound::check_is_the_judges;
 
 /// The heap of every state here.
 const LENGTH: u32 = 32_768;

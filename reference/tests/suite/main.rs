@@ -13,6 +13,7 @@ mod list_run;
 mod moves;
 mod naive;
 mod narrowed;
+mod order;
 mod permissions;
 mod prng;
 mod quarantine;

@@ -8,15 +8,15 @@ use std::fs;
 use std::process::ExitCode;
 use std::time::{Duration, Instant, SystemTime, UNIX_EPOCH};
 
-use lokhazim_tests::calls::Pair;
-use lokhazim_tests::case::read_case;
-use lokhazim_tests::compare::Failure;
-use lokhazim_tests::histories;
-use lokhazim_tests::programs::{Feed, Programs};
-use lokhazim_tests::reports::Reports;
-use lokhazim_tests::rounds;
-use lokhazim_tests::themes::THEMES;
-use lokhazim_tests::unsound;
+use lokhazim_tests::cases::themes::THEMES;
+use lokhazim_tests::judge::case::read_case;
+use lokhazim_tests::judge::compare::Failure;
+use lokhazim_tests::run::calls::Pair;
+use lokhazim_tests::run::histories;
+use lokhazim_tests::run::programs::{Feed, Programs};
+use lokhazim_tests::run::reports::Reports;
+use lokhazim_tests::run::rounds;
+use lokhazim_tests::run::unsound;
 
 /// How often progress is printed.
 const PROGRESS: Duration = Duration::from_secs(5);

@@ -1,0 +1,140 @@
+//! Images written and read by the proved code and by the reference, and compared.
+
+use lokhazim_reference::{
+    image_length, image_length_form_1, read_image, write_form_1, write_image, Accounts,
+};
+
+use crate::judge::compare::{file_stem, save, Failure};
+use crate::judge::forms::Form;
+use crate::run::boundary::images as proved;
+use crate::run::calls::Pair;
+use crate::run::lent::Lent;
+use crate::state::State;
+
+/// What an image function leaves and answers, as one side has it.
+#[derive(PartialEq, Eq)]
+struct Done {
+    refusal: u32,
+    length: usize,
+    accounts: Accounts,
+    image: Vec<u8>,
+    heap: Vec<u8>,
+}
+
+impl Pair {
+    /// Writes an image of the state into lent bytes on both sides, compares, and gives the
+    /// refusal and the bytes that then lie there.
+    pub fn write_image(
+        &mut self,
+        form: Form,
+        state: &State,
+        lent: &[u8],
+    ) -> Result<(u32, Vec<u8>), Failure> {
+        let mut written = lent.to_vec();
+        let answer = match form.number {
+            1 => write_form_1(&mut written, &state.heap, &state.accounts),
+            _ => write_image(&mut written, &state.heap, &state.accounts),
+        };
+        let expected = Done {
+            refusal: answer.map_or_else(|r| u32::from(r.number()), |_| 0),
+            length: answer.unwrap_or(0),
+            accounts: state.accounts.clone(),
+            image: written,
+            heap: state.heap.clone(),
+        };
+        let (mut image, mut heap) = (self.lend(lent), self.lend(&state.heap));
+        let (refusal, length) = proved::write(form, image.part(), heap.part(), &state.accounts);
+        let found = Done {
+            refusal,
+            length,
+            accounts: state.accounts.clone(),
+            image: image.part().to_vec(),
+            heap: heap.part().to_vec(),
+        };
+        let guards = image.guards_hold() && heap.guards_hold();
+        self.judge("write", (lent, &state.heap), &found, &expected, guards)?;
+        self.tally.count_image(form.written, refusal);
+        Ok((refusal, found.image))
+    }
+
+    /// Reads an image into a lent heap on both sides, compares, and gives the refusal and the
+    /// state that is left.
+    pub fn read_image(&mut self, image: &[u8], lent: &[u8]) -> Result<(u32, State), Failure> {
+        let mut restored = lent.to_vec();
+        let answer = read_image(image, &mut restored);
+        let expected = Done {
+            refusal: answer
+                .as_ref()
+                .map_or_else(|r| u32::from(r.number()), |_| 0),
+            length: 0,
+            accounts: answer.unwrap_or_default(),
+            image: image.to_vec(),
+            heap: restored,
+        };
+        let (mut lent_image, mut heap) = (self.lend(image), self.lend(lent));
+        let (refusal, accounts) = proved::read(lent_image.part(), heap.part());
+        let found = Done {
+            refusal,
+            length: 0,
+            accounts,
+            image: lent_image.part().to_vec(),
+            heap: heap.part().to_vec(),
+        };
+        let guards = lent_image.guards_hold() && heap.guards_hold();
+        self.judge("read", (image, lent), &found, &expected, guards)?;
+        self.tally.count_image("read", refusal);
+        let (heap, accounts) = (found.heap, found.accounts);
+        Ok((refusal, State { heap, accounts }))
+    }
+
+    /// Lends a copy of bytes to the proved code.
+    pub fn lend(&self, bytes: &[u8]) -> Lent {
+        match self.guarded {
+            true => Lent::guarded(bytes),
+            false => Lent::exact(bytes),
+        }
+    }
+
+    /// Says what differs between the two sides, and saves the lent image and heap.
+    fn judge(
+        &self,
+        what: &str,
+        (image, heap): (&[u8], &[u8]),
+        found: &Done,
+        expected: &Done,
+        guards_hold: bool,
+    ) -> Result<(), Failure> {
+        if found == expected && guards_hold {
+            return Ok(());
+        }
+        let name = file_stem(&self.origin);
+        let file = save(&format!("{what}-{name}.image"), image)?;
+        save(&format!("{what}-{name}.heap"), heap)?;
+        Err(Failure(format!(
+            "{}: {what} image: refusal proved {}, reference {}; length {} and {}; equal accounts {}, image {}, heap {}; guards hold {guards_hold}. \
+             The image is saved in {}, the heap beside it",
+            self.origin,
+            found.refusal,
+            expected.refusal,
+            found.length,
+            expected.length,
+            found.accounts == expected.accounts,
+            found.image == expected.image,
+            found.heap == expected.heap,
+            file.display()
+        )))
+    }
+}
+
+/// Compares the functions that give an image's length: the proved one's, the reference's and the
+/// harness's own.
+pub fn lengths_agree(form: Form, heap_length: usize, allowed: bool) -> bool {
+    if !allowed {
+        return proved::image_length(form, heap_length) == 0;
+    }
+    let reference = match form.number {
+        1 => image_length_form_1(heap_length),
+        _ => image_length(heap_length),
+    };
+    reference == form.length(heap_length) && proved::image_length(form, heap_length) == reference
+}
