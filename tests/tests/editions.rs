@@ -2,7 +2,7 @@
 //! and the reference answer alike, and as the rules say. Requests of every length are in `requests.rs`,
 //! objects of every length in `units.rs`, images in `images.rs`.
 
-use lokhazim_reference::{Accounts, Handle, MAX_HEAP, QUOTAS};
+use lokhazim_reference::{Handle, MAX_HEAP, QUOTAS};
 use lokhazim_tests::cases::states::{sound, Plan};
 use lokhazim_tests::judge::cut::{header, put, QUARANTINED};
 use lokhazim_tests::judge::ledger::unit;
@@ -103,16 +103,7 @@ fn requests_that_fit_no_heap() {
 fn editions_of_an_opening() {
     for (number, edition) in [(0, 0), (1, 1), (2, 1), (255, 1), (256, 1), (u32::MAX, 1)] {
         for kind in [0, 1] {
-            let choice = Choice::of(kind, number);
-            let Run { state, .. } = Run::open(64, choice);
-            let marks = (state.accounts.kind, state.accounts.edition);
-            assert_eq!(marks, (kind as u8, edition), "{number}");
-            let mut refused = Run::on(State {
-                heap: vec![7; 63],
-                accounts: state.accounts,
-            });
-            refused.refuses(Call::Open([5; QUOTAS], choice), 1);
-            assert_eq!(refused.state.accounts, Accounts::default());
+            Run::opens_with(Choice::of(kind, number), kind as u8, edition);
         }
     }
 }

@@ -1,13 +1,13 @@
 //! Quarantine and sweep (rules, section 22), on both sides of each line: the proved code and the
 //! reference answer alike, and as the rules say.
 
-use lokhazim_reference::{Accounts, Handle, HOLDS, MAX_HEAP, QUOTAS};
+use lokhazim_reference::{Handle, HOLDS, MAX_HEAP, QUOTAS};
 use lokhazim_tests::judge::cut::{header, put, quarantined, GREATEST_SERIAL, QUARANTINED};
 use lokhazim_tests::judge::rules::{broken, Sentence};
 use lokhazim_tests::run::calls::Pair;
 use lokhazim_tests::run::unsound::check_is_the_judges;
 use lokhazim_tests::run::wanted::Run;
-use lokhazim_tests::state::{Call, Choice, State, CHOICES, KINDS, PLAIN, QUARANTINE};
+use lokhazim_tests::state::{Call, Choice, CHOICES, KINDS, PLAIN, QUARANTINE};
 
 /// The run of the rule book: released blocks wait side by side, take no request and no handle, and a
 /// sweep joins them with each other and with free ones.
@@ -53,16 +53,7 @@ fn a_plain_heap_has_nothing_to_sweep() {
 fn kinds_of_an_opening() {
     for (number, kind) in [(0, 0), (1, 1), (2, 1), (255, 1), (256, 1), (u32::MAX, 1)] {
         for edition in [0, 1] {
-            let choice = Choice::of(number, edition);
-            let Run { state, .. } = Run::open(64, choice);
-            let marks = (state.accounts.kind, state.accounts.edition);
-            assert_eq!(marks, (kind, edition as u8), "{number}");
-            let mut refused = Run::on(State {
-                heap: vec![7; 63],
-                accounts: state.accounts,
-            });
-            refused.refuses(Call::Open([5; QUOTAS], choice), 1);
-            assert_eq!(refused.state.accounts, Accounts::default());
+            Run::opens_with(Choice::of(number, edition), kind, edition as u8);
         }
     }
 }

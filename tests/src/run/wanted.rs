@@ -31,6 +31,20 @@ impl Run {
         run
     }
 
+    /// Opens a heap with some choice and checks kind and edition of its accounts; and that a refused
+    /// opening leaves accounts of zeros.
+    pub fn opens_with(choice: Choice, kind: u8, edition: u8) {
+        let Run { state, .. } = Run::open(64, choice);
+        let marks = (state.accounts.kind, state.accounts.edition);
+        assert_eq!(marks, (kind, edition));
+        let mut refused = Run::on(State {
+            heap: vec![7; 63],
+            accounts: state.accounts,
+        });
+        refused.refuses(Call::Open([5; QUOTAS], choice), 1);
+        assert_eq!(refused.state.accounts, Accounts::default());
+    }
+
     /// Goes on from a state.
     pub fn on(state: State) -> Run {
         let pair = Pair::new();

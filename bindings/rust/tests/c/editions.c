@@ -2,21 +2,8 @@
  * Both editions of the rounding table from C: lengths, bases and addresses at the bounds of each row, heaps that only one
  * edition takes, and the number of the edition reaches the library.
  */
+#include "check.h"
 #include "lokhazim.h"
-
-#include <stdio.h>
-#include <stdlib.h>
-
-#define CHECK(fact)                                                           \
-    do {                                                                      \
-        if (!(fact)) {                                                        \
-            fprintf(stderr, "FAILED: line %d: %s\n", __LINE__, #fact);        \
-            exit(EXIT_FAILURE);                                               \
-        }                                                                     \
-    } while (0)
-
-#define ACCEPTED(call) CHECK((call) == LOKHAZIM_ACCEPTED)
-#define REFUSED(refusal, call) CHECK((call) == LOKHAZIM_##refusal)
 
 static _Alignas(LOKHAZIM_ALIGNMENT) uint8_t heap[LOKHAZIM_HEAP_MAX];
 #define HEAP heap, sizeof heap

@@ -4,19 +4,11 @@
  * is written of what it can carry and of nothing else, an image is moved up and down again, and the kind
  * and the edition of the heap go with its image.
  */
+#include "check.h"
 #include "lokhazim_image.h"
 
-#include <stdio.h>
 #include <stdlib.h>
 #include <string.h>
-
-#define CHECK(fact)                                                           \
-    do {                                                                      \
-        if (!(fact)) {                                                        \
-            fprintf(stderr, "FAILED: line %d: %s\n", __LINE__, #fact);        \
-            exit(EXIT_FAILURE);                                               \
-        }                                                                     \
-    } while (0)
 
 static _Alignas(LOKHAZIM_ALIGNMENT) uint8_t heap[LOKHAZIM_HEAP_MAX];
 static _Alignas(LOKHAZIM_ALIGNMENT) uint8_t other[LOKHAZIM_HEAP_MAX];

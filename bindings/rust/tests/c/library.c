@@ -2,22 +2,10 @@
  * Every field through the library and back: C sets distinct numbers and reads them again, and the
  * library notices a change of any single one.
  */
+#include "check.h"
 #include "lokhazim.h"
 
-#include <stdio.h>
-#include <stdlib.h>
 #include <string.h>
-
-#define CHECK(fact)                                                           \
-    do {                                                                      \
-        if (!(fact)) {                                                        \
-            fprintf(stderr, "FAILED: line %d: %s\n", __LINE__, #fact);        \
-            exit(EXIT_FAILURE);                                               \
-        }                                                                     \
-    } while (0)
-
-#define ACCEPTED(call) CHECK((call) == LOKHAZIM_ACCEPTED)
-#define REFUSED(refusal, call) CHECK((call) == LOKHAZIM_##refusal)
 
 static _Alignas(LOKHAZIM_ALIGNMENT) uint8_t heap[LOKHAZIM_HEAP_MAX];
 #define HEAP heap, sizeof heap

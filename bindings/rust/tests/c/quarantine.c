@@ -2,21 +2,10 @@
  * A heap with quarantine from C: released blocks wait for a sweep, a plain heap has none of them, and the
  * number of the kind reaches the library.
  */
+#include "check.h"
 #include "lokhazim.h"
 
-#include <stdio.h>
 #include <stdlib.h>
-
-#define CHECK(fact)                                                           \
-    do {                                                                      \
-        if (!(fact)) {                                                        \
-            fprintf(stderr, "FAILED: line %d: %s\n", __LINE__, #fact);        \
-            exit(EXIT_FAILURE);                                               \
-        }                                                                     \
-    } while (0)
-
-#define ACCEPTED(call) CHECK((call) == LOKHAZIM_ACCEPTED)
-#define REFUSED(refusal, call) CHECK((call) == LOKHAZIM_##refusal)
 
 static _Alignas(LOKHAZIM_ALIGNMENT) uint8_t heap[96];
 #define HEAP heap, sizeof heap

@@ -2,19 +2,10 @@
  * Queues from C: sixteen packets go in and come out in order, each refusal leaves heap, accounts and queue alone, and
  * every place of a queue goes through the library.
  */
+#include "check.h"
 #include "lokhazim_queue.h"
 
-#include <stdio.h>
-#include <stdlib.h>
 #include <string.h>
-
-#define CHECK(fact)                                                           \
-    do {                                                                      \
-        if (!(fact)) {                                                        \
-            fprintf(stderr, "FAILED: line %d: %s\n", __LINE__, #fact);        \
-            exit(EXIT_FAILURE);                                               \
-        }                                                                     \
-    } while (0)
 
 enum { COUNT = LOKHAZIM_QUEUE_PLACES + 1 };
 

@@ -2,19 +2,10 @@
  * The audit report from C: grants go out and come back, a bad line is named and leaves the grants alone, and null
  * pointers are taken where the header says so.
  */
+#include "check.h"
 #include "lokhazim_report.h"
 
-#include <stdio.h>
-#include <stdlib.h>
 #include <string.h>
-
-#define CHECK(fact)                                                           \
-    do {                                                                      \
-        if (!(fact)) {                                                        \
-            fprintf(stderr, "FAILED: line %d: %s\n", __LINE__, #fact);        \
-            exit(EXIT_FAILURE);                                               \
-        }                                                                     \
-    } while (0)
 
 static const char two[] =
     "00001000 00000000 00000000 00000000 00000000 00000000\n"

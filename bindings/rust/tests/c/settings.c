@@ -2,19 +2,10 @@
  * Settings from C: entries are added behind each other, the value is a pointer into the board's store or into the
  * defaults, every entry is listed, and each refusal leaves store, used length and pointers alone.
  */
+#include "check.h"
 #include "lokhazim_settings.h"
 
-#include <stdio.h>
-#include <stdlib.h>
 #include <string.h>
-
-#define CHECK(fact)                                                           \
-    do {                                                                      \
-        if (!(fact)) {                                                        \
-            fprintf(stderr, "FAILED: line %d: %s\n", __LINE__, #fact);        \
-            exit(EXIT_FAILURE);                                               \
-        }                                                                     \
-    } while (0)
 
 static const uint8_t defaults[] = {0, 0, 7, 3, 'o', 'f', 'f', 0xFF, 0xFF, 0xFF, 1, 9};
 static uint8_t board[80];
