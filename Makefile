@@ -13,7 +13,7 @@
 #
 # make wrong     try the wrong programs that the gate leaves out
 # make figures   print the library's code size, the stack that calls need, and the bytes of accounts
-# make bench     time the proved calls, the reference and glibc under mcheck_pedantic
+# make bench     time the proved calls, the reference and other allocators, such as glibc's with a check
 # make fuzz      compare the proved code with the reference from a fresh seed: SECONDS=600 SEED=..
 # make sanitize  compare calls under valgrind: SECONDS=600 SEED=..
 # make clean     remove build/ and target/; what was proved has to be proved again

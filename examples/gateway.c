@@ -22,6 +22,7 @@
 /* The parts, each by the number of its quota. */
 enum part { RADIO = 0, LOGGER = 1 };
 
+/* The heap, and outside of it its accounts, which calls read and write where they lie, and the queue. */
 static _Alignas(LOKHAZIM_ALIGNMENT) uint8_t heap[256];
 static struct lokhazim_accounts accounts;
 static struct lokhazim_queue queue;

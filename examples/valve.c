@@ -25,6 +25,7 @@ enum part { VALVE = 0, LOGGER = 1, RADIO = 2 };
 
 static const char reading[] = "pressure 7 bar";
 
+/* The heap, and outside of it its accounts, which calls read and write where they lie. */
 static _Alignas(LOKHAZIM_ALIGNMENT) uint8_t heap[256];
 static struct lokhazim_accounts accounts;
 

@@ -2,8 +2,8 @@
  * Prints the bytes of accounts and of a handle, and the stack that each call has used: 'call_NAME BYTES'.
  *
  * Each call is made once, on a stack of its own that was painted before; what has lost its paint was used.
- * A call_NAME does nothing but call the function of lokhazim.h, lokhazim_image.h or lokhazim_queue.h, so that the copies which that function makes
- * of accounts and reply are counted too.
+ * A call_NAME does nothing but call the function of lokhazim.h, lokhazim_image.h or lokhazim_queue.h, so that the copies which that
+ * function makes are counted too.
  */
 #define _XOPEN_SOURCE 700
 #include "lokhazim_image.h"

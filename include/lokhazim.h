@@ -8,15 +8,18 @@
  * and any numbers. A call answers, or gives one of twelve refusals and changes
  * nothing; only a refused open sets the accounts to zero.
  *
- * Use the functions lokhazim_heap_... at the end of this file. They take the
- * accounts by pointer and call the library's own functions, lokhazim_..., which
- * take the accounts by value and hand them back in a reply.
+ * Use the functions lokhazim_heap_... at the end of this file. They call the
+ * library's functions lokhazim_in_place_..., which read and write the accounts where
+ * they lie and copy none of them. The library has each call once more as
+ * lokhazim_..., which takes the accounts by value and hands them back in a reply, at
+ * the cost of several copies on the stack.
  *
  * What the library can't check is the caller's duty:
  *   - `heap` points to `length` bytes that nobody else uses during the call, and
  *     accounts and answers lie outside of them. `heap` is not a null pointer.
- *   - `accounts` is not a null pointer either, nor is a pointer that takes a
- *     handle, a block or an object; one that takes a number may be null.
+ *   - `accounts` points to a struct lokhazim_accounts that nobody else uses during
+ *     the call. It is not a null pointer, nor is a pointer that takes a handle, a
+ *     block or an object; one that takes a number may be null.
  *   - The heap begins at an address that is a multiple of LOKHAZIM_ALIGNMENT:
  *         static _Alignas(LOKHAZIM_ALIGNMENT) uint8_t heap[4096];
  *     An object's base, counted from the heap's first byte, is a multiple of the
@@ -24,7 +27,9 @@
  *   - A quota's number is an argument, and lend and write ask for a handle only.
  *     One trusted place keeps heap and accounts, and fills in each part's number.
  *
- * It needs C11 and x86-64, and memcpy, memmove and memset from the C library.
+ * It needs C11 or C++11, a little-endian machine, and memcpy, memmove and memset; no
+ * operating system, and of a compiler's headers <stddef.h> and <stdint.h> alone. The
+ * libraries that `make lib` writes are for x86-64.
  */
 #ifndef LOKHAZIM_H
 #define LOKHAZIM_H
@@ -37,9 +42,21 @@
 #error "lokhazim.h needs C11 or newer: compile with -std=c11"
 #endif
 
-#include <assert.h>
 #include <stddef.h>
 #include <stdint.h>
+
+#if defined(__BYTE_ORDER__) && __BYTE_ORDER__ != __ORDER_LITTLE_ENDIAN__
+#error "lokhazim is for little-endian machines"
+#endif
+
+/* Stops the compiler where a fact does not hold. */
+#ifndef LOKHAZIM_ASSERT
+#ifdef __cplusplus
+#define LOKHAZIM_ASSERT(fact, text) static_assert(fact, text)
+#else
+#define LOKHAZIM_ASSERT(fact, text) _Static_assert(fact, text)
+#endif
+#endif
 
 #ifdef __cplusplus
 extern "C" {
@@ -61,10 +78,10 @@ extern "C" {
 #define LOKHAZIM_INTERFACE 5
 
 /* The version of the library, as text and by its three numbers. CHANGELOG.md says what each version brought. */
-#define LOKHAZIM_VERSION "0.5.0"
+#define LOKHAZIM_VERSION "0.5.1"
 #define LOKHAZIM_VERSION_MAJOR 0
 #define LOKHAZIM_VERSION_MINOR 5
-#define LOKHAZIM_VERSION_PATCH 0
+#define LOKHAZIM_VERSION_PATCH 1
 
 /* ---- Numbers ---- */
 
@@ -181,7 +198,7 @@ struct lokhazim_hold {
  * The kind is LOKHAZIM_PLAIN or LOKHAZIM_QUARANTINE and the edition
  * LOKHAZIM_EDITION_1 or LOKHAZIM_EDITION_2, as it was opened.
  * A quota has three bytes of padding, a hold two, and two stand behind the edition,
- * so compare accounts field by field.
+ * so compare accounts field by field. No call answers by what is in them.
  */
 struct lokhazim_accounts {
     struct lokhazim_quota quotas[LOKHAZIM_QUOTAS];
@@ -216,30 +233,36 @@ struct lokhazim_grants {
 
 /* ---- Replies; where a call is refused, everything but accounts and refusal is 0 ---- */
 
-/* The reply of open. */
+/* The reply of open by value. */
 struct lokhazim_open_reply {
     struct lokhazim_accounts accounts;
     uint32_t refusal;
 };
 
-/* The reply of allocate, allocate_array and reallocate. */
+/* The reply of allocate, allocate_array and reallocate by value. */
 struct lokhazim_handle_reply {
     struct lokhazim_accounts accounts;
     uint32_t refusal;
     struct lokhazim_handle handle;
 };
 
-/* The reply of claim, release, free_all, clear_permissions and sweep. */
+/* The reply of claim, release, free_all, clear_permissions and sweep by value. */
 struct lokhazim_amount_reply {
     struct lokhazim_accounts accounts;
     uint32_t refusal;
     uint32_t amount;
 };
 
-/* The reply of remaining. */
+/* The reply of remaining, and in place of every call that answers an amount. */
 struct lokhazim_amount {
     uint32_t refusal;
     uint32_t amount;
+};
+
+/* The reply in place of allocate, allocate_array and reallocate. */
+struct lokhazim_given_handle {
+    uint32_t refusal;
+    struct lokhazim_handle handle;
 };
 
 /* The reply of lend: the handle's bytes are those from start up to end. */
@@ -261,11 +284,9 @@ struct lokhazim_block_reply {
 /* ---- The structs lie in memory as the library has them ---- */
 
 #define LOKHAZIM_SIZE(type, bytes) \
-    static_assert(sizeof(struct type) == (bytes), "the size of struct " #type " is not " #bytes)
+    LOKHAZIM_ASSERT(sizeof(struct type) == (bytes), "the size of struct " #type " is not " #bytes)
 #define LOKHAZIM_OFFSET(type, field, bytes) \
-    static_assert(offsetof(struct type, field) == (bytes), "struct " #type ": the offset of " #field " is not " #bytes)
-
-static_assert(sizeof(size_t) == 8, "the library is for machines with 64-bit addresses");
+    LOKHAZIM_ASSERT(offsetof(struct type, field) == (bytes), "struct " #type ": the offset of " #field " is not " #bytes)
 
 LOKHAZIM_SIZE(lokhazim_quota, 12);
 LOKHAZIM_OFFSET(lokhazim_quota, grant, 0);
@@ -310,22 +331,77 @@ LOKHAZIM_SIZE(lokhazim_amount, 8);
 LOKHAZIM_OFFSET(lokhazim_amount, refusal, 0);
 LOKHAZIM_OFFSET(lokhazim_amount, amount, 4);
 
-LOKHAZIM_SIZE(lokhazim_range_reply, 24);
-LOKHAZIM_OFFSET(lokhazim_range_reply, refusal, 0);
-LOKHAZIM_OFFSET(lokhazim_range_reply, start, 8);
-LOKHAZIM_OFFSET(lokhazim_range_reply, end, 16);
+LOKHAZIM_SIZE(lokhazim_given_handle, 16);
+LOKHAZIM_OFFSET(lokhazim_given_handle, refusal, 0);
+LOKHAZIM_OFFSET(lokhazim_given_handle, handle, 4);
 
-LOKHAZIM_SIZE(lokhazim_block_reply, 32);
+LOKHAZIM_SIZE(lokhazim_range_reply, 3 * sizeof(size_t));
+LOKHAZIM_OFFSET(lokhazim_range_reply, refusal, 0);
+LOKHAZIM_OFFSET(lokhazim_range_reply, start, sizeof(size_t));
+LOKHAZIM_OFFSET(lokhazim_range_reply, end, 2 * sizeof(size_t));
+
+LOKHAZIM_SIZE(lokhazim_block_reply, 8 + 3 * sizeof(size_t));
 LOKHAZIM_OFFSET(lokhazim_block_reply, refusal, 0);
 LOKHAZIM_OFFSET(lokhazim_block_reply, found, 4);
 LOKHAZIM_OFFSET(lokhazim_block_reply, offset, 8);
-LOKHAZIM_OFFSET(lokhazim_block_reply, size, 16);
-LOKHAZIM_OFFSET(lokhazim_block_reply, serial, 24);
+LOKHAZIM_OFFSET(lokhazim_block_reply, size, 8 + sizeof(size_t));
+LOKHAZIM_OFFSET(lokhazim_block_reply, serial, 8 + 2 * sizeof(size_t));
 
 #undef LOKHAZIM_SIZE
 #undef LOKHAZIM_OFFSET
 
-/* ---- The library's functions: accounts by value ---- */
+/* ---- The library's functions: calls in place ----
+ *
+ * They read the accounts where they lie and write there what they change. A refused call leaves every byte of the accounts, an
+ * accepted one every byte of padding; open sets all bytes, to zero where it is refused. Below, lokhazim_heap_... makes each of
+ * these calls and says more about it. Their refusals, in the order in which they are checked:
+ *   open                                1
+ *   sweep, list_block, check            1, 2
+ *   lend, write                         1, 2, 5
+ *   clear_permissions, remaining        1 to 3
+ *   free_all                            1 to 3, 12
+ *   allocate, allocate_array            1 to 3, 12, 4, 8 to 11
+ *   claim                               1 to 3, 12, 5, 7 to 9
+ *   release, can_release                1 to 3, 5, 6
+ *   reallocate                          1 to 3, 12, 4 to 6, 8 to 11
+ */
+
+uint32_t lokhazim_in_place_open(
+    uint8_t *heap, size_t length, struct lokhazim_accounts *accounts, struct lokhazim_grants grants, uint32_t kind,
+    uint32_t edition);
+struct lokhazim_given_handle lokhazim_in_place_allocate(
+    uint8_t *heap, size_t length, struct lokhazim_accounts *accounts, uint32_t quota, uint32_t bytes);
+struct lokhazim_given_handle lokhazim_in_place_allocate_array(
+    uint8_t *heap, size_t length, struct lokhazim_accounts *accounts, uint32_t quota, uint32_t count, uint32_t size);
+struct lokhazim_amount lokhazim_in_place_claim(
+    const uint8_t *heap, size_t length, struct lokhazim_accounts *accounts, uint32_t quota, struct lokhazim_handle handle);
+struct lokhazim_amount lokhazim_in_place_release(
+    uint8_t *heap, size_t length, struct lokhazim_accounts *accounts, uint32_t quota, struct lokhazim_handle handle);
+struct lokhazim_amount lokhazim_in_place_free_all(
+    uint8_t *heap, size_t length, struct lokhazim_accounts *accounts, uint32_t quota);
+struct lokhazim_amount lokhazim_in_place_clear_permissions(
+    const uint8_t *heap, size_t length, struct lokhazim_accounts *accounts, uint32_t quota, uint32_t bits);
+struct lokhazim_given_handle lokhazim_in_place_reallocate(
+    uint8_t *heap, size_t length, struct lokhazim_accounts *accounts, uint32_t quota, struct lokhazim_handle handle,
+    uint32_t bytes);
+struct lokhazim_amount lokhazim_in_place_sweep(
+    uint8_t *heap, size_t length, const struct lokhazim_accounts *accounts);
+struct lokhazim_range_reply lokhazim_in_place_lend(
+    const uint8_t *heap, size_t length, const struct lokhazim_accounts *accounts, struct lokhazim_handle handle);
+uint32_t lokhazim_in_place_write(
+    uint8_t *heap, size_t length, const struct lokhazim_accounts *accounts, struct lokhazim_handle handle, uint32_t at,
+    uint8_t byte);
+struct lokhazim_amount lokhazim_in_place_remaining(
+    const uint8_t *heap, size_t length, const struct lokhazim_accounts *accounts, uint32_t quota);
+uint32_t lokhazim_in_place_can_release(
+    const uint8_t *heap, size_t length, const struct lokhazim_accounts *accounts, uint32_t quota,
+    struct lokhazim_handle handle);
+struct lokhazim_block_reply lokhazim_in_place_list_block(
+    const uint8_t *heap, size_t length, const struct lokhazim_accounts *accounts, size_t at);
+uint32_t lokhazim_in_place_check(
+    const uint8_t *heap, size_t length, const struct lokhazim_accounts *accounts);
+
+/* ---- The library's functions: calls by value ---- */
 
 /*
  * Clears the heap, gives each quota its grant and sets kind and edition: plain for LOKHAZIM_PLAIN, with quarantine for any
@@ -455,11 +531,12 @@ static inline struct lokhazim_handle lokhazim_handle_narrowed(
     return bytes != 0 && inside && at <= UINT32_MAX - handle.base ? part : none;
 }
 
-/* ---- The same calls with the accounts by pointer ----
+/* ---- The calls, for programs ----
  *
- * Each gives its refusal. `accounts` is read, and written where it is not const;
- * it may not be null. The last pointers take the answer, which is zero where the
- * call is refused; a pointer to a number may be null if the number isn't wanted.
+ * Each is a call in place and gives its refusal. `accounts` is read, and written
+ * where it is not const; it may not be null. The last pointers take the answer,
+ * which is zero where the call is refused; a pointer to a number may be null if the
+ * number isn't wanted.
  * Any of them can give refusal 1, and any but open 2; the others are named, in the
  * order in which they are checked.
  */
@@ -473,9 +550,7 @@ static inline enum lokhazim_refusal lokhazim_heap_open(
     uint8_t *heap, size_t length, struct lokhazim_accounts *accounts, struct lokhazim_grants grants, uint32_t kind,
     uint32_t edition)
 {
-    const struct lokhazim_open_reply reply = lokhazim_open(heap, length, grants, kind, edition);
-    *accounts = reply.accounts;
-    return (enum lokhazim_refusal)reply.refusal;
+    return (enum lokhazim_refusal)lokhazim_in_place_open(heap, length, accounts, grants, kind, edition);
 }
 
 /* Makes an object of at least `bytes` bytes, all zero, that the quota holds once. Refusals 3, 12, 4, 8 to 11. */
@@ -483,8 +558,7 @@ static inline enum lokhazim_refusal lokhazim_heap_allocate(
     uint8_t *heap, size_t length, struct lokhazim_accounts *accounts, uint32_t quota,
     uint32_t bytes, struct lokhazim_handle *handle)
 {
-    const struct lokhazim_handle_reply reply = lokhazim_allocate(heap, length, *accounts, quota, bytes);
-    *accounts = reply.accounts;
+    const struct lokhazim_given_handle reply = lokhazim_in_place_allocate(heap, length, accounts, quota, bytes);
     *handle = reply.handle;
     return (enum lokhazim_refusal)reply.refusal;
 }
@@ -494,9 +568,8 @@ static inline enum lokhazim_refusal lokhazim_heap_allocate_array(
     uint8_t *heap, size_t length, struct lokhazim_accounts *accounts, uint32_t quota,
     uint32_t count, uint32_t size, struct lokhazim_handle *handle)
 {
-    const struct lokhazim_handle_reply reply =
-        lokhazim_allocate_array(heap, length, *accounts, quota, count, size);
-    *accounts = reply.accounts;
+    const struct lokhazim_given_handle reply =
+        lokhazim_in_place_allocate_array(heap, length, accounts, quota, count, size);
     *handle = reply.handle;
     return (enum lokhazim_refusal)reply.refusal;
 }
@@ -509,8 +582,7 @@ static inline enum lokhazim_refusal lokhazim_heap_claim(
     const uint8_t *heap, size_t length, struct lokhazim_accounts *accounts, uint32_t quota,
     struct lokhazim_handle handle, uint32_t *bytes)
 {
-    const struct lokhazim_amount_reply reply = lokhazim_claim(heap, length, *accounts, quota, handle);
-    *accounts = reply.accounts;
+    const struct lokhazim_amount reply = lokhazim_in_place_claim(heap, length, accounts, quota, handle);
     if (bytes) {
         *bytes = reply.amount;
     }
@@ -526,8 +598,7 @@ static inline enum lokhazim_refusal lokhazim_heap_release(
     uint8_t *heap, size_t length, struct lokhazim_accounts *accounts, uint32_t quota,
     struct lokhazim_handle handle, uint32_t *refund)
 {
-    const struct lokhazim_amount_reply reply = lokhazim_release(heap, length, *accounts, quota, handle);
-    *accounts = reply.accounts;
+    const struct lokhazim_amount reply = lokhazim_in_place_release(heap, length, accounts, quota, handle);
     if (refund) {
         *refund = reply.amount;
     }
@@ -538,8 +609,7 @@ static inline enum lokhazim_refusal lokhazim_heap_release(
 static inline enum lokhazim_refusal lokhazim_heap_free_all(
     uint8_t *heap, size_t length, struct lokhazim_accounts *accounts, uint32_t quota, uint32_t *refund)
 {
-    const struct lokhazim_amount_reply reply = lokhazim_free_all(heap, length, *accounts, quota);
-    *accounts = reply.accounts;
+    const struct lokhazim_amount reply = lokhazim_in_place_free_all(heap, length, accounts, quota);
     if (refund) {
         *refund = reply.amount;
     }
@@ -555,8 +625,7 @@ static inline enum lokhazim_refusal lokhazim_heap_clear_permissions(
     const uint8_t *heap, size_t length, struct lokhazim_accounts *accounts, uint32_t quota,
     uint32_t bits, uint32_t *left)
 {
-    const struct lokhazim_amount_reply reply = lokhazim_clear_permissions(heap, length, *accounts, quota, bits);
-    *accounts = reply.accounts;
+    const struct lokhazim_amount reply = lokhazim_in_place_clear_permissions(heap, length, accounts, quota, bits);
     if (left) {
         *left = reply.amount;
     }
@@ -574,9 +643,8 @@ static inline enum lokhazim_refusal lokhazim_heap_reallocate(
     uint8_t *heap, size_t length, struct lokhazim_accounts *accounts, uint32_t quota,
     struct lokhazim_handle handle, uint32_t bytes, struct lokhazim_handle *moved)
 {
-    const struct lokhazim_handle_reply reply =
-        lokhazim_reallocate(heap, length, *accounts, quota, handle, bytes);
-    *accounts = reply.accounts;
+    const struct lokhazim_given_handle reply =
+        lokhazim_in_place_reallocate(heap, length, accounts, quota, handle, bytes);
     *moved = reply.handle;
     return (enum lokhazim_refusal)reply.refusal;
 }
@@ -589,8 +657,7 @@ static inline enum lokhazim_refusal lokhazim_heap_reallocate(
 static inline enum lokhazim_refusal lokhazim_heap_sweep(
     uint8_t *heap, size_t length, struct lokhazim_accounts *accounts, uint32_t *swept)
 {
-    const struct lokhazim_amount_reply reply = lokhazim_sweep(heap, length, *accounts);
-    *accounts = reply.accounts;
+    const struct lokhazim_amount reply = lokhazim_in_place_sweep(heap, length, accounts);
     if (swept) {
         *swept = reply.amount;
     }
@@ -605,7 +672,7 @@ static inline enum lokhazim_refusal lokhazim_heap_lend(
     uint8_t *heap, size_t length, const struct lokhazim_accounts *accounts,
     struct lokhazim_handle handle, uint8_t **object)
 {
-    const struct lokhazim_range_reply reply = lokhazim_lend(heap, length, *accounts, handle);
+    const struct lokhazim_range_reply reply = lokhazim_in_place_lend(heap, length, accounts, handle);
     *object = reply.refusal == LOKHAZIM_ACCEPTED ? heap + reply.start : NULL;
     return (enum lokhazim_refusal)reply.refusal;
 }
@@ -615,7 +682,7 @@ static inline enum lokhazim_refusal lokhazim_heap_write(
     uint8_t *heap, size_t length, const struct lokhazim_accounts *accounts,
     struct lokhazim_handle handle, uint32_t at, uint8_t byte)
 {
-    return (enum lokhazim_refusal)lokhazim_write(heap, length, *accounts, handle, at, byte);
+    return (enum lokhazim_refusal)lokhazim_in_place_write(heap, length, accounts, handle, at, byte);
 }
 
 /* Tells what remains of the quota. Refusal 3. */
@@ -623,7 +690,7 @@ static inline enum lokhazim_refusal lokhazim_heap_remaining(
     const uint8_t *heap, size_t length, const struct lokhazim_accounts *accounts, uint32_t quota,
     uint32_t *remainder)
 {
-    const struct lokhazim_amount reply = lokhazim_remaining(heap, length, *accounts, quota);
+    const struct lokhazim_amount reply = lokhazim_in_place_remaining(heap, length, accounts, quota);
     if (remainder) {
         *remainder = reply.amount;
     }
@@ -635,7 +702,7 @@ static inline enum lokhazim_refusal lokhazim_heap_can_release(
     const uint8_t *heap, size_t length, const struct lokhazim_accounts *accounts, uint32_t quota,
     struct lokhazim_handle handle)
 {
-    return (enum lokhazim_refusal)lokhazim_can_release(heap, length, *accounts, quota, handle);
+    return (enum lokhazim_refusal)lokhazim_in_place_can_release(heap, length, accounts, quota, handle);
 }
 
 /* Tells which block starts at offset `at`; the next starts at its offset + size, and behind the last found is 0. */
@@ -643,7 +710,7 @@ static inline enum lokhazim_refusal lokhazim_heap_list_block(
     const uint8_t *heap, size_t length, const struct lokhazim_accounts *accounts, size_t at,
     struct lokhazim_block_reply *block)
 {
-    *block = lokhazim_list_block(heap, length, *accounts, at);
+    *block = lokhazim_in_place_list_block(heap, length, accounts, at);
     return (enum lokhazim_refusal)block->refusal;
 }
 
@@ -651,7 +718,7 @@ static inline enum lokhazim_refusal lokhazim_heap_list_block(
 static inline enum lokhazim_refusal lokhazim_heap_check(
     const uint8_t *heap, size_t length, const struct lokhazim_accounts *accounts)
 {
-    return (enum lokhazim_refusal)lokhazim_check(heap, length, *accounts);
+    return (enum lokhazim_refusal)lokhazim_in_place_check(heap, length, accounts);
 }
 
 #ifdef __cplusplus

@@ -37,9 +37,9 @@ extern "C" {
 #define LOKHAZIM_FORM_1_QUOTAS 8
 #define LOKHAZIM_FORM_1_HOLDS 128
 
-static_assert(LOKHAZIM_IMAGE_HEAD == 12 + 12 * LOKHAZIM_QUOTAS + 8 * LOKHAZIM_HOLDS, "the head of form 2 has all quotas and records");
-static_assert(LOKHAZIM_IMAGE_HEAD_FORM_1 == 12 + 8 * LOKHAZIM_FORM_1_QUOTAS + 8 * LOKHAZIM_FORM_1_HOLDS,
-              "the head of form 1 has its quotas and records");
+LOKHAZIM_ASSERT(LOKHAZIM_IMAGE_HEAD == 12 + 12 * LOKHAZIM_QUOTAS + 8 * LOKHAZIM_HOLDS, "the head of form 2 has all quotas and records");
+LOKHAZIM_ASSERT(LOKHAZIM_IMAGE_HEAD_FORM_1 == 12 + 8 * LOKHAZIM_FORM_1_QUOTAS + 8 * LOKHAZIM_FORM_1_HOLDS,
+                "the head of form 1 has its quotas and records");
 
 /*
  * Why an image is not written, not read, not compared or not moved. The numbers are also the order of checking, but a writer
@@ -131,25 +131,25 @@ struct lokhazim_next_reply {
     size_t at;
 };
 
-static_assert(sizeof(struct lokhazim_image_reply) == 16, "the size of struct lokhazim_image_reply is not 16");
-static_assert(offsetof(struct lokhazim_image_reply, refusal) == 0, "struct lokhazim_image_reply: the offset of refusal is not 0");
-static_assert(offsetof(struct lokhazim_image_reply, length) == 8, "struct lokhazim_image_reply: the offset of length is not 8");
-static_assert(sizeof(struct lokhazim_restore_reply) == 4492, "the size of struct lokhazim_restore_reply is not 4492");
-static_assert(offsetof(struct lokhazim_restore_reply, accounts) == 0, "struct lokhazim_restore_reply: the offset of accounts is not 0");
-static_assert(offsetof(struct lokhazim_restore_reply, refusal) == 4488, "struct lokhazim_restore_reply: the offset of refusal is not 4488");
+LOKHAZIM_ASSERT(sizeof(struct lokhazim_image_reply) == 16, "the size of struct lokhazim_image_reply is not 16");
+LOKHAZIM_ASSERT(offsetof(struct lokhazim_image_reply, refusal) == 0, "struct lokhazim_image_reply: the offset of refusal is not 0");
+LOKHAZIM_ASSERT(offsetof(struct lokhazim_image_reply, length) == 8, "struct lokhazim_image_reply: the offset of length is not 8");
+LOKHAZIM_ASSERT(sizeof(struct lokhazim_restore_reply) == 4492, "the size of struct lokhazim_restore_reply is not 4492");
+LOKHAZIM_ASSERT(offsetof(struct lokhazim_restore_reply, accounts) == 0, "struct lokhazim_restore_reply: the offset of accounts is not 0");
+LOKHAZIM_ASSERT(offsetof(struct lokhazim_restore_reply, refusal) == 4488, "struct lokhazim_restore_reply: the offset of refusal is not 4488");
 
-static_assert(sizeof(struct lokhazim_examine_reply) == 16, "the size of struct lokhazim_examine_reply is not 16");
-static_assert(offsetof(struct lokhazim_examine_reply, refusal) == 0, "struct lokhazim_examine_reply: the offset of refusal is not 0");
-static_assert(offsetof(struct lokhazim_examine_reply, form) == 4, "struct lokhazim_examine_reply: the offset of form is not 4");
-static_assert(offsetof(struct lokhazim_examine_reply, heap_length) == 8, "struct lokhazim_examine_reply: the offset of heap_length is not 8");
+LOKHAZIM_ASSERT(sizeof(struct lokhazim_examine_reply) == 16, "the size of struct lokhazim_examine_reply is not 16");
+LOKHAZIM_ASSERT(offsetof(struct lokhazim_examine_reply, refusal) == 0, "struct lokhazim_examine_reply: the offset of refusal is not 0");
+LOKHAZIM_ASSERT(offsetof(struct lokhazim_examine_reply, form) == 4, "struct lokhazim_examine_reply: the offset of form is not 4");
+LOKHAZIM_ASSERT(offsetof(struct lokhazim_examine_reply, heap_length) == 8, "struct lokhazim_examine_reply: the offset of heap_length is not 8");
 
-static_assert(sizeof(struct lokhazim_compare_reply) == 32, "the size of struct lokhazim_compare_reply is not 32");
-static_assert(offsetof(struct lokhazim_compare_reply, kind) == 8, "struct lokhazim_compare_reply: the offset of kind is not 8");
-static_assert(offsetof(struct lokhazim_compare_reply, place) == 16, "struct lokhazim_compare_reply: the offset of place is not 16");
-static_assert(sizeof(struct lokhazim_next_reply) == 40, "the size of struct lokhazim_next_reply is not 40");
-static_assert(offsetof(struct lokhazim_next_reply, place) == 8, "struct lokhazim_next_reply: the offset of place is not 8");
-static_assert(offsetof(struct lokhazim_next_reply, part) == 24, "struct lokhazim_next_reply: the offset of part is not 24");
-static_assert(offsetof(struct lokhazim_next_reply, at) == 32, "struct lokhazim_next_reply: the offset of at is not 32");
+LOKHAZIM_ASSERT(sizeof(struct lokhazim_compare_reply) == 32, "the size of struct lokhazim_compare_reply is not 32");
+LOKHAZIM_ASSERT(offsetof(struct lokhazim_compare_reply, kind) == 8, "struct lokhazim_compare_reply: the offset of kind is not 8");
+LOKHAZIM_ASSERT(offsetof(struct lokhazim_compare_reply, place) == 16, "struct lokhazim_compare_reply: the offset of place is not 16");
+LOKHAZIM_ASSERT(sizeof(struct lokhazim_next_reply) == 40, "the size of struct lokhazim_next_reply is not 40");
+LOKHAZIM_ASSERT(offsetof(struct lokhazim_next_reply, place) == 8, "struct lokhazim_next_reply: the offset of place is not 8");
+LOKHAZIM_ASSERT(offsetof(struct lokhazim_next_reply, part) == 24, "struct lokhazim_next_reply: the offset of part is not 24");
+LOKHAZIM_ASSERT(offsetof(struct lokhazim_next_reply, at) == 32, "struct lokhazim_next_reply: the offset of at is not 32");
 
 /* ---- The library's functions: accounts by value ---- */
 

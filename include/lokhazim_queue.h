@@ -59,6 +59,12 @@ struct lokhazim_send_reply {
     uint32_t refusal;
 };
 
+/* The reply of send over the accounts where they lie; where it is refused, the queue is as it came in. */
+struct lokhazim_queue_reply {
+    struct lokhazim_queue queue;
+    uint32_t refusal;
+};
+
 /* The reply of receive; where it is refused, the queue is as it came in and the handle is 0. */
 struct lokhazim_receive_reply {
     struct lokhazim_queue queue;
@@ -66,17 +72,19 @@ struct lokhazim_receive_reply {
     struct lokhazim_handle handle;
 };
 
-static_assert(sizeof(struct lokhazim_queue) == 204, "the size of struct lokhazim_queue is not 204");
-static_assert(offsetof(struct lokhazim_queue, sender) == 0, "struct lokhazim_queue: the offset of sender is not 0");
-static_assert(offsetof(struct lokhazim_queue, receiver) == 4, "struct lokhazim_queue: the offset of receiver is not 4");
-static_assert(offsetof(struct lokhazim_queue, count) == 8, "struct lokhazim_queue: the offset of count is not 8");
-static_assert(offsetof(struct lokhazim_queue, handles) == 12, "struct lokhazim_queue: the offset of handles is not 12");
-static_assert(sizeof(struct lokhazim_send_reply) == 4696, "the size of struct lokhazim_send_reply is not 4696");
-static_assert(offsetof(struct lokhazim_send_reply, queue) == 4488, "struct lokhazim_send_reply: the offset of queue is not 4488");
-static_assert(offsetof(struct lokhazim_send_reply, refusal) == 4692, "struct lokhazim_send_reply: the offset of refusal is not 4692");
-static_assert(sizeof(struct lokhazim_receive_reply) == 220, "the size of struct lokhazim_receive_reply is not 220");
-static_assert(offsetof(struct lokhazim_receive_reply, refusal) == 204, "struct lokhazim_receive_reply: the offset of refusal is not 204");
-static_assert(offsetof(struct lokhazim_receive_reply, handle) == 208, "struct lokhazim_receive_reply: the offset of handle is not 208");
+LOKHAZIM_ASSERT(sizeof(struct lokhazim_queue) == 204, "the size of struct lokhazim_queue is not 204");
+LOKHAZIM_ASSERT(offsetof(struct lokhazim_queue, sender) == 0, "struct lokhazim_queue: the offset of sender is not 0");
+LOKHAZIM_ASSERT(offsetof(struct lokhazim_queue, receiver) == 4, "struct lokhazim_queue: the offset of receiver is not 4");
+LOKHAZIM_ASSERT(offsetof(struct lokhazim_queue, count) == 8, "struct lokhazim_queue: the offset of count is not 8");
+LOKHAZIM_ASSERT(offsetof(struct lokhazim_queue, handles) == 12, "struct lokhazim_queue: the offset of handles is not 12");
+LOKHAZIM_ASSERT(sizeof(struct lokhazim_send_reply) == 4696, "the size of struct lokhazim_send_reply is not 4696");
+LOKHAZIM_ASSERT(offsetof(struct lokhazim_send_reply, queue) == 4488, "struct lokhazim_send_reply: the offset of queue is not 4488");
+LOKHAZIM_ASSERT(offsetof(struct lokhazim_send_reply, refusal) == 4692, "struct lokhazim_send_reply: the offset of refusal is not 4692");
+LOKHAZIM_ASSERT(sizeof(struct lokhazim_queue_reply) == 208, "the size of struct lokhazim_queue_reply is not 208");
+LOKHAZIM_ASSERT(offsetof(struct lokhazim_queue_reply, refusal) == 204, "struct lokhazim_queue_reply: the offset of refusal is not 204");
+LOKHAZIM_ASSERT(sizeof(struct lokhazim_receive_reply) == 220, "the size of struct lokhazim_receive_reply is not 220");
+LOKHAZIM_ASSERT(offsetof(struct lokhazim_receive_reply, refusal) == 204, "struct lokhazim_receive_reply: the offset of refusal is not 204");
+LOKHAZIM_ASSERT(offsetof(struct lokhazim_receive_reply, handle) == 208, "struct lokhazim_receive_reply: the offset of handle is not 208");
 
 /* ---- The library's functions ---- */
 
@@ -90,6 +98,11 @@ struct lokhazim_queue lokhazim_queue_new(uint32_t sender, uint32_t receiver);
  */
 struct lokhazim_send_reply lokhazim_queue_send(
     uint8_t *heap, size_t length, struct lokhazim_accounts accounts, struct lokhazim_queue queue,
+    struct lokhazim_handle handle);
+
+/* The same over the accounts where they lie: a refused send leaves every byte of them as it is. */
+struct lokhazim_queue_reply lokhazim_queue_in_place_send(
+    uint8_t *heap, size_t length, struct lokhazim_accounts *accounts, struct lokhazim_queue queue,
     struct lokhazim_handle handle);
 
 /* Gives the oldest handle, as it was sent. Refusals 53, 52. */
@@ -119,8 +132,7 @@ static inline uint32_t lokhazim_queue_put(
     uint8_t *heap, size_t length, struct lokhazim_accounts *accounts, struct lokhazim_queue *queue,
     struct lokhazim_handle handle)
 {
-    const struct lokhazim_send_reply reply = lokhazim_queue_send(heap, length, *accounts, *queue, handle);
-    *accounts = reply.accounts;
+    const struct lokhazim_queue_reply reply = lokhazim_queue_in_place_send(heap, length, accounts, *queue, handle);
     *queue = reply.queue;
     return reply.refusal;
 }

@@ -55,14 +55,14 @@ struct lokhazim_export_reply {
     size_t length;
 };
 
-static_assert(LOKHAZIM_REPORT_LENGTH == LOKHAZIM_QUOTAS * LOKHAZIM_REPORT_LINE, "a report has a line for each quota");
-static_assert(sizeof(struct lokhazim_import_reply) == 136, "the size of struct lokhazim_import_reply is not 136");
-static_assert(offsetof(struct lokhazim_import_reply, grants) == 0, "struct lokhazim_import_reply: the offset of grants is not 0");
-static_assert(offsetof(struct lokhazim_import_reply, refusal) == 128, "struct lokhazim_import_reply: the offset of refusal is not 128");
-static_assert(offsetof(struct lokhazim_import_reply, line) == 132, "struct lokhazim_import_reply: the offset of line is not 132");
-static_assert(sizeof(struct lokhazim_export_reply) == 16, "the size of struct lokhazim_export_reply is not 16");
-static_assert(offsetof(struct lokhazim_export_reply, refusal) == 0, "struct lokhazim_export_reply: the offset of refusal is not 0");
-static_assert(offsetof(struct lokhazim_export_reply, length) == 8, "struct lokhazim_export_reply: the offset of length is not 8");
+LOKHAZIM_ASSERT(LOKHAZIM_REPORT_LENGTH == LOKHAZIM_QUOTAS * LOKHAZIM_REPORT_LINE, "a report has a line for each quota");
+LOKHAZIM_ASSERT(sizeof(struct lokhazim_import_reply) == 136, "the size of struct lokhazim_import_reply is not 136");
+LOKHAZIM_ASSERT(offsetof(struct lokhazim_import_reply, grants) == 0, "struct lokhazim_import_reply: the offset of grants is not 0");
+LOKHAZIM_ASSERT(offsetof(struct lokhazim_import_reply, refusal) == 128, "struct lokhazim_import_reply: the offset of refusal is not 128");
+LOKHAZIM_ASSERT(offsetof(struct lokhazim_import_reply, line) == 132, "struct lokhazim_import_reply: the offset of line is not 132");
+LOKHAZIM_ASSERT(sizeof(struct lokhazim_export_reply) == 16, "the size of struct lokhazim_export_reply is not 16");
+LOKHAZIM_ASSERT(offsetof(struct lokhazim_export_reply, refusal) == 0, "struct lokhazim_export_reply: the offset of refusal is not 0");
+LOKHAZIM_ASSERT(offsetof(struct lokhazim_export_reply, length) == 8, "struct lokhazim_export_reply: the offset of length is not 8");
 
 /* ---- The library's functions: grants by value ---- */
 

@@ -20,9 +20,17 @@
 #ifndef LOKHAZIM_SETTINGS_H
 #define LOKHAZIM_SETTINGS_H
 
-#include <assert.h>
 #include <stddef.h>
 #include <stdint.h>
+
+/* Stops the compiler where a fact does not hold; lokhazim.h has the same. */
+#ifndef LOKHAZIM_ASSERT
+#ifdef __cplusplus
+#define LOKHAZIM_ASSERT(fact, text) static_assert(fact, text)
+#else
+#define LOKHAZIM_ASSERT(fact, text) _Static_assert(fact, text)
+#endif
+#endif
 
 #ifdef __cplusplus
 extern "C" {
@@ -80,18 +88,18 @@ struct lokhazim_entry_reply {
     size_t end;
 };
 
-static_assert(sizeof(struct lokhazim_find_reply) == 24, "the size of struct lokhazim_find_reply is not 24");
-static_assert(offsetof(struct lokhazim_find_reply, store) == 4, "struct lokhazim_find_reply: the offset of store is not 4");
-static_assert(offsetof(struct lokhazim_find_reply, start) == 8, "struct lokhazim_find_reply: the offset of start is not 8");
-static_assert(offsetof(struct lokhazim_find_reply, end) == 16, "struct lokhazim_find_reply: the offset of end is not 16");
-static_assert(sizeof(struct lokhazim_add_reply) == 16, "the size of struct lokhazim_add_reply is not 16");
-static_assert(offsetof(struct lokhazim_add_reply, used) == 8, "struct lokhazim_add_reply: the offset of used is not 8");
-static_assert(sizeof(struct lokhazim_entry_reply) == 32, "the size of struct lokhazim_entry_reply is not 32");
-static_assert(offsetof(struct lokhazim_entry_reply, there) == 4, "struct lokhazim_entry_reply: the offset of there is not 4");
-static_assert(offsetof(struct lokhazim_entry_reply, version) == 8, "struct lokhazim_entry_reply: the offset of version is not 8");
-static_assert(offsetof(struct lokhazim_entry_reply, name) == 10, "struct lokhazim_entry_reply: the offset of name is not 10");
-static_assert(offsetof(struct lokhazim_entry_reply, start) == 16, "struct lokhazim_entry_reply: the offset of start is not 16");
-static_assert(offsetof(struct lokhazim_entry_reply, end) == 24, "struct lokhazim_entry_reply: the offset of end is not 24");
+LOKHAZIM_ASSERT(sizeof(struct lokhazim_find_reply) == 24, "the size of struct lokhazim_find_reply is not 24");
+LOKHAZIM_ASSERT(offsetof(struct lokhazim_find_reply, store) == 4, "struct lokhazim_find_reply: the offset of store is not 4");
+LOKHAZIM_ASSERT(offsetof(struct lokhazim_find_reply, start) == 8, "struct lokhazim_find_reply: the offset of start is not 8");
+LOKHAZIM_ASSERT(offsetof(struct lokhazim_find_reply, end) == 16, "struct lokhazim_find_reply: the offset of end is not 16");
+LOKHAZIM_ASSERT(sizeof(struct lokhazim_add_reply) == 16, "the size of struct lokhazim_add_reply is not 16");
+LOKHAZIM_ASSERT(offsetof(struct lokhazim_add_reply, used) == 8, "struct lokhazim_add_reply: the offset of used is not 8");
+LOKHAZIM_ASSERT(sizeof(struct lokhazim_entry_reply) == 32, "the size of struct lokhazim_entry_reply is not 32");
+LOKHAZIM_ASSERT(offsetof(struct lokhazim_entry_reply, there) == 4, "struct lokhazim_entry_reply: the offset of there is not 4");
+LOKHAZIM_ASSERT(offsetof(struct lokhazim_entry_reply, version) == 8, "struct lokhazim_entry_reply: the offset of version is not 8");
+LOKHAZIM_ASSERT(offsetof(struct lokhazim_entry_reply, name) == 10, "struct lokhazim_entry_reply: the offset of name is not 10");
+LOKHAZIM_ASSERT(offsetof(struct lokhazim_entry_reply, start) == 16, "struct lokhazim_entry_reply: the offset of start is not 16");
+LOKHAZIM_ASSERT(offsetof(struct lokhazim_entry_reply, end) == 24, "struct lokhazim_entry_reply: the offset of end is not 24");
 
 /* ---- The library's functions ---- */
 

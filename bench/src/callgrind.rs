@@ -7,7 +7,7 @@ use std::fs::{self, File};
 use std::path::{Path, PathBuf};
 use std::process::{Command, Stdio};
 
-use crate::figures::{Call, Count, CALLS};
+use crate::figures::Count;
 
 /// The function that runs a counted round, here and in C.
 const ROUND: &str = "measured_round";
@@ -29,6 +29,8 @@ pub struct Counted<'a> {
     pub preload: Option<&'a Path>,
     /// Its input.
     pub input: String,
+    /// The names of the calls that it makes.
+    pub calls: &'a [&'a str],
 }
 
 impl Callgrind {
@@ -43,7 +45,7 @@ impl Callgrind {
     }
 
     /// Counts the instructions per call of a program.
-    pub fn count(&self, counted: &Counted) -> Result<[Count; CALLS], String> {
+    pub fn count(&self, counted: &Counted) -> Result<Vec<Count>, String> {
         let name = &counted.name;
         let output = self.folder.join(format!("{name}.callgrind"));
         let input = self.folder.join(format!("{name}.input"));
@@ -67,14 +69,15 @@ impl Callgrind {
             return Err(format!("valgrind on {name} ended with {status}"));
         }
         let text = fs::read_to_string(&output).map_err(trouble)?;
-        per_call(&text).ok_or_else(|| format!("{} lacks a call", output.display()))
+        per_call(&text, counted.calls).ok_or_else(|| format!("{} lacks a call", output.display()))
     }
 }
 
 /// Reads instructions per call out of callgrind's file; none if a call does not occur.
-fn per_call(text: &str) -> Option<[Count; CALLS]> {
-    let mut times = [0.0; CALLS];
-    let mut costs = [0.0; CALLS];
+fn per_call(text: &str, calls: &[&str]) -> Option<Vec<Count>> {
+    let names: Vec<String> = calls.iter().map(|call| format!("call_{call}")).collect();
+    let mut times = vec![0.0; names.len()];
+    let mut costs = vec![0.0; names.len()];
     let mut callee = None;
     let mut measured = false;
     let mut lines = text.lines();
@@ -82,29 +85,25 @@ fn per_call(text: &str) -> Option<[Count; CALLS]> {
         if let Some(function) = line.strip_prefix("fn=") {
             measured = function.contains(ROUND);
         } else if let Some(function) = line.strip_prefix("cfn=") {
-            callee = call_named(function).filter(|_| measured);
+            // A function's name may be mangled.
+            let named = names.iter().position(|name| function.contains(name));
+            callee = named.filter(|_| measured);
         } else if let Some(calls) = line.strip_prefix("calls=") {
             let cost = lines.next()?;
             if let Some(call) = callee {
-                times[call as usize] += number(calls.split(' ').next()?)?;
-                costs[call as usize] += number(cost.split(' ').nth(1)?)?;
+                times[call] += number(calls.split(' ').next()?)?;
+                costs[call] += number(cost.split(' ').nth(1)?)?;
             }
         }
     }
-    let counts = Call::ALL.map(|call| costs[call as usize] / times[call as usize]);
-    let complete = counts.iter().all(|count| count.is_finite());
-    complete.then(|| counts.map(Count))
+    let counts = costs.iter().zip(&times).map(|(cost, times)| cost / times);
+    let counts: Vec<Count> = counts.map(Count).collect();
+    counts.iter().all(|n| n.0.is_finite()).then_some(counts)
 }
 
 /// Reads a number.
 fn number(word: &str) -> Option<f64> {
     word.parse().ok()
-}
-
-/// Gives the call that a function's name stands for, also where the name is mangled.
-fn call_named(function: &str) -> Option<Call> {
-    let names = |call: &Call| function.contains(&format!("call_{}", call.name()));
-    Call::ALL.into_iter().find(names)
 }
 
 #[cfg(test)]
@@ -137,16 +136,21 @@ calls=1 80
 19 1
 ";
 
+    const CALLS: [&str; 4] = ["allocate", "release", "claim", "reallocate"];
+
     #[test]
     fn costs_are_shared_among_the_calls() {
-        let expected = [50.0, 30.0, 25.0, 75.0].map(Count);
-        assert_eq!(per_call(FILE), Some(expected));
+        let expected = [50.0, 30.0, 25.0, 75.0].map(Count).to_vec();
+        assert_eq!(per_call(FILE, &CALLS), Some(expected));
     }
 
     #[test]
     fn a_call_that_does_not_occur_is_noticed() {
         assert_eq!(
-            per_call("fn=measured_round\ncfn=call_allocate\ncalls=1 2\n3 4\n"),
+            per_call(
+                "fn=measured_round\ncfn=call_allocate\ncalls=1 2\n3 4\n",
+                &CALLS
+            ),
             None
         );
     }

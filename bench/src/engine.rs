@@ -20,8 +20,10 @@ pub trait Engine {
     fn call_claim(&mut self, quota: u32, handle: Handle) -> u32;
     /// Reallocates an object.
     fn call_reallocate(&mut self, quota: u32, handle: Handle, length: u32) -> Handle;
-    /// Takes a hold back, which gives the quota nothing: a release that is not measured.
-    fn drop_claim(&mut self, quota: u32, handle: Handle);
+    /// Lets a quota hold an object: a claim that is not measured.
+    fn hold(&mut self, quota: u32, handle: Handle);
+    /// Takes a hold back: a release that is not measured.
+    fn drop_hold(&mut self, quota: u32, handle: Handle);
     /// Looks at the heap's bytes, or changes them where no rule names them.
     fn look<A>(&mut self, look: impl FnOnce(&mut [u8]) -> A) -> A;
 }
@@ -86,9 +88,15 @@ impl Engine for Reference {
     }
 
     #[inline(never)]
-    fn drop_claim(&mut self, quota: u32, handle: Handle) {
+    fn hold(&mut self, quota: u32, handle: Handle) {
+        let answer = reference::claim(self.bytes, &mut self.accounts, quota, handle);
+        accepted("claim", answer);
+    }
+
+    #[inline(never)]
+    fn drop_hold(&mut self, quota: u32, handle: Handle) {
         let answer = reference::release(self.bytes, &mut self.accounts, quota, handle);
-        assert_eq!(accepted("release", answer), 0, "the quota had one hold");
+        accepted("release", answer);
     }
 
     fn look<A>(&mut self, look: impl FnOnce(&mut [u8]) -> A) -> A {

@@ -2,6 +2,8 @@
 
 use std::fmt;
 
+use crate::table::grouped;
+
 /// How many kinds of call are measured.
 pub const CALLS: usize = 4;
 
@@ -22,14 +24,12 @@ impl Call {
     /// All of them, in the order of the tables.
     pub const ALL: [Call; CALLS] = [Call::Allocate, Call::Release, Call::Claim, Call::Reallocate];
 
+    /// Their names.
+    pub const NAMES: [&str; CALLS] = ["allocate", "release", "claim", "reallocate"];
+
     /// Gives the name in the tables.
     pub fn name(self) -> &'static str {
-        match self {
-            Call::Allocate => "allocate",
-            Call::Release => "release",
-            Call::Claim => "claim",
-            Call::Reallocate => "reallocate",
-        }
+        Call::NAMES[self as usize]
     }
 }
 
@@ -44,8 +44,6 @@ pub trait Figure: fmt::Display {
 pub struct Summary {
     /// The middle value.
     pub median: f64,
-    /// The lowest value.
-    pub lowest: f64,
     /// From the end of the first quarter of the sorted values to the start of the last.
     pub spread: f64,
 }
@@ -57,7 +55,6 @@ impl Summary {
         let last = values.len() - 1;
         Summary {
             median: values[last / 2],
-            lowest: values[0],
             spread: values[last * 3 / 4] - values[last / 4],
         }
     }
@@ -71,12 +68,7 @@ impl Figure for Summary {
 
 impl fmt::Display for Summary {
     fn fmt(&self, f: &mut fmt::Formatter<'_>) -> fmt::Result {
-        let Summary {
-            median,
-            lowest,
-            spread,
-        } = self;
-        f.pad(&format!("{median:.0} ({lowest:.0}, {spread:.0})"))
+        f.pad(&grouped(self.median))
     }
 }
 
@@ -92,7 +84,7 @@ impl Figure for Count {
 
 impl fmt::Display for Count {
     fn fmt(&self, f: &mut fmt::Formatter<'_>) -> fmt::Result {
-        f.pad(&format!("{:.0}", self.0))
+        f.pad(&grouped(self.0))
     }
 }
 
@@ -101,14 +93,13 @@ mod tests {
     use super::*;
 
     #[test]
-    fn a_summary_has_median_lowest_and_spread() {
+    fn a_summary_has_median_and_spread() {
         let summary = Summary::new(vec![5.0, 1.0, 9.0, 3.0, 7.0]);
         let expected = Summary {
             median: 5.0,
-            lowest: 1.0,
             spread: 4.0,
         };
         assert_eq!(summary, expected);
-        assert_eq!(format!("{summary:>12}"), "    5 (1, 4)");
+        assert_eq!(format!("{summary:>4}"), "   5");
     }
 }

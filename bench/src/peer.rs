@@ -1,24 +1,82 @@
-//! glibc under `mcheck_pedantic`: the program `bench/mcheck.c`, run beside this one.
+//! The programs beside the proved calls. Those in C, `bench/peer.c` with one peer each, are run beside this one.
 
 use std::io::{BufRead, BufReader, Write};
-use std::path::PathBuf;
+use std::path::{Path, PathBuf};
 use std::process::{Child, ChildStdin, ChildStdout, Command, Stdio};
 use std::str::FromStr;
 
-use crate::plan::Plan;
+use crate::plan::{Plan, Shape};
 use crate::rounds::{per_call, Round, Runner, Times};
 
-/// Where the peer's program is, and the library that it is run with.
-#[derive(Clone, Debug)]
+/// What the reader is told of a program.
+pub struct About {
+    /// The name of its file, and of its source in `bench/`.
+    pub file: &'static str,
+    /// The head of its column.
+    pub title: &'static str,
+    /// Whether something stands against claim.
+    pub has_claims: bool,
+    /// What it does.
+    pub text: &'static str,
+}
+
+/// The peer that the aims are about.
+pub const MCHECK: &str = "mcheck_pedantic";
+
+/// The second program.
+pub const ABOUT_REFERENCE: About = About {
+    file: "reference",
+    title: "reference",
+    has_claims: true,
+    text: "the second program, in Rust. It changes the accounts in place.",
+};
+
+/// The peers in C.
+pub const PEERS: [About; 4] = [
+    About {
+        file: "mcheck",
+        title: MCHECK,
+        has_claims: true,
+        text: "glibc's malloc, free and realloc with a check of its whole heap at each call, and no quotas or holds.
+  \
+               Against claim stands mcheck_check_all(), its check alone; realloc may stay in place.",
+    },
+    About {
+        file: "dmalloc",
+        title: "dmalloc",
+        has_claims: true,
+        text: "a malloc for debugging that checks its whole heap at each call (check-heap, inter=1).
+  \
+               Against claim stands dmalloc_verify(NULL).",
+    },
+    About {
+        file: "nano",
+        title: "nano malloc",
+        has_claims: false,
+        text: "newlib's malloc for small machines, compiled for this one. It checks nothing.",
+    },
+    About {
+        file: "by_value",
+        title: "by value",
+        has_claims: true,
+        text: "the proved calls that take the accounts, 4,488 bytes, by value and hand them back.",
+    },
+];
+
+/// A peer in C.
+#[derive(Clone)]
 pub struct Peer {
-    /// The compiled `bench/mcheck.c`.
+    /// What it is.
+    pub about: &'static About,
+    /// The compiled program.
     pub program: PathBuf,
-    /// The C library's `libc_malloc_debug.so.0`.
-    pub preload: PathBuf,
+    /// A library that it is run with.
+    pub preload: Option<PathBuf>,
 }
 
 /// The peer at work on a plan.
 pub struct PeerRuns {
+    name: &'static str,
     child: Child,
     orders: ChildStdin,
     answers: BufReader<ChildStdout>,
@@ -27,10 +85,27 @@ pub struct PeerRuns {
 }
 
 impl Peer {
+    /// Finds a peer in a folder by a word of the command line: its name, or its name, `=` and a library.
+    pub fn named(folder: &Path, word: &str) -> Option<Peer> {
+        let (name, preload) = match word.split_once('=') {
+            Some((name, preload)) => (name, Some(PathBuf::from(preload))),
+            None => (word, None),
+        };
+        let about = PEERS.iter().find(|about| about.file == name)?;
+        Some(Peer {
+            about,
+            program: folder.join(name),
+            preload,
+        })
+    }
+
     /// Starts the peer on a plan.
     pub fn start(&self, plan: &Plan) -> Result<PeerRuns, String> {
-        let mut child = Command::new(&self.program)
-            .env("LD_PRELOAD", &self.preload)
+        let mut command = Command::new(&self.program);
+        if let Some(preload) = &self.preload {
+            command.env("LD_PRELOAD", preload);
+        }
+        let mut child = command
             .stdin(Stdio::piped())
             .stdout(Stdio::piped())
             .spawn()
@@ -38,6 +113,7 @@ impl Peer {
         let orders = child.stdin.take().ok_or("the peer has no input")?;
         let answers = child.stdout.take().ok_or("the peer has no output")?;
         let mut runs = PeerRuns {
+            name: self.about.file,
             child,
             orders,
             answers: BufReader::new(answers),
@@ -46,13 +122,13 @@ impl Peer {
         };
         runs.filling = runs.line()?;
         runs.order(plan.text().as_bytes())?;
-        runs.clock = numbers(&runs.line()?)?[0];
+        runs.clock = runs.numbers()?[0];
         Ok(runs)
     }
 
     /// Says what the peer does to a new object's bytes.
     pub fn filling(&self) -> Result<String, String> {
-        let runs = self.start(&Plan::new(2, 0, 1))?;
+        let runs = self.start(&Plan::new(Shape::alone(2), 0, 1))?;
         let filling = runs.filling.clone();
         runs.finish()?;
         Ok(filling)
@@ -60,21 +136,22 @@ impl Peer {
 
     /// Says that the peer can't be run.
     fn trouble(&self, error: &dyn std::fmt::Display) -> String {
-        let program = self.program.display();
-        format!("{program} can't be run: {error}. 'make bench' compiles it from bench/mcheck.c.")
+        let (program, name) = (self.program.display(), self.about.file);
+        format!("{program} can't be run: {error}. 'make bench' compiles it from bench/peer.c and bench/{name}.c.")
     }
 }
 
 impl PeerRuns {
     /// Waits for the peer's end.
     pub fn finish(mut self) -> Result<(), String> {
+        let name = self.name;
         drop(self.orders);
         match self.child.wait() {
             Ok(status) if status.success() => Ok(()),
             Ok(status) => Err(format!(
-                "bench/mcheck.c ended with {status}; it says why above"
+                "bench/{name}.c ended with {status}; it says why above"
             )),
-            Err(error) => Err(format!("bench/mcheck.c was lost: {error}")),
+            Err(error) => Err(format!("bench/{name}.c was lost: {error}")),
         }
     }
 
@@ -82,7 +159,7 @@ impl PeerRuns {
     fn order(&mut self, bytes: &[u8]) -> Result<(), String> {
         let sent = self.orders.write_all(bytes);
         sent.and_then(|()| self.orders.flush())
-            .map_err(|error| format!("bench/mcheck.c takes no more input: {error}"))
+            .map_err(|error| format!("bench/{}.c takes no more input: {error}", self.name))
     }
 
     /// Reads a line of the peer.
@@ -90,8 +167,23 @@ impl PeerRuns {
         let mut line = String::new();
         match self.answers.read_line(&mut line) {
             Ok(1..) => Ok(line.trim().to_string()),
-            _ => Err("bench/mcheck.c ended too early; it says why above".to_string()),
+            _ => Err(format!(
+                "bench/{}.c ended too early; it says why above",
+                self.name
+            )),
         }
+    }
+
+    /// Reads a line of at least one number.
+    fn numbers<N: FromStr>(&mut self) -> Result<Vec<N>, String> {
+        let line = self.line()?;
+        let numbers: Result<Vec<N>, N::Err> = line.split(' ').map(str::parse).collect();
+        numbers.map_err(|_| {
+            format!(
+                "bench/{}.c printed '{line}', and not numbers alone",
+                self.name
+            )
+        })
     }
 }
 
@@ -104,14 +196,8 @@ impl Runner for PeerRuns {
         self.order(b"\n")?;
         let mut times: Times = Default::default();
         for times in &mut times {
-            *times = numbers(&self.line()?)?;
+            *times = self.numbers()?;
         }
         Ok(per_call(times, self.clock))
     }
-}
-
-/// Reads a line of at least one number.
-fn numbers<N: FromStr>(line: &str) -> Result<Vec<N>, String> {
-    let numbers: Result<Vec<N>, N::Err> = line.split(' ').map(str::parse).collect();
-    numbers.map_err(|_| format!("bench/mcheck.c printed '{line}', and not numbers alone"))
 }

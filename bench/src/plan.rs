@@ -3,7 +3,8 @@
 //! A step starts with one object less than the plan's live count. It allocates one, claims one and
 //! drops the hold, releases one and reallocates one. So at each of the four calls the heap has
 //! exactly the live count at its fullest: a reallocation needs a hold record for both objects. The
-//! greatest live count is the number of records.
+//! greatest live count is the number of records. In a plan with several holders, further quotas hold
+//! each object too, so that as many records are used by fewer objects.
 
 use std::fmt::Write;
 
@@ -16,8 +17,41 @@ pub const HEAP_BYTES: usize = 32_768;
 /// What each quota is granted.
 pub const GRANT: u32 = 1_000_000;
 
+/// How many objects live at the fullest moment, and how many quotas hold each.
+#[derive(Clone, Copy, Debug, PartialEq, Eq)]
+pub struct Shape {
+    /// The objects.
+    pub live: usize,
+    /// The quotas that hold each of them.
+    pub holders: usize,
+}
+
+impl Shape {
+    /// So many objects of one holder each.
+    pub const fn alone(live: usize) -> Shape {
+        Shape { live, holders: 1 }
+    }
+
+    /// The records that are used at the fullest moment.
+    pub const fn records(self) -> usize {
+        self.live * self.holders
+    }
+}
+
 /// The numbers of live objects that are measured.
 pub const LIVE_COUNTS: [usize; 4] = [8, 32, 128, HOLDS];
+
+/// The shapes with several holders that are measured. Their records are those of the last live counts.
+pub const SHARED: [Shape; 2] = [
+    Shape {
+        live: 32,
+        holders: 4,
+    },
+    Shape {
+        live: HOLDS / 4,
+        holders: 4,
+    },
+];
 
 /// The longest request for so many live objects: so many of this length leave a fifth of the heap
 /// free at least.
@@ -48,11 +82,11 @@ pub struct Step {
     pub new_length: u32,
 }
 
-/// The operations for one number of live objects.
+/// The operations for one shape.
 #[derive(Clone, Debug)]
 pub struct Plan {
-    /// How many objects live at the fullest moment of each call.
-    pub live: usize,
+    /// How many objects live at the fullest moment of each call, and how many quotas hold each.
+    pub shape: Shape,
     /// The lengths of the objects that are there before the first step.
     pub first: Vec<u32>,
     /// The steps, round by round. The first round is for warming up.
@@ -60,11 +94,12 @@ pub struct Plan {
 }
 
 impl Plan {
-    /// Makes the plan for a number of live objects: so many rounds behind the first, of so many steps.
-    pub fn new(live: usize, rounds: usize, steps: usize) -> Plan {
+    /// Makes the plan for a shape: so many rounds behind the first, of so many steps.
+    pub fn new(shape: Shape, rounds: usize, steps: usize) -> Plan {
+        let live = shape.live;
         let mut seed = Seed::new(SEED + live as u64);
         Plan {
-            live,
+            shape,
             first: (1..live).map(|_| length(&mut seed, live)).collect(),
             rounds: (0..=rounds)
                 .map(|_| (0..steps).map(|_| step(&mut seed, live)).collect())
@@ -72,11 +107,11 @@ impl Plan {
         }
     }
 
-    /// Writes the plan as `bench/mcheck.c` reads it: live objects, rounds, steps of a round, the
+    /// Writes the plan as `bench/peer.c` reads it: live objects, rounds, steps of a round, the
     /// first lengths, then five numbers for each step.
     pub fn text(&self) -> String {
         let steps = self.rounds[0].len();
-        let mut text = format!("{} {} {}\n", self.live, self.rounds.len(), steps);
+        let mut text = format!("{} {} {}\n", self.shape.live, self.rounds.len(), steps);
         for length in &self.first {
             let _ = writeln!(text, "{length}");
         }
@@ -92,6 +127,11 @@ impl Plan {
 /// Gives the quota of one of the first objects, by its place.
 pub fn first_quota(place: usize) -> u32 {
     (place % QUOTAS) as u32
+}
+
+/// Gives the quotas that hold an object beside the one that made it.
+pub fn sharers(shape: Shape, quota: u32) -> impl Iterator<Item = u32> {
+    (1..shape.holders as u32).map(move |further| (quota + further) % QUOTAS as u32)
 }
 
 /// Gives a length from 1 to the longest for so many live objects.
@@ -117,12 +157,13 @@ mod tests {
 
     #[test]
     fn the_same_seed_gives_the_same_plan() {
-        assert_eq!(Plan::new(32, 2, 5).rounds, Plan::new(32, 2, 5).rounds);
+        let plan = || Plan::new(Shape::alone(32), 2, 5);
+        assert_eq!(plan().rounds, plan().rounds);
     }
 
     #[test]
     fn the_text_has_a_number_for_each_choice() {
-        let text = Plan::new(8, 2, 5).text();
+        let text = Plan::new(Shape::alone(8), 2, 5).text();
         assert!(text.starts_with("8 3 5\n"));
         assert_eq!(text.split_whitespace().count(), 3 + 7 + 3 * 5 * 5);
     }
@@ -132,6 +173,13 @@ mod tests {
         for live in LIVE_COUNTS {
             let largest = live * (longest(live) as usize + 8);
             assert!(5 * largest <= 4 * HEAP_BYTES, "{live}");
+        }
+    }
+
+    #[test]
+    fn shared_objects_use_as_many_records_as_objects_of_one_holder() {
+        for (shape, live) in SHARED.into_iter().zip(&LIVE_COUNTS[2..]) {
+            assert_eq!(shape.records(), *live);
         }
     }
 }

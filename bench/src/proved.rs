@@ -1,13 +1,11 @@
 //! A heap of the proved calls, by the Rust crate over their library.
 
-use lokhazim::{Accounts, Heap, Refusal};
+pub use lokhazim::Accounts;
+use lokhazim::{Heap, Refusal};
 use lokhazim_reference::{Handle, QUOTAS};
 
 use crate::engine::{buffer, refused, Engine};
 use crate::plan::GRANT;
-
-/// The bytes of the accounts, which a call takes and gives back.
-pub const ACCOUNTS_BYTES: usize = size_of::<Accounts>();
 
 /// A heap of the proved calls. It is missing only while its bytes are looked at.
 pub struct Proved(Option<Heap<'static>>);
@@ -17,6 +15,22 @@ impl Proved {
     pub fn open() -> Proved {
         let opened = Heap::open(buffer(), [GRANT; QUOTAS]);
         Proved(Some(accepted("open", opened)))
+    }
+
+    /// Takes up a heap again.
+    pub fn from_parts(bytes: &'static mut [u8], accounts: Accounts) -> Proved {
+        Proved(Some(accepted("check", Heap::from_parts(bytes, accounts))))
+    }
+
+    /// Gives the bytes back, with the accounts.
+    pub fn into_parts(self) -> (&'static mut [u8], Accounts) {
+        self.0.expect("the heap is put back").into_parts()
+    }
+
+    /// Checks the heap.
+    #[inline(never)]
+    pub fn call_check(&mut self) {
+        accepted("check", self.get().check());
     }
 
     /// Gives the heap.
@@ -85,9 +99,13 @@ impl Engine for Proved {
     }
 
     #[inline(never)]
-    fn drop_claim(&mut self, quota: u32, handle: Handle) {
-        let given_back = accepted("release", self.get().release(quota, to_proved(handle)));
-        assert_eq!(given_back, 0, "the quota had one hold");
+    fn hold(&mut self, quota: u32, handle: Handle) {
+        accepted("claim", self.get().claim(quota, to_proved(handle)));
+    }
+
+    #[inline(never)]
+    fn drop_hold(&mut self, quota: u32, handle: Handle) {
+        accepted("release", self.get().release(quota, to_proved(handle)));
     }
 
     fn look<A>(&mut self, look: impl FnOnce(&mut [u8]) -> A) -> A {

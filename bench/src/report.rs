@@ -1,12 +1,9 @@
-//! The tables: figures of the three programs side by side, their ratios and their growth.
-
-use std::fmt::Write;
+//! The tables of the four calls: figures of the programs side by side, with their ratios.
 
 use crate::figures::{Call, Figure, CALLS};
-use crate::plan::LIVE_COUNTS;
-
-/// How wide the column of a program is.
-const WIDTH: usize = 24;
+use crate::peer::About;
+use crate::plan::{Shape, LIVE_COUNTS, SHARED};
+use crate::table::table;
 
 /// Two places among the numbers of live objects.
 #[derive(Clone, Copy)]
@@ -20,114 +17,94 @@ pub struct Span {
 /// The spans over which growth is shown and judged: to 128 objects, and from there to the most.
 pub const SPANS: [Span; 2] = [Span { from: 0, to: 2 }, Span { from: 2, to: 3 }];
 
-/// A program's figures: for each number of live objects, one of each call.
+/// A program's figures: for each shape, one of each call.
 pub type Grid<F> = Vec<[F; CALLS]>;
 
-/// The figures of the three programs in one unit.
+/// The figures of a program beside the proved calls.
+pub struct Other<F> {
+    /// What it is.
+    pub about: &'static About,
+    /// Its figures, for each number of live objects.
+    pub grid: Grid<F>,
+}
+
+/// The figures of all programs in one unit.
 pub struct Report<F> {
-    /// What the figures are.
-    pub title: String,
-    /// The proved calls.
+    /// The unit of the figures, for the aims.
+    pub unit: &'static str,
+    /// The proved calls, for each number of live objects.
     pub proved: Grid<F>,
-    /// The second program.
-    pub reference: Grid<F>,
-    /// glibc under `mcheck_pedantic`, where it was there.
-    pub peer: Option<Grid<F>>,
+    /// The proved calls on objects with several holders, for each shape of [`SHARED`].
+    pub shared: Grid<F>,
+    /// The other programs that were there.
+    pub others: Vec<Other<F>>,
 }
 
 impl<F: Figure> Report<F> {
-    /// Writes the table with the ratios.
+    /// Writes the table of all programs. In brackets stands how often a figure goes into that of the proved call.
     pub fn table(&self) -> String {
-        let mut text = format!("{}\n", self.title);
-        let _ = writeln!(
-            text,
-            "{:<11}{:>4}{}{:>18}{:>15}",
-            "call",
-            "live",
-            heads(),
-            "proved/reference",
-            "proved/mcheck"
-        );
+        let mut heads = vec!["call", "live", "proved"];
+        heads.extend(self.others.iter().map(|other| other.about.title));
+        let places = Call::ALL.map(|call| (0..LIVE_COUNTS.len()).map(move |place| (call, place)));
+        let rows: Vec<Vec<String>> = places
+            .into_iter()
+            .flatten()
+            .map(|(call, place)| self.row(call, place))
+            .collect();
+        table(&heads, &rows)
+    }
+
+    /// Gives the row of a call at a number of live objects.
+    fn row(&self, call: Call, place: usize) -> Vec<String> {
+        let live = LIVE_COUNTS[place].to_string();
+        let mut row = vec![call.name().to_string(), live];
+        row.push(self.proved[place][call as usize].to_string());
+        for other in &self.others {
+            row.push(match self.ratio(other, call, place) {
+                Some(ratio) => format!("{} ({ratio:.2})", other.grid[place][call as usize]),
+                None => "-".to_string(),
+            });
+        }
+        row
+    }
+
+    /// Writes the table of objects with several holders, beside as many records of objects with one.
+    pub fn shared_table(&self) -> String {
+        let heads = ["call", "records", "1 holder", "4 holders", "ratio"];
+        let mut rows = Vec::new();
         for call in Call::ALL {
-            for place in 0..LIVE_COUNTS.len() {
-                text.push_str(&self.line(call, place));
+            for (place, shape) in SHARED.into_iter().enumerate() {
+                let alone = &self.proved[same_records(shape)][call as usize];
+                let shared = &self.shared[place][call as usize];
+                rows.push(vec![
+                    call.name().to_string(),
+                    shape.records().to_string(),
+                    alone.to_string(),
+                    shared.to_string(),
+                    format!("{:.2}", shared.value() / alone.value()),
+                ]);
             }
         }
-        text
+        table(&heads, &rows)
     }
 
-    /// Writes the line of a call at a number of live objects.
-    fn line(&self, call: Call, place: usize) -> String {
-        let show = |grid: &Grid<F>| format!("{:>WIDTH$}", grid[place][call as usize].to_string());
-        let peer = self.peer.as_ref().map_or(format!("{:>WIDTH$}", "-"), show);
-        format!(
-            "{:<11}{:>4}{}{}{peer}{:>18.2}{:>15}\n",
-            call.name(),
-            LIVE_COUNTS[place],
-            show(&self.proved),
-            show(&self.reference),
-            self.to_reference(call, place),
-            shown(self.to_peer(call, place)),
-        )
+    /// Gives the ratio of the proved call to another program's; none where that has no such call.
+    pub fn ratio(&self, other: &Other<F>, call: Call, place: usize) -> Option<f64> {
+        let has_call = other.about.has_claims || call != Call::Claim;
+        let (above, below) = (&self.proved[place], &other.grid[place]);
+        has_call.then(|| above[call as usize].value() / below[call as usize].value())
     }
 
-    /// Writes how the figures grow over each span of live objects.
-    pub fn growth(&self) -> String {
-        SPANS.map(|span| self.growth_over(span)).concat()
-    }
-
-    /// Writes how often the figure at a span's first number goes into the one at its last.
-    fn growth_over(&self, span: Span) -> String {
-        let mut text = format!(
-            "Growth from {} to {} live objects\n{:<15}{}\n",
-            LIVE_COUNTS[span.from],
-            LIVE_COUNTS[span.to],
-            "call",
-            heads()
-        );
-        for call in Call::ALL {
-            let name = call.name();
-            let proved = growth(&self.proved, call, span);
-            let reference = growth(&self.reference, call, span);
-            let peer = shown(self.peer.as_ref().map(|grid| growth(grid, call, span)));
-            let _ = writeln!(
-                text,
-                "{name:<15}{proved:>WIDTH$.2}{reference:>WIDTH$.2}{peer:>WIDTH$}"
-            );
-        }
-        text
-    }
-
-    /// Gives the ratio of the proved call to the reference's.
-    pub fn to_reference(&self, call: Call, place: usize) -> f64 {
-        ratio(&self.proved, &self.reference, call, place)
-    }
-
-    /// Gives the ratio of the proved call to the peer's.
-    pub fn to_peer(&self, call: Call, place: usize) -> Option<f64> {
-        let peer = self.peer.as_ref()?;
-        Some(ratio(&self.proved, peer, call, place))
+    /// Gives how the proved call grows over a span.
+    pub fn growth(&self, call: Call, span: Span) -> f64 {
+        let (below, above) = (&self.proved[span.from], &self.proved[span.to]);
+        above[call as usize].value() / below[call as usize].value()
     }
 }
 
-/// Writes the heads of the programs' columns.
-fn heads() -> String {
-    ["proved", "reference", "mcheck_pedantic"]
-        .map(|head| format!("{head:>WIDTH$}"))
-        .concat()
-}
-
-/// Gives the ratio of two programs at a call and a number of live objects.
-fn ratio<F: Figure>(above: &Grid<F>, below: &Grid<F>, call: Call, place: usize) -> f64 {
-    above[place][call as usize].value() / below[place][call as usize].value()
-}
-
-/// Gives how a program's call grows over a span.
-pub fn growth<F: Figure>(grid: &Grid<F>, call: Call, span: Span) -> f64 {
-    grid[span.to][call as usize].value() / grid[span.from][call as usize].value()
-}
-
-/// Writes a ratio, or a dash for none.
-fn shown(ratio: Option<f64>) -> String {
-    ratio.map_or("-".to_string(), |ratio| format!("{ratio:.2}"))
+/// Gives the place among the live counts of as many records.
+fn same_records(shape: Shape) -> usize {
+    let same = |live: &usize| *live == shape.records();
+    let place = LIVE_COUNTS.iter().position(same);
+    place.expect("SHARED has the records of live counts")
 }

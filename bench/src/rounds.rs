@@ -7,7 +7,7 @@ use lokhazim_reference::Handle;
 
 use crate::engine::Engine;
 use crate::figures::{Call, CALLS};
-use crate::plan::{first_quota, Plan, Step};
+use crate::plan::{first_quota, sharers, Plan, Shape, Step};
 
 /// Nanoseconds per call in one round.
 pub type Round = [f64; CALLS];
@@ -52,10 +52,11 @@ pub struct Runs<'plan, E> {
 impl<'plan, E: Engine> Runs<'plan, E> {
     /// Makes the first objects of the plan.
     pub fn new(mut engine: E, plan: &'plan Plan) -> Runs<'plan, E> {
-        let mut objects = Vec::with_capacity(plan.live);
+        let mut objects = Vec::with_capacity(plan.shape.live);
         for (place, length) in plan.first.iter().enumerate() {
             let quota = first_quota(place);
             let handle = engine.call_allocate(quota, *length);
+            share(&mut engine, plan.shape, quota, handle);
             objects.push(Object { quota, handle });
         }
         Runs {
@@ -86,46 +87,82 @@ impl<'plan, E: Engine> Runs<'plan, E> {
 
 impl<E: Engine> Runner for Runs<'_, E> {
     fn warm_up(&mut self) -> Result<(), String> {
-        run_steps(&mut self.engine, &mut self.objects, &self.plan.rounds[0]);
+        run_steps(
+            &mut self.engine,
+            self.plan.shape,
+            &mut self.objects,
+            &self.plan.rounds[0],
+        );
         Ok(())
     }
 
     fn next_round(&mut self) -> Result<Round, String> {
         let steps = &self.plan.rounds[self.next];
         self.next += 1;
-        let times = measured_round(&mut self.engine, &mut self.objects, steps);
+        let shape = self.plan.shape;
+        let times = measured_round(&mut self.engine, shape, &mut self.objects, steps);
         Ok(per_call(times, self.clock))
     }
 }
 
 /// Runs a round whose instructions are counted; the counts look for this name.
 #[inline(never)]
-fn measured_round(engine: &mut impl Engine, objects: &mut Vec<Object>, steps: &[Step]) -> Times {
-    run_steps(engine, objects, steps)
+fn measured_round(
+    engine: &mut impl Engine,
+    shape: Shape,
+    objects: &mut Vec<Object>,
+    steps: &[Step],
+) -> Times {
+    run_steps(engine, shape, objects, steps)
 }
 
-/// Runs steps, and gives the time that each call took.
+/// Lets the further holders of an object hold it.
+fn share(engine: &mut impl Engine, shape: Shape, quota: u32, handle: Handle) {
+    for further in sharers(shape, quota) {
+        engine.hold(further, handle);
+    }
+}
+
+/// Takes their holds back.
+fn unshare(engine: &mut impl Engine, shape: Shape, quota: u32, handle: Handle) {
+    for further in sharers(shape, quota) {
+        engine.drop_hold(further, handle);
+    }
+}
+
+/// Runs steps, and gives the time that each call took. A release is that of the last holder.
 #[inline(always)]
-fn run_steps(engine: &mut impl Engine, objects: &mut Vec<Object>, steps: &[Step]) -> Times {
+fn run_steps(
+    engine: &mut impl Engine,
+    shape: Shape,
+    objects: &mut Vec<Object>,
+    steps: &[Step],
+) -> Times {
     let mut times: Times = Call::ALL.map(|_| Vec::with_capacity(steps.len()));
     for step in steps {
         let quota = step.quota;
         let (time, handle) = timed(|| engine.call_allocate(quota, step.length));
         times[Call::Allocate as usize].push(time);
+        share(engine, shape, quota, handle);
         objects.push(Object { quota, handle });
 
         let Object { quota, handle } = objects[step.claimed];
         let (time, _) = timed(|| engine.call_claim(quota, handle));
         times[Call::Claim as usize].push(time);
-        engine.drop_claim(quota, handle);
+        engine.drop_hold(quota, handle);
 
         let Object { quota, handle } = objects.swap_remove(step.released);
+        unshare(engine, shape, quota, handle);
         let (time, _) = timed(|| engine.call_release(quota, handle));
         times[Call::Release as usize].push(time);
 
-        let Object { quota, handle } = objects[step.moved];
-        let (time, handle) = timed(|| engine.call_reallocate(quota, handle, step.new_length));
+        let Object { quota, handle: old } = objects[step.moved];
+        let (time, handle) = timed(|| engine.call_reallocate(quota, old, step.new_length));
         times[Call::Reallocate as usize].push(time);
+        for further in sharers(shape, quota) {
+            engine.hold(further, handle);
+            engine.drop_hold(further, old);
+        }
         objects[step.moved].handle = handle;
     }
     times
@@ -133,14 +170,14 @@ fn run_steps(engine: &mut impl Engine, objects: &mut Vec<Object>, steps: &[Step]
 
 /// Times one call, in nanoseconds.
 #[inline(always)]
-fn timed<A>(call: impl FnOnce() -> A) -> (u64, A) {
+pub fn timed<A>(call: impl FnOnce() -> A) -> (u64, A) {
     let start = Instant::now();
     let answer = call();
     (start.elapsed().as_nanos() as u64, answer)
 }
 
 /// Measures what the timing itself adds to a call, in nanoseconds: the lowest of several averages.
-fn clock_cost() -> f64 {
+pub fn clock_cost() -> f64 {
     const TIMES: u32 = 2_000;
     let average = |_| {
         let sum: u64 = (0..TIMES).map(|i| timed(|| black_box(i)).0).sum();
@@ -153,7 +190,7 @@ fn clock_cost() -> f64 {
 mod tests {
     use super::*;
     use crate::engine::Reference;
-    use crate::plan::LIVE_COUNTS;
+    use crate::plan::{LIVE_COUNTS, SHARED};
 
     #[test]
     fn the_slowest_tenth_is_left_out() {
@@ -163,14 +200,14 @@ mod tests {
 
     #[test]
     fn no_call_of_a_plan_is_refused() {
-        for live in LIVE_COUNTS {
-            let plan = Plan::new(live, 2, 50);
+        for shape in LIVE_COUNTS.map(Shape::alone).into_iter().chain(SHARED) {
+            let plan = Plan::new(shape, 2, 50);
             let mut runs = Runs::new(Reference::open(), &plan);
             runs.warm_up().unwrap();
             for _ in 0..2 {
                 runs.next_round().unwrap();
             }
-            assert_eq!(runs.objects.len(), live - 1);
+            assert_eq!(runs.objects.len(), shape.live - 1);
         }
     }
 }

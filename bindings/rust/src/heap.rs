@@ -2,15 +2,16 @@
 
 use core::fmt;
 
-use crate::layout::{Accounts, AmountReply, Grants, Handle, HandleReply, QUOTAS};
+use crate::layout::{Accounts, Amount, GivenHandle, Grants, Handle, QUOTAS};
 use crate::opening::Settings;
 use crate::permissions::Permissions;
-use crate::raw;
+use crate::raw::{self, Words};
 use crate::refusal::{verdict, Refusal};
 
 /// A heap that parts of a program share, each with its own quota.
 ///
 /// It owns the lent bytes together with their accounts, so that one can't be used with another's.
+/// The accounts are 4,488 bytes of it, which calls read and write where they lie.
 /// A quota is named by its number, from 0; calls refuse other numbers. Every call checks the whole
 /// heap first, so any of them can give [`Refusal::Inconsistent`]; it is proved that none does
 /// unless something outside of this type has written to the bytes.
@@ -26,7 +27,7 @@ use crate::refusal::{verdict, Refusal};
 /// ```
 pub struct Heap<'a> {
     pub(crate) bytes: &'a mut [u8],
-    pub(crate) accounts: Accounts,
+    pub(crate) words: Words,
 }
 
 impl<'a> Heap<'a> {
@@ -74,12 +75,10 @@ impl<'a> Heap<'a> {
     ) -> Result<Heap<'a>, Refusal> {
         let kind = u32::from(settings.kind.number());
         let edition = u32::from(settings.edition.number());
-        let reply = raw::open(bytes, Grants { values: grants }, kind, edition);
-        verdict(reply.refusal)?;
-        Ok(Heap {
-            bytes,
-            accounts: reply.accounts,
-        })
+        let mut words = Words::ZERO;
+        let grants = Grants { values: grants };
+        verdict(raw::open(bytes, &mut words, grants, kind, edition))?;
+        Ok(Heap { bytes, words })
     }
 
     /// Takes up a heap that was opened before, here or in C, with the accounts that belong to it.
@@ -105,18 +104,19 @@ impl<'a> Heap<'a> {
     /// # Ok::<(), Refusal>(())
     /// ```
     pub fn from_parts(bytes: &'a mut [u8], accounts: Accounts) -> Result<Heap<'a>, Refusal> {
-        verdict(raw::check(bytes, &accounts))?;
-        Ok(Heap { bytes, accounts })
+        let words = Words::from(&accounts);
+        verdict(raw::check(bytes, &words))?;
+        Ok(Heap { bytes, words })
     }
 
     /// The bytes and the accounts that belong to them, to be read.
     pub fn parts(&self) -> (&[u8], &Accounts) {
-        (self.bytes, &self.accounts)
+        (self.bytes, self.accounts())
     }
 
     /// Gives the bytes back, with the accounts that belong to them.
     pub fn into_parts(self) -> (&'a mut [u8], Accounts) {
-        (self.bytes, self.accounts)
+        (self.bytes, self.words.accounts().clone())
     }
 
     /// The accounts: each quota's grant, remainder and permissions, the last serial, the hold
@@ -131,7 +131,7 @@ impl<'a> Heap<'a> {
     /// # Ok::<(), lokhazim::Refusal>(())
     /// ```
     pub fn accounts(&self) -> &Accounts {
-        &self.accounts
+        self.words.accounts()
     }
 
     /// Makes an object of at least `length` bytes, all zero, that the quota holds once.
@@ -160,8 +160,7 @@ impl<'a> Heap<'a> {
     /// # Ok::<(), Refusal>(())
     /// ```
     pub fn allocate(&mut self, quota: u32, length: u32) -> Result<Handle, Refusal> {
-        let reply = raw::allocate(self.bytes, &self.accounts, quota, length);
-        self.take_handle(reply)
+        given(raw::allocate(self.bytes, &mut self.words, quota, length))
     }
 
     /// Makes an object for `count` elements of `size` bytes; their product is never cut to 32 bits.
@@ -180,8 +179,13 @@ impl<'a> Heap<'a> {
     /// # Ok::<(), Refusal>(())
     /// ```
     pub fn allocate_array(&mut self, quota: u32, count: u32, size: u32) -> Result<Handle, Refusal> {
-        let reply = raw::allocate_array(self.bytes, &self.accounts, quota, count, size);
-        self.take_handle(reply)
+        given(raw::allocate_array(
+            self.bytes,
+            &mut self.words,
+            quota,
+            count,
+            size,
+        ))
     }
 
     /// Lets the quota hold the object, or hold it once more; gives the object's length.
@@ -204,8 +208,7 @@ impl<'a> Heap<'a> {
     /// # Ok::<(), lokhazim::Refusal>(())
     /// ```
     pub fn claim(&mut self, quota: u32, handle: Handle) -> Result<u32, Refusal> {
-        let reply = raw::claim(self.bytes, &self.accounts, quota, handle);
-        self.take_amount(reply)
+        amount(raw::claim(self.bytes, &mut self.words, quota, handle))
     }
 
     /// Drops one hold of the quota; gives what the quota gets back, 0 while it still holds the
@@ -231,8 +234,7 @@ impl<'a> Heap<'a> {
     /// # Ok::<(), Refusal>(())
     /// ```
     pub fn release(&mut self, quota: u32, handle: Handle) -> Result<u32, Refusal> {
-        let reply = raw::release(self.bytes, &self.accounts, quota, handle);
-        self.take_amount(reply)
+        amount(raw::release(self.bytes, &mut self.words, quota, handle))
     }
 
     /// Drops every hold of the quota; gives what the quota gets back.
@@ -251,8 +253,7 @@ impl<'a> Heap<'a> {
     /// # Ok::<(), lokhazim::Refusal>(())
     /// ```
     pub fn free_all(&mut self, quota: u32) -> Result<u32, Refusal> {
-        let reply = raw::free_all(self.bytes, &self.accounts, quota);
-        self.take_amount(reply)
+        amount(raw::free_all(self.bytes, &mut self.words, quota))
     }
 
     /// Clears permissions of the quota; gives those that it still has.
@@ -284,8 +285,13 @@ impl<'a> Heap<'a> {
         cleared: Permissions,
     ) -> Result<Permissions, Refusal> {
         let bits = u32::from(cleared.bits());
-        let reply = raw::clear_permissions(self.bytes, &self.accounts, quota, bits);
-        self.take_amount(reply).map(Permissions::left)
+        amount(raw::clear_permissions(
+            self.bytes,
+            &mut self.words,
+            quota,
+            bits,
+        ))
+        .map(Permissions::left)
     }
 
     /// Makes an object of another length with the old one's bytes, as far as they fit, then drops
@@ -315,8 +321,13 @@ impl<'a> Heap<'a> {
         handle: Handle,
         length: u32,
     ) -> Result<Handle, Refusal> {
-        let reply = raw::reallocate(self.bytes, &self.accounts, quota, handle, length);
-        self.take_handle(reply)
+        given(raw::reallocate(
+            self.bytes,
+            &mut self.words,
+            quota,
+            handle,
+            length,
+        ))
     }
 
     /// Makes every quarantined block free and joins neighbours that are free; gives the sum of their
@@ -345,21 +356,18 @@ impl<'a> Heap<'a> {
     /// # Ok::<(), Refusal>(())
     /// ```
     pub fn sweep(&mut self) -> Result<u32, Refusal> {
-        let reply = raw::sweep(self.bytes, &self.accounts);
-        self.take_amount(reply)
+        amount(raw::sweep(self.bytes, &self.words))
     }
+}
 
-    /// Takes over the accounts of a reply, which are those from before where it is a refusal.
-    fn take_handle(&mut self, reply: HandleReply) -> Result<Handle, Refusal> {
-        self.accounts = reply.accounts;
-        verdict(reply.refusal).map(|()| reply.handle)
-    }
+/// The handle that a reply gives.
+fn given(reply: GivenHandle) -> Result<Handle, Refusal> {
+    verdict(reply.refusal).map(|()| reply.handle)
+}
 
-    /// The same for a reply with an amount.
-    fn take_amount(&mut self, reply: AmountReply) -> Result<u32, Refusal> {
-        self.accounts = reply.accounts;
-        verdict(reply.refusal).map(|()| reply.amount)
-    }
+/// The amount that a reply gives.
+pub(crate) fn amount(reply: Amount) -> Result<u32, Refusal> {
+    verdict(reply.refusal).map(|()| reply.amount)
 }
 
 impl fmt::Debug for Heap<'_> {
@@ -367,7 +375,7 @@ impl fmt::Debug for Heap<'_> {
     fn fmt(&self, f: &mut fmt::Formatter<'_>) -> fmt::Result {
         f.debug_struct("Heap")
             .field("length", &self.bytes.len())
-            .field("accounts", &self.accounts)
+            .field("accounts", self.accounts())
             .finish()
     }
 }

@@ -8,8 +8,7 @@ use core::error::Error;
 use core::fmt;
 
 use crate::heap::Heap;
-use crate::layout::Accounts;
-use crate::raw;
+use crate::raw::{self, Words};
 use crate::refusal::Refusal;
 
 /// The length of the longest image, that of a heap of 32,768 bytes.
@@ -219,10 +218,10 @@ pub(crate) fn verdict(number: u32) -> Result<(), ImageRefusal> {
     }))
 }
 
-/// Reads an image into bytes and gives its accounts.
-fn restored(image: &[u8], bytes: &mut [u8]) -> Result<Accounts, ImageRefusal> {
+/// Reads an image into bytes and gives its accounts as words.
+fn restored(image: &[u8], bytes: &mut [u8]) -> Result<Words, ImageRefusal> {
     let reply = raw::image_read(image, bytes);
-    verdict(reply.refusal).map(|()| reply.accounts)
+    verdict(reply.refusal).map(|()| Words::from(&reply.accounts))
 }
 
 impl<'a> Heap<'a> {
@@ -250,7 +249,7 @@ impl<'a> Heap<'a> {
     /// # Ok::<(), Box<dyn std::error::Error>>(())
     /// ```
     pub fn save(&self, image: &mut [u8]) -> Result<usize, ImageRefusal> {
-        let reply = raw::image_write(image, self.bytes, &self.accounts);
+        let reply = raw::image_write(image, self.bytes, self.accounts());
         verdict(reply.refusal).map(|()| reply.length)
     }
 
@@ -276,7 +275,7 @@ impl<'a> Heap<'a> {
     /// # Ok::<(), Box<dyn std::error::Error>>(())
     /// ```
     pub fn save_form_1(&self, image: &mut [u8]) -> Result<usize, ImageRefusal> {
-        let reply = raw::image_write_form_1(image, self.bytes, &self.accounts);
+        let reply = raw::image_write_form_1(image, self.bytes, self.accounts());
         verdict(reply.refusal).map(|()| reply.length)
     }
 
@@ -298,8 +297,8 @@ impl<'a> Heap<'a> {
     /// assert_eq!(memory, [7; 128]);
     /// ```
     pub fn restore(bytes: &'a mut [u8], image: &[u8]) -> Result<Heap<'a>, ImageRefusal> {
-        let accounts = restored(image, bytes)?;
-        Ok(Heap { bytes, accounts })
+        let words = restored(image, bytes)?;
+        Ok(Heap { bytes, words })
     }
 
     /// Takes this heap back to an image of a heap of the same length.
@@ -323,7 +322,7 @@ impl<'a> Heap<'a> {
     /// # Ok::<(), Box<dyn std::error::Error>>(())
     /// ```
     pub fn go_back(&mut self, image: &[u8]) -> Result<(), ImageRefusal> {
-        self.accounts = restored(image, self.bytes)?;
+        self.words = restored(image, self.bytes)?;
         Ok(())
     }
 }

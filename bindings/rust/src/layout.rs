@@ -96,43 +96,21 @@ pub struct Grants {
     pub values: [u32; QUOTAS],
 }
 
-/// The reply of open.
-#[repr(C)]
-pub struct OpenReply {
-    /// The new accounts, all zero where the call is refused.
-    pub accounts: Accounts,
-    /// The refusal's number, 0 where there is none; so in every reply.
-    pub refusal: u32,
-}
-
 /// The reply of allocate, allocate array and reallocate.
 #[repr(C)]
-pub struct HandleReply {
-    /// The accounts after the call.
-    pub accounts: Accounts,
-    /// The refusal's number.
+pub struct GivenHandle {
+    /// The refusal's number, 0 where there is none; so in every reply.
     pub refusal: u32,
     /// The new object.
     pub handle: Handle,
 }
 
-/// The reply of claim, release, free-all, clear permissions and sweep.
-#[repr(C)]
-pub struct AmountReply {
-    /// The accounts after the call.
-    pub accounts: Accounts,
-    /// The refusal's number.
-    pub refusal: u32,
-    /// The number that the call answers.
-    pub amount: u32,
-}
-
-/// The reply of remaining.
+/// The reply of claim, release, free-all, clear permissions, sweep and remaining.
 #[repr(C)]
 pub struct Amount {
     /// The refusal's number.
     pub refusal: u32,
-    /// What remains.
+    /// The number that the call answers.
     pub amount: u32,
 }
 
@@ -282,10 +260,8 @@ pub struct EntryReply {
 
 /// The reply of sending a handle.
 #[repr(C)]
-pub struct SendReply {
-    /// The accounts after the call.
-    pub accounts: Accounts,
-    /// The queue after it.
+pub struct QueueReply {
+    /// The queue after the call.
     pub queue: Queue,
     /// The refusal's number.
     pub refusal: u32,
@@ -317,9 +293,7 @@ lies!(Hold, 8: serial at 0, quota at 4, count at 5);
 lies!(Accounts, 4488: quotas at 0, last_serial at 384, holds at 388, kind at 4484, edition at 4485);
 lies!(Handle, 12: base at 0, length at 4, serial at 8);
 lies!(Grants, 128: values at 0);
-lies!(OpenReply, 4492: accounts at 0, refusal at 4488);
-lies!(HandleReply, 4504: accounts at 0, refusal at 4488, handle at 4492);
-lies!(AmountReply, 4496: accounts at 0, refusal at 4488, amount at 4492);
+lies!(GivenHandle, 16: refusal at 0, handle at 4);
 lies!(Amount, 8: refusal at 0, amount at 4);
 lies!(RangeReply, 24: refusal at 0, start at 8, end at 16);
 lies!(BlockReply, 32: refusal at 0, found at 4, offset at 8, size at 16, serial at 24);
@@ -334,5 +308,5 @@ lies!(FindReply, 24: refusal at 0, store at 4, start at 8, end at 16);
 lies!(AddReply, 16: refusal at 0, used at 8);
 lies!(EntryReply, 32: refusal at 0, there at 4, version at 8, name at 10, start at 16, end at 24);
 lies!(Queue, 204: sender at 0, receiver at 4, count at 8, handles at 12);
-lies!(SendReply, 4696: accounts at 0, queue at 4488, refusal at 4692);
+lies!(QueueReply, 208: queue at 0, refusal at 204);
 lies!(ReceiveReply, 220: queue at 0, refusal at 204, handle at 208);

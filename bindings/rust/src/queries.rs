@@ -1,7 +1,7 @@
 //! The calls that leave blocks and accounts as they are.
 
 use crate::blocks::{Block, Blocks};
-use crate::heap::Heap;
+use crate::heap::{amount, Heap};
 use crate::layout::Handle;
 use crate::opening::{Edition, Kind};
 use crate::permissions::Permissions;
@@ -24,7 +24,7 @@ impl Heap<'_> {
     /// # Ok::<(), lokhazim::Refusal>(())
     /// ```
     pub fn lend(&self, handle: Handle) -> Result<&[u8], Refusal> {
-        let range = raw::lend(self.bytes, &self.accounts, handle);
+        let range = raw::lend(self.bytes, &self.words, handle);
         verdict(range.refusal)?;
         Ok(&self.bytes[range.start..range.end])
     }
@@ -54,7 +54,7 @@ impl Heap<'_> {
     /// # Ok::<(), lokhazim::Refusal>(())
     /// ```
     pub fn lend_mut(&mut self, handle: Handle) -> Result<&mut [u8], Refusal> {
-        let range = raw::lend(self.bytes, &self.accounts, handle);
+        let range = raw::lend(self.bytes, &self.words, handle);
         verdict(range.refusal)?;
         Ok(&mut self.bytes[range.start..range.end])
     }
@@ -76,7 +76,7 @@ impl Heap<'_> {
     /// # Ok::<(), lokhazim::Refusal>(())
     /// ```
     pub fn write(&mut self, handle: Handle, at: u32, byte: u8) -> Result<(), Refusal> {
-        verdict(raw::write(self.bytes, &self.accounts, handle, at, byte))
+        verdict(raw::write(self.bytes, &self.words, handle, at, byte))
     }
 
     /// What remains of the quota.
@@ -93,8 +93,7 @@ impl Heap<'_> {
     /// # Ok::<(), lokhazim::Refusal>(())
     /// ```
     pub fn remaining(&self, quota: u32) -> Result<u32, Refusal> {
-        let reply = raw::remaining(self.bytes, &self.accounts, quota);
-        verdict(reply.refusal).map(|()| reply.amount)
+        amount(raw::remaining(self.bytes, &self.words, quota))
     }
 
     /// What the quota may do.
@@ -113,9 +112,10 @@ impl Heap<'_> {
     /// # Ok::<(), lokhazim::Refusal>(())
     /// ```
     pub fn permissions(&self, quota: u32) -> Result<Permissions, Refusal> {
-        // To clear none changes nothing, and answers what is left.
-        let reply = raw::clear_permissions(self.bytes, &self.accounts, quota, 0);
-        verdict(reply.refusal).map(|()| Permissions::left(reply.amount))
+        // What remains of a quota is told under the same refusals.
+        self.remaining(quota)?;
+        let bits = self.accounts().quotas[quota as usize].permissions;
+        Ok(Permissions::left(u32::from(bits)))
     }
 
     /// What becomes of a block that nobody holds any more, as it was chosen at the opening.
@@ -130,7 +130,7 @@ impl Heap<'_> {
     /// ```
     pub fn kind(&self) -> Kind {
         // The library gives no other number than 0 and 1.
-        match self.accounts.kind {
+        match self.accounts().kind {
             0 => Kind::Plain,
             _ => Kind::Quarantine,
         }
@@ -148,7 +148,7 @@ impl Heap<'_> {
     /// ```
     pub fn edition(&self) -> Edition {
         // The library gives no other number than 0 and 1.
-        match self.accounts.edition {
+        match self.accounts().edition {
             0 => Edition::First,
             _ => Edition::Second,
         }
@@ -171,7 +171,7 @@ impl Heap<'_> {
     /// # Ok::<(), Refusal>(())
     /// ```
     pub fn can_release(&self, quota: u32, handle: Handle) -> Result<(), Refusal> {
-        verdict(raw::can_release(self.bytes, &self.accounts, quota, handle))
+        verdict(raw::can_release(self.bytes, &self.words, quota, handle))
     }
 
     /// The block that starts at an offset, if one does.
@@ -188,7 +188,7 @@ impl Heap<'_> {
     /// # Ok::<(), lokhazim::Refusal>(())
     /// ```
     pub fn block_at(&self, offset: usize) -> Result<Option<Block>, Refusal> {
-        let reply = raw::list_block(self.bytes, &self.accounts, offset);
+        let reply = raw::list_block(self.bytes, &self.words, offset);
         verdict(reply.refusal)?;
         Ok((reply.found != 0).then_some(Block {
             offset: reply.offset,
@@ -224,6 +224,6 @@ impl Heap<'_> {
     /// # Ok::<(), lokhazim::Refusal>(())
     /// ```
     pub fn check(&self) -> Result<(), Refusal> {
-        verdict(raw::check(self.bytes, &self.accounts))
+        verdict(raw::check(self.bytes, &self.words))
     }
 }

@@ -148,9 +148,8 @@ impl Queue {
     /// # Ok::<(), QueueRefusal>(())
     /// ```
     pub fn send(&mut self, heap: &mut Heap<'_>, handle: Handle) -> Result<(), QueueRefusal> {
-        let reply = raw::queue_send(heap.bytes, &heap.accounts, self.clone(), handle);
+        let reply = raw::queue_send(heap.bytes, &mut heap.words, self.clone(), handle);
         verdict(reply.refusal)?;
-        heap.accounts = reply.accounts;
         *self = reply.queue;
         Ok(())
     }

@@ -1,105 +1,115 @@
 //! The library's functions, each behind a safe one. All `unsafe` code of the crate is here.
 //!
 //! The library keeps no pointer and has no memory of its own. It reads and writes only the bytes
-//! that it is lent, is proved to do so inside their length, and takes any bytes, accounts and numbers. So a call
-//! is safe exactly if pointer and length are those of memory that is borrowed for the call, which
-//! a slice is. The memory of a `&[u8]` is not written.
+//! and the words that it is lent, is proved to do so inside their length, and takes any bytes,
+//! words and numbers. So a call is safe exactly if pointers and lengths are those of memory that is
+//! borrowed for the call, which slices and [`Words`] are. What is borrowed by `&` is not written.
+//! Images take the accounts by value.
 
 use crate::layout::{
-    Accounts, AddReply, Amount, AmountReply, BlockReply, CompareReply, EntryReply, ExamineReply,
-    ExportReply, FindReply, Grants, Handle, HandleReply, ImageReply, ImportReply, NextReply,
-    OpenReply, Queue, RangeReply, ReceiveReply, RestoreReply, SendReply,
+    Accounts, AddReply, Amount, BlockReply, CompareReply, EntryReply, ExamineReply, ExportReply,
+    FindReply, GivenHandle, Grants, Handle, ImageReply, ImportReply, NextReply, Queue, QueueReply,
+    RangeReply, ReceiveReply, RestoreReply,
 };
 
+mod words;
+
+pub use words::Words;
+
 extern "C" {
-    fn lokhazim_open(
+    fn lokhazim_in_place_open(
         heap: *mut u8,
         length: usize,
+        words: *mut Words,
         grants: Grants,
         kind: u32,
         edition: u32,
-    ) -> OpenReply;
-    fn lokhazim_allocate(
+    ) -> u32;
+    fn lokhazim_in_place_allocate(
         heap: *mut u8,
         length: usize,
-        accounts: Accounts,
+        words: *mut Words,
         quota: u32,
         bytes: u32,
-    ) -> HandleReply;
-    fn lokhazim_allocate_array(
+    ) -> GivenHandle;
+    fn lokhazim_in_place_allocate_array(
         heap: *mut u8,
         length: usize,
-        accounts: Accounts,
+        words: *mut Words,
         quota: u32,
         count: u32,
         size: u32,
-    ) -> HandleReply;
-    fn lokhazim_claim(
+    ) -> GivenHandle;
+    fn lokhazim_in_place_claim(
         heap: *const u8,
         length: usize,
-        accounts: Accounts,
+        words: *mut Words,
         quota: u32,
         handle: Handle,
-    ) -> AmountReply;
-    fn lokhazim_release(
+    ) -> Amount;
+    fn lokhazim_in_place_release(
         heap: *mut u8,
         length: usize,
-        accounts: Accounts,
+        words: *mut Words,
         quota: u32,
         handle: Handle,
-    ) -> AmountReply;
-    fn lokhazim_free_all(
+    ) -> Amount;
+    fn lokhazim_in_place_free_all(
         heap: *mut u8,
         length: usize,
-        accounts: Accounts,
+        words: *mut Words,
         quota: u32,
-    ) -> AmountReply;
-    fn lokhazim_clear_permissions(
+    ) -> Amount;
+    fn lokhazim_in_place_clear_permissions(
         heap: *const u8,
         length: usize,
-        accounts: Accounts,
+        words: *mut Words,
         quota: u32,
         bits: u32,
-    ) -> AmountReply;
-    fn lokhazim_reallocate(
+    ) -> Amount;
+    fn lokhazim_in_place_reallocate(
         heap: *mut u8,
         length: usize,
-        accounts: Accounts,
+        words: *mut Words,
         quota: u32,
         handle: Handle,
         bytes: u32,
-    ) -> HandleReply;
-    fn lokhazim_sweep(heap: *mut u8, length: usize, accounts: Accounts) -> AmountReply;
-    fn lokhazim_lend(
+    ) -> GivenHandle;
+    fn lokhazim_in_place_sweep(heap: *mut u8, length: usize, words: *const Words) -> Amount;
+    fn lokhazim_in_place_lend(
         heap: *const u8,
         length: usize,
-        accounts: Accounts,
+        words: *const Words,
         handle: Handle,
     ) -> RangeReply;
-    fn lokhazim_write(
+    fn lokhazim_in_place_write(
         heap: *mut u8,
         length: usize,
-        accounts: Accounts,
+        words: *const Words,
         handle: Handle,
         at: u32,
         byte: u8,
     ) -> u32;
-    fn lokhazim_remaining(heap: *const u8, length: usize, accounts: Accounts, quota: u32)
-        -> Amount;
-    fn lokhazim_can_release(
+    fn lokhazim_in_place_remaining(
         heap: *const u8,
         length: usize,
-        accounts: Accounts,
+        words: *const Words,
+        quota: u32,
+    ) -> Amount;
+    fn lokhazim_in_place_can_release(
+        heap: *const u8,
+        length: usize,
+        words: *const Words,
         quota: u32,
         handle: Handle,
     ) -> u32;
-    fn lokhazim_list_block(
+    fn lokhazim_in_place_list_block(
         heap: *const u8,
         length: usize,
-        accounts: Accounts,
+        words: *const Words,
         at: usize,
     ) -> BlockReply;
-    fn lokhazim_check(heap: *const u8, length: usize, accounts: Accounts) -> u32;
+    fn lokhazim_in_place_check(heap: *const u8, length: usize, words: *const Words) -> u32;
     fn lokhazim_image_length(heap_length: usize) -> usize;
     fn lokhazim_image_length_form_1(heap_length: usize) -> usize;
     fn lokhazim_image_write(
@@ -179,53 +189,49 @@ extern "C" {
         last: u16,
     ) -> EntryReply;
     fn lokhazim_queue_new(sender: u32, receiver: u32) -> Queue;
-    fn lokhazim_queue_send(
+    fn lokhazim_queue_in_place_send(
         heap: *mut u8,
         length: usize,
-        accounts: Accounts,
+        words: *mut Words,
         queue: Queue,
         handle: Handle,
-    ) -> SendReply;
+    ) -> QueueReply;
     fn lokhazim_queue_receive(queue: Queue) -> ReceiveReply;
 }
 
-/// Makes a safe function of one of the library's: the slice becomes its pointer and its length,
-/// and the accounts are copied.
+/// Makes a safe function of a call in place: the slice becomes its pointer and its length, and the
+/// borrowed words their pointer.
 macro_rules! safe {
-    (mut $name:ident = $raw:ident($($arg:ident: $type:ty),*) -> $reply:ty) => {
-        pub fn $name(heap: &mut [u8], accounts: &Accounts $(, $arg: $type)*) -> $reply {
-            // SAFETY: pointer and length are those of a slice that is borrowed for the call.
-            unsafe { $raw(heap.as_mut_ptr(), heap.len(), accounts.clone() $(, $arg)*) }
+    (mut, $words:ty: $name:ident = $raw:ident($($arg:ident: $type:ty),*) -> $reply:ty) => {
+        pub fn $name(heap: &mut [u8], words: $words $(, $arg: $type)*) -> $reply {
+            // SAFETY: pointers and length are those of a slice and words that are borrowed for the call.
+            unsafe { $raw(heap.as_mut_ptr(), heap.len(), words $(, $arg)*) }
         }
     };
-    (ref $name:ident = $raw:ident($($arg:ident: $type:ty),*) -> $reply:ty) => {
-        pub fn $name(heap: &[u8], accounts: &Accounts $(, $arg: $type)*) -> $reply {
-            // SAFETY: pointer and length are those of a slice that is borrowed for the call.
-            unsafe { $raw(heap.as_ptr(), heap.len(), accounts.clone() $(, $arg)*) }
+    (ref, $words:ty: $name:ident = $raw:ident($($arg:ident: $type:ty),*) -> $reply:ty) => {
+        pub fn $name(heap: &[u8], words: $words $(, $arg: $type)*) -> $reply {
+            // SAFETY: pointers and length are those of a slice and words that are borrowed for the call.
+            unsafe { $raw(heap.as_ptr(), heap.len(), words $(, $arg)*) }
         }
     };
 }
 
-pub fn open(heap: &mut [u8], grants: Grants, kind: u32, edition: u32) -> OpenReply {
-    // SAFETY: pointer and length are those of a slice that is borrowed for the call.
-    unsafe { lokhazim_open(heap.as_mut_ptr(), heap.len(), grants, kind, edition) }
-}
-
-safe!(mut allocate = lokhazim_allocate(quota: u32, bytes: u32) -> HandleReply);
-safe!(mut allocate_array = lokhazim_allocate_array(quota: u32, count: u32, size: u32) -> HandleReply);
-safe!(ref claim = lokhazim_claim(quota: u32, handle: Handle) -> AmountReply);
-safe!(mut release = lokhazim_release(quota: u32, handle: Handle) -> AmountReply);
-safe!(mut free_all = lokhazim_free_all(quota: u32) -> AmountReply);
-safe!(ref clear_permissions = lokhazim_clear_permissions(quota: u32, bits: u32) -> AmountReply);
-safe!(mut reallocate = lokhazim_reallocate(quota: u32, handle: Handle, bytes: u32) -> HandleReply);
-safe!(mut sweep = lokhazim_sweep() -> AmountReply);
-safe!(ref lend = lokhazim_lend(handle: Handle) -> RangeReply);
-safe!(mut write = lokhazim_write(handle: Handle, at: u32, byte: u8) -> u32);
-safe!(ref remaining = lokhazim_remaining(quota: u32) -> Amount);
-safe!(ref can_release = lokhazim_can_release(quota: u32, handle: Handle) -> u32);
-safe!(ref list_block = lokhazim_list_block(at: usize) -> BlockReply);
-safe!(ref check = lokhazim_check() -> u32);
-safe!(mut queue_send = lokhazim_queue_send(queue: Queue, handle: Handle) -> SendReply);
+safe!(mut, &mut Words: open = lokhazim_in_place_open(grants: Grants, kind: u32, edition: u32) -> u32);
+safe!(mut, &mut Words: allocate = lokhazim_in_place_allocate(quota: u32, bytes: u32) -> GivenHandle);
+safe!(mut, &mut Words: allocate_array = lokhazim_in_place_allocate_array(quota: u32, count: u32, size: u32) -> GivenHandle);
+safe!(ref, &mut Words: claim = lokhazim_in_place_claim(quota: u32, handle: Handle) -> Amount);
+safe!(mut, &mut Words: release = lokhazim_in_place_release(quota: u32, handle: Handle) -> Amount);
+safe!(mut, &mut Words: free_all = lokhazim_in_place_free_all(quota: u32) -> Amount);
+safe!(ref, &mut Words: clear_permissions = lokhazim_in_place_clear_permissions(quota: u32, bits: u32) -> Amount);
+safe!(mut, &mut Words: reallocate = lokhazim_in_place_reallocate(quota: u32, handle: Handle, bytes: u32) -> GivenHandle);
+safe!(mut, &Words: sweep = lokhazim_in_place_sweep() -> Amount);
+safe!(ref, &Words: lend = lokhazim_in_place_lend(handle: Handle) -> RangeReply);
+safe!(mut, &Words: write = lokhazim_in_place_write(handle: Handle, at: u32, byte: u8) -> u32);
+safe!(ref, &Words: remaining = lokhazim_in_place_remaining(quota: u32) -> Amount);
+safe!(ref, &Words: can_release = lokhazim_in_place_can_release(quota: u32, handle: Handle) -> u32);
+safe!(ref, &Words: list_block = lokhazim_in_place_list_block(at: usize) -> BlockReply);
+safe!(ref, &Words: check = lokhazim_in_place_check() -> u32);
+safe!(mut, &mut Words: queue_send = lokhazim_queue_in_place_send(queue: Queue, handle: Handle) -> QueueReply);
 
 pub fn image_length(heap_length: usize) -> usize {
     // SAFETY: the function takes and gives a number.

@@ -1,9 +1,10 @@
-//! The C programs: the example tells its story, and every field goes through the library and back.
+//! The C programs: the examples tell their stories, every field goes through the library and back, calls
+//! in place and by value do the same, and the headers ask for no C library.
 
 #[allow(dead_code)]
 mod support;
 
-use support::{compile, repository, run};
+use support::{compile, read_headers, repository, run};
 
 #[test]
 fn the_valve_example_tells_its_story() {
@@ -78,4 +79,26 @@ fn every_field_goes_through_the_library_from_c() {
     for level in ["-O0", "-O2"] {
         run(&compile("bindings/rust/tests/c/library.c", level), &[], b"");
     }
+}
+
+#[test]
+fn calls_in_place_are_those_by_value_from_c() {
+    for level in ["-O0", "-O2"] {
+        run(
+            &compile("bindings/rust/tests/c/in_place.c", level),
+            &[],
+            b"",
+        );
+    }
+}
+
+#[test]
+fn the_headers_need_no_c_library() {
+    let all = ["", "_image", "_queue", "_report", "_settings"];
+    read_headers(&all, &[]);
+}
+
+#[test]
+fn a_length_may_have_32_bits() {
+    read_headers(&["", "_queue"], &["-m32"]);
 }

@@ -12,9 +12,9 @@ use std::mem::MaybeUninit;
 use std::slice;
 
 use layout::{
-    Accounts, AddReply, Amount, AmountReply, BlockReply, CompareReply, EntryReply, ExamineReply,
-    ExportReply, FindReply, Grants, Handle, HandleReply, Hold, ImageReply, ImportReply, NextReply,
-    OpenReply, Queue, Quota, RangeReply, ReceiveReply, RestoreReply, SendReply,
+    Accounts, AddReply, Amount, BlockReply, CompareReply, EntryReply, ExamineReply, ExportReply,
+    FindReply, GivenHandle, Grants, Handle, Hold, ImageReply, ImportReply, NextReply, Queue,
+    QueueReply, Quota, RangeReply, ReceiveReply, RestoreReply,
 };
 use support::{compile, run};
 
@@ -110,33 +110,17 @@ impl Fields for Grants {
     }
 }
 
-impl Fields for OpenReply {
-    fn visit(&mut self, visitor: &mut Visitor) {
-        self.accounts.visit(visitor);
-        visitor.visit32(&mut self.refusal);
-    }
-}
-
-impl Fields for HandleReply {
-    fn visit(&mut self, visitor: &mut Visitor) {
-        self.accounts.visit(visitor);
-        visitor.visit32(&mut self.refusal);
-        self.handle.visit(visitor);
-    }
-}
-
-impl Fields for AmountReply {
-    fn visit(&mut self, visitor: &mut Visitor) {
-        self.accounts.visit(visitor);
-        visitor.visit32(&mut self.refusal);
-        visitor.visit32(&mut self.amount);
-    }
-}
-
 impl Fields for Amount {
     fn visit(&mut self, visitor: &mut Visitor) {
         visitor.visit32(&mut self.refusal);
         visitor.visit32(&mut self.amount);
+    }
+}
+
+impl Fields for GivenHandle {
+    fn visit(&mut self, visitor: &mut Visitor) {
+        visitor.visit32(&mut self.refusal);
+        self.handle.visit(visitor);
     }
 }
 
@@ -253,9 +237,8 @@ impl Fields for Queue {
     }
 }
 
-impl Fields for SendReply {
+impl Fields for QueueReply {
     fn visit(&mut self, visitor: &mut Visitor) {
-        self.accounts.visit(visitor);
         self.queue.visit(visitor);
         visitor.visit32(&mut self.refusal);
     }
@@ -291,10 +274,8 @@ fn exchange_all(visitor: &mut Visitor, bytes: &mut Vec<u8>) {
     exchange::<Accounts>(visitor, bytes);
     exchange::<Handle>(visitor, bytes);
     exchange::<Grants>(visitor, bytes);
-    exchange::<OpenReply>(visitor, bytes);
-    exchange::<HandleReply>(visitor, bytes);
-    exchange::<AmountReply>(visitor, bytes);
     exchange::<Amount>(visitor, bytes);
+    exchange::<GivenHandle>(visitor, bytes);
     exchange::<RangeReply>(visitor, bytes);
     exchange::<BlockReply>(visitor, bytes);
     exchange::<ImageReply>(visitor, bytes);
@@ -308,7 +289,7 @@ fn exchange_all(visitor: &mut Visitor, bytes: &mut Vec<u8>) {
     exchange::<AddReply>(visitor, bytes);
     exchange::<EntryReply>(visitor, bytes);
     exchange::<Queue>(visitor, bytes);
-    exchange::<SendReply>(visitor, bytes);
+    exchange::<QueueReply>(visitor, bytes);
     exchange::<ReceiveReply>(visitor, bytes);
 }
 

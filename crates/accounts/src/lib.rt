@@ -2,10 +2,10 @@
 ghost use Prim.Native.Nat.{_<_};
 ghost use mathlib.Core.Path.{_≡_};
 ghost use Rattle.accounts.specs.Accounts.{zero-hold, zero-accounts, begun, charged, refunded, used, is-for, dropped, opened};
-ghost use Rattle.accounts.specs.Accounts.{remaining, spent, charge, refund, with-holds, with-last-serial};
-ghost use Rattle.accounts.specs.Accounts.{with-permissions, bit-left, cleared, left-permissions, clear-permissions};
-ghost use Rattle.accounts.specs.Accounts.{find-hold, lowest-unused, hold-at, put-hold, drop-hold, drop-records};
+ghost use Rattle.accounts.specs.Accounts.{remaining, spent, charge, refund};
+ghost use Rattle.accounts.specs.Accounts.{with-permissions, bit-left, cleared};
 
+mod records;
 mod settings;
 
 pub use settings::Edition;
@@ -73,7 +73,7 @@ fn bit_left(bits: u32, permissions: u8) -> u8
 }
 
 // The permissions without those whose bit, 0 to 2, is set in the other number.
-fn cleared(bits: u32, permissions: u8) -> u8
+pub fn cleared(bits: u32, permissions: u8) -> u8
     ensures { λ r. ⌜ r ≡ cleared bits permissions ⌝ }
 {
     let allocate = bit_left(bits, permissions);
@@ -273,114 +273,6 @@ impl Accounts {
             let entry = self.quotas[q];
             self.quotas[q] = entry.refunded(amount);
         }
-        self
-    }
-
-    // What clearing permissions leaves to a quota (rule 15.4); 0 where there is no such quota.
-    pub fn left_permissions(self, quota: u32, bits: u32) -> u8
-        ensures { λ r. ⌜ r ≡ left-permissions quota bits self ⌝ }
-    {
-        let at = quota as usize;
-        if at < QUOTAS {
-            return cleared(bits, self.quotas[at].permissions);
-        }
-        0
-    }
-
-    // The quota's permissions are cleared so; where there is no such quota, nothing changes.
-    pub fn clear_permissions(mut self, quota: u32, bits: u32) -> Accounts
-        ensures { λ r. ⌜ r ≡ clear-permissions quota bits self ⌝ }
-    {
-        let q = quota as usize;
-        if q < QUOTAS {
-            let entry = self.quotas[q];
-            let left = cleared(bits, entry.permissions);
-            self.quotas[q] = entry.with_permissions(left);
-        }
-        self
-    }
-
-    // The accounts with another last serial.
-    pub fn with_last_serial(mut self, serial: u32) -> Accounts
-        ensures { λ r. ⌜ r ≡ with-last-serial serial self ⌝ }
-    {
-        self.last_serial = serial;
-        self
-    }
-
-    // The place of the quota's record for a serial.
-    pub fn find_hold(self, serial: u32, quota: u8) -> Place
-        ensures { λ r. ⌜ r ≡ find-hold serial quota self ⌝ }
-    {
-        let holds = self.holds;
-        let mut at: usize = 0;
-        while at < HOLDS {
-            if holds[at].serial == serial {
-                let hold = holds[at];
-                if hold.is_for(serial, quota) {
-                    return Place::At(at);
-                }
-            }
-            at += 1;
-        }
-        Place::Nothing
-    }
-
-    // The place of the lowest unused record.
-    pub fn lowest_unused(self) -> Place
-        ensures { λ r. ⌜ r ≡ lowest-unused self ⌝ }
-    {
-        let holds = self.holds;
-        let mut low: usize = 0;
-        while low < HOLDS {
-            let hold = holds[low];
-            if !hold.is_used() {
-                return Place::At(low);
-            }
-            low += 1;
-        }
-        Place::Nothing
-    }
-
-    // The record at a place, of zeros where there is none.
-    pub fn hold_at(self, place: usize) -> Hold
-        ensures { λ r. ⌜ r ≡ hold-at place self ⌝ }
-    {
-        if place < HOLDS {
-            return self.holds[place];
-        }
-        Hold::zero()
-    }
-
-    // Another record at a place; a place out of range changes nothing.
-    pub fn put_hold(mut self, at: usize, hold: Hold) -> Accounts
-        ensures { λ r. ⌜ r ≡ put-hold at hold self ⌝ }
-    {
-        if at < HOLDS {
-            self.holds[at] = hold;
-        }
-        self
-    }
-
-    // The record at a place becomes unused; a place out of range changes nothing.
-    pub fn drop_hold(self, at: usize) -> Accounts
-        ensures { λ r. ⌜ r ≡ drop-hold at self ⌝ }
-    {
-        self.put_hold(at, Hold::zero())
-    }
-
-    // Every record of a quota becomes unused.
-    pub fn drop_holds(mut self, quota: u8) -> Accounts
-        ensures { λ r. ⌜ r ≡ with-holds (drop-records quota (self .holds)) self ⌝ }
-    {
-        let mut left = self.holds;
-        let mut i: usize = 0;
-        while i < HOLDS {
-            let hold = self.holds[i];
-            left[i] = hold.dropped(quota);
-            i += 1;
-        }
-        self.holds = left;
         self
     }
 }

@@ -10,10 +10,12 @@ use Rattle.model.specs.declared.ListedBlock.{ListedBlock}
 use Rattle.model.specs.Answers.{Values, zero-handle, refused}
 use Rattle.model.specs.Calls.{Outcome, check}
 use Rattle.model.proofs.Refusals.{changes-nothing}
-use Rattle.access.specs.Results.{outcome}
-use Rattle.c_api.specs.Replies.{open-reply, handle-reply, amount-reply, amount-numbers, range-numbers, block-numbers, found-block, reply-with, Exact}
+use Rattle.results.specs.Results.{outcome}
+use Rattle.c_api.specs.Replies.{open-reply, handle-reply, amount-reply, handle-numbers, amount-numbers, range-numbers}
+use Rattle.c_api.specs.Replies.{block-numbers, found-block, reply-with, Exact}
 use Rattle.c_api.specs.declared.OpenReply.{OpenReply}
 use Rattle.c_api.specs.declared.HandleReply.{HandleReply}
+use Rattle.c_api.specs.declared.GivenHandle.{GivenHandle}
 use Rattle.c_api.specs.declared.AmountReply.{AmountReply}
 use Rattle.c_api.specs.declared.Amount.{Amount}
 use Rattle.c_api.specs.declared.RangeReply.{RangeReply}
@@ -36,6 +38,9 @@ pub refused-injective : (m n : ℕ) → refused m ≡ refused n → m ≡ n
 refused-injective m n e = ap (λ (v : Values). v .refusal) e
 
 -- the reply with these values
+pub handle-numbers-injective : (a b : GivenHandle) → handle-numbers a ≡ handle-numbers b → a ≡ b
+handle-numbers-injective a b e = λ i. record { refusal = e i .refusal; handle = e i .handle }
+
 pub amount-numbers-injective : (a b : Amount) → amount-numbers a ≡ amount-numbers b → a ≡ b
 amount-numbers-injective a b e = λ i. record { refusal = e i .refusal; amount = e i .amount }
 

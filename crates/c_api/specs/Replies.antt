@@ -13,9 +13,10 @@ use Rattle.accounts.specs.declared.settings.Settings.{Settings}
 use Rattle.model.specs.declared.ListedBlock.{ListedBlock}
 use Rattle.model.specs.Answers.{Values, zero-handle, zero-range, refused}
 use Rattle.model.specs.Calls.{Outcome}
-use Rattle.access.specs.Results.{outcome}
+use Rattle.results.specs.Results.{outcome}
 use Rattle.c_api.specs.declared.OpenReply.{OpenReply}
 use Rattle.c_api.specs.declared.HandleReply.{HandleReply}
+use Rattle.c_api.specs.declared.GivenHandle.{GivenHandle}
 use Rattle.c_api.specs.declared.AmountReply.{AmountReply}
 use Rattle.c_api.specs.declared.Amount.{Amount}
 use Rattle.c_api.specs.declared.RangeReply.{RangeReply}
@@ -36,9 +37,11 @@ abbrev pub open-reply : List ℕ → OpenReply → Outcome
 open-reply s r = outcome s (r .accounts) (refused (r .refusal))
 
 -- allocate, allocate array and reallocate
+abbrev pub handle-numbers : GivenHandle → Values
+handle-numbers r = record { refusal = r .refusal; handle = r .handle; amount = 0; range = zero-range; block = none }
+
 abbrev pub handle-reply : List ℕ → HandleReply → Outcome
-handle-reply s r =
-    outcome s (r .accounts) (record { refusal = r .refusal; handle = r .handle; amount = 0; range = zero-range; block = none })
+handle-reply s r = outcome s (r .accounts) (handle-numbers (record { refusal = r .refusal; handle = r .handle }))
 
 -- remaining
 abbrev pub amount-numbers : Amount → Values

@@ -37,7 +37,7 @@ fn edition_of(number: u32) -> Edition
 }
 
 // The settings of two numbers.
-fn settings_of(kind: u32, edition: u32) -> Settings
+pub(crate) fn settings_of(kind: u32, edition: u32) -> Settings
     ensures { λ r. ⌜ r ≡ settings-of kind edition ⌝ }
 {
     Settings {

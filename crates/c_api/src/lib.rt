@@ -6,7 +6,9 @@ use accounts::QUOTAS;
 use model::Handle;
 
 mod changes;
-mod queries;
+mod in_place;
+mod in_place_questions;
+mod questions;
 mod replies;
 
 pub use changes::lokhazim_allocate;
@@ -18,12 +20,27 @@ pub use changes::lokhazim_open;
 pub use changes::lokhazim_reallocate;
 pub use changes::lokhazim_release;
 pub use changes::lokhazim_sweep;
-pub use queries::lokhazim_can_release;
-pub use queries::lokhazim_check;
-pub use queries::lokhazim_lend;
-pub use queries::lokhazim_list_block;
-pub use queries::lokhazim_remaining;
-pub use queries::lokhazim_write;
+pub use in_place::lokhazim_in_place_allocate;
+pub use in_place::lokhazim_in_place_allocate_array;
+pub use in_place::lokhazim_in_place_claim;
+pub use in_place::lokhazim_in_place_clear_permissions;
+pub use in_place::lokhazim_in_place_free_all;
+pub use in_place::lokhazim_in_place_open;
+pub use in_place::lokhazim_in_place_reallocate;
+pub use in_place::lokhazim_in_place_release;
+pub use in_place::lokhazim_in_place_sweep;
+pub use in_place_questions::lokhazim_in_place_can_release;
+pub use in_place_questions::lokhazim_in_place_check;
+pub use in_place_questions::lokhazim_in_place_lend;
+pub use in_place_questions::lokhazim_in_place_list_block;
+pub use in_place_questions::lokhazim_in_place_remaining;
+pub use in_place_questions::lokhazim_in_place_write;
+pub use questions::lokhazim_can_release;
+pub use questions::lokhazim_check;
+pub use questions::lokhazim_lend;
+pub use questions::lokhazim_list_block;
+pub use questions::lokhazim_remaining;
+pub use questions::lokhazim_write;
 
 // What each quota is granted: an array goes by value only inside a struct.
 #[repr(C)]
@@ -54,11 +71,18 @@ pub struct AmountReply {
     pub amount: u32,
 }
 
-// What remaining gives.
+// What remaining gives, and in place every call that gives an amount.
 #[repr(C)]
 pub struct Amount {
     pub refusal: u32,
     pub amount: u32,
+}
+
+// What allocate, allocate array and reallocate in place give.
+#[repr(C)]
+pub struct GivenHandle {
+    pub refusal: u32,
+    pub handle: Handle,
 }
 
 // What lend gives: where in the heap the object's bytes lie.

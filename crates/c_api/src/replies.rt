@@ -2,6 +2,7 @@
 use crate::Amount;
 use crate::AmountReply;
 use crate::BlockReply;
+use crate::GivenHandle;
 use crate::HandleReply;
 use crate::OpenReply;
 use crate::RangeReply;
@@ -17,10 +18,10 @@ use model::Verdict;
 ghost use mathlib.Core.Path.{_≡_};
 ghost use Prim.Native.Nat.{ℕ};
 ghost use mathlib.Core.List.{List};
-ghost use Rattle.model.specs.Answers.{refused, verdict-values, amount-values, range-values, block-values};
-ghost use Rattle.quotas.specs.Results.{opened-outcome, amount-outcome};
-ghost use Rattle.calls.specs.Results.{handle-outcome};
-ghost use Rattle.c_api.specs.Replies.{open-reply, handle-reply, amount-reply, amount-numbers, range-numbers, block-numbers, Exact};
+ghost use Rattle.model.specs.Answers.{refused, verdict-values, handle-values, amount-values, range-values, block-values};
+ghost use Rattle.results.specs.Results.{opened-outcome, amount-outcome};
+ghost use Rattle.results.specs.Results.{handle-outcome};
+ghost use Rattle.c_api.specs.Replies.{open-reply, handle-reply, amount-reply, handle-numbers, amount-numbers, range-numbers, block-numbers, Exact};
 
 // The refusal's number, 0 where there is none.
 pub(crate) fn number_of(verdict: Verdict) -> u32
@@ -44,20 +45,16 @@ pub(crate) fn reply_of_opened(opened: Opened) -> OpenReply
     }
 }
 
-// The reply of a call that gives a handle.
-pub(crate) fn reply_of_handle(result: HandleResult) -> HandleReply
-    ensures { λ r. ⌜ ((s : List ℕ) → handle-reply s r ≡ handle-outcome s result) ⌝ }
+// The numbers of an answer that gives a handle.
+pub(crate) fn handle_of(answer: HandleAnswer) -> GivenHandle
+    ensures { λ r. ⌜ handle-numbers r ≡ handle-values answer ⌝ }
 {
-    let accounts = result.accounts;
-    let answer = result.answer;
     match answer {
-        HandleAnswer::Given(handle) => HandleReply {
-            accounts: accounts,
+        HandleAnswer::Given(handle) => GivenHandle {
             refusal: 0,
             handle: handle,
         },
-        HandleAnswer::Refused(refusal) => HandleReply {
-            accounts: accounts,
+        HandleAnswer::Refused(refusal) => GivenHandle {
             refusal: refusal.number(),
             handle: Handle {
                 base: 0,
@@ -65,6 +62,21 @@ pub(crate) fn reply_of_handle(result: HandleResult) -> HandleReply
                 serial: 0,
             },
         },
+    }
+}
+
+// The reply of a call that gives a handle and leaves other accounts.
+pub(crate) fn reply_of_handle(result: HandleResult) -> HandleReply
+    ensures { λ r. ⌜ ((s : List ℕ) → handle-reply s r ≡ handle-outcome s result) ⌝ }
+{
+    let accounts = result.accounts;
+    let answer = result.answer;
+    let numbers = handle_of(answer);
+    let given = numbers.handle;
+    HandleReply {
+        accounts: accounts,
+        refusal: numbers.refusal,
+        handle: given,
     }
 }
 

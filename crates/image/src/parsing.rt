@@ -49,7 +49,7 @@ fn contents_right(image: &[u8], form: Form, size: usize) -> bool
     let quotas = form.quotas;
     let records = form.records;
     let full = form.full;
-    if !checker::is_allowed(size) {
+    if !model::is_allowed(size) {
         return false;
     }
     let end = heap_at(form) + size;

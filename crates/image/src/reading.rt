@@ -31,7 +31,7 @@ fn is_sound_in(image: &[u8], from: u32, room: &mut [u8], accounts: Accounts) -> 
     ensures { λ r. ⌜ r ≡ own-sound (padded (length (now (room .entry))) (drop from (stream-of (now (image .entry))))) accounts ⌝ }
 {
     framing::copy_stream(image, from, room);
-    let Verdict::Accepted = checker::check(room, accounts) else {
+    let Verdict::Accepted = survey::check(room, accounts) else {
         return false;
     };
     true

@@ -85,7 +85,7 @@ fn length_in(form: Form, size: usize) -> usize
     requires { ⌜ FormFits form ⌝ }
     ensures { λ r. ⌜ r ≡ length-for form size ⌝ }
 {
-    if !checker::is_allowed(size) {
+    if !model::is_allowed(size) {
         return 0;
     }
     let end = heap_at(form) + size;
@@ -110,7 +110,7 @@ fn write_as(image: &mut [u8], form: Form, heap: &[u8], accounts: Accounts) -> Wr
     requires { ⌜ FormFits form ⌝ }
     ensures { λ r. ⌜ imaged (now (image .exit)) r ≡ write-image form (now (image .entry)) (now (heap .entry)) accounts ⌝ }
 {
-    match checker::check(heap, accounts) {
+    match survey::check(heap, accounts) {
         Verdict::Accepted => put_image(image, form, heap, accounts),
         Verdict::Refused(refusal) => WriteAnswer::Refused(ImageRefusal::Call(refusal)),
     }

@@ -1,7 +1,10 @@
-// The calls of the shared heap and their answers, as types. The definitions in specs/ say what each call does; no code of a call is here.
+// The calls of the shared heap and their answers, as types, and which lengths a heap may have. The definitions in specs/ say what each call does; no code of a
+// call is here.
 use accounts::Accounts;
+use layout::GREATEST_HEAP;
 ghost use mathlib.Core.Path.{_≡_};
 ghost use Rattle.model.specs.Answers.{refusal-number};
+ghost use Rattle.model.specs.Consistent.{allowed};
 
 // The greatest length of a request (rule 7.1, line 4).
 pub const GREATEST_LENGTH: u32 = 32760;
@@ -11,6 +14,19 @@ pub const GREATEST_COUNT: u8 = 255;
 
 // The greatest serial of an object (rule 7.1, line 10).
 pub const GREATEST_SERIAL: u32 = 4294967294;
+
+// Rule 2.1: whether a heap may have this length.
+pub fn is_allowed(len: usize) -> bool
+    ensures { λ r. ⌜ r ≡ allowed len ⌝ }
+{
+    if len % 8 != 0 {
+        return false;
+    }
+    if len < 64 {
+        return false;
+    }
+    len <= GREATEST_HEAP
+}
 
 // A range and a serial. They name the object that has the serial and the whole range in it (rule 4.3). A handle that a call answers has the whole object.
 #[repr(C)]

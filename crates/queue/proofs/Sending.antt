@@ -6,11 +6,15 @@ use mathlib.Core.Path.{_≡_, ap, sym, _∙_}
 use mathlib.Core.List.{List, [], _∷_}
 use lib.ListN.{getD}
 use borrow.Author.Tests.{lt-ltb, le-ltb, eq-eqb, ne-eqb}
+use Rattle.rounding.specs.Rounding.{table}
 use Rattle.accounts.specs.declared.Accounts.{Accounts}
 use Rattle.model.specs.Answers.{Values, zero-handle}
 use Rattle.model.specs.Refusals.{Line, first-refusal}
 use Rattle.model.specs.Calls.{Outcome, claim, release, can-release}
+use Rattle.model.specs.Step.{step}
 use Rattle.model.specs.declared.Handle.{Handle}
+use Rattle.model.specs.declared.Call.the-variants.{Claim}
+use Rattle.model.proofs.StepFrame.{step-keeps}
 use Rattle.queue.specs.declared.Queue.{Queue}
 use Rattle.queue.specs.Queue.{PLACES, with-handle, without-oldest, line-53, line-51, line-52, line-of, Sent, sent-unless, send-lines, send}
 use Rattle.queue.specs.Queue.{received-unless, receive-lines, receive}
@@ -80,6 +84,11 @@ module _ (unit : ℕ → ℕ) (s : List ℕ) (k : Accounts) (u : Queue) (h : Han
             → record { heap = s′; accounts = k₂; queue = with-handle h u; refusal = 0 } ≡ send unit s k u h
         send-made s′ k₁ k₂ v₁ v₂ e c f =
             ap (λ (r : Outcome). record { heap = r .heap; accounts = r .accounts; queue = with-handle h u; refusal = 0 }) f ∙ ap done e ∙ send-done c
+
+-- a claim keeps the edition
+pub claim-edition : (s : List ℕ) (k : Accounts) (q : ℕ) (h : Handle) → claim (table (k .edition)) s k q h .accounts .edition ≡ k .edition
+unfolding step
+claim-edition s k q h = step-keeps (table (k .edition)) (Claim q h) s k .same-edition
 
 -- a receive
 module _ (u : Queue) where

@@ -1,6 +1,7 @@
 -- What the functions' results say: the number and the values for each case of an answer.
 use Prim.Native.Nat.{ℕ}
 use mathlib.Core.List.{List}
+use Rattle.words.specs.Words.{accounts-of}
 use Rattle.model.specs.Answers.{refusal-number, zero-handle}
 use Rattle.model.specs.declared.Handle.{Handle}
 use Rattle.queue.specs.declared.QueueRefusal.{QueueRefusal}
@@ -10,6 +11,7 @@ use Rattle.queue.specs.declared.SendAnswer.the-variants.{Sent as Accepte
 use Rattle.queue.specs.declared.ReceiveAnswer.{ReceiveAnswer}
 use Rattle.queue.specs.declared.ReceiveAnswer.the-variants.{Given, Refused as NotGiven}
 use Rattle.queue.specs.declared.SendResult.{SendResult}
+use Rattle.queue.specs.declared.SentQueue.{SentQueue}
 use Rattle.queue.specs.declared.ReceiveResult.{ReceiveResult}
 use Rattle.queue.specs.Queue.{Sent, Received}
 
@@ -33,6 +35,10 @@ receive-handle (NotGiven r) = zero-handle
 
 abbrev pub send-outcome : List ℕ → SendResult → Sent
 send-outcome s r = record { heap = s; accounts = r .accounts; queue = r .queue; refusal = send-number (r .answer) }
+
+-- a send over words: the accounts that they hold at its exit, and the queue and the answer that it gives, as one result
+abbrev pub send-result : List ℕ → SentQueue → SendResult
+send-result words r = record { accounts = accounts-of words; queue = r .queue; answer = r .answer }
 
 abbrev pub receive-outcome : ReceiveResult → Received
 receive-outcome r = record { queue = r .queue; refusal = receive-number (r .answer); handle = receive-handle (r .answer) }

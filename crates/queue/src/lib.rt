@@ -11,6 +11,10 @@ ghost use Rattle.rounding.specs.Rounding.{table};
 ghost use Rattle.queue.specs.Queue.{PLACES, empty-queue, with-handle, without-oldest, send as send-of, receive as receive-of};
 ghost use Rattle.queue.specs.Results.{queue-refusal-number, send-outcome, receive-outcome};
 
+mod in_place;
+
+pub use in_place::send_in_place;
+
 // How many handles a queue has room for.
 pub const PLACES: usize = 16;
 
@@ -46,6 +50,12 @@ pub enum ReceiveAnswer {
 // What a send gives: the accounts and the queue after it, and its answer.
 pub struct SendResult {
     pub accounts: Accounts,
+    pub queue: Queue,
+    pub answer: SendAnswer,
+}
+
+// What a send over the accounts where they lie gives: the queue after it, and its answer.
+pub struct SentQueue {
     pub queue: Queue,
     pub answer: SendAnswer,
 }
@@ -89,7 +99,7 @@ impl Queue {
     }
 
     // The queue with one handle more behind the others.
-    fn with_handle(mut self, handle: Handle) -> Queue
+    pub(crate) fn with_handle(mut self, handle: Handle) -> Queue
         requires { ⌜ self .count < PLACES ⌝ }
         ensures { λ r. ⌜ r ≡ with-handle handle self ⌝ }
     {

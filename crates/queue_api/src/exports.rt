@@ -1,15 +1,19 @@
 // The exported functions, each the one of `queue` and its answer as numbers.
+use crate::QueueReply;
 use crate::ReceiveReply;
 use crate::SendReply;
 use crate::replies::reply_of_receive;
 use crate::replies::reply_of_send;
+use crate::replies::reply_of_sent;
 use accounts::Accounts;
 use model::Handle;
 use queue::Queue;
+use words::WORDS;
 ghost use mathlib.Core.Path.{_≡_};
 ghost use Rattle.rounding.specs.Rounding.{table};
+ghost use Rattle.words.specs.Words.{edition-of, accounts-of, Padded};
 ghost use Rattle.queue.specs.Queue.{empty-queue, send, receive};
-ghost use Rattle.queue_api.specs.Replies.{send-reply, receive-reply};
+ghost use Rattle.queue_api.specs.Replies.{send-reply, in-words, receive-reply};
 
 // A queue with nothing on its way from one quota to another.
 #[no_mangle]
@@ -30,6 +34,21 @@ pub extern "C" fn lokhazim_queue_send(
     ensures { λ r. ⌜ send-reply (now (heap .exit)) r ≡ send (table (accounts .edition)) (now (heap .entry)) accounts queue handle ⌝ }
 {
     reply_of_send(queue::send(heap, accounts, queue, handle))
+}
+
+// The same over the accounts where they lie.
+#[no_mangle]
+pub extern "C" fn lokhazim_queue_in_place_send(
+    heap: &mut [u8],
+    words: &mut [u32; WORDS],
+    queue: Queue,
+    handle: Handle,
+) -> QueueReply
+    ensures holds { λ r. ⌜ send-reply (now (heap .exit)) (in-words (now (words .exit)) r)
+        ≡ send (table (edition-of (now (words .entry)))) (now (heap .entry)) (accounts-of (now (words .entry))) queue handle ⌝ }
+    ensures pads { λ _. ⌜ Padded (now (words .entry)) (now (words .exit)) ⌝ }
+{
+    reply_of_sent(queue::send_in_place(heap, words, queue, handle))
 }
 
 // The oldest handle is given.

@@ -7,6 +7,7 @@ use queue::Queue;
 mod exports;
 mod replies;
 
+pub use exports::lokhazim_queue_in_place_send;
 pub use exports::lokhazim_queue_new;
 pub use exports::lokhazim_queue_receive;
 pub use exports::lokhazim_queue_send;
@@ -15,6 +16,13 @@ pub use exports::lokhazim_queue_send;
 #[repr(C)]
 pub struct SendReply {
     pub accounts: Accounts,
+    pub queue: Queue,
+    pub refusal: u32,
+}
+
+// What send gives over the accounts where they lie: the queue after it.
+#[repr(C)]
+pub struct QueueReply {
     pub queue: Queue,
     pub refusal: u32,
 }

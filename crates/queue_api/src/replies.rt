@@ -1,4 +1,5 @@
 // An answer as numbers: one function for each answer type.
+use crate::QueueReply;
 use crate::ReceiveReply;
 use crate::SendReply;
 use model::Handle;
@@ -6,6 +7,7 @@ use queue::ReceiveAnswer;
 use queue::ReceiveResult;
 use queue::SendAnswer;
 use queue::SendResult;
+use queue::SentQueue;
 ghost use Prim.Native.Nat.{ℕ};
 ghost use mathlib.Core.Path.{_≡_};
 ghost use mathlib.Core.List.{List};
@@ -33,6 +35,19 @@ pub(crate) fn reply_of_send(result: SendResult) -> SendReply
         accounts: accounts,
         queue: queue,
         refusal: number_of(answer),
+    }
+}
+
+// The reply of send over the accounts where they lie.
+pub(crate) fn reply_of_sent(result: SentQueue) -> QueueReply
+    ensures { λ r. ⌜ r ≡ record { queue = result .queue; refusal = send-number (result .answer) } ⌝ }
+{
+    let queue = result.queue;
+    let answer = result.answer;
+    let refusal = number_of(answer);
+    QueueReply {
+        queue: queue,
+        refusal: refusal,
     }
 }
 

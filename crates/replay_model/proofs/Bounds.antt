@@ -12,7 +12,7 @@ use borrow.Author.Tests.{ltb-true, ltb-false, eqb-true}
 use lib.ListN.{length, getD, replicate, length-append}
 use Rattle.accounts.specs.declared.Accounts.{Accounts}
 use Rattle.layout.specs.Blocks.{Block, size, total-size, parse}
-use Rattle.finder.proofs.Parsed.{total-parsed}
+use Rattle.lookup.proofs.Parsed.{total-parsed}
 use Rattle.model.specs.Lists.{total, or-else}
 use Rattle.model.specs.Answers.{Values}
 use Rattle.model.specs.Objects.{blocks-of}

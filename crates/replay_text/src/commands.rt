@@ -6,7 +6,7 @@ use crate::MOST;
 use crate::Number;
 use crate::OpenLine;
 use crate::digits;
-use crate::words;
+use crate::tokens;
 use accounts::QUOTAS;
 use model::Call;
 use model::Handle;
@@ -31,7 +31,7 @@ fn read_numbers(input: &[u8], from: usize, to: usize, values: &mut [u32; MOST]) 
     let mut count: usize = 0;
     let mut start = from;
     loop {
-        let stop = words::find_mark(input, start, to, 32);
+        let stop = tokens::find_mark(input, start, to, 32);
         let Number::Value(value) = digits::read_number(input, start, stop) else {
             return Count::Nothing;
         };
@@ -52,8 +52,8 @@ fn read_line(input: &[u8], from: usize, to: usize) -> Line
     requires { ⌜ Within from to (now input) ⌝ }
     ensures { λ r. ⌜ LineRead (slice from to (now (input .entry))) r ⌝ }
 {
-    let stop = words::find_mark(input, from, to, 32);
-    let name = words::read_word(input, from, stop);
+    let stop = tokens::find_mark(input, from, to, 32);
+    let name = tokens::read_word(input, from, stop);
     let mut values = [0u32; MOST];
     if stop == to {
         return Line {

@@ -8,7 +8,7 @@ mod commands;
 mod digits;
 mod output;
 mod run;
-mod words;
+mod tokens;
 
 ghost use mathlib.Core.Path.{_≡_};
 ghost use Rattle.replay_text.specs.Answer.{replayed};

@@ -2,7 +2,7 @@
 use crate::Asked;
 use crate::answers;
 use crate::commands;
-use crate::words;
+use crate::tokens;
 use accounts::Accounts;
 use accounts::QUOTAS;
 use layout::GREATEST_HEAP;
@@ -69,7 +69,7 @@ fn run_calls(
     let mut place = at;
     let mut current = accounts;
     loop {
-        let end = words::find_mark(input, start, len, 10);
+        let end = tokens::find_mark(input, start, len, 10);
         if end == len {
             return put_ending(input, start, heap, current, output, place);
         }
@@ -138,7 +138,7 @@ pub(crate) fn run_all(input: &[u8], output: &mut [u8]) -> usize
     ensures { λ r. ⌜ Put 0 (run-input (lines (now (input .entry)))) (now (output .entry)) (now (output .exit)) r ⌝ }
 {
     let len = input.len();
-    let end = words::find_mark(input, 0, len, 10);
+    let end = tokens::find_mark(input, 0, len, 10);
     if end == len {
         return answers::put_bad(output, 0);
     }

@@ -10,7 +10,7 @@ use lib.ListN.{length}
 use lib.Dec.{leb}
 use borrow.Author.Tests.{leb-true, le-leb, eq-eqb, ne-eqb}
 use Rattle.model.proofs.Bools.{and-left, and-right, and-both, fails}
-use Rattle.finder.specs.declared.Met.{Met}
+use Rattle.lookup.specs.declared.Met.{Met}
 use Rattle.writer.specs.Writes.{carve-bytes}
 use Rattle.writer.specs.Carving.{Room, has-room, carve-in}
 use Rattle.writer.specs.Freeing.{room-at, free-block, free-end, quarantine-block, Inside, is-inside, vacate-block, vacate-end, vacate-in, vacate-end-in}

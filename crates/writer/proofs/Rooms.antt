@@ -24,7 +24,7 @@ use Rattle.writer.specs.Writes.{write-object}
 use Rattle.writer.specs.Writes.{join-bytes, free-bytes, unquarantine-bytes}
 use Rattle.writer.proofs.FreeBytes.{free-size, free-behind, free-in-front, back-before, size-live, last-of, front-last, back-last, before-last}
 use Rattle.writer.proofs.FreeBytes.{cleared, vacate-writes, free-writes, unquarantine-writes, occupied-alone, vacant-behind}
-use Rattle.finder.specs.declared.Met.{Met}
+use Rattle.lookup.specs.declared.Met.{Met}
 use Rattle.writer.specs.declared.freeing.Room.{Room}
 use Rattle.writer.specs.Freeing.{room-of, room-at, free-block, free-end, quarantine-block, vacate-block, vacate-end, unquarantine-block, Inside}
 

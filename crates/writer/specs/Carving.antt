@@ -4,7 +4,7 @@ use mathlib.Core.List.{List}
 use mathlib.Core.Bool.{Bool, cond, _&&_}
 use lib.Dec.{leb}
 use Rattle.layout.specs.Blocks.{greatest-heap}
-use Rattle.finder.specs.declared.Met.{Met}
+use Rattle.lookup.specs.declared.Met.{Met}
 use Rattle.writer.specs.Writes.{carve-bytes}
 
 pub record Room (m : Met) (base n : ℕ) : Type 0 where

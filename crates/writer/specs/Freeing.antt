@@ -9,7 +9,7 @@ use Rattle.layout.specs.declared.Header.{Header}
 use Rattle.layout.specs.declared.Start.{Start}
 use Rattle.layout.specs.declared.Start.the-variants.{Block as Starts, Nothing}
 use Rattle.writer.specs.Writes.{write-object, free-bytes, unquarantine-bytes}
-use Rattle.finder.specs.declared.Met.{Met}
+use Rattle.lookup.specs.declared.Met.{Met}
 use Rattle.writer.specs.declared.freeing.Room.{Room}
 
 -- what a header says: the block's bytes if it is free, else 0, and the units of the block before it

@@ -1,9 +1,9 @@
 // Carving (rules 8.7 and 8.8): an object is cut out of a free block, whose two ends stay free.
 use crate::writing::put_next;
 use crate::writing::put_object;
-use finder::Met;
 use layout::GREATEST_HEAP;
 use layout::Header;
+use lookup::Met;
 ghost use mathlib.Core.Path.{_≡_};
 ghost use Prim.Native.Nat.{_+_};
 ghost use Rattle.writer.specs.Writes.{write-rest, units-after, carve-bytes};

@@ -1,11 +1,11 @@
 // Freeing (rules 8.18 and 8.19): a live block becomes free and joins its free neighbours.
 use crate::writing::put_next;
 use crate::writing::put_object;
-use finder::Met;
 use layout::GREATEST_HEAP;
 use layout::Header;
 use layout::QUARANTINED;
 use layout::Start;
+use lookup::Met;
 ghost use mathlib.Core.Path.{_≡_};
 ghost use Prim.Native.Nat.{_^_, _<_};
 ghost use Rattle.writer.specs.Writes.{join-bytes};

@@ -15,6 +15,8 @@ pub mod programs;
 pub mod queues;
 pub mod reports;
 pub mod rounds;
+mod sending;
 pub mod settings;
 pub mod unsound;
 pub mod wanted;
+pub mod words;

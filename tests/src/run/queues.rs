@@ -13,7 +13,7 @@ use crate::judge::compare::Failure;
 use crate::judge::cut::live_handles;
 use crate::run::boundary::queue as proved;
 use crate::run::calls::Pair;
-use crate::run::lent::Lent;
+use crate::run::sending::{by_value, in_place};
 use crate::seed::Seed;
 use crate::state::{Call, State};
 
@@ -39,36 +39,29 @@ fn number<T>(answer: &Result<T, QueueRefusal>) -> u32 {
 }
 
 impl Queues {
-    /// Sends on both sides and takes state and queue on to what both left; gives the refusal.
-    /// A refused send has to leave everything.
+    /// Sends on both sides, by the proved code with the accounts by value and where they lie, and
+    /// takes state and queue on to what all left; gives the refusal. A refused send has to leave
+    /// everything.
     ///
     /// # Panics
     ///
-    /// Where the two differ.
+    /// Where they differ.
     pub fn send(&mut self, state: &mut State, queue: &mut Queue, handle: Handle) -> u32 {
         let before = (state.clone(), queue.clone());
         let wanted = number(&send(&mut state.heap, &mut state.accounts, queue, handle));
-        let mut lent = Lent::guarded(&before.0.heap);
-        let (accounts, found, refusal) =
-            proved::send(lent.part(), &before.0.accounts, &before.1, handle);
         let asked = (&before.1, handle);
-        assert_eq!(refusal, wanted, "proved, then reference, of {asked:?}");
-        assert_eq!(found, *queue, "the queue that {asked:?} leaves");
-        assert!(
-            accounts == state.accounts,
-            "the accounts that {asked:?} leaves"
-        );
-        assert!(
-            lent.part() == state.heap,
-            "the heap bytes that {asked:?} leaves"
-        );
-        assert!(lent.guards_hold(), "{asked:?} wrote outside the heap");
-        if refusal != 0 {
+        for made in [by_value, in_place] {
+            let (left, found, refusal) = made(&before.0, &before.1, handle);
+            assert_eq!(refusal, wanted, "proved, then reference, of {asked:?}");
+            assert_eq!(found, *queue, "the queue that {asked:?} leaves");
+            assert!(left == *state, "heap and accounts that {asked:?} leaves");
+        }
+        if wanted != 0 {
             assert!(before == (state.clone(), queue.clone()), "{asked:?}");
         }
-        *self.sends.entry(refusal).or_default() += 1;
-        self.to_itself += u64::from(refusal == 0 && queue.sender == queue.receiver);
-        refusal
+        *self.sends.entry(wanted).or_default() += 1;
+        self.to_itself += u64::from(wanted == 0 && queue.sender == queue.receiver);
+        wanted
     }
 
     /// Receives on both sides and takes the queue on to what both left.

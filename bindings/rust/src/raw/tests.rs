@@ -26,49 +26,113 @@ fn distinct() -> Accounts {
     }
 }
 
+/// The bits of a word that are padding, by its place.
+fn padding(place: usize) -> u32 {
+    const LAST: usize = 3 * QUOTAS;
+    match place {
+        0..LAST if place % 3 == 2 => 0xFFFF_FF00,
+        0..=LAST => 0,
+        _ if (place - LAST).is_multiple_of(2) => 0xFFFF_0000,
+        _ if place == LAST + 1 + 2 * HOLDS => 0xFFFF_0000,
+        _ => 0,
+    }
+}
+
+/// The words of the accounts, with marks in all padding.
+fn marked(accounts: &Accounts) -> Words {
+    let mut words = Words::from(accounts);
+    for (place, word) in words.0.iter_mut().enumerate() {
+        assert_eq!(*word & padding(place), 0, "word {place}");
+        *word |= 0xA5C3_965A & padding(place);
+    }
+    words
+}
+
 #[test]
-fn each_call_hands_back_every_field_that_it_refuses() {
+fn every_field_lies_where_the_accounts_have_it() {
+    assert_eq!(*Words::from(&distinct()).accounts(), distinct());
+    assert_eq!(*marked(&distinct()).accounts(), distinct());
+    let spare: u32 = (0..Words::ZERO.0.len())
+        .map(|place| padding(place).count_ones() / 8)
+        .sum();
+    assert_eq!(spare as usize, 3 * QUOTAS + 2 * HOLDS + 2);
+}
+
+#[test]
+fn each_call_leaves_every_word_that_it_refuses() {
     let mut heap = [0; 64];
-    let accounts = distinct();
-    assert_eq!(accounts.holds[HOLDS - 1].count, 255);
+    assert_eq!(distinct().holds[HOLDS - 1].count, 255);
+    let mut words = marked(&distinct());
+    let before = words.0;
     let handle = Handle {
         base: 8,
         length: 16,
         serial: 1,
     };
     let handles = [
-        allocate(&mut heap, &accounts, 0, 8),
-        allocate_array(&mut heap, &accounts, 0, 2, 4),
-        reallocate(&mut heap, &accounts, 0, handle, 8),
+        allocate(&mut heap, &mut words, 0, 8),
+        allocate_array(&mut heap, &mut words, 0, 2, 4),
+        reallocate(&mut heap, &mut words, 0, handle, 8),
     ];
     for reply in handles {
-        assert_eq!(
-            (reply.refusal, reply.accounts),
-            (INCONSISTENT, accounts.clone())
-        );
-        assert_eq!(
-            reply.handle,
-            Handle {
-                base: 0,
-                length: 0,
-                serial: 0
-            }
-        );
+        let Handle {
+            base,
+            length,
+            serial,
+        } = reply.handle;
+        let numbers = [reply.refusal, base, length, serial];
+        assert_eq!(numbers, [INCONSISTENT, 0, 0, 0]);
     }
     let amounts = [
-        claim(&heap, &accounts, 0, handle),
-        release(&mut heap, &accounts, 0, handle),
-        free_all(&mut heap, &accounts, 0),
-        clear_permissions(&heap, &accounts, 0, 7),
-        sweep(&mut heap, &accounts),
+        claim(&heap, &mut words, 0, handle),
+        release(&mut heap, &mut words, 0, handle),
+        free_all(&mut heap, &mut words, 0),
+        clear_permissions(&heap, &mut words, 0, 7),
+        sweep(&mut heap, &words),
+        remaining(&heap, &words, 0),
     ];
     for reply in amounts {
-        assert_eq!(
-            (reply.refusal, reply.accounts),
-            (INCONSISTENT, accounts.clone())
-        );
-        assert_eq!(reply.amount, 0);
+        assert_eq!((reply.refusal, reply.amount), (INCONSISTENT, 0));
     }
+    assert_eq!(words.0, before);
+}
+
+#[test]
+fn each_call_leaves_padding_as_it_is() {
+    let mut heap = [7; 128];
+    let mut words = marked(&distinct());
+    assert_eq!(
+        open(
+            &mut heap,
+            &mut words,
+            Grants {
+                values: [100; QUOTAS]
+            },
+            1,
+            1
+        ),
+        0
+    );
+    let mut words = marked(words.accounts());
+    let made = allocate(&mut heap, &mut words, 0, 8);
+    let moved = reallocate(&mut heap, &mut words, 0, made.handle, 16);
+    let more = allocate_array(&mut heap, &mut words, 31, 2, 4);
+    assert_eq!([made.refusal, moved.refusal, more.refusal], [0; 3]);
+    let amounts = [
+        claim(&heap, &mut words, 31, moved.handle),
+        release(&mut heap, &mut words, 0, moved.handle),
+        clear_permissions(&heap, &mut words, 30, 5),
+        free_all(&mut heap, &mut words, 31),
+        sweep(&mut heap, &words),
+    ];
+    let amounts = amounts.map(|reply| (reply.refusal, reply.amount));
+    assert_eq!(amounts, [(0, 16), (0, 24), (0, 2), (0, 40), (0, 56)]);
+    let accounts = words.accounts().clone();
+    assert_eq!(
+        (accounts.last_serial, accounts.quotas[30].permissions),
+        (3, 2)
+    );
+    assert_eq!(words.0, marked(&accounts).0);
 }
 
 #[test]
@@ -86,34 +150,37 @@ fn a_send_hands_back_every_field_that_it_refuses() {
         count: 3,
         handles: core::array::from_fn(|i| handle(3 * i + 3)),
     };
-    let reply = queue_send(&mut [0; 64], &accounts, queue.clone(), handle(60));
-    assert_eq!((reply.refusal, reply.accounts), (INCONSISTENT, accounts));
+    let mut words = marked(&accounts);
+    let reply = queue_send(&mut [0; 64], &mut words, queue.clone(), handle(60));
+    assert_eq!(reply.refusal, INCONSISTENT);
+    assert_eq!(words.0, marked(&accounts).0);
     assert_eq!(reply.queue, queue);
 }
 
 #[test]
 fn each_grant_reaches_its_quota() {
     let values = core::array::from_fn(|i| (i as u32 + 1).wrapping_mul(0x9E37_79B1));
-    let reply = open(&mut [7; 64], Grants { values }, 0, 0);
-    assert_eq!(reply.refusal, 0);
-    assert_eq!(reply.accounts.quotas.map(|quota| quota.grant), values);
-    assert_eq!(reply.accounts.quotas.map(|quota| quota.remainder), values);
-    assert_eq!(
-        reply.accounts.quotas.map(|quota| quota.permissions),
-        [7; QUOTAS]
-    );
-    assert_eq!(reply.accounts.last_serial, 0);
-    assert_eq!(reply.accounts.holds, [Hold::default(); HOLDS]);
+    let mut words = marked(&distinct());
+    assert_eq!(open(&mut [7; 64], &mut words, Grants { values }, 0, 0), 0);
+    let accounts = words.accounts();
+    assert_eq!(accounts.quotas.map(|quota| quota.grant), values);
+    assert_eq!(accounts.quotas.map(|quota| quota.remainder), values);
+    assert_eq!(accounts.quotas.map(|quota| quota.permissions), [7; QUOTAS]);
+    assert_eq!(accounts.last_serial, 0);
+    assert_eq!(accounts.holds, [Hold::default(); HOLDS]);
 }
 
 /// Any number but 0 opens a heap with quarantine, or of the second edition, each by itself.
 #[test]
 fn each_kind_and_edition_reaches_the_accounts() {
-    let values = [1; QUOTAS];
+    let grants = Grants {
+        values: [1; QUOTAS],
+    };
     let marks = |length: usize, kind, edition| {
-        let reply = open(&mut [7; 64][..length], Grants { values }, kind, edition);
-        let Accounts { kind, edition, .. } = reply.accounts;
-        (reply.refusal, kind, edition)
+        let mut words = marked(&distinct());
+        let refusal = open(&mut [7; 64][..length], &mut words, grants, kind, edition);
+        let Accounts { kind, edition, .. } = words.accounts();
+        (refusal, *kind, *edition)
     };
     for (number, mark) in [(0, 0), (1, 1), (2, 1), (255, 1), (256, 1), (u32::MAX, 1)] {
         for other in [0, 1] {

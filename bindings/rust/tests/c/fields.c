@@ -1,5 +1,5 @@
 /*
- * Sets every field of every struct of the headers to a distinct number, or reads them.
+ * Sets every field of every struct that C and the Rust crate share to a distinct number, or reads them.
  *
  *     fields set      writes the structs to standard output, as they lie in memory
  *     fields print    reads such structs from standard input and prints each field's number
@@ -104,30 +104,16 @@ static void visit_grants(struct lokhazim_grants *it)
     }
 }
 
-static void visit_open_reply(struct lokhazim_open_reply *it)
-{
-    visit_accounts(&it->accounts);
-    visit32(&it->refusal);
-}
-
-static void visit_handle_reply(struct lokhazim_handle_reply *it)
-{
-    visit_accounts(&it->accounts);
-    visit32(&it->refusal);
-    visit_handle(&it->handle);
-}
-
-static void visit_amount_reply(struct lokhazim_amount_reply *it)
-{
-    visit_accounts(&it->accounts);
-    visit32(&it->refusal);
-    visit32(&it->amount);
-}
-
 static void visit_amount(struct lokhazim_amount *it)
 {
     visit32(&it->refusal);
     visit32(&it->amount);
+}
+
+static void visit_given_handle(struct lokhazim_given_handle *it)
+{
+    visit32(&it->refusal);
+    visit_handle(&it->handle);
 }
 
 static void visit_range_reply(struct lokhazim_range_reply *it)
@@ -230,9 +216,8 @@ static void visit_queue(struct lokhazim_queue *it)
     }
 }
 
-static void visit_send_reply(struct lokhazim_send_reply *it)
+static void visit_queue_reply(struct lokhazim_queue_reply *it)
 {
-    visit_accounts(&it->accounts);
     visit_queue(&it->queue);
     visit32(&it->refusal);
 }
@@ -275,10 +260,8 @@ int main(int count, char **words)
     EXCHANGE(accounts);
     EXCHANGE(handle);
     EXCHANGE(grants);
-    EXCHANGE(open_reply);
-    EXCHANGE(handle_reply);
-    EXCHANGE(amount_reply);
     EXCHANGE(amount);
+    EXCHANGE(given_handle);
     EXCHANGE(range_reply);
     EXCHANGE(block_reply);
     EXCHANGE(image_reply);
@@ -292,7 +275,7 @@ int main(int count, char **words)
     EXCHANGE(add_reply);
     EXCHANGE(entry_reply);
     EXCHANGE(queue);
-    EXCHANGE(send_reply);
+    EXCHANGE(queue_reply);
     EXCHANGE(receive_reply);
     return EXIT_SUCCESS;
 }

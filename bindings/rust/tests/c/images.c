@@ -6,6 +6,7 @@
  */
 #include "check.h"
 #include "lokhazim_image.h"
+#include "same.h"
 
 #include <stdlib.h>
 #include <string.h>
@@ -29,22 +30,6 @@ static void fill(void)
         CHECK(lokhazim_heap_allocate(heap, sizeof heap, &accounts, i % LOKHAZIM_QUOTAS, 1 + i % 40, &handle) == LOKHAZIM_ACCEPTED);
         memset(heap + handle.base, (int)i, handle.length);
     }
-}
-
-static int same(const struct lokhazim_accounts *a, const struct lokhazim_accounts *b)
-{
-    int equal = a->last_serial == b->last_serial && a->kind == b->kind && a->edition == b->edition;
-    for (int i = 0; i < LOKHAZIM_QUOTAS; i++) {
-        equal &= a->quotas[i].grant == b->quotas[i].grant;
-        equal &= a->quotas[i].remainder == b->quotas[i].remainder;
-        equal &= a->quotas[i].permissions == b->quotas[i].permissions;
-    }
-    for (int i = 0; i < LOKHAZIM_HOLDS; i++) {
-        equal &= a->holds[i].serial == b->holds[i].serial;
-        equal &= a->holds[i].quota == b->holds[i].quota;
-        equal &= a->holds[i].count == b->holds[i].count;
-    }
-    return equal;
 }
 
 /* The second image has one byte of the first object changed, one record's count, and the last quota's permissions. */

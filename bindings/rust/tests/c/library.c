@@ -4,6 +4,7 @@
  */
 #include "check.h"
 #include "lokhazim.h"
+#include "same.h"
 
 #include <string.h>
 
@@ -12,22 +13,6 @@ static _Alignas(LOKHAZIM_ALIGNMENT) uint8_t heap[LOKHAZIM_HEAP_MAX];
 static struct lokhazim_accounts accounts;
 
 static struct lokhazim_handle handles[LOKHAZIM_HOLDS];
-
-static int same(const struct lokhazim_accounts *a, const struct lokhazim_accounts *b)
-{
-    int equal = a->last_serial == b->last_serial && a->kind == b->kind && a->edition == b->edition;
-    for (int i = 0; i < LOKHAZIM_QUOTAS; i++) {
-        equal &= a->quotas[i].grant == b->quotas[i].grant;
-        equal &= a->quotas[i].remainder == b->quotas[i].remainder;
-        equal &= a->quotas[i].permissions == b->quotas[i].permissions;
-    }
-    for (int i = 0; i < LOKHAZIM_HOLDS; i++) {
-        equal &= a->holds[i].serial == b->holds[i].serial;
-        equal &= a->holds[i].quota == b->holds[i].quota;
-        equal &= a->holds[i].count == b->holds[i].count;
-    }
-    return equal;
-}
 
 /* Accounts in which no two fields of four bytes are the same, nor two of one byte near each other; no heap agrees with them. */
 static struct lokhazim_accounts distinct(void)

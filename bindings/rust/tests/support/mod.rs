@@ -1,5 +1,6 @@
 //! Compiles C programs against the header and the library, and runs them.
 
+use std::ffi::OsString;
 use std::io::Write;
 use std::path::{Path, PathBuf};
 use std::process::{Command, Stdio};
@@ -14,6 +15,16 @@ const FLAGS: [&str; 6] = [
     "-Werror",
 ];
 
+/// The libraries that the programs are linked with.
+const LIBRARIES: [&str; 6] = [
+    "liblokhazim.a",
+    "liblokhazim_image.a",
+    "liblokhazim_compare.a",
+    "liblokhazim_report.a",
+    "liblokhazim_settings.a",
+    "liblokhazim_queue.a",
+];
+
 /// A file of the repository.
 pub fn repository(path: &str) -> PathBuf {
     Path::new(env!("CARGO_MANIFEST_DIR"))
@@ -26,41 +37,49 @@ fn library(name: &str) -> PathBuf {
     Path::new(env!("LOKHAZIM_LIBRARIES")).join(name)
 }
 
-/// Compiles a C program of the repository at a level of optimisation, such as `-O2`.
-pub fn compile(source: &str, level: &str) -> PathBuf {
-    let source = repository(source);
-    let name = source.file_stem().expect("a source file has a name");
-    let program = Path::new(env!("CARGO_TARGET_TMPDIR"))
-        .join(name)
-        .with_extension(&level[1..]);
+/// Runs the C compiler on something, which it has to take; gives what it prints.
+fn cc(what: &str, words: &[OsString]) -> String {
     let done = Command::new("cc")
-        .args(FLAGS)
-        .arg(level)
-        .arg("-I")
-        .arg(repository("include"))
-        .arg(&source)
-        .args(
-            [
-                "liblokhazim.a",
-                "liblokhazim_image.a",
-                "liblokhazim_compare.a",
-                "liblokhazim_report.a",
-                "liblokhazim_settings.a",
-                "liblokhazim_queue.a",
-            ]
-            .map(library),
-        )
-        .arg("-o")
-        .arg(&program)
+        .args(words)
         .output()
         .expect("the command 'cc' is missing: install a C compiler");
     assert!(
         done.status.success(),
-        "{} does not compile at {level}:\n{}",
-        source.display(),
+        "{what} does not compile:\n{}",
         String::from_utf8_lossy(&done.stderr)
     );
+    String::from_utf8_lossy(&done.stdout).trim().to_owned()
+}
+
+/// Compiles a C program of the repository at a level of optimisation, such as `-O2`.
+pub fn compile(source: &str, level: &str) -> PathBuf {
+    let path = repository(source);
+    let name = path.file_stem().expect("a source file has a name");
+    let program = Path::new(env!("CARGO_TARGET_TMPDIR"))
+        .join(name)
+        .with_extension(&level[1..]);
+    let mut words: Vec<OsString> = FLAGS.map(OsString::from).to_vec();
+    words.extend([level.into(), "-I".into(), repository("include").into()]);
+    words.push(path.into());
+    words.extend(LIBRARIES.map(|name| library(name).into()));
+    words.extend(["-o".into(), program.clone().into()]);
+    cc(&format!("{source} at {level}"), &words);
     program
+}
+
+/// Has the compiler read headers, named by what follows `lokhazim`, with its own headers alone, as for
+/// a machine without an operating system.
+pub fn read_headers(names: &[&str], flags: &[&str]) {
+    let own = cc("nothing", &["-print-file-name=include".into()]);
+    let mut words: Vec<OsString> = FLAGS.map(OsString::from).to_vec();
+    words.extend(flags.iter().map(OsString::from));
+    words.extend(["-ffreestanding", "-nostdinc", "-isystem", &own].map(OsString::from));
+    for name in names {
+        let header = repository(&format!("include/lokhazim{name}.h"));
+        words.extend(["-include".into(), header.into()]);
+    }
+    words.extend(["-fsyntax-only", "-x", "c", "/dev/null"].map(OsString::from));
+    cc(&format!("a program with {names:?} and {flags:?}"), &words);
 }
 
 /// Runs a program with some words and an input; it has to end well, and gives what it prints.

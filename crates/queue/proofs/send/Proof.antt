@@ -2,23 +2,17 @@
 -- the release takes the accounts of the claim.
 -- Assumes nothing.
 use Prim.Native.Nat.{ℕ}
-use mathlib.Core.Path.{_≡_, ap, sym, _∙_}
-use mathlib.Core.List.{List}
+use mathlib.Core.Path.{ap, sym, _∙_}
 use borrow.Author.Needs.{needs}
 use Rattle.rounding.specs.Rounding.{table}
 use Rattle.model.specs.Answers.{amount-values, verdict-values, refusal-number}
-use Rattle.accounts.specs.declared.Accounts.{Accounts}
-use Rattle.model.specs.Calls.{Outcome, claim, release}
-use Rattle.model.specs.Step.{step}
-use Rattle.model.specs.declared.Handle.{Handle}
-use Rattle.model.specs.declared.Call.the-variants.{Claim}
+use Rattle.model.specs.Calls.{Outcome, release}
 use Rattle.model.specs.declared.AmountAnswer.{AmountAnswer}
 use Rattle.model.specs.declared.Verdict.{Verdict}
-use Rattle.model.proofs.StepFrame.{step-keeps}
 use Rattle.model.proofs.Answers.{refusal-number-is}
 use Rattle.queue.specs.declared.Queue.{Queue}
 use Rattle.queue.specs.Results.{send-number, send-outcome}
-use Rattle.queue.proofs.Sending.{send-damaged, send-full, send-unclaimed, send-unreleased, send-made}
+use Rattle.queue.proofs.Sending.{send-damaged, send-full, send-unclaimed, send-unreleased, send-made, claim-edition}
 use Rattle.queue.proofs.send.Statement.{statement}
 use Rattle.queue.proofs.send.Tie as tie
 
@@ -116,11 +110,6 @@ with-handle-requires c κs = search needs
 
 same-length-3 : tie.Need-same-length-3
 same-length-3 c = search needs
-
--- a claim keeps the edition
-claim-edition : (s : List ℕ) (k : Accounts) (q : ℕ) (h : Handle) → claim (table (k .edition)) s k q h .accounts .edition ≡ k .edition
-unfolding step
-claim-edition s k q h = step-keeps (table (k .edition)) (Claim q h) s k .same-edition
 
 returns-5 : tie.Need-returns-5
 unfolding send-number amount-values verdict-values

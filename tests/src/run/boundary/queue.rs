@@ -3,6 +3,7 @@
 use lokhazim_reference::{Accounts, Handle, Queue, QUEUE_PLACES};
 
 use super::{CAccounts, CHandle};
+use crate::run::words::WORDS;
 
 /// A queue as it crosses the boundary.
 #[repr(C)]
@@ -18,6 +19,13 @@ struct CQueue {
 #[repr(C)]
 struct SendReply {
     accounts: CAccounts,
+    queue: CQueue,
+    refusal: u32,
+}
+
+/// What sending gives back over the accounts where they lie.
+#[repr(C)]
+struct QueueReply {
     queue: CQueue,
     refusal: u32,
 }
@@ -39,6 +47,13 @@ extern "C" {
         queue: CQueue,
         handle: CHandle,
     ) -> SendReply;
+    fn lokhazim_queue_in_place_send(
+        heap: *mut u8,
+        heap_length: usize,
+        words: *mut u32,
+        queue: CQueue,
+        handle: CHandle,
+    ) -> QueueReply;
     fn lokhazim_queue_receive(queue: CQueue) -> ReceiveReply;
 }
 
@@ -92,6 +107,21 @@ pub fn send(
     // layout of the boundary, and the function accepts any bytes and any numbers.
     let r = unsafe { lokhazim_queue_send(p, len, accounts.into(), queue.into(), handle.into()) };
     (r.accounts.into(), r.queue.into(), r.refusal)
+}
+
+/// Sends a handle by the proved code over the accounts where they lie, and gives the queue and the
+/// refusal.
+pub fn send_in_place(
+    heap: &mut [u8],
+    words: &mut [u32; WORDS],
+    queue: &Queue,
+    handle: Handle,
+) -> (Queue, u32) {
+    let (p, len, w) = (heap.as_mut_ptr(), heap.len(), words.as_mut_ptr());
+    // Safety: the pointers and the length are those of a slice and an array that are borrowed, the
+    // structs have the layout of the boundary, and the function accepts any bytes, words and numbers.
+    let r = unsafe { lokhazim_queue_in_place_send(p, len, w, queue.into(), handle.into()) };
+    (r.queue.into(), r.refusal)
 }
 
 /// Receives by the proved code and gives the queue, the refusal and the handle.

@@ -1,7 +1,7 @@
 -- `c_api::reply_of_amount` meets its contract: the numbers are those of the answer, and the accounts those of the result.
 -- Assumes nothing.
 use mathlib.Core.Path.{ap}
-use Rattle.access.specs.Results.{outcome}
+use Rattle.results.specs.Results.{outcome}
 use borrow.Author.Needs.{needs}
 use Rattle.c_api.proofs.replies.reply_of_amount.Statement.{statement}
 use Rattle.c_api.proofs.replies.reply_of_amount.Tie as tie

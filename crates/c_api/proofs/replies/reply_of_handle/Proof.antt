@@ -1,33 +1,16 @@
--- `c_api::reply_of_handle` meets its contract: 0 and the handle, or the number of the refusal and a handle of zeros; the accounts are those of the result.
+-- `c_api::reply_of_handle` meets its contract: the numbers are those of the answer, and the accounts those of the result.
 -- Assumes nothing.
-use mathlib.Core.Path.{ap, sym, _∙_}
-use Rattle.model.specs.Answers.{refused, handle-values}
-use Rattle.access.specs.Results.{outcome}
+use mathlib.Core.Path.{ap}
+use Rattle.results.specs.Results.{outcome}
 use borrow.Author.Needs.{needs}
 use Rattle.c_api.proofs.replies.reply_of_handle.Statement.{statement}
 use Rattle.c_api.proofs.replies.reply_of_handle.Tie as tie
 
-enum-known-answer : tie.Need-enum-known-answer
-enum-known-answer c = search needs
-
-enum-known-answer-2 : tie.Need-enum-known-answer-2
-enum-known-answer-2 c = search needs
-
-number-requires : tie.Need-number-requires
-number-requires c κs = search needs
+handle-of-requires : tie.Need-handle-of-requires
+handle-of-requires c κs = search needs
 
 returns : tie.Need-returns
-unfolding handle-values
-returns c s =
-    let k = c .before .before .before .before .args .result .accounts in
-    ap (outcome s k) (sym (ap handle-values (c .before .answer .given .1)))
-
-returns-2 : tie.Need-returns-2
-unfolding handle-values
-returns-2 c s =
-    let k = c .before .before .before .before .before .args .result .accounts in
-    ap (outcome s k) (ap refused (c .number .ensures) ∙ sym (ap handle-values (c .before .before .answer2 .given .1)))
+returns c s = ap (outcome s (c .before .before .before .args .result .accounts)) (c .before .handle-of .ensures)
 
 pub reply-of-handle-spec : {M : Type 1} → statement M
-reply-of-handle-spec =
-    tie.close (tie.spec enum-known-answer enum-known-answer-2 number-requires returns returns-2)
+reply-of-handle-spec = tie.close (tie.spec handle-of-requires returns)

@@ -11,7 +11,7 @@ use mathlib.Core.Bool.{true}
 use lib.Dec.{eqb}
 use lib.ListN.{length, getD}
 use Rattle.accounts.specs.Accounts.{QUOTAS, ALL-PERMISSIONS, zero-quota}
-use Rattle.checker.proofs.Tables.{all-places, all-fails}
+use Rattle.audit.proofs.Tables.{all-places, all-fails}
 use Rattle.image_model.specs.Stream.{all-permitted}
 use Rattle.image.proofs.entries.are_permitted.Statement.{statement}
 use Rattle.image.proofs.entries.are_permitted.Tie as tie

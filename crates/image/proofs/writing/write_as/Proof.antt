@@ -4,7 +4,7 @@ use mathlib.Core.Path.{_∙_}
 use borrow.Author.Needs.{needs}
 use lib.ListN.{length}
 use Rattle.rounding.specs.Rounding.{table}
-use Rattle.access.proofs.Lines.{check-consistent}
+use Rattle.results.proofs.Lines.{check-consistent}
 use Rattle.image_model.proofs.Written.{allowed-most}
 use Rattle.image.proofs.Puts.{write-refused, write-accepted}
 use Rattle.image.proofs.writing.write_as.Statement.{statement}

@@ -1,3 +1,0 @@
-pub mod Results
-pub mod Listing
-pub mod Lending

@@ -1,0 +1,238 @@
+-- `allocation::by_value::release` meets its contract: the survey, the quota's number, the object and the quota's record are the lines of release, and past them
+-- the hold that is dropped is the definition's.
+-- Assumes nothing.
+use borrow.Author.Needs.{needs}
+use Prim.Native.Nat.{ℕ}
+use mathlib.Core.Path.{ap, sym, subst, _∙_}
+use lib.Dec.{ltb}
+use Rattle.accounts.specs.Accounts.{HOLDS}
+use Rattle.lookup.specs.declared.Met.{Met}
+use Rattle.lookup.specs.Walk.{object-met}
+use Rattle.survey.specs.Survey.{block-at}
+use Rattle.survey.proofs.Blocks.{block-place}
+use Rattle.allocation.specs.Asked.{Droppable}
+use Rattle.allocation.specs.Releasing.{claim-dropped}
+use Rattle.allocation.proofs.Releases.{block-missing, block-found, released-checked, released-numbered, released-missed}
+use Rattle.allocation.proofs.Releases.{released-unheld, released-droppable, released-is}
+use Rattle.allocation.proofs.by_value.releasing.release.Statement.{statement}
+use Rattle.allocation.proofs.by_value.releasing.release.Tie as tie
+
+asked-requires : tie.Need-asked-requires
+asked-requires c κs = search needs
+
+survey-of-requires : tie.Need-survey-of-requires
+survey-of-requires c κs = search needs
+
+verdict-requires : tie.Need-verdict-requires
+verdict-requires c κs = search needs
+
+enum-known-refusal : tie.Need-enum-known-refusal
+enum-known-refusal c = search needs
+
+refused-requires : tie.Need-refused-requires
+refused-requires c κs = search needs
+
+same-length : tie.Need-same-length
+same-length c = search needs
+
+returns : tie.Need-returns
+returns c =
+    let at-refusal = c .before .before in
+    let at-verdict = at-refusal .before .before in
+    let at-survey-of = at-verdict .before in
+    let at-asked = at-survey-of .before in
+    let start = at-asked .before .before .before in
+    let a = start .args in
+    let s = a .heap .now in
+    let k = a .accounts in
+    let r = at-survey-of .survey-of in
+    let asked = at-asked .asked in
+    let x = at-refusal .refusal .given in
+    let no = sym (at-verdict .verdict .ensures) ∙ x .1 in
+    released-checked s k (a .quota) (a .handle) (asked .result) (r .result) (asked .ensures) (r .ensures) (x .0 .0) no
+    (c .refused .result) (c .refused .ensures)
+
+enum-told : tie.Need-enum-told
+enum-told c = search needs
+
+refused-requires-2 : tie.Need-refused-requires-2
+refused-requires-2 c κs = search needs
+
+same-length-2 : tie.Need-same-length-2
+same-length-2 c = search needs
+
+returns-2 : tie.Need-returns-2
+returns-2 c =
+    let then1 = c .before in
+    let at-enum-told = then1 .before in
+    let at-verdict = at-enum-told .before .before in
+    let at-survey-of = at-verdict .before in
+    let at-asked = at-survey-of .before in
+    let start = at-asked .before .before .before in
+    let a = start .args in
+    let s = a .heap .now in
+    let k = a .accounts in
+    let r = at-survey-of .survey-of in
+    let asked = at-asked .asked in
+    let ok = sym (at-verdict .verdict .ensures) ∙ at-enum-told .enum-told .given .1 in
+    released-numbered s k (a .quota) (a .handle) (asked .result) (r .result) (asked .ensures) (r .ensures) ok (then1 .if1 .taken)
+    (c .refused2 .result) (c .refused2 .ensures)
+
+found-requires : tie.Need-found-requires
+found-requires c κs = search needs
+
+enum-known-block : tie.Need-enum-known-block
+enum-known-block c = search needs
+
+enum-told-2 : tie.Need-enum-told-2
+enum-told-2 c = search needs
+
+refused-requires-3 : tie.Need-refused-requires-3
+refused-requires-3 c κs = search needs
+
+same-length-3 : tie.Need-same-length-3
+same-length-3 c = search needs
+
+returns-3 : tie.Need-returns-3
+returns-3 c =
+    let at-enum-told2 = c .before in
+    let at-found = at-enum-told2 .before .before in
+    let else1 = at-found .before .before in
+    let at-enum-told = else1 .before in
+    let at-verdict = at-enum-told .before .before in
+    let at-survey-of = at-verdict .before in
+    let at-asked = at-survey-of .before in
+    let start = at-asked .before .before .before in
+    let a = start .args in
+    let s = a .heap .now in
+    let k = a .accounts in
+    let r = at-survey-of .survey-of in
+    let asked = at-asked .asked in
+    let ok = sym (at-verdict .verdict .ensures) ∙ at-enum-told .enum-told .given .1 in
+    let none = block-missing (r .result .found) (r .result .at) s (sym (at-found .found .ensures) ∙ at-enum-told2 .enum-told2 .given .1) in
+    released-missed s k (a .quota) (a .handle) (asked .result) (r .result) (asked .ensures) (r .ensures) ok (else1 .if1 .left) none
+    (c .refused3 .result) (c .refused3 .ensures)
+
+place-requires : tie.Need-place-requires
+place-requires c κs = search needs
+
+enum-known-place : tie.Need-enum-known-place
+enum-known-place c = search needs
+
+enum-told-3 : tie.Need-enum-told-3
+enum-told-3 c = search needs
+
+refused-requires-4 : tie.Need-refused-requires-4
+refused-requires-4 c κs = search needs
+
+same-length-4 : tie.Need-same-length-4
+same-length-4 c = search needs
+
+returns-4 : tie.Need-returns-4
+returns-4 c =
+    let at-enum-told3 = c .before in
+    let at-place = at-enum-told3 .before .before in
+    let at-block = at-place .before .before in
+    let at-found = at-block .before .before in
+    let else1 = at-found .before .before in
+    let at-enum-told = else1 .before in
+    let at-verdict = at-enum-told .before .before in
+    let at-survey-of = at-verdict .before in
+    let at-asked = at-survey-of .before in
+    let start = at-asked .before .before .before in
+    let a = start .args in
+    let s = a .heap .now in
+    let k = a .accounts in
+    let r = at-survey-of .survey-of in
+    let asked = at-asked .asked in
+    let ok = sym (at-verdict .verdict .ensures) ∙ at-enum-told .enum-told .given .1 in
+    let b = block-found (r .result .found) (r .result .at) s (at-block .block .given .0 .0) (sym (at-found .found .ensures) ∙ at-block .block .given .1) in
+    let none = sym (at-place .place .ensures) ∙ at-enum-told3 .enum-told3 .given .1 in
+    released-unheld s k (a .quota) (a .handle) (asked .result) (r .result) (asked .ensures) (r .ensures) ok (else1 .if1 .left) (b .0) none
+    (c .refused4 .result) (c .refused4 .ensures)
+
+drop-claim-requires : tie.Need-drop-claim-requires
+drop-claim-requires c κs =
+    let at-place2 = c .before .before .before in
+    let at-place = at-place2 .before .before in
+    let at-block = at-place .before .before in
+    let at-found = at-block .before .before in
+    let else1 = at-found .before .before in
+    let at-enum-told = else1 .before in
+    let at-verdict = at-enum-told .before .before in
+    let at-survey-of = at-verdict .before in
+    let at-asked = at-survey-of .before in
+    let start = at-asked .before .before .before in
+    let a = start .args in
+    let s = a .heap .now in
+    let k = a .accounts in
+    let r = at-survey-of .survey-of in
+    let asked = at-asked .asked in
+    let ok = sym (at-verdict .verdict .ensures) ∙ at-enum-told .enum-told .given .1 in
+    let b = block-found (r .result .found) (r .result .at) s (at-block .block .given .0 .0) (sym (at-found .found .ensures) ∙ at-block .block .given .1) in
+    let i = at-place2 .place2 .given in
+    let p = sym (at-place .place .ensures) ∙ i .1 in
+    let at = ap (λ (m : Met). m .at) (b .1) ∙ block-place (r .result .at) s in
+    let d = released-droppable s k (a .quota) (a .handle) (asked .result) (r .result) (asked .ensures) (r .ensures) ok (else1 .if1 .left) (b .0) (i .0 .0) p in
+    subst (λ (x : ℕ). Droppable s k (a .quota) (block-at x s) (i .0 .0) (ltb (r .result .other) HOLDS)) (sym at) d
+
+same-length-5 : tie.Need-same-length-5
+same-length-5 c = search needs
+
+returns-5 : tie.Need-returns-5
+returns-5 c =
+    let at-drop-claim = c .before .before in
+    let at-place2 = at-drop-claim .before .before .before .before in
+    let at-place = at-place2 .before .before in
+    let at-block = at-place .before .before in
+    let at-found = at-block .before .before in
+    let else1 = at-found .before .before in
+    let at-enum-told = else1 .before in
+    let at-verdict = at-enum-told .before .before in
+    let at-survey-of = at-verdict .before in
+    let at-asked = at-survey-of .before in
+    let start = at-asked .before .before .before in
+    let a = start .args in
+    let s = a .heap .now in
+    let k = a .accounts in
+    let r = at-survey-of .survey-of in
+    let asked = at-asked .asked in
+    let ok = sym (at-verdict .verdict .ensures) ∙ at-enum-told .enum-told .given .1 in
+    let b = block-found (r .result .found) (r .result .at) s (at-block .block .given .0 .0) (sym (at-found .found .ensures) ∙ at-block .block .given .1) in
+    let i = at-place2 .place2 .given in
+    let p = sym (at-place .place .ensures) ∙ i .1 in
+    let at = ap (λ (m : Met). m .at) (b .1) ∙ block-place (r .result .at) s in
+    at-drop-claim .drop-claim .ensures
+    ∙ ap (λ (x : ℕ). claim-dropped s k (a .quota) (object-met (block-at x s))) at
+    ∙ released-is s k (a .quota) (a .handle) (asked .result) (r .result) (asked .ensures) (r .ensures) ok (else1 .if1 .left) (b .0) (i .0 .0) p
+
+pub release-spec : {M : Type 1} → statement M
+release-spec =
+    tie.close
+    (tie.spec
+    asked-requires
+    survey-of-requires
+    verdict-requires
+    enum-known-refusal
+    refused-requires
+    same-length
+    returns
+    enum-told
+    refused-requires-2
+    same-length-2
+    returns-2
+    found-requires
+    enum-known-block
+    enum-told-2
+    refused-requires-3
+    same-length-3
+    returns-3
+    place-requires
+    enum-known-place
+    enum-told-3
+    refused-requires-4
+    same-length-4
+    returns-4
+    drop-claim-requires
+    same-length-5
+    returns-5)

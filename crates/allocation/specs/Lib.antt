@@ -1,0 +1,4 @@
+-- The crate's definitions.
+pub mod Ready
+pub mod Releasing
+pub mod Asked

@@ -1,0 +1,10 @@
+pub mod Cases
+pub mod Tables
+pub mod Records
+pub mod Striking
+pub mod Fitting
+pub mod Struck
+pub mod Payments
+pub mod Agreement
+pub mod Cutting
+pub mod Consistency

@@ -1,0 +1,4 @@
+pub mod Keys
+pub mod Audit
+pub mod Fitting
+pub mod Contracts

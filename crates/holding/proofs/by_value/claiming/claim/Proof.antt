@@ -1,0 +1,215 @@
+-- `holding::by_value::claim` meets its contract: the survey, the quota, its permission and the object decide in the order of claim's lines, and then the place
+-- of the quota's record picks the way of the claim. The block lies in the heap, so its length is short and the charge fits.
+-- Assumes nothing.
+use native.Mathlib.Omega.{arith}
+use mathlib.Core.Path.{_≡_, sym, subst, _∙_}
+use mathlib.Core.Bool.{true}
+use borrow.Author.Needs.{needs}
+use Rattle.accounts.specs.Accounts.{CLAIM, permits}
+use Rattle.lookup.specs.declared.Met.{Met}
+use Rattle.lookup.specs.declared.Lookup.the-variants.{Found}
+use Rattle.lookup.specs.Walk.{find-object}
+use Rattle.model.specs.declared.Verdict.the-variants.{Accepted}
+use Rattle.results.proofs.Lines.{permitted}
+use Rattle.results.proofs.Lookups.{Located}
+use Rattle.survey.specs.declared.Wanted.{Wanted}
+use Rattle.survey.specs.Survey.{verdict-of, Survey}
+use Rattle.holding.proofs.ClaimAnswers.{asking, claim-checked, claim-numbered, claim-located, claim-barred, claim-missed, claimed-again, claimed-anew}
+use Rattle.holding.proofs.by_value.claiming.claim.Statement.{statement}
+use Rattle.holding.proofs.by_value.claiming.claim.Tie as tie
+
+-- the survey, asked for the handle's object and the quota's record for it
+abbrev start : tie.After-survey-of → tie.Start
+start c = c .before .before .before
+
+surveyed : (c : tie.After-survey-of) → let a = start c .args in Survey (a .heap .now) (a .t2) (asking (a .quota) (a .handle)) (c .survey-of .result)
+surveyed c =
+    let a = start c .args in
+    subst (λ (x : Wanted). Survey (a .heap .now) (a .t2) x (c .survey-of .result)) (c .before .asked .ensures) (c .survey-of .ensures)
+
+-- where it accepts
+abbrev survey : tie.After-enum-told → tie.After-survey-of
+survey c = c .before .before .before
+
+accepts : (c : tie.After-enum-told) → verdict-of (survey c .survey-of .result .refusal) ≡ Accepted
+accepts c = sym (c .before .before .verdict .ensures) ∙ c .enum-told .given .1
+
+-- where the quota may claim
+abbrev told : tie.Else2 → tie.After-enum-told
+told c = c .before .before
+
+abbrev entry : tie.Else2 → tie.Start
+entry c = start (survey (told c))
+
+may : (c : tie.Else2) → permits CLAIM (entry c .args .quota) (entry c .args .t2) ≡ true
+may c = permitted CLAIM (entry c .args .quota) (entry c .args .t2) (c .if2 .left)
+
+-- where the object was looked for, and found
+looks : (c : tie.After-found) → find-object (entry (c .before) .args .handle) (entry (c .before) .args .heap .now) ≡ c .found .result
+looks c =
+    let t = told (c .before) in
+    sym (surveyed (survey t) .known (accepts t) .block) ∙ sym (c .found .ensures)
+
+abbrev able : tie.After-block → tie.Else2
+able c = c .before .before .before
+
+abbrev object : tie.After-block → Met
+object c = c .block .given .0 .0
+
+finds : (c : tie.After-block) → find-object (entry (able c) .args .handle) (entry (able c) .args .heap .now) ≡ Found (object c)
+finds c = looks (c .before .before) ∙ c .block .given .1
+
+lies : (c : tie.After-block) → Located (entry (able c) .args .heap .now) (entry (able c) .args .handle) (object c)
+lies c = claim-located (surveyed (survey (told (able c)))) (accepts (told (able c))) (object c) (finds c)
+
+asked-requires : tie.Need-asked-requires
+asked-requires c κs = search needs
+
+survey-of-requires : tie.Need-survey-of-requires
+survey-of-requires c κs = search needs
+
+verdict-requires : tie.Need-verdict-requires
+verdict-requires c κs = search needs
+
+enum-known-refusal : tie.Need-enum-known-refusal
+enum-known-refusal c = search needs
+
+refused-requires : tie.Need-refused-requires
+refused-requires c κs = search needs
+
+returns : tie.Need-returns
+returns c =
+    let x = c .before .before .refusal .given in
+    let v = c .before .before .before .before in
+    claim-checked (surveyed (v .before)) (x .0 .0) (sym (v .verdict .ensures) ∙ x .1) (c .refused .result) (c .refused .ensures)
+
+enum-told : tie.Need-enum-told
+enum-told c = search needs
+
+refused-requires-2 : tie.Need-refused-requires-2
+refused-requires-2 c κs = search needs
+
+returns-2 : tie.Need-returns-2
+returns-2 c =
+    let t = c .before .before in
+    claim-numbered (surveyed (survey t)) (accepts t) (c .before .if1 .taken) (c .refused2 .result) (c .refused2 .ensures)
+
+mul-if2 : tie.Need-mul-if2
+mul-if2 c = search needs
+
+element-copy-out-if2 : tie.Need-element-copy-out-if2
+element-copy-out-if2 c = search needs
+
+refused-requires-3 : tie.Need-refused-requires-3
+refused-requires-3 c κs = search needs
+
+returns-3 : tie.Need-returns-3
+returns-3 c =
+    let f = c .before .before in
+    let t = f .before in
+    claim-barred (surveyed (survey t)) (accepts t) (f .if1 .left) (c .before .if2 .taken) (c .refused3 .result) (c .refused3 .ensures)
+
+found-requires : tie.Need-found-requires
+found-requires c κs = search needs
+
+enum-known-block : tie.Need-enum-known-block
+enum-known-block c = search needs
+
+enum-told-2 : tie.Need-enum-told-2
+enum-told-2 c = search needs
+
+refused-requires-4 : tie.Need-refused-requires-4
+refused-requires-4 c κs = search needs
+
+returns-4 : tie.Need-returns-4
+returns-4 c =
+    let f = c .before .before .before in
+    let e = f .before in
+    let t = told e in
+    claim-missed (surveyed (survey t)) (accepts t) (e .before .if1 .left) (may e) (looks f ∙ c .before .enum-told2 .given .1) (c .refused4 .result)
+    (c .refused4 .ensures)
+
+sub-length : tie.Need-sub-length
+sub-length c = let l = lies (c .before .before) in omega (arith, l .header)
+
+cast-length : tie.Need-cast-length
+cast-length c = let l = lies (c .before .before) in record { fits = omega (arith, l .header, l .end) }
+
+place-requires : tie.Need-place-requires
+place-requires c κs = search needs
+
+enum-known-at : tie.Need-enum-known-at
+enum-known-at c = search needs
+
+claim-again-requires : tie.Need-claim-again-requires
+claim-again-requires c κs = search needs
+
+returns-5 : tie.Need-returns-5
+returns-5 c =
+    let p = c .before .before in
+    let d = p .before .before in
+    let b = d .before .before .before in
+    let e = able b in
+    let t = told e in
+    claimed-again (surveyed (survey t)) (accepts t) (e .before .if1 .left) (may e) (object b) (finds b) (p .at .given .0 .0)
+    (sym (d .place .ensures) ∙ p .at .given .1) (c .claim-again .result) (c .claim-again .ensures)
+
+enum-told-3 : tie.Need-enum-told-3
+enum-told-3 c = search needs
+
+cast-t23 : tie.Need-cast-t23
+cast-t23 c = search needs
+
+place-requires-2 : tie.Need-place-requires-2
+place-requires-2 c κs = search needs
+
+claim-first-requires : tie.Need-claim-first-requires
+claim-first-requires c κs =
+    let b = c .before .before .before .before .before .before in
+    let t = told (able b) in
+    let l = lies b in
+    (able b .before .if1 .left, omega (arith, l .header, l .end), c .place2 .ensures ∙ surveyed (survey t) .known (accepts t) .low)
+
+returns-6 : tie.Need-returns-6
+returns-6 c =
+    let n = c .before .before in
+    let d = n .before .before in
+    let b = d .before .before .before in
+    let e = able b in
+    let t = told e in
+    claimed-anew (surveyed (survey t)) (accepts t) (e .before .if1 .left) (may e) (object b) (finds b)
+    (sym (d .place .ensures) ∙ n .enum-told3 .given .1) (c .claim-first .result) (c .claim-first .ensures)
+
+pub claim-spec : {M : Type 1} → statement M
+claim-spec =
+    tie.close
+    (tie.spec
+    asked-requires
+    survey-of-requires
+    verdict-requires
+    enum-known-refusal
+    refused-requires
+    returns
+    enum-told
+    refused-requires-2
+    returns-2
+    mul-if2
+    element-copy-out-if2
+    refused-requires-3
+    returns-3
+    found-requires
+    enum-known-block
+    enum-told-2
+    refused-requires-4
+    returns-4
+    sub-length
+    cast-length
+    place-requires
+    enum-known-at
+    claim-again-requires
+    returns-5
+    enum-told-3
+    cast-t23
+    place-requires-2
+    claim-first-requires
+    returns-6)

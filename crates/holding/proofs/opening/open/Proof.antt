@@ -1,0 +1,49 @@
+-- `holding::open` meets its contract: a length that is not allowed is refused, and else the cleared bytes are the definition's one block.
+-- Assumes nothing.
+use borrow.Author.Needs.{needs}
+use mathlib.Core.Path.{sym, _∙_}
+use borrow.Author.Tests.{not-true, not-false}
+use Rattle.holding.proofs.Cleared.{open-refused, open-accepted}
+use Rattle.holding.proofs.opening.open.Statement.{statement}
+use Rattle.holding.proofs.opening.open.Tie as tie
+
+is-allowed-requires : tie.Need-is-allowed-requires
+is-allowed-requires c κs = search needs
+
+clear-requires : tie.Need-clear-requires
+clear-requires c κs = search needs
+
+returns : tie.Need-returns
+returns c =
+    let k = c .before .before .before .is-allowed in
+    let a = c .before .before .before .before .before .args in
+    open-refused (a .settings) (a .heap .now) (a .grants) _ (c .clear .ensures) (sym (k .ensures) ∙ not-true (k .result) (c .before .before .if1 .taken))
+
+clear-requires-2 : tie.Need-clear-requires-2
+clear-requires-2 c κs = search needs
+
+open-requires : tie.Need-open-requires
+open-requires c κs = search needs
+
+same-length : tie.Need-same-length
+same-length c = search needs
+
+returns-2 : tie.Need-returns-2
+returns-2 c =
+    let k = c .before .before .before .before .before .before .before .is-allowed in
+    let w = c .before .before .before .before .clear2 in
+    let a = c .before .before .before .before .before .before .before .before .before .args in
+    open-accepted (a .settings) (a .heap .now) (a .grants) _ (w .last .0) (c .«open» .ensures) (w .ensures)
+    (sym (k .ensures) ∙ not-false (k .result) (c .before .before .before .before .before .before .if1 .left))
+
+pub open-spec : {M : Type 1} → statement M
+open-spec =
+    tie.close
+    (tie.spec
+    is-allowed-requires
+    clear-requires
+    returns
+    clear-requires-2
+    open-requires
+    same-length
+    returns-2)

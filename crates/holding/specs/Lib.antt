@@ -1,0 +1,4 @@
+-- The crate's definitions.
+pub mod Claims
+pub mod Emptying
+pub mod Sweeping

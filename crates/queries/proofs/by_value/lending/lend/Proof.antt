@@ -1,0 +1,32 @@
+-- `queries::by_value::lend` meets its contract: the range that `span_of` gives lies in the heap, so the part is that range of it.
+-- Assumes nothing.
+use mathlib.Core.Path.{refl, ap, _∙_}
+use Prim.Native.Nat.{ℕ, _+_, _-_}
+use native.Mathlib.Nat.{add-comm}
+use borrow.Author.Needs.{needs}
+use lib.ListN.{take, drop}
+use Rattle.queries.proofs.by_value.lending.lend.Statement.{statement}
+use Rattle.queries.proofs.by_value.lending.lend.Tie as tie
+
+span-of-requires : tie.Need-span-of-requires
+span-of-requires c κs = search needs
+
+sub-result : tie.Need-sub-result
+sub-result c = search needs
+
+part-heap-start : tie.Need-part-heap-start
+part-heap-start c = search needs
+
+part-heap-end : tie.Need-part-heap-end
+part-heap-end c = search needs
+
+returns : tie.Need-returns
+returns c =
+    let a = c .before .before .before .before .args in
+    let g = c .before .span-of .ensures in (
+      λ i. take (g .ends i - g .starts i) (drop (g .starts i) (a .heap .now)),
+      ((refl, add-comm _ _ ∙ ap (λ (n : ℕ). a .heap .ptr .1 + n) (g .starts)), g .refuses),
+    )
+
+pub lend-spec : {M : Type 1} → statement M
+lend-spec = tie.close (tie.spec span-of-requires sub-result part-heap-start part-heap-end returns)

@@ -1,0 +1,58 @@
+-- `queries::by_value::list_block` meets its contract: the check decides first; a heap that it accepts is cut into blocks, and the walk finds what its listing
+-- has.
+-- Assumes nothing.
+use mathlib.Core.Path.{ap, _∙_}
+use mathlib.Core.List.{[]}
+use borrow.Author.Needs.{needs}
+use Rattle.rounding.specs.Rounding.{table}
+use Rattle.model.specs.Answers.{Values, block-values}
+use Rattle.model.specs.Refusals.{first-refusal, check-lines}
+use Rattle.model.specs.Calls.{unchanged, list-block}
+use Rattle.model.proofs.Consistent.{consistent-cut}
+use Rattle.results.proofs.Lines.{check-refuses, check-accepts, check-consistent, refused-is, accepted-is}
+use Rattle.queries.proofs.Listed.{find-block-is}
+use Rattle.queries.proofs.by_value.listing.list_block.Statement.{statement}
+use Rattle.queries.proofs.by_value.listing.list_block.Tie as tie
+
+check-requires : tie.Need-check-requires
+check-requires c κs = search needs
+
+enum-known-refusal : tie.Need-enum-known-refusal
+enum-known-refusal c = search needs
+
+returns : tie.Need-returns
+unfolding list-block block-values check-lines
+returns c =
+    let a = c .before .before .before .before .before .args in
+    let r = c .before .refusal .given in
+    refused-is _ (a .heap .now) (a .accounts) _ (r .0 .0)
+    (check-refuses (table (a .accounts .edition)) (a .heap .now) (a .accounts) (c .before .before .before .check .result)
+    (c .before .before .before .check .ensures) [] (r .0 .0) (r .1))
+
+enum-told : tie.Need-enum-told
+enum-told c = search needs
+
+find-block-requires : tie.Need-find-block-requires
+find-block-requires c κs = search needs
+
+returns-2 : tie.Need-returns-2
+unfolding list-block check-lines first-refusal
+returns-2 c =
+    let a = c .before .before .before .before .before .args in
+    let k = c .before .before .before .check in
+    let t = c .before .enum-told .given .1 in
+    let p = check-consistent (table (a .accounts .edition)) (a .heap .now) (a .accounts) (k .result) (k .ensures) t .1 in
+    ap (λ (v : Values). unchanged (a .heap .now) (a .accounts) v)
+    (ap block-values (c .find-block .ensures) ∙ find-block-is (a .heap .now) (a .at) (consistent-cut (a .heap .now) (a .accounts) p .0))
+    ∙ accepted-is _ (a .heap .now) (a .accounts) _ (check-accepts (table (a .accounts .edition)) (a .heap .now) (a .accounts) (k .result) (k .ensures) [] t)
+
+pub list-block-spec : {M : Type 1} → statement M
+list-block-spec =
+    tie.close
+    (tie.spec
+    check-requires
+    enum-known-refusal
+    returns
+    enum-told
+    find-block-requires
+    returns-2)

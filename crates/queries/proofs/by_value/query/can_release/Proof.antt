@@ -1,0 +1,169 @@
+-- `queries::by_value::can_release` meets its contract: the survey, the quota and the lookup decide in the order of release's lines, and then whether
+-- the quota has a record for the object.
+-- Assumes nothing.
+use borrow.Author.Needs.{needs}
+use mathlib.Core.Path.{_≡_, ap, sym, subst, _∙_}
+use Rattle.rounding.specs.Rounding.{table}
+use Rattle.model.specs.Answers.{verdict-values}
+use Rattle.survey.specs.declared.Wanted.{Wanted}
+use Rattle.survey.specs.Survey.{Survey}
+use Rattle.queries.proofs.Found.{looked-up-is, record-is}
+use mathlib.Core.List.{[], _∷_}
+use Rattle.model.specs.Objects.{lookup, found}
+use Rattle.model.specs.Refusals.{line-3, line-5, line-6, release-lines}
+use Rattle.model.specs.Calls.{can-release}
+use Rattle.model.specs.declared.Refusal.the-variants.{QuotaNumber, NoSuchObject, NotHeld}
+use Rattle.results.proofs.Lines.{check-refuses, check-accepts, refused-is, accepted-is, line-3-refuses}
+use Rattle.results.proofs.Lookups.{quota-missing, release-refuses, release-passes}
+use Rattle.queries.proofs.by_value.query.can_release.Statement.{statement}
+use Rattle.queries.proofs.by_value.query.can_release.Tie as tie
+
+asked-requires : tie.Need-asked-requires
+asked-requires c κs = search needs
+
+survey-of-requires : tie.Need-survey-of-requires
+survey-of-requires c κs = search needs
+
+verdict-requires : tie.Need-verdict-requires
+verdict-requires c κs = search needs
+
+enum-known-refusal : tie.Need-enum-known-refusal
+enum-known-refusal c = search needs
+
+returns : tie.Need-returns
+unfolding can-release verdict-values release-lines
+returns c =
+    let a = c .before .before .before .before .before .before .before .args in
+    let s = a .heap .now in
+    let k = a .accounts in
+    let u = table (k .edition) in
+    let r = c .before .before .before .before .survey-of .result in
+    let g = subst (λ (w : Wanted). Survey s k w r) (c .before .before .before .before .before .asked .ensures)
+    (c .before .before .before .before .survey-of .ensures) in
+    let v = c .before .before .before .verdict in
+    let told = ap verdict-values (v .ensures) ∙ g .told in
+    let x = c .before .refusal .given in
+    let o = lookup (a .handle) s in
+    refused-is _ s k _ (x .0 .0)
+    (check-refuses u s k (v .result) told (line-3 (a .quota) ∷ line-5 o ∷ line-6 k (a .quota) (found o) ∷ []) (x .0 .0) (x .1))
+
+enum-told : tie.Need-enum-told
+enum-told c = search needs
+
+returns-2 : tie.Need-returns-2
+unfolding can-release verdict-values release-lines
+returns-2 c =
+    let a = c .before .before .before .before .before .before .before .args in
+    let s = a .heap .now in
+    let k = a .accounts in
+    let u = table (k .edition) in
+    let r = c .before .before .before .before .survey-of .result in
+    let g = subst (λ (w : Wanted). Survey s k w r) (c .before .before .before .before .before .asked .ensures)
+    (c .before .before .before .before .survey-of .ensures) in
+    let v = c .before .before .before .verdict in
+    let told = ap verdict-values (v .ensures) ∙ g .told in
+    let yes = c .before .enum-told .given .1 in
+    let o = lookup (a .handle) s in
+    let rest = line-5 o ∷ line-6 k (a .quota) (found o) ∷ [] in
+    refused-is _ s k _ QuotaNumber (check-accepts u s k (v .result) told (line-3 (a .quota) ∷ rest) yes ∙ line-3-refuses (a .quota) rest (c .if1 .taken))
+
+found-requires : tie.Need-found-requires
+found-requires c κs = search needs
+
+enum-told-2 : tie.Need-enum-told-2
+enum-told-2 c = search needs
+
+enum-told-3 : tie.Need-enum-told-3
+enum-told-3 c = search needs
+
+returns-3 : tie.Need-returns-3
+unfolding can-release verdict-values release-lines
+returns-3 c =
+    let a = c .before .before .before .before .before .before .before .before .before .before .args in
+    let s = a .heap .now in
+    let k = a .accounts in
+    let u = table (k .edition) in
+    let r = c .before .before .before .before .before .before .before .survey-of .result in
+    let g = subst (λ (w : Wanted). Survey s k w r) (c .before .before .before .before .before .before .before .before .asked .ensures)
+    (c .before .before .before .before .before .before .before .survey-of .ensures) in
+    let v = c .before .before .before .before .before .before .verdict in
+    let told = ap verdict-values (v .ensures) ∙ g .told in
+    let yes = c .before .before .before .before .enum-told .given .1 in
+    let ok = sym (v .ensures) ∙ yes in
+    let f = looked-up-is g ok (c .before .before .found .result) (c .before .before .found .ensures) _ (c .enum-told3 .given .1) in
+    let rest = line-6 k (a .quota) (found (lookup (a .handle) s)) ∷ [] in
+    refused-is _ s k _ NoSuchObject (quota-missing u s k (v .result) told yes (a .quota) (a .handle) rest (c .before .before .before .if1 .left) f)
+
+place-requires : tie.Need-place-requires
+place-requires c κs = search needs
+
+enum-told-4 : tie.Need-enum-told-4
+enum-told-4 c = search needs
+
+enum-told-5 : tie.Need-enum-told-5
+enum-told-5 c = search needs
+
+returns-4 : tie.Need-returns-4
+unfolding can-release verdict-values
+returns-4 c =
+    let a = c .before .before .before .before .before .before .before .before .before .before .before .before .before .args in
+    let s = a .heap .now in
+    let k = a .accounts in
+    let u = table (k .edition) in
+    let r = c .before .before .before .before .before .before .before .before .before .before .survey-of .result in
+    let g = subst (λ (w : Wanted). Survey s k w r) (c .before .before .before .before .before .before .before .before .before .before .before .asked .ensures)
+    (c .before .before .before .before .before .before .before .before .before .before .survey-of .ensures) in
+    let v = c .before .before .before .before .before .before .before .before .before .verdict in
+    let told = ap verdict-values (v .ensures) ∙ g .told in
+    let yes = c .before .before .before .before .before .before .before .enum-told .given .1 in
+    let ok = sym (v .ensures) ∙ yes in
+    let f = looked-up-is g ok (c .before .before .before .before .before .found .result) (c .before .before .before .before .before .found .ensures) _
+    (c .before .before .before .enum-told2 .given .1) in
+    let m = c .before .before .before .enum-told2 .given .0 .0 in
+    let few = c .before .before .before .before .before .before .if1 .left in
+    let b = sym (c .before .before .before .before .before .found .ensures) ∙ c .before .before .before .enum-told2 .given .1 in
+    let p = record-is g ok m b few _ (sym (c .before .before .place .ensures) ∙ c .enum-told5 .given .1) in
+    refused-is _ s k _ NotHeld (release-refuses u s k (v .result) told yes (a .handle) m f (a .quota) few p)
+
+returns-5 : tie.Need-returns-5
+unfolding can-release verdict-values
+returns-5 c =
+    let a = c .before .before .before .before .before .before .before .before .before .before .before .before .before .args in
+    let s = a .heap .now in
+    let k = a .accounts in
+    let u = table (k .edition) in
+    let r = c .before .before .before .before .before .before .before .before .before .before .survey-of .result in
+    let g = subst (λ (w : Wanted). Survey s k w r) (c .before .before .before .before .before .before .before .before .before .before .before .asked .ensures)
+    (c .before .before .before .before .before .before .before .before .before .before .survey-of .ensures) in
+    let v = c .before .before .before .before .before .before .before .before .before .verdict in
+    let told = ap verdict-values (v .ensures) ∙ g .told in
+    let yes = c .before .before .before .before .before .before .before .enum-told .given .1 in
+    let ok = sym (v .ensures) ∙ yes in
+    let f = looked-up-is g ok (c .before .before .before .before .before .found .result) (c .before .before .before .before .before .found .ensures) _
+    (c .before .before .before .enum-told2 .given .1) in
+    let m = c .before .before .before .enum-told2 .given .0 .0 in
+    let few = c .before .before .before .before .before .before .if1 .left in
+    let b = sym (c .before .before .before .before .before .found .ensures) ∙ c .before .before .before .enum-told2 .given .1 in
+    let p = record-is g ok m b few _ (sym (c .before .before .place .ensures) ∙ c .enum-told4 .given .1) in
+    accepted-is _ s k _ (release-passes u s k (v .result) told yes (a .handle) m f (a .quota) few (c .enum-told4 .given .0 .0) p)
+
+pub can-release-spec : {M : Type 1} → statement M
+can-release-spec =
+    tie.close
+    (tie.spec
+    asked-requires
+    survey-of-requires
+    verdict-requires
+    enum-known-refusal
+    returns
+    enum-told
+    returns-2
+    found-requires
+    enum-told-2
+    enum-told-3
+    returns-3
+    place-requires
+    enum-told-4
+    enum-told-5
+    returns-4
+    returns-5)

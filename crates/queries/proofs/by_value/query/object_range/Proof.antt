@@ -1,0 +1,121 @@
+-- `queries::by_value::object_range` meets its contract: the survey and the lookup decide in the order of lend's lines, and the handle's range is given.
+-- Assumes nothing.
+use borrow.Author.Needs.{needs}
+use mathlib.Core.Path.{_≡_, ap, sym, subst, _∙_}
+use Rattle.rounding.specs.Rounding.{table}
+use Rattle.model.specs.Answers.{verdict-values}
+use Rattle.survey.specs.declared.Wanted.{Wanted}
+use Rattle.survey.specs.Survey.{Survey}
+use Rattle.queries.proofs.Found.{looked-up-is}
+use mathlib.Core.List.{[], _∷_}
+use Rattle.model.specs.Answers.{range-values}
+use Rattle.model.specs.Objects.{lookup}
+use Rattle.model.specs.Refusals.{line-5, lend-lines}
+use Rattle.model.specs.Calls.{lend}
+use Rattle.model.specs.declared.Refusal.the-variants.{NoSuchObject}
+use Rattle.results.proofs.Lines.{check-refuses, refused-is}
+use Rattle.results.proofs.Lookups.{lend-missing, lend-is}
+use Rattle.queries.proofs.by_value.query.object_range.Statement.{statement}
+use Rattle.queries.proofs.by_value.query.object_range.Tie as tie
+
+asked-requires : tie.Need-asked-requires
+asked-requires c κs = search needs
+
+survey-of-requires : tie.Need-survey-of-requires
+survey-of-requires c κs = search needs
+
+verdict-requires : tie.Need-verdict-requires
+verdict-requires c κs = search needs
+
+enum-known-refusal : tie.Need-enum-known-refusal
+enum-known-refusal c = search needs
+
+returns : tie.Need-returns
+unfolding lend range-values lend-lines
+returns c =
+    let a = c .before .before .before .before .before .before .before .args in
+    let s = a .heap .now in
+    let k = a .accounts in
+    let u = table (k .edition) in
+    let r = c .before .before .before .before .survey-of .result in
+    let g = subst (λ (w : Wanted). Survey s k w r) (c .before .before .before .before .before .asked .ensures)
+    (c .before .before .before .before .survey-of .ensures) in
+    let v = c .before .before .before .verdict in
+    let told = ap verdict-values (v .ensures) ∙ g .told in
+    let x = c .before .refusal .given in
+    refused-is _ s k _ (x .0 .0) (check-refuses u s k (v .result) told (line-5 (lookup (a .handle) s) ∷ []) (x .0 .0) (x .1))
+
+enum-told : tie.Need-enum-told
+enum-told c = search needs
+
+found-requires : tie.Need-found-requires
+found-requires c κs = search needs
+
+enum-told-2 : tie.Need-enum-told-2
+enum-told-2 c = search needs
+
+enum-told-3 : tie.Need-enum-told-3
+enum-told-3 c = search needs
+
+returns-2 : tie.Need-returns-2
+unfolding lend range-values
+returns-2 c =
+    let a = c .before .before .before .before .before .before .before .before .before .args in
+    let s = a .heap .now in
+    let k = a .accounts in
+    let u = table (k .edition) in
+    let r = c .before .before .before .before .before .before .survey-of .result in
+    let g = subst (λ (w : Wanted). Survey s k w r) (c .before .before .before .before .before .before .before .asked .ensures)
+    (c .before .before .before .before .before .before .survey-of .ensures) in
+    let v = c .before .before .before .before .before .verdict in
+    let told = ap verdict-values (v .ensures) ∙ g .told in
+    let yes = c .before .before .before .enum-told .given .1 in
+    let ok = sym (v .ensures) ∙ yes in
+    let f = looked-up-is g ok (c .before .before .found .result) (c .before .before .found .ensures) _ (c .enum-told3 .given .1) in
+    refused-is _ s k _ NoSuchObject (lend-missing u s k (v .result) told yes (a .handle) f)
+
+cast-start : tie.Need-cast-start
+cast-start c = search needs
+
+cast-t11 : tie.Need-cast-t11
+cast-t11 c = search needs
+
+add-t12 : tie.Need-add-t12
+add-t12 c = search needs
+
+returns-3 : tie.Need-returns-3
+unfolding range-values
+returns-3 c =
+    let a = c .before .before .before .before .before .before .before .before .before .before .before .args in
+    let s = a .heap .now in
+    let k = a .accounts in
+    let u = table (k .edition) in
+    let r = c .before .before .before .before .before .before .before .before .survey-of .result in
+    let g = subst (λ (w : Wanted). Survey s k w r) (c .before .before .before .before .before .before .before .before .before .asked .ensures)
+    (c .before .before .before .before .before .before .before .before .survey-of .ensures) in
+    let v = c .before .before .before .before .before .before .before .verdict in
+    let told = ap verdict-values (v .ensures) ∙ g .told in
+    let yes = c .before .before .before .before .before .enum-told .given .1 in
+    let ok = sym (v .ensures) ∙ yes in
+    let f = looked-up-is g ok (c .before .before .before .before .found .result) (c .before .before .before .before .found .ensures) _
+    (c .before .before .enum-told2 .given .1) in
+    lend-is u s k (v .result) told yes (a .handle) (c .before .before .enum-told2 .given .0 .0) f
+
+pub object-range-spec : {M : Type 1} → statement M
+object-range-spec =
+    tie.close
+    (tie.spec
+    asked-requires
+    survey-of-requires
+    verdict-requires
+    enum-known-refusal
+    returns
+    enum-told
+    found-requires
+    enum-told-2
+    enum-told-3
+    returns-2
+    cast-start
+    cast-t11
+    add-t12
+    returns-3)

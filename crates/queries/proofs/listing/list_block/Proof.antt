@@ -1,0 +1,64 @@
+-- `queries::list_block` meets its contract: the check decides, and else the block that the walk meets at the place is the definition's.
+-- Assumes nothing.
+use borrow.Author.Needs.{needs}
+use mathlib.Core.Path.{ap, _∙_}
+use mathlib.Core.List.{[], _∷_}
+use Rattle.rounding.specs.Rounding.{table}
+use Rattle.words.specs.Words.{edition-of, accounts-of}
+use Rattle.model.specs.Answers.{Values, block-values}
+use Rattle.model.specs.Refusals.{first-refusal, check-lines}
+use Rattle.model.specs.Calls.{unchanged, list-block}
+use Rattle.model.proofs.Consistent.{consistent-cut}
+use Rattle.results.proofs.Lines.{check-refuses, check-accepts, check-consistent, refused-is, accepted-is}
+use Rattle.queries.proofs.Listed.{find-block-is}
+use Rattle.queries.proofs.listing.list_block.Statement.{statement}
+use Rattle.queries.proofs.listing.list_block.Tie as tie
+
+check-requires : tie.Need-check-requires
+check-requires c κs = search needs
+
+enum-known-refusal : tie.Need-enum-known-refusal
+enum-known-refusal c = search needs
+
+returns : tie.Need-returns
+unfolding list-block block-values check-lines
+returns c =
+    let a = c .before .before .before .before .before .args in
+    let s = a .heap .now in
+    let w = a .words .now in
+    let k = accounts-of w in
+    let u = table (edition-of w) in
+    let e = c .before .before .before .check in
+    let x = c .before .refusal .given in
+    refused-is _ s k _ (x .0 .0) (check-refuses u s k (e .result) (e .ensures) [] (x .0 .0) (x .1))
+
+enum-told : tie.Need-enum-told
+enum-told c = search needs
+
+find-block-requires : tie.Need-find-block-requires
+find-block-requires c κs = search needs
+
+returns-2 : tie.Need-returns-2
+unfolding list-block check-lines first-refusal
+returns-2 c =
+    let a = c .before .before .before .before .before .args in
+    let s = a .heap .now in
+    let w = a .words .now in
+    let k = accounts-of w in
+    let u = table (edition-of w) in
+    let e = c .before .before .before .check in
+    let t = c .before .enum-told .given .1 in
+    let p = check-consistent u s k (e .result) (e .ensures) t .1 in
+    ap (λ (v : Values). unchanged s k v) (ap block-values (c .find-block .ensures) ∙ find-block-is s (a .at) (consistent-cut s k p .0))
+    ∙ accepted-is _ s k _ (check-accepts u s k (e .result) (e .ensures) [] t)
+
+pub list-block-spec : {M : Type 1} → statement M
+list-block-spec =
+    tie.close
+    (tie.spec
+    check-requires
+    enum-known-refusal
+    returns
+    enum-told
+    find-block-requires
+    returns-2)

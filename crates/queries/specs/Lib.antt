@@ -1,0 +1,4 @@
+-- The crate's definitions.
+pub mod Listing
+pub mod Lending
+pub mod Claimable

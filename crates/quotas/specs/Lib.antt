@@ -1,4 +1,0 @@
-pub mod Results
-pub mod Claims
-pub mod Emptying
-pub mod Sweeping

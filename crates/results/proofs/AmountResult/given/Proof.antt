@@ -1,0 +1,11 @@
+-- `results::AmountResult::given` meets its contract: the result is made of what came in.
+-- Assumes nothing.
+use borrow.Author.Needs.{needs}
+use Rattle.results.proofs.AmountResult.given.Statement.{statement}
+use Rattle.results.proofs.AmountResult.given.Tie as tie
+
+returns : tie.Need-returns
+returns c = search needs
+
+pub given-spec : {M : Type 1} → statement M
+given-spec = tie.close (tie.spec returns)

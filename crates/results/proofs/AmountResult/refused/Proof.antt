@@ -1,0 +1,11 @@
+-- `results::AmountResult::refused` meets its contract: the result is made of what came in.
+-- Assumes nothing.
+use borrow.Author.Needs.{needs}
+use Rattle.results.proofs.AmountResult.refused.Statement.{statement}
+use Rattle.results.proofs.AmountResult.refused.Tie as tie
+
+returns : tie.Need-returns
+returns c = search needs
+
+pub refused-spec : {M : Type 1} → statement M
+refused-spec = tie.close (tie.spec returns)

@@ -1,0 +1,11 @@
+-- `results::HandleResult::with_accounts` meets its contract: the result is made of what came in.
+-- Assumes nothing.
+use borrow.Author.Needs.{needs}
+use Rattle.results.proofs.HandleResult.with_accounts.Statement.{statement}
+use Rattle.results.proofs.HandleResult.with_accounts.Tie as tie
+
+returns : tie.Need-returns
+returns c = search needs
+
+pub with-accounts-spec : {M : Type 1} → statement M
+with-accounts-spec = tie.close (tie.spec returns)

@@ -1,0 +1,20 @@
+-- `survey::place` meets its contract.
+-- Assumes nothing.
+use mathlib.Core.Path.{sym}
+use native.Mathlib.Omega.{arith}
+use Rattle.survey.proofs.Told.{place-at, place-nothing}
+use Rattle.survey.proofs.by_value.place.Statement.{statement}
+use Rattle.survey.proofs.by_value.place.Tie as tie
+
+returns : tie.Need-returns
+returns c = sym (place-nothing (c .before .args .number) (omega (arith, c .if1 .taken)))
+
+returns-2 : tie.Need-returns-2
+returns-2 c = sym (place-at (c .before .args .number) (omega (arith, c .if1 .left)))
+
+pub place-spec : {M : Type 1} → statement M
+place-spec =
+    tie.close
+    (tie.spec
+    returns
+    returns-2)

@@ -1,0 +1,6 @@
+-- The crate's definitions.
+pub mod Index
+pub mod Survey
+pub mod Route
+pub mod Contracts
+pub mod Holders

@@ -1,0 +1,219 @@
+// The survey of a heap and its accounts where they lie: one pass over the hold records and one walk over the blocks. Each used record is open, in the slot of
+// its serial. Each live block closes its serial's records, and their quotas pay for it. At the end no record is open and no quota owes anything.
+// A slot with several records has them in a tree. The bits of a serial lead through it, so a search passes few records of other serials, whatever they are.
+use accounts::HOLDS;
+use accounts::QUOTAS;
+use lookup::Met;
+use model::GREATEST_SERIAL;
+use model::Refusal;
+use model::Verdict;
+use words::WORDS;
+ghost use mathlib.Core.Path.{_≡_};
+ghost use mathlib.Core.Bool.{_&&_};
+ghost use lib.Dec.{leb, ltb};
+ghost use Rattle.model.specs.Consistent.{greatest-serial, in-range};
+ghost use Rattle.words.specs.Words.{last-of, kind-of, edition-of, accounts-of};
+ghost use Rattle.survey.specs.Survey.{verdict-of, block-at, Survey};
+
+mod by_value;
+mod finding;
+mod holders;
+mod indexing;
+mod parts;
+mod paying;
+mod reading;
+mod settling;
+mod walking;
+mod wanting;
+
+pub use by_value::asked;
+pub use by_value::check;
+pub use by_value::found;
+pub use by_value::place;
+pub use by_value::room;
+pub use by_value::survey_of;
+pub use by_value::unasked;
+use finding::on_path;
+pub use holders::held_blocks;
+use indexing::index;
+use indexing::used_top;
+use parts::walk_parts;
+use paying::is_settled;
+use paying::owing;
+use wanting::edge_of;
+use wanting::fit_of;
+use wanting::is_named;
+use wanting::need_of;
+use wanting::refused;
+use wanting::unit_of;
+
+// The number of slots and of links.
+const SLOTS: usize = 2 * HOLDS;
+
+const LINKS: usize = 2 * HOLDS;
+
+// Added to a slot's number when the record has others below it.
+const FORKED: usize = 2 * HOLDS;
+
+// Added to a record's first link when it is closed.
+const CLOSED: usize = 2 * HOLDS;
+
+// What a survey is asked for: the object that a handle names, a quota's record for it, and room for `need` bytes at a multiple of `unit`; 0 asks for no room.
+pub struct Wanted {
+    pub base: u32,
+    pub length: u32,
+    pub serial: u32,
+    pub quota: u32,
+    pub unit: u32,
+    pub need: usize,
+}
+
+// What a survey gives: the refusal's number, 0 where there is none; the place of the lowest unused record; the place of the first free block with room; whether
+// the handle names an object, the place of its block and the block's size; the places of the quota's record for it and of another quota's. A record's place is
+// HOLDS or more, and a block's the heap's length or more, where there is none.
+pub struct Surveyed {
+    pub refusal: u32,
+    pub low: usize,
+    pub fit: usize,
+    pub found: bool,
+    pub at: usize,
+    pub size: usize,
+    pub holder: usize,
+    pub other: usize,
+}
+
+// The verdict by the refusal's number.
+pub fn verdict(refusal: u32) -> Verdict
+    ensures { λ r. ⌜ r ≡ verdict-of refusal ⌝ }
+{
+    if refusal == 0 {
+        return Verdict::Accepted;
+    }
+    if refusal == 1 {
+        return Verdict::Refused(Refusal::HeapLength);
+    }
+    Verdict::Refused(Refusal::Inconsistent)
+}
+
+// The block by the header at a place.
+pub fn block_at(heap: &[u8], at: usize) -> Met
+    ensures { λ r. ⌜ r ≡ block-at at (now (heap .entry)) ⌝ }
+{
+    let header = layout::header_at(heap, at);
+    Met {
+        at: at,
+        size: 8 * header.size,
+        back: header.back,
+        serial: header.serial,
+    }
+}
+
+// The last serial, kind and edition, and whether they are in range.
+struct Numbers {
+    fine: bool,
+    last: u32,
+    kind: u8,
+    edition: u8,
+}
+
+// Rules 22.2, 22.9 and 23.3: whether the last serial may have been given, the kind is one of two, and so is the edition.
+fn is_in_range(last: u32, kind: u8, edition: u8) -> bool
+    ensures { λ r. ⌜ r ≡ (leb last greatest-serial && (ltb kind 2 && ltb edition 2)) ⌝ }
+{
+    if GREATEST_SERIAL < last {
+        return false;
+    }
+    if 2 <= kind {
+        return false;
+    }
+    edition < 2
+}
+
+// The numbers of some words, last serial, kind and edition.
+fn numbers_in(words: &[u32; WORDS]) -> Numbers
+    ensures { λ r. ⌜ (r .fine ≡ in-range (accounts-of (now (words .entry)))) × (r .last ≡ last-of (now (words .entry)))
+        × (r .kind ≡ kind-of (now (words .entry))) × (r .edition ≡ edition-of (now (words .entry))) ⌝ }
+{
+    let last = words::last_serial(words);
+    let kind = words::kind(words);
+    let edition = words::edition(words);
+    let fine = is_in_range(last, kind, edition);
+    Numbers {
+        fine: fine,
+        last: last,
+        kind: kind,
+        edition: edition,
+    }
+}
+
+// The survey: rule 8.35's verdict on a heap and its accounts, and where that accepts, what was asked for.
+pub fn survey(heap: &[u8], words: &[u32; WORDS], wanted: Wanted) -> Surveyed
+    ensures { λ r. ⌜ Survey (now (heap .entry)) (accounts-of (now (words .entry))) wanted r ⌝ }
+{
+    if !model::is_allowed(heap.len()) {
+        return refused(1);
+    }
+    let numbers = numbers_in(words);
+    if !numbers.fine {
+        return refused(2);
+    }
+    let end = HOLDS as u16;
+    let mut links = [end; LINKS];
+    let mut heads = [end; SLOTS];
+    let mut owed = [0usize; QUOTAS];
+    let top = used_top(words);
+    let tally = index(words, &mut links, &mut heads, top);
+    if !tally.fine {
+        return refused(2);
+    }
+    if !owing(words, &mut owed) {
+        return refused(2);
+    }
+    let holder = on_path(words, &links, &heads, wanted.serial, wanted.quota, true);
+    let other = on_path(words, &links, &heads, wanted.serial, wanted.quota, false);
+    let edge = edge_of(wanted.base, heap.len());
+    let unit = unit_of(wanted.unit);
+    let need = need_of(wanted.unit, wanted.need);
+    let mut left = tally.used;
+    let course = walk_parts(
+        heap,
+        words,
+        &mut links,
+        &mut heads,
+        &mut owed,
+        &mut left,
+        numbers.kind,
+        numbers.edition,
+        numbers.last,
+        edge,
+        unit,
+        need,
+    );
+    if !course.fine {
+        return refused(2);
+    }
+    if !is_settled(&owed, left) {
+        return refused(2);
+    }
+    let size = 8 * course.half_back;
+    let at = course.half_at - size;
+    let fit = fit_of(wanted.unit, course.fit, heap.len());
+    let found = is_named(
+        wanted.base,
+        wanted.length,
+        wanted.serial,
+        at,
+        size,
+        course.half_before,
+    );
+    Surveyed {
+        refusal: 0,
+        low: tally.low,
+        fit: fit,
+        found: found,
+        at: at,
+        size: size,
+        holder: holder,
+        other: other,
+    }
+}

@@ -1,0 +1,126 @@
+-- The changes of the accounts by the words that are written for them.
+-- Assumes nothing.
+use Prim.Native.Nat.{ℕ, _+_, _-_, _*_, _/_, _%_, _^_, _≤_, _<_}
+use mathlib.Core.Path.{_≡_, refl, ap, sym, _∙_}
+use mathlib.Core.List.{List}
+use native.Mathlib.Omega.{arith}
+use borrow.Author.Tests.{lt-ltb, le-ltb, lt-leb}
+use lib.ListN.{length, getD, set}
+use lib.Seq.{getD-set-same, getD-set-other}
+use Rattle.accounts.specs.declared.Accounts.{Accounts}
+use Rattle.accounts.specs.declared.Quota.{Quota}
+use Rattle.accounts.specs.declared.Hold.{Hold}
+use Rattle.accounts.specs.Accounts.{QUOTAS, HOLDS, zero-quota, quota-at, remaining, set-remaining, less-paid, paid-back, charge, refund, with-permissions}
+use Rattle.accounts.specs.Accounts.{left-permissions, clear-at, clear-permissions, put-hold}
+use Rattle.accounts.proofs.Laws.{set-same, charge-pays, charge-no-quota, refund-pays, refund-no-quota}
+use Rattle.accounts.proofs.Permissions.{clear-there, clear-no-quota}
+use Rattle.words.specs.Words.{WORDS, LAST, FIRST, KINDS, grant-in, remainder-in, spare-in, permissions-in, entry-in, rest-in, quotas-of, accounts-of, Padded}
+use Rattle.words.proofs.Words.{quotas-at}
+use Rattle.words.proofs.Readings.{remaining-is}
+use Rattle.words.proofs.Writing.{quotas-put, holds-kept, put-remainder, put-record, held}
+use Rattle.words.proofs.Padding.{padded-same, padded-remainder, padded-spare, padded-record}
+
+-- what a change does: the accounts that the words hold then, and padding as it was
+abbrev pub Changed : List ℕ → List ℕ → Accounts → Type 0
+Changed words words′ k = (accounts-of words′ ≡ k) × Padded words words′
+
+-- paying
+charge-short : (q n : ℕ) (k : Accounts) → q < QUOTAS → remaining q k < n → charge q n k ≡ k
+unfolding charge less-paid
+charge-short q n k h l = rw (lt-ltb q QUOTAS h, lt-leb n (remaining q k) l) (set-same q k)
+
+refund-over : (q n : ℕ) (k : Accounts) → q < QUOTAS → 2 ^ 32 ≤ remaining q k + n → refund q n k ≡ k
+unfolding refund paid-back
+refund-over q n k h l = rw (lt-ltb q QUOTAS h, le-ltb (remaining q k + n) (2 ^ 32) l) (set-same q k)
+
+module _ (words : List ℕ) (q n : ℕ) where
+  pub charges-none : QUOTAS ≤ q → Changed words words (charge q n (accounts-of words))
+  charges-none h = (sym (charge-no-quota q n (accounts-of words) h), padded-same words)
+
+  pub refunds-none : QUOTAS ≤ q → Changed words words (refund q n (accounts-of words))
+  refunds-none h = (sym (refund-no-quota q n (accounts-of words) h), padded-same words)
+
+  module _ (few : q < QUOTAS) where
+    pub charges-short : remainder-in words q < n → Changed words words (charge q n (accounts-of words))
+    charges-short l = (sym (charge-short q n (accounts-of words) few (omega (arith, remaining-is words q few))), padded-same words)
+
+    pub refunds-over : 2 ^ 32 ≤ remainder-in words q + n → Changed words words (refund q n (accounts-of words))
+    refunds-over l = (sym (refund-over q n (accounts-of words) few (omega (arith, remaining-is words q few))), padded-same words)
+
+    module _ (long : length words ≡ WORDS) where
+      pub charges : n ≤ remainder-in words q → Changed words (set words (3 * q + 1) (remainder-in words q - n)) (charge q n (accounts-of words))
+      charges l =
+          let e = remaining-is words q few in (
+            put-remainder words long q (remainder-in words q - n) few
+                ∙ ap (λ (x : ℕ). set-remaining q (x - n) (accounts-of words)) e
+                ∙ sym (charge-pays q n (accounts-of words) few (omega arith)),
+            padded-remainder words q (remainder-in words q - n) few,
+          )
+
+      pub refunds : remainder-in words q + n < 2 ^ 32 → Changed words (set words (3 * q + 1) (remainder-in words q + n)) (refund q n (accounts-of words))
+      refunds l =
+          let e = remaining-is words q few in (
+            put-remainder words long q (remainder-in words q + n) few
+                ∙ ap (λ (x : ℕ). set-remaining q (x + n) (accounts-of words)) e
+                ∙ sym (refund-pays q n (accounts-of words) few (omega arith)),
+            padded-remainder words q (remainder-in words q + n) few,
+          )
+
+-- permissions
+low-byte : (h b : ℕ) → b < 256 → ((256 * h + b) % 256 ≡ b) × ((256 * h + b) / 256 ≡ h)
+low-byte h b l = (omega arith, omega arith)
+
+module _ (words : List ℕ) (q n : ℕ) where
+  pub clears-none : QUOTAS ≤ q → Changed words words (clear-permissions q n (accounts-of words))
+  clears-none h = (sym (clear-no-quota q n (accounts-of words) h), padded-same words)
+
+  module _ (few : q < QUOTAS) (long : length words ≡ WORDS) (left : ℕ) (small : left < 256) (is : left ≡ left-permissions q n (accounts-of words)) where
+    abbrev word : ℕ
+    word = 256 * (spare-in words q / 256) + left
+
+    abbrev after : List ℕ
+    after = set words (3 * q + 2) word
+
+    other : (x : ℕ) → (x ≡ 3 * q + 2 → ⊥) → getD after x 0 ≡ getD words x 0
+    other x d = getD-set-other words (3 * q + 2) x word 0 d
+
+    spare-after : spare-in after q ≡ word
+    spare-after = getD-set-same words (3 * q + 2) word 0 (omega (arith, long))
+
+    entry-after : entry-in after q ≡ with-permissions (left-permissions q n (accounts-of words)) (quota-at q (accounts-of words))
+    entry-after =
+        let at = quotas-at words q few in
+        let g : grant-in after q ≡ getD (quotas-of words) q zero-quota .grant = other (3 * q) (λ e. omega arith) ∙ sym (ap (λ (x : Quota). x .grant) at) in
+        let r : remainder-in after q ≡ getD (quotas-of words) q zero-quota .remainder = other (3 * q + 1) (λ e. omega arith) ∙ sym (ap (λ (x : Quota). x .remainder) at) in
+        let p : permissions-in after q ≡ left-permissions q n (accounts-of words) =
+        ap (λ (x : ℕ). x % 256) spare-after ∙ low-byte (spare-in words q / 256) left small .0 ∙ is in
+        λ i. record { grant = g i; remainder = r i; permissions = p i }
+
+    pub clears : Changed words after (clear-permissions q n (accounts-of words))
+    clears =
+        let hs = holds-kept words after (λ j h. (other (FIRST + 2 * j) (λ e. omega arith), other (FIRST + 2 * j + 1) (λ e. omega arith))) in
+        let qs : quotas-of after ≡ set (quotas-of words) q (with-permissions (left-permissions q n (accounts-of words)) (quota-at q (accounts-of words))) =
+        quotas-put words after q few (λ j h d. (other (3 * j) (λ e. omega arith), other (3 * j + 1) (λ e. omega arith), other (3 * j + 2) (λ e. d (omega arith))))
+        ∙ ap (set (quotas-of words) q) entry-after in
+        let last = other LAST (λ e. omega arith) in
+        let kinds = other KINDS (λ e. omega arith) in
+        let done : accounts-of after ≡ clear-at q n (accounts-of words) =
+        (λ i. record { quotas = qs i; «last_serial» = last i; holds = hs i; kind = kinds i % 256; edition = kinds i / 256 % 256 }) in (
+          done ∙ sym (clear-there q n (accounts-of words) few),
+          padded-spare words long q word few (low-byte (spare-in words q / 256) left small .1),
+        )
+
+-- a record's second word: quota and count below what was there
+two-bytes : (h c q : ℕ) → c < 256 → q < 256
+    → ((65536 * h + (256 * c + q)) % 256 ≡ q) × ((65536 * h + (256 * c + q)) / 256 % 256 ≡ c) × ((65536 * h + (256 * c + q)) / 65536 ≡ h)
+two-bytes h c q l m = (omega arith, omega arith, omega arith)
+
+module _ (words : List ℕ) (long : length words ≡ WORDS) (p : ℕ) (l : p < HOLDS) (h : Hold) where
+  pub puts : (c q : ℕ) → c ≡ h .count → q ≡ h .quota → c < 256 → q < 256
+      → Changed words (held words long p (h .serial) (65536 * (rest-in words p / 65536) + (256 * c + q)) l) (put-hold p h (accounts-of words))
+  puts c q ec eq lc lq =
+      let b = two-bytes (rest-in words p / 65536) c q lc lq in
+      let rest = 65536 * (rest-in words p / 65536) + (256 * c + q) in (
+        put-record words long p (h .serial) rest l h refl (b .0 ∙ eq) (b .1 ∙ ec),
+        padded-record words long p (h .serial) rest l (b .2),
+      )

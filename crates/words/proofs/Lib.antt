@@ -1,0 +1,10 @@
+pub mod Words
+pub mod Writing
+pub mod Readings
+pub mod Padding
+pub mod Changes
+pub mod Dropping
+pub mod Whole
+pub mod Openings
+pub mod Fillings
+pub mod Types

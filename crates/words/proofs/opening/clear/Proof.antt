@@ -1,0 +1,19 @@
+-- `words::clear` meets its contract.
+-- Assumes nothing.
+use borrow.Author.Needs.{needs}
+use Rattle.words.proofs.Openings.{blank-zero}
+use Rattle.words.proofs.opening.clear.Statement.{statement}
+use Rattle.words.proofs.opening.clear.Tie as tie
+
+wipe-requires : tie.Need-wipe-requires
+wipe-requires c κs = search needs
+
+returns : tie.Need-returns
+returns c = blank-zero _ (c .wipe .ensures)
+
+pub clear-spec : {M : Type 1} → statement M
+clear-spec =
+    tie.close
+    (tie.spec
+    wipe-requires
+    returns)

@@ -1,0 +1,87 @@
+-- `words::open` meets its contract. The loop's invariant: the quotas before place `i` have their grants, and no record is used.
+-- Assumes nothing.
+use Prim.Native.Nat.{_≤_, _-_}
+use native.Mathlib.Omega.{arith}
+use borrow.Author.Needs.{needs}
+use mathlib.Core.Path.{_≡_, _∙_}
+use lib.ListN.{length}
+use Rattle.accounts.specs.Accounts.{QUOTAS}
+use Rattle.words.specs.Words.{accounts-of}
+use Rattle.words.proofs.Openings.{blank-zero, Granting, granting-start, granting-more, granting-all}
+use Rattle.words.proofs.opening.open.Statement.{statement}
+use Rattle.words.proofs.opening.open.Tie as tie
+
+abbrev Inv-loop : tie.InvT-loop
+Inv-loop words₀ grants kind edition i₀ words i = (i ≤ QUOTAS) × Granting grants i (accounts-of words)
+
+abbrev μ-loop : tie.MeasureT-loop
+μ-loop words₀ grants kind edition i₀ words i = QUOTAS - i
+
+wipe-requires : tie.Need-wipe-requires Inv-loop μ-loop
+wipe-requires c κs = search needs
+
+loop-holds : tie.Need-loop-holds Inv-loop μ-loop
+loop-holds c = (search needs, granting-start (c .before .before .args .t2) _ (blank-zero _ (c .wipe .ensures)))
+
+mul-grant : tie.Need-mul-grant Inv-loop μ-loop
+mul-grant c = search needs
+
+array-read-grant : tie.Need-array-read-grant Inv-loop μ-loop
+array-read-grant c = search needs
+
+put-grant-requires : tie.Need-put-grant-requires Inv-loop μ-loop
+put-grant-requires c κs = search needs
+
+add-i : tie.Need-add-i Inv-loop μ-loop
+add-i c = search needs
+
+loop-less : tie.Need-loop-less Inv-loop μ-loop
+loop-less c = search needs
+
+loop-again : tie.Need-loop-again Inv-loop μ-loop
+loop-again c =
+    let n = c .before .before in
+    let at = n .before in
+    let a = at .before .before .before .args in
+    let l = at .loop in
+    (search needs, granting-more (a .t2) (l .i) (accounts-of (l .words)) _ (l .inv .1) (n .loop-test .taken) (c .put-grant .ensures))
+
+number-requires : tie.Need-number-requires Inv-loop μ-loop
+number-requires c κs = search needs
+
+number-requires-2 : tie.Need-number-requires-2 Inv-loop μ-loop
+number-requires-2 c κs = search needs
+
+put-kinds-requires : tie.Need-put-kinds-requires Inv-loop μ-loop
+put-kinds-requires c κs = search needs
+
+returns : tie.Need-returns Inv-loop μ-loop
+returns c =
+    let e = c .before in
+    let k = e .before in
+    let p = k .before .before in
+    let at = p .before in
+    let s = at .before .before .before in
+    let a = s .args in
+    let l = at .loop in
+    c .put-kinds .ensures
+    ∙ granting-all (a .t2) (s .good .1 .0 .1 .0 .1) (l .i) (accounts-of (l .words)) (l .inv .1) (p .loop-test .left) (a .settings) (k .number .result) (e .number2 .result) (k .number .ensures) (e .number2 .ensures)
+
+pub open-spec : {M : Type 1} → statement M
+open-spec =
+    tie.close
+    (tie.spec
+    Inv-loop
+    μ-loop
+    wipe-requires
+    loop-holds
+    mul-grant
+    array-read-grant
+    put-grant-requires
+    add-i
+    loop-less
+    loop-again
+    number-requires
+    number-requires-2
+    put-kinds-requires
+    returns)
