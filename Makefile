@@ -11,6 +11,9 @@
 # make uninstall remove what install has put there: PREFIX=/usr/local DESTDIR=
 # make dist      write archives of the sources and of an installed tree to build/dist
 #
+# make port      prove the exported calls once, and compile them for other processors: TARGET=cortex-m3
+# make port-test compare those libraries with the proved one, each on its processor under qemu: TARGET=..
+#
 # make wrong     try the wrong programs that the gate leaves out
 # make figures   print the library's code size, the stack that calls need, and the bytes of accounts
 # make bench     time the proved calls, the reference and other allocators, such as glibc's with a check
@@ -22,8 +25,9 @@ SECONDS := 60
 SEED :=
 PREFIX ?= /usr/local
 DESTDIR ?=
+TARGET :=
 
-.PHONY: help run try test lib cli install uninstall dist wrong figures bench fuzz sanitize clean
+.PHONY: help run try test lib cli install uninstall dist port port-test wrong figures bench fuzz sanitize clean
 
 help:
 	@sed -n '/^#/!q; s/^# \{0,1\}//p' Makefile
@@ -51,6 +55,12 @@ uninstall:
 
 dist:
 	@scripts/dist
+
+port:
+	@scripts/port $(TARGET)
+
+port-test:
+	@scripts/port-test $(TARGET)
 
 wrong:
 	@scripts/wrong
