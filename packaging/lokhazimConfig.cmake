@@ -1,5 +1,5 @@
 # Lokhazim's libraries as imported targets: lokhazim::lokhazim, the heap, and beside it lokhazim::image, lokhazim::compare, lokhazim::report,
-# lokhazim::settings and lokhazim::queue.
+# lokhazim::settings, lokhazim::queue and lokhazim::stats.
 #
 #     find_package(lokhazim REQUIRED)
 #     target_link_libraries(program PRIVATE lokhazim::lokhazim lokhazim::queue)
@@ -26,6 +26,7 @@ _lokhazim_library(compare liblokhazim_compare.a lokhazim::image)
 _lokhazim_library(report liblokhazim_report.a lokhazim::lokhazim)
 _lokhazim_library(settings liblokhazim_settings.a)
 _lokhazim_library(queue liblokhazim_queue.a lokhazim::lokhazim)
+_lokhazim_library(stats liblokhazim_stats.a lokhazim::lokhazim)
 
 foreach(_lokhazim_part IN LISTS ${CMAKE_FIND_PACKAGE_NAME}_FIND_COMPONENTS)
     if(TARGET lokhazim::${_lokhazim_part})

@@ -5,13 +5,14 @@ use std::env;
 use std::path::Path;
 
 /// The crates whose exported functions are called.
-const LIBRARIES: [&str; 6] = [
+const LIBRARIES: [&str; 7] = [
     "c_api",
     "image_api",
     "comparison_api",
     "report_api",
     "settings_api",
     "queue_api",
+    "stats_api",
 ];
 
 /// Tells cargo where the libraries are. Where one is missing, the crate says so itself when it is

@@ -5,13 +5,14 @@ use std::env;
 use std::path::{Path, PathBuf};
 
 /// The libraries, as the linker names them.
-const LIBRARIES: [&str; 6] = [
+const LIBRARIES: [&str; 7] = [
     "lokhazim",
     "lokhazim_image",
     "lokhazim_compare",
     "lokhazim_report",
     "lokhazim_settings",
     "lokhazim_queue",
+    "lokhazim_stats",
 ];
 
 /// Tells cargo where the libraries are. Where one is missing, the crate says so itself when it is

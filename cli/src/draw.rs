@@ -16,10 +16,11 @@ mod strip;
 mod svg;
 mod timeline;
 
-use lokhazim::{examine_image, Edition, Heap, ImageRefusal, Kind, Settings};
+use lokhazim::{examine_image, Heap, ImageRefusal, Settings};
 
 use crate::failure::Failure;
 use crate::files;
+use crate::options;
 use crate::script::followed;
 use record::Recorder;
 use story::{Source, Story};
@@ -46,7 +47,7 @@ pub fn draw(words: &[&str]) -> Result<(), Failure> {
     let wish = wished(words)?;
     let form = form_of(wish.out)?;
     let bytes = files::read(wish.input)?;
-    let story = match is_image(&bytes) {
+    let story = match files::is_image(&bytes) {
         true => from_image(&wish, &bytes)?,
         false => from_script(&wish, &bytes)?,
     };
@@ -75,21 +76,11 @@ fn wished<'w>(words: &[&'w str]) -> Result<Wish<'w>, Failure> {
                 let file = words.next().ok_or_else(|| usage("-o names no file"))?;
                 out.replace(file).is_some()
             }
-            "--quarantine" => {
-                let chosen = settings.get_or_insert_default();
-                std::mem::replace(&mut chosen.kind, Kind::Quarantine) == Kind::Quarantine
-            }
-            "--edition" => {
-                let chosen = settings.get_or_insert_default();
-                chosen.edition = match words.next() {
-                    Some("1") => Edition::First,
-                    Some("2") => Edition::Second,
-                    _ => return Err(usage("--edition is 1 or 2")),
-                };
-                false
-            }
-            file if file == "-" || !file.starts_with('-') => input.replace(file).is_some(),
-            other => return Err(usage(&format!("'{other}' is not understood"))),
+            other => match options::setting(other, &mut words, &mut settings).map_err(usage)? {
+                Some(taken) => taken,
+                None if other == "-" || !other.starts_with('-') => input.replace(other).is_some(),
+                None => return Err(usage(&format!("'{other}' is not understood"))),
+            },
         };
         if taken {
             return Err(usage(&format!("'{word}' is one too many")));
@@ -114,12 +105,6 @@ fn form_of(name: &str) -> Result<Form, Failure> {
     }
 }
 
-/// Whether a file is to be read as an image: it has a zero byte, which every image has in its first
-/// frame's number and no script has, and does not begin as a script.
-fn is_image(bytes: &[u8]) -> bool {
-    bytes.contains(&0) && !bytes.starts_with(b"open ")
-}
-
 /// How the input is called in the picture: its name without folders.
 fn called(input: &str) -> String {
     match input {
@@ -132,9 +117,7 @@ fn called(input: &str) -> String {
 fn from_image(wish: &Wish, image: &[u8]) -> Result<Story, Failure> {
     let name = wish.input;
     if wish.settings.is_some() {
-        let words =
-            "an image has its own kind and edition; --quarantine and --edition are for scripts";
-        return Err(Failure::Usage(format!("{name}: {words}")));
+        return Err(Failure::Usage(format!("{name}: {}", options::OF_IMAGES)));
     }
     let refused = |refusal: ImageRefusal| Failure::Refused(format!("{name}: {refusal}"));
     let facts = examine_image(image).map_err(refused)?;

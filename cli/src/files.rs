@@ -18,6 +18,12 @@ pub fn read(name: &str) -> Result<Vec<u8>, Failure> {
     read.map_err(|error| Failure::File(format!("{name} can't be read: {error}")))
 }
 
+/// Whether a file is to be read as an image: it has a zero byte, which every image has in its first
+/// frame's number and no script has, and does not begin as a script.
+pub fn is_image(bytes: &[u8]) -> bool {
+    bytes.contains(&0) && !bytes.starts_with(b"open ")
+}
+
 /// Writes a file: a new one beside it first, which then takes its name. Where that fails, what was
 /// there stays.
 pub fn write(name: &str, bytes: &[u8]) -> Result<(), Failure> {

@@ -67,7 +67,7 @@ const fn kind_word(kind: Kind) -> &'static str {
 }
 
 /// The number by which an edition is named, from 1.
-const fn edition_number(edition: Edition) -> u8 {
+pub const fn edition_number(edition: Edition) -> u8 {
     match edition {
         Edition::First => 1,
         Edition::Second => 2,

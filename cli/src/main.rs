@@ -1,5 +1,6 @@
-//! The command `lokhazim`: replays and draws scripts, works on images and settings, and reads audit reports. Every rule is in the proved library;
-//! this program reads files, calls it and prints.
+//! The command `lokhazim`: replays and draws scripts, gives figures, works on images and settings, and
+//! reads audit reports. Every rule is in the proved library; this program reads files, calls it and
+//! prints.
 //!
 //! Exit status: 0 where all went well, 1 where the library refuses, 2 for wrong words or a file that
 //! can't be read or written.
@@ -14,11 +15,14 @@ mod failure;
 mod files;
 mod image;
 mod json;
+mod marks;
+mod options;
 #[allow(unsafe_code)]
 mod proved;
 mod report;
 mod script;
 mod settings;
+mod stats;
 
 use std::env;
 use std::process::ExitCode;
@@ -54,6 +58,11 @@ lokhazim: a heap that parts of a firmware share, by its proved library
                                       script each object over the calls; FILE.html has a table too;
                                       '--quarantine' and '--edition 2' open a script's heap so, and with
                                       quarantine a line can be 'sweep'
+    lokhazim stats SCRIPT|IMAGE       print the figures of the heap that a script leaves or an image
+                                      holds: free, live and quarantined blocks and bytes, the longest
+                                      request in each unit, fragmentation, records, and what each quota
+                                      has; of a script the highest and lowest ones too, and after which
+                                      line; '--quarantine' and '--edition 2' as for draw
     lokhazim report import FILE       print the grants in an audit report, to stand behind 'open H': FILE
                                       has a line for each quota, or is the linker's JSON
     lokhazim report export G..        print grants as a report of 32 lines; missing ones are 0
@@ -116,6 +125,7 @@ fn run(words: &[&str]) -> Result<(), Failure> {
         ["image", "move", "up", image, out] => image::move_to(Form::Second, image, out),
         ["image", "move", "down", image, out] => image::move_to(Form::First, image, out),
         ["draw", words @ ..] => draw::draw(words),
+        ["stats", words @ ..] => stats::stats(words),
         ["report", "import", file] => report::import(file),
         ["report", "export", grants @ ..] if !grants.is_empty() => report::export(grants),
         ["settings", "get", board, defaults, name, version] => {

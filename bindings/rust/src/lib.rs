@@ -55,7 +55,8 @@
 
 #[cfg(all(library_missing, not(clippy), not(doc)))]
 compile_error!(concat!(
-    "a library of lokhazim (liblokhazim.a, liblokhazim_image.a, liblokhazim_compare.a, liblokhazim_report.a, liblokhazim_settings.a, liblokhazim_queue.a) is missing in ",
+    "a library of lokhazim (liblokhazim.a, or one whose name ends in _image, _compare, _report, ",
+    "_settings, _queue or _stats) is missing in ",
     env!("LOKHAZIM_LOOKED"),
     ": run 'make lib' in the repository, or name its folder in LOKHAZIM_LIB_DIR, then build again"
 ));
@@ -76,6 +77,7 @@ mod raw;
 mod refusal;
 mod report;
 mod settings;
+mod stats;
 
 pub use blocks::{Block, Blocks, QUARANTINED};
 pub use comparison::{compare_images, CompareRefusal, Difference, Differences, Which};
@@ -96,6 +98,7 @@ pub use report::{
 pub use settings::{
     add_setting, lookup, Entries, Entry, SettingsRefusal, Store, ENTRY_FRONT, VALUE_MAX,
 };
+pub use stats::{Part, QuotaStats, Stats, UNITS};
 
 /// The length of the shortest heap; a heap's length is a multiple of 8.
 pub const HEAP_MIN: usize = 64;

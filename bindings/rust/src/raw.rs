@@ -12,6 +12,7 @@ use crate::layout::{
     RangeReply, ReceiveReply, RestoreReply,
 };
 
+pub mod stats;
 mod words;
 
 pub use words::Words;

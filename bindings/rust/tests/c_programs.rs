@@ -48,6 +48,13 @@ fn a_report_goes_from_c_and_back() {
 }
 
 #[test]
+fn figures_go_to_c() {
+    for level in ["-O0", "-O2"] {
+        run(&compile("bindings/rust/tests/c/stats.c", level), &[], b"");
+    }
+}
+
+#[test]
 fn settings_go_from_c_and_back() {
     for level in ["-O0", "-O2"] {
         run(

@@ -18,3 +18,5 @@ pub mod Naming
 pub mod Surveys
 pub mod Flags
 pub mod Told
+pub mod Counting
+pub mod Owning

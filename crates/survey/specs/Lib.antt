@@ -4,3 +4,4 @@ pub mod Survey
 pub mod Route
 pub mod Contracts
 pub mod Holders
+pub mod Shares

@@ -23,6 +23,7 @@ mod parts;
 mod paying;
 mod reading;
 mod settling;
+mod sharing;
 mod walking;
 mod wanting;
 
@@ -40,6 +41,8 @@ use indexing::used_top;
 use parts::walk_parts;
 use paying::is_settled;
 use paying::owing;
+pub use sharing::Holdings;
+pub use sharing::held_by;
 use wanting::edge_of;
 use wanting::fit_of;
 use wanting::is_named;

@@ -16,13 +16,14 @@ const FLAGS: [&str; 6] = [
 ];
 
 /// The libraries that the programs are linked with.
-const LIBRARIES: [&str; 6] = [
+const LIBRARIES: [&str; 7] = [
     "liblokhazim.a",
     "liblokhazim_image.a",
     "liblokhazim_compare.a",
     "liblokhazim_report.a",
     "liblokhazim_settings.a",
     "liblokhazim_queue.a",
+    "liblokhazim_stats.a",
 ];
 
 /// A file of the repository.

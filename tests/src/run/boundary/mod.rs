@@ -15,6 +15,7 @@ pub mod in_place;
 pub mod queue;
 pub mod report;
 pub mod settings;
+pub mod stats;
 
 /// A quota as it crosses the boundary.
 #[repr(C)]

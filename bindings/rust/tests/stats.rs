@@ -1,0 +1,88 @@
+//! The figures of a heap through the crate: of each kind and edition, after calls, and where they are refused.
+
+use lokhazim::{
+    Aligned, Edition, Heap, Kind, Part, QuotaStats, Refusal, Settings, Stats, QUOTAS, UNITS,
+};
+
+#[test]
+fn every_field_is_told() -> Result<(), Refusal> {
+    let mut memory = Aligned([0; 256]);
+    let settings = Settings {
+        kind: Kind::Quarantine,
+        edition: Edition::First,
+    };
+    let mut heap = Heap::open_with(&mut memory.0, [200; QUOTAS], settings)?;
+    let first = heap.allocate(0, 40)?;
+    let second = heap.allocate(1, 16)?;
+    heap.allocate(0, 32)?;
+    heap.claim(0, second)?;
+    heap.release(0, first)?;
+    let wanted = Stats {
+        last_serial: 3,
+        records: 3,
+        free: Part {
+            blocks: 1,
+            bytes: 144,
+        },
+        live: Part {
+            blocks: 2,
+            bytes: 64,
+        },
+        quarantined: Part {
+            blocks: 1,
+            bytes: 48,
+        },
+        largest_free: 144,
+        fragmented: 0,
+        largest: [136, 0, 0, 0],
+    };
+    assert_eq!(heap.stats()?, wanted);
+    heap.sweep()?;
+    let swept = heap.stats()?;
+    assert_eq!((swept.free.blocks, swept.fragmented), (2, 48));
+    let quota = |objects, shared, remaining| QuotaStats {
+        grant: 200,
+        remaining,
+        objects,
+        shared,
+    };
+    assert_eq!(heap.quota_stats(0)?, quota(2, 1, 136));
+    assert_eq!(heap.quota_stats(1)?, quota(1, 1, 176));
+    assert_eq!(heap.quota_stats(31)?, quota(0, 0, 200));
+    assert_eq!(heap.quota_stats(32), Err(Refusal::QuotaNumber));
+    Ok(())
+}
+
+#[test]
+fn a_request_of_the_figure_is_made_and_one_more_is_refused() -> Result<(), Refusal> {
+    for edition in [Edition::First, Edition::Second] {
+        let settings = Settings {
+            kind: Kind::Plain,
+            edition,
+        };
+        for length in [64, 4_112, 8_208, 16_448, 32_768] {
+            let mut memory = Aligned([0; 32_768]);
+            let mut heap = Heap::open_with(&mut memory.0[..length], [40_000; QUOTAS], settings)?;
+            let stats = heap.stats()?;
+            assert!(UNITS.contains(&8) && stats.largest_request() + 8 <= length);
+            for largest in stats.largest.into_iter().filter(|largest| *largest > 0) {
+                let handle = heap.allocate(0, largest as u32)?;
+                assert_eq!(handle.length as usize, largest);
+                heap.release(0, handle)?;
+            }
+            let more = stats.largest_request() as u32 + 1;
+            assert_eq!(heap.allocate(0, more), Err(Refusal::NoSpace), "{length}");
+        }
+    }
+    Ok(())
+}
+
+#[test]
+fn damage_is_refused() -> Result<(), Refusal> {
+    let mut memory = [0; 64];
+    let (bytes, accounts) = Heap::open(&mut memory, [100; QUOTAS])?.into_parts();
+    bytes[0] = 7;
+    let told = Heap::from_parts(bytes, accounts).and_then(|heap| heap.stats());
+    assert_eq!(told, Err(Refusal::Inconsistent));
+    Ok(())
+}

@@ -1,0 +1,72 @@
+//! The highest and the lowest figures over the calls of a script, each with the first line behind which it stood.
+
+use std::fmt::Write;
+
+use lokhazim::{Quota, Stats};
+
+/// A figure and the line behind which it first stood.
+type Mark = (usize, usize);
+
+/// The marks so far; none before the first call.
+#[derive(Default)]
+pub struct Marks {
+    live: Option<Mark>,
+    quarantined: Option<Mark>,
+    free: Option<Mark>,
+    request: Option<Mark>,
+    records: Option<Mark>,
+    /// What each quota has spent at most.
+    spent: Vec<Option<Mark>>,
+}
+
+/// Keeps the higher figure, and of equal ones the first.
+fn higher(mark: &mut Option<Mark>, figure: usize, line: usize) {
+    if mark.is_none_or(|(most, _)| most < figure) {
+        *mark = Some((figure, line));
+    }
+}
+
+/// Keeps the lower figure, and of equal ones the first.
+fn lower(mark: &mut Option<Mark>, figure: usize, line: usize) {
+    if mark.is_none_or(|(least, _)| figure < least) {
+        *mark = Some((figure, line));
+    }
+}
+
+impl Marks {
+    /// Notes the figures behind a line.
+    pub fn note(&mut self, line: usize, stats: &Stats, quotas: &[Quota]) {
+        higher(&mut self.live, stats.live.bytes, line);
+        higher(&mut self.quarantined, stats.quarantined.bytes, line);
+        lower(&mut self.free, stats.free.bytes, line);
+        lower(&mut self.request, stats.largest_request(), line);
+        higher(&mut self.records, stats.records, line);
+        self.spent.resize(quotas.len(), None);
+        for (mark, quota) in self.spent.iter_mut().zip(quotas) {
+            let spent = quota.grant.saturating_sub(quota.remainder);
+            higher(mark, spent as usize, line);
+        }
+    }
+
+    /// The marks as lines.
+    pub fn table(&self) -> String {
+        let mut text = format!("\n{:<28}{:>8}{:>12}\n", "over the script", "", "after line");
+        for (name, mark) in [
+            ("most live bytes", self.live),
+            ("most quarantined bytes", self.quarantined),
+            ("fewest free bytes", self.free),
+            ("least longest request", self.request),
+            ("most records", self.records),
+        ] {
+            let (figure, line) = mark.unwrap_or_default();
+            let _ = writeln!(text, "{name:<28}{figure:>8}{line:>12}");
+        }
+        for (quota, mark) in self.spent.iter().enumerate() {
+            if let Some((spent @ 1.., line)) = mark {
+                let name = format!("most spent by quota {quota}");
+                let _ = writeln!(text, "{name:<28}{spent:>8}{line:>12}");
+            }
+        }
+        text
+    }
+}

@@ -1,0 +1,75 @@
+-- `stats::tallying::joined` meets its contract, figure by figure. No sum wraps, since both tallies are small.
+-- Assumes nothing.
+use native.Mathlib.Omega.{arith}
+use borrow.Author.Needs.{needs}
+use Rattle.stats.specs.Tallies.{joined}
+use Rattle.stats.proofs.tallying.joined.Statement.{statement}
+use Rattle.stats.proofs.tallying.joined.Tie as tie
+
+both-parts-requires : tie.Need-both-parts-requires
+both-parts-requires c κs =
+    let a = c .pre .0 .of-free in
+    let b = c .pre .1 .of-free in
+    (omega arith, omega arith)
+
+both-parts-requires-2 : tie.Need-both-parts-requires-2
+both-parts-requires-2 c κs =
+    let a = c .before .pre .0 .of-live in
+    let b = c .before .pre .1 .of-live in
+    (omega arith, omega arith)
+
+both-parts-requires-3 : tie.Need-both-parts-requires-3
+both-parts-requires-3 c κs =
+    let a = c .before .before .pre .0 .of-quarantined in
+    let b = c .before .before .pre .1 .of-quarantined in
+    (omega arith, omega arith)
+
+higher-requires : tie.Need-higher-requires
+higher-requires c κs = search needs
+
+higher-requires-2 : tie.Need-higher-requires-2
+higher-requires-2 c κs = search needs
+
+higher-requires-3 : tie.Need-higher-requires-3
+higher-requires-3 c κs = search needs
+
+higher-requires-4 : tie.Need-higher-requires-4
+higher-requires-4 c κs = search needs
+
+higher-requires-5 : tie.Need-higher-requires-5
+higher-requires-5 c κs = search needs
+
+returns : tie.Need-returns
+unfolding joined
+returns c =
+    let h4 = c .before in
+    let h3 = h4 .before in
+    let h2 = h3 .before in
+    let h1 = h2 .before in
+    let q = h1 .before in
+    let l = q .before in
+    let f = l .before in
+    λ i. record {
+      free = f .both-parts .ensures i;
+      live = l .both-parts2 .ensures i;
+      quarantined = q .both-parts3 .ensures i;
+      largest = h1 .higher .ensures i;
+      «room_8» = h2 .higher2 .ensures i;
+      «room_16» = h3 .higher3 .ensures i;
+      «room_32» = h4 .higher4 .ensures i;
+      «room_64» = c .higher5 .ensures i;
+    }
+
+pub joined-spec : {M : Type 1} → statement M
+joined-spec =
+    tie.close
+    (tie.spec
+    both-parts-requires
+    both-parts-requires-2
+    both-parts-requires-3
+    higher-requires
+    higher-requires-2
+    higher-requires-3
+    higher-requires-4
+    higher-requires-5
+    returns)

@@ -1,0 +1,74 @@
+-- `stats::tallying::single` meets its contract, figure by figure.
+-- Assumes nothing.
+use native.Mathlib.Omega.{arith}
+use borrow.Author.Needs.{needs}
+use mathlib.Core.Path.{_≡_, refl, ap, sym, _∙_}
+use mathlib.Core.Bool.{Bool}
+use Rattle.stats.specs.Tallies.{one-part, single}
+use Rattle.stats.proofs.tallying.single.Statement.{statement}
+use Rattle.stats.proofs.tallying.single.Tie as tie
+
+one-part-requires : tie.Need-one-part-requires
+one-part-requires c κs = search needs
+
+is-live-requires : tie.Need-is-live-requires
+is-live-requires c κs = search needs
+
+one-part-requires-2 : tie.Need-one-part-requires-2
+one-part-requires-2 c κs = search needs
+
+one-part-requires-3 : tie.Need-one-part-requires-3
+one-part-requires-3 c κs = search needs
+
+if-so-requires : tie.Need-if-so-requires
+if-so-requires c κs = search needs
+
+room-in-requires : tie.Need-room-in-requires
+room-in-requires c κs = let p = c .before .before .before .before .before .pre in (omega arith, omega arith, p)
+
+room-in-requires-2 : tie.Need-room-in-requires-2
+room-in-requires-2 c κs = let p = c .before .before .before .before .before .before .pre in (omega arith, omega arith, p)
+
+room-in-requires-3 : tie.Need-room-in-requires-3
+room-in-requires-3 c κs = let p = c .before .before .before .before .before .before .before .pre in (omega arith, omega arith, p)
+
+room-in-requires-4 : tie.Need-room-in-requires-4
+room-in-requires-4 c κs = let p = c .before .before .before .before .before .before .before .before .pre in (omega arith, omega arith, p)
+
+returns : tie.Need-returns
+unfolding single
+returns c =
+    let r3 = c .before in
+    let r2 = r3 .before in
+    let r1 = r2 .before in
+    let f = r1 .before in
+    let q = f .before in
+    let a = q .before in
+    let l = a .before in
+    let o = l .before in
+    let size = o .before .args .size in
+    λ i. record {
+      free = o .one-part .ensures i;
+      live = (a .one-part2 .ensures ∙ ap (λ (t : Bool). one-part t size) (l .is-live .ensures)) i;
+      quarantined = q .one-part3 .ensures i;
+      largest = f .if-so .ensures i;
+      «room_8» = r1 .room-in .ensures i;
+      «room_16» = r2 .room-in2 .ensures i;
+      «room_32» = r3 .room-in3 .ensures i;
+      «room_64» = c .room-in4 .ensures i;
+    }
+
+pub single-spec : {M : Type 1} → statement M
+single-spec =
+    tie.close
+    (tie.spec
+    one-part-requires
+    is-live-requires
+    one-part-requires-2
+    one-part-requires-3
+    if-so-requires
+    room-in-requires
+    room-in-requires-2
+    room-in-requires-3
+    room-in-requires-4
+    returns)
