@@ -353,8 +353,9 @@ LOKHAZIM_OFFSET(lokhazim_block_reply, serial, 8 + 2 * sizeof(size_t));
 /* ---- The library's functions: calls in place ----
  *
  * They read the accounts where they lie and write there what they change. A refused call leaves every byte of the accounts, an
- * accepted one every byte of padding; open sets all bytes, to zero where it is refused. Below, lokhazim_heap_... makes each of
- * these calls and says more about it. Their refusals, in the order in which they are checked:
+ * accepted one every byte of padding; open sets all fields, to zero where it is refused, and promises nothing of padding.
+ * Below, lokhazim_heap_... makes each of these calls and says more about it. Their refusals, in the order in which they are
+ * checked:
  *   open                                1
  *   sweep, list_block, check            1, 2
  *   lend, write                         1, 2, 5
