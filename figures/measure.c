@@ -73,6 +73,18 @@ __attribute__((noinline)) void call_restore(void)
     refusal = (enum lokhazim_refusal)lokhazim_heap_restore(heap, sizeof heap, &accounts, image, image_length);
 }
 
+void call_resume(void);
+__attribute__((noinline)) void call_resume(void)
+{
+    refusal = (enum lokhazim_refusal)lokhazim_heap_resume(heap, sizeof heap, &accounts, image, image_length);
+}
+
+void call_examine(void);
+__attribute__((noinline)) void call_examine(void)
+{
+    refusal = (enum lokhazim_refusal)lokhazim_image_examine(image, image_length).refusal;
+}
+
 static uint8_t first_form[LOKHAZIM_IMAGE_MAX_FORM_1];
 static size_t first_length;
 
@@ -196,6 +208,8 @@ int main(void)
     MEASURE(check);
     MEASURE(save);
     MEASURE(restore);
+    MEASURE(resume);
+    MEASURE(examine);
     MEASURE(move_down);
     MEASURE(move_up);
     MEASURE(send);

@@ -74,14 +74,16 @@ extern "C" {
  *   5  a heap has an edition of the rounding table: struct lokhazim_accounts has it
  *      behind the kind, lokhazim_open and lokhazim_heap_open take it, and
  *      LOKHAZIM_ALIGNMENT is 64, where it was 32
+ *   6  lokhazim_queue_in_place_send takes the queue by pointer and gives the
+ *      refusal's number; struct lokhazim_queue_reply is gone
  */
-#define LOKHAZIM_INTERFACE 5
+#define LOKHAZIM_INTERFACE 6
 
 /* The version of the library, as text and by its three numbers. CHANGELOG.md says what each version brought. */
-#define LOKHAZIM_VERSION "0.5.1"
+#define LOKHAZIM_VERSION "0.6.0"
 #define LOKHAZIM_VERSION_MAJOR 0
-#define LOKHAZIM_VERSION_MINOR 5
-#define LOKHAZIM_VERSION_PATCH 1
+#define LOKHAZIM_VERSION_MINOR 6
+#define LOKHAZIM_VERSION_PATCH 0
 
 /* ---- Numbers ---- */
 
@@ -353,7 +355,7 @@ LOKHAZIM_OFFSET(lokhazim_block_reply, serial, 8 + 2 * sizeof(size_t));
 /* ---- The library's functions: calls in place ----
  *
  * They read the accounts where they lie and write there what they change. A refused call leaves every byte of the accounts, an
- * accepted one every byte of padding; open sets all fields, to zero where it is refused, and promises nothing of padding.
+ * accepted one every byte of padding; open sets all fields, to zero where it is refused, and padding to zero.
  * Below, lokhazim_heap_... makes each of these calls and says more about it. Their refusals, in the order in which they are
  * checked:
  *   open                                1

@@ -10,9 +10,9 @@
  * alone; it is written for boards that read nothing else. Both are read, by the
  * number that they begin with.
  *
- * The functions keep no pointer and take any bytes. Reading and moving need room
- * for a whole heap on the stack (docs/FIGURES.md): a refused image must not have
- * touched the heap it was to be read into, and a move has no heap lent.
+ * The functions keep no pointer and take any bytes. Those in place need no more
+ * stack than any other call (docs/FIGURES.md). Moving and comparing, and the
+ * functions with accounts by value, need some tens of kilobytes.
  *
  * Neither pointer is null, and image, heap and accounts don't overlap.
  */
@@ -174,6 +174,19 @@ struct lokhazim_image_reply lokhazim_image_write_form_1(
 struct lokhazim_restore_reply lokhazim_image_read(
     const uint8_t *image, size_t image_length, uint8_t *heap, size_t length);
 
+/* ---- The library's functions in place: the accounts are read and written where they lie ---- */
+
+struct lokhazim_image_reply lokhazim_image_in_place_write(
+    uint8_t *image, size_t image_length, const uint8_t *heap, size_t length, const struct lokhazim_accounts *accounts);
+struct lokhazim_image_reply lokhazim_image_in_place_write_form_1(
+    uint8_t *image, size_t image_length, const uint8_t *heap, size_t length, const struct lokhazim_accounts *accounts);
+
+/* The accounts become those of the image, or zeros where it is refused; the heap then stays. Gives the refusal's number. */
+uint32_t lokhazim_image_in_place_read(
+    const uint8_t *image, size_t image_length, uint8_t *heap, size_t length, struct lokhazim_accounts *accounts);
+
+/* ---- The library's functions on images alone ---- */
+
 /* Tells the image's form and the length of the heap in it, by refusals 21 to 24; whether heap and accounts agree is told by reading. */
 struct lokhazim_examine_reply lokhazim_image_examine(const uint8_t *image, size_t image_length);
 
@@ -245,7 +258,8 @@ static inline enum lokhazim_image_refusal lokhazim_heap_save(
     const uint8_t *heap, size_t length, const struct lokhazim_accounts *accounts,
     uint8_t *image, size_t image_length, size_t *written)
 {
-    const struct lokhazim_image_reply reply = lokhazim_image_write(image, image_length, heap, length, *accounts);
+    const struct lokhazim_image_reply reply =
+        lokhazim_image_in_place_write(image, image_length, heap, length, accounts);
     if (written) {
         *written = reply.length;
     }
@@ -258,7 +272,7 @@ static inline enum lokhazim_image_refusal lokhazim_heap_save_form_1(
     uint8_t *image, size_t image_length, size_t *written)
 {
     const struct lokhazim_image_reply reply =
-        lokhazim_image_write_form_1(image, image_length, heap, length, *accounts);
+        lokhazim_image_in_place_write_form_1(image, image_length, heap, length, accounts);
     if (written) {
         *written = reply.length;
     }
@@ -268,17 +282,30 @@ static inline enum lokhazim_image_refusal lokhazim_heap_save_form_1(
 /*
  * Reads an image of either form into heap and accounts. Handles from before the image are good again, handles that were given
  * out after it mean nothing. Form 1 gives all permissions to every quota, and a plain heap of edition 1. Where it is refused,
- * heap and accounts stay as they were, and calls go on with them. Refusals 21 to 26.
+ * heap and accounts stay as they were, and calls go on with them; for this it has second accounts on the stack, 4,488 bytes.
+ * Refusals 21 to 26.
  */
 static inline enum lokhazim_image_refusal lokhazim_heap_restore(
     uint8_t *heap, size_t length, struct lokhazim_accounts *accounts,
     const uint8_t *image, size_t image_length)
 {
-    const struct lokhazim_restore_reply reply = lokhazim_image_read(image, image_length, heap, length);
-    if (reply.refusal == LOKHAZIM_IMAGE_ACCEPTED) {
-        *accounts = reply.accounts;
+    struct lokhazim_accounts fresh;
+    const uint32_t refusal = lokhazim_image_in_place_read(image, image_length, heap, length, &fresh);
+    if (refusal == LOKHAZIM_IMAGE_ACCEPTED) {
+        *accounts = fresh;
     }
-    return (enum lokhazim_image_refusal)reply.refusal;
+    return (enum lokhazim_image_refusal)refusal;
+}
+
+/*
+ * The same for a board that starts, whose accounts hold nothing yet: it needs no second accounts. Where it is refused, the heap
+ * stays as it was and the accounts are zero; then open the heap. Refusals 21 to 26.
+ */
+static inline enum lokhazim_image_refusal lokhazim_heap_resume(
+    uint8_t *heap, size_t length, struct lokhazim_accounts *accounts,
+    const uint8_t *image, size_t image_length)
+{
+    return (enum lokhazim_image_refusal)lokhazim_image_in_place_read(image, image_length, heap, length, accounts);
 }
 
 #ifdef __cplusplus

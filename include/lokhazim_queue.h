@@ -59,12 +59,6 @@ struct lokhazim_send_reply {
     uint32_t refusal;
 };
 
-/* The reply of send over the accounts where they lie; where it is refused, the queue is as it came in. */
-struct lokhazim_queue_reply {
-    struct lokhazim_queue queue;
-    uint32_t refusal;
-};
-
 /* The reply of receive; where it is refused, the queue is as it came in and the handle is 0. */
 struct lokhazim_receive_reply {
     struct lokhazim_queue queue;
@@ -80,8 +74,6 @@ LOKHAZIM_ASSERT(offsetof(struct lokhazim_queue, handles) == 12, "struct lokhazim
 LOKHAZIM_ASSERT(sizeof(struct lokhazim_send_reply) == 4696, "the size of struct lokhazim_send_reply is not 4696");
 LOKHAZIM_ASSERT(offsetof(struct lokhazim_send_reply, queue) == 4488, "struct lokhazim_send_reply: the offset of queue is not 4488");
 LOKHAZIM_ASSERT(offsetof(struct lokhazim_send_reply, refusal) == 4692, "struct lokhazim_send_reply: the offset of refusal is not 4692");
-LOKHAZIM_ASSERT(sizeof(struct lokhazim_queue_reply) == 208, "the size of struct lokhazim_queue_reply is not 208");
-LOKHAZIM_ASSERT(offsetof(struct lokhazim_queue_reply, refusal) == 204, "struct lokhazim_queue_reply: the offset of refusal is not 204");
 LOKHAZIM_ASSERT(sizeof(struct lokhazim_receive_reply) == 220, "the size of struct lokhazim_receive_reply is not 220");
 LOKHAZIM_ASSERT(offsetof(struct lokhazim_receive_reply, refusal) == 204, "struct lokhazim_receive_reply: the offset of refusal is not 204");
 LOKHAZIM_ASSERT(offsetof(struct lokhazim_receive_reply, handle) == 208, "struct lokhazim_receive_reply: the offset of handle is not 208");
@@ -100,13 +92,17 @@ struct lokhazim_send_reply lokhazim_queue_send(
     uint8_t *heap, size_t length, struct lokhazim_accounts accounts, struct lokhazim_queue queue,
     struct lokhazim_handle handle);
 
-/* The same over the accounts where they lie: a refused send leaves every byte of them as it is. */
-struct lokhazim_queue_reply lokhazim_queue_in_place_send(
-    uint8_t *heap, size_t length, struct lokhazim_accounts *accounts, struct lokhazim_queue queue,
-    struct lokhazim_handle handle);
-
 /* Gives the oldest handle, as it was sent. Refusals 53, 52. */
 struct lokhazim_receive_reply lokhazim_queue_receive(struct lokhazim_queue queue);
+
+/*
+ * The same over the accounts and the queue where they lie: a refused call leaves every byte of them as it is. A send gives its
+ * refusal, 0 where there is none. The queue lies apart from the heap and the accounts, at an address that suits its struct.
+ */
+uint32_t lokhazim_queue_in_place_send(
+    uint8_t *heap, size_t length, struct lokhazim_accounts *accounts, struct lokhazim_queue *queue,
+    struct lokhazim_handle handle);
+struct lokhazim_given_handle lokhazim_queue_in_place_receive(struct lokhazim_queue *queue);
 
 /* ---- A refusal in words ---- */
 
@@ -132,16 +128,13 @@ static inline uint32_t lokhazim_queue_put(
     uint8_t *heap, size_t length, struct lokhazim_accounts *accounts, struct lokhazim_queue *queue,
     struct lokhazim_handle handle)
 {
-    const struct lokhazim_queue_reply reply = lokhazim_queue_in_place_send(heap, length, accounts, *queue, handle);
-    *queue = reply.queue;
-    return reply.refusal;
+    return lokhazim_queue_in_place_send(heap, length, accounts, queue, handle);
 }
 
 /* Gives the oldest handle in *handle, which is 0 where it is refused; *queue stays then. */
 static inline uint32_t lokhazim_queue_take(struct lokhazim_queue *queue, struct lokhazim_handle *handle)
 {
-    const struct lokhazim_receive_reply reply = lokhazim_queue_receive(*queue);
-    *queue = reply.queue;
+    const struct lokhazim_given_handle reply = lokhazim_queue_in_place_receive(queue);
     *handle = reply.handle;
     return reply.refusal;
 }

@@ -161,6 +161,51 @@ fn receives_of_any_queue() {
     assert!(queues.receives(52) >= 5_000 && queues.receives(53) >= 2_000);
 }
 
+/// Queues in which any number may stand in every word. Each refused call has to leave all words.
+#[test]
+fn queues_of_any_words() {
+    let mut queues = Queues::default();
+    let mut seed = Seed::new(SEED);
+    let state = one_object(1);
+    for _ in 0..20_000 {
+        let mut handle = || Handle {
+            base: seed.word(),
+            length: seed.word(),
+            serial: seed.word(),
+        };
+        let places = std::array::from_fn(|_| handle());
+        let mut number = |few| match seed.percent(50) {
+            true => seed.below(few),
+            false => seed.word() >> seed.below(32),
+        };
+        let queue = Queue {
+            sender: number(3),
+            receiver: number(3),
+            count: number(18),
+            places,
+        };
+        for handle in [PACKET, places[0]] {
+            queues.send(&mut state.clone(), &mut queue.clone(), handle);
+        }
+        let _ = queues.receive(&mut queue.clone());
+    }
+    for (refusal, least) in [
+        (0, 200),
+        (3, 2_000),
+        (5, 200),
+        (6, 200),
+        (51, 200),
+        (53, 10_000),
+    ] {
+        let came = queues.sends(refusal);
+        assert!(came >= least, "only {came} sends gave {refusal}");
+    }
+    for (refusal, least) in [(0, 5_000), (52, 200), (53, 5_000)] {
+        let came = queues.receives(refusal);
+        assert!(came >= least, "only {came} receives gave {refusal}");
+    }
+}
+
 #[test]
 fn sends_on_any_state() {
     let mut queues = Queues::default();

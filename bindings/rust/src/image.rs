@@ -220,8 +220,8 @@ pub(crate) fn verdict(number: u32) -> Result<(), ImageRefusal> {
 
 /// Reads an image into bytes and gives its accounts as words.
 fn restored(image: &[u8], bytes: &mut [u8]) -> Result<Words, ImageRefusal> {
-    let reply = raw::image_read(image, bytes);
-    verdict(reply.refusal).map(|()| Words::from(&reply.accounts))
+    let mut words = Words::ZERO;
+    verdict(raw::image_read(image, bytes, &mut words)).map(|()| words)
 }
 
 impl<'a> Heap<'a> {
@@ -249,7 +249,7 @@ impl<'a> Heap<'a> {
     /// # Ok::<(), Box<dyn std::error::Error>>(())
     /// ```
     pub fn save(&self, image: &mut [u8]) -> Result<usize, ImageRefusal> {
-        let reply = raw::image_write(image, self.bytes, self.accounts());
+        let reply = raw::image_write(image, self.bytes, &self.words);
         verdict(reply.refusal).map(|()| reply.length)
     }
 
@@ -275,7 +275,7 @@ impl<'a> Heap<'a> {
     /// # Ok::<(), Box<dyn std::error::Error>>(())
     /// ```
     pub fn save_form_1(&self, image: &mut [u8]) -> Result<usize, ImageRefusal> {
-        let reply = raw::image_write_form_1(image, self.bytes, self.accounts());
+        let reply = raw::image_write_form_1(image, self.bytes, &self.words);
         verdict(reply.refusal).map(|()| reply.length)
     }
 

@@ -149,15 +149,6 @@ pub struct ImageReply {
     pub length: usize,
 }
 
-/// The reply of reading an image.
-#[repr(C)]
-pub struct RestoreReply {
-    /// The accounts in the image, all zero where the call is refused.
-    pub accounts: Accounts,
-    /// The refusal's number.
-    pub refusal: u32,
-}
-
 /// The reply of examining an image.
 #[repr(C)]
 pub struct ExamineReply {
@@ -258,26 +249,6 @@ pub struct EntryReply {
     pub end: usize,
 }
 
-/// The reply of sending a handle.
-#[repr(C)]
-pub struct QueueReply {
-    /// The queue after the call.
-    pub queue: Queue,
-    /// The refusal's number.
-    pub refusal: u32,
-}
-
-/// The reply of receiving a handle.
-#[repr(C)]
-pub struct ReceiveReply {
-    /// The queue after the call.
-    pub queue: Queue,
-    /// The refusal's number.
-    pub refusal: u32,
-    /// The oldest handle.
-    pub handle: Handle,
-}
-
 /// Holds a struct to its size and to the offset of each field, when the crate is compiled.
 macro_rules! lies {
     ($type:ty, $size:literal: $($field:ident at $offset:literal),+) => {
@@ -298,7 +269,6 @@ lies!(Amount, 8: refusal at 0, amount at 4);
 lies!(RangeReply, 24: refusal at 0, start at 8, end at 16);
 lies!(BlockReply, 32: refusal at 0, found at 4, offset at 8, size at 16, serial at 24);
 lies!(ImageReply, 16: refusal at 0, length at 8);
-lies!(RestoreReply, 4492: accounts at 0, refusal at 4488);
 lies!(ExamineReply, 16: refusal at 0, form at 4, heap_length at 8);
 lies!(CompareReply, 32: refusal at 0, which at 4, kind at 8, place at 16, length at 24);
 lies!(NextReply, 40: kind at 0, place at 8, length at 16, part at 24, at at 32);
@@ -308,5 +278,3 @@ lies!(FindReply, 24: refusal at 0, store at 4, start at 8, end at 16);
 lies!(AddReply, 16: refusal at 0, used at 8);
 lies!(EntryReply, 32: refusal at 0, there at 4, version at 8, name at 10, start at 16, end at 24);
 lies!(Queue, 204: sender at 0, receiver at 4, count at 8, handles at 12);
-lies!(QueueReply, 208: queue at 0, refusal at 204);
-lies!(ReceiveReply, 220: queue at 0, refusal at 204, handle at 208);

@@ -148,10 +148,7 @@ impl Queue {
     /// # Ok::<(), QueueRefusal>(())
     /// ```
     pub fn send(&mut self, heap: &mut Heap<'_>, handle: Handle) -> Result<(), QueueRefusal> {
-        let reply = raw::queue_send(heap.bytes, &mut heap.words, self.clone(), handle);
-        verdict(reply.refusal)?;
-        *self = reply.queue;
-        Ok(())
+        verdict(raw::queue_send(heap.bytes, &mut heap.words, self, handle))
     }
 
     /// Gives the oldest handle, as it was sent.
@@ -182,9 +179,8 @@ impl Queue {
     /// # Ok::<(), QueueRefusal>(())
     /// ```
     pub fn receive(&mut self) -> Result<Handle, QueueRefusal> {
-        let reply = raw::queue_receive(self.clone());
+        let reply = raw::queue_receive(self);
         verdict(reply.refusal)?;
-        *self = reply.queue;
         Ok(reply.handle)
     }
 }

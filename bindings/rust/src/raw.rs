@@ -3,13 +3,12 @@
 //! The library keeps no pointer and has no memory of its own. It reads and writes only the bytes
 //! and the words that it is lent, is proved to do so inside their length, and takes any bytes,
 //! words and numbers. So a call is safe exactly if pointers and lengths are those of memory that is
-//! borrowed for the call, which slices and [`Words`] are. What is borrowed by `&` is not written.
-//! Images take the accounts by value.
+//! borrowed for the call, which slices, [`Words`] and a [`Queue`] are. What is borrowed by `&` is
+//! not written.
 
 use crate::layout::{
-    Accounts, AddReply, Amount, BlockReply, CompareReply, EntryReply, ExamineReply, ExportReply,
-    FindReply, GivenHandle, Grants, Handle, ImageReply, ImportReply, NextReply, Queue, QueueReply,
-    RangeReply, ReceiveReply, RestoreReply,
+    AddReply, Amount, BlockReply, CompareReply, EntryReply, ExamineReply, ExportReply, FindReply,
+    GivenHandle, Grants, Handle, ImageReply, ImportReply, NextReply, Queue, RangeReply,
 };
 
 pub mod stats;
@@ -113,19 +112,19 @@ extern "C" {
     fn lokhazim_in_place_check(heap: *const u8, length: usize, words: *const Words) -> u32;
     fn lokhazim_image_length(heap_length: usize) -> usize;
     fn lokhazim_image_length_form_1(heap_length: usize) -> usize;
-    fn lokhazim_image_write(
+    fn lokhazim_image_in_place_write(
         image: *mut u8,
         image_length: usize,
         heap: *const u8,
         length: usize,
-        accounts: Accounts,
+        words: *const Words,
     ) -> ImageReply;
-    fn lokhazim_image_write_form_1(
+    fn lokhazim_image_in_place_write_form_1(
         image: *mut u8,
         image_length: usize,
         heap: *const u8,
         length: usize,
-        accounts: Accounts,
+        words: *const Words,
     ) -> ImageReply;
     fn lokhazim_image_move_up(
         image: *const u8,
@@ -155,12 +154,13 @@ extern "C" {
         at: usize,
     ) -> NextReply;
     fn lokhazim_image_examine(image: *const u8, image_length: usize) -> ExamineReply;
-    fn lokhazim_image_read(
+    fn lokhazim_image_in_place_read(
         image: *const u8,
         image_length: usize,
         heap: *mut u8,
         length: usize,
-    ) -> RestoreReply;
+        words: *mut Words,
+    ) -> u32;
     fn lokhazim_report_import(text: *const u8, length: usize) -> ImportReply;
     fn lokhazim_report_export(text: *mut u8, length: usize, grants: Grants) -> ExportReply;
     fn lokhazim_settings_find(
@@ -194,10 +194,10 @@ extern "C" {
         heap: *mut u8,
         length: usize,
         words: *mut Words,
-        queue: Queue,
+        queue: *mut Queue,
         handle: Handle,
-    ) -> QueueReply;
-    fn lokhazim_queue_receive(queue: Queue) -> ReceiveReply;
+    ) -> u32;
+    fn lokhazim_queue_in_place_receive(queue: *mut Queue) -> GivenHandle;
 }
 
 /// Makes a safe function of a call in place: the slice becomes its pointer and its length, and the
@@ -232,7 +232,7 @@ safe!(ref, &Words: remaining = lokhazim_in_place_remaining(quota: u32) -> Amount
 safe!(ref, &Words: can_release = lokhazim_in_place_can_release(quota: u32, handle: Handle) -> u32);
 safe!(ref, &Words: list_block = lokhazim_in_place_list_block(at: usize) -> BlockReply);
 safe!(ref, &Words: check = lokhazim_in_place_check() -> u32);
-safe!(mut, &mut Words: queue_send = lokhazim_queue_in_place_send(queue: Queue, handle: Handle) -> QueueReply);
+safe!(mut, &mut Words: queue_send = lokhazim_queue_in_place_send(queue: &mut Queue, handle: Handle) -> u32);
 
 pub fn image_length(heap_length: usize) -> usize {
     // SAFETY: the function takes and gives a number.
@@ -244,16 +244,16 @@ pub fn image_length_form_1(heap_length: usize) -> usize {
     unsafe { lokhazim_image_length_form_1(heap_length) }
 }
 
-pub fn image_write(image: &mut [u8], heap: &[u8], accounts: &Accounts) -> ImageReply {
+pub fn image_write(image: &mut [u8], heap: &[u8], words: &Words) -> ImageReply {
     let (at, room) = (image.as_mut_ptr(), image.len());
-    // SAFETY: pointers and lengths are those of two slices that are borrowed for the call.
-    unsafe { lokhazim_image_write(at, room, heap.as_ptr(), heap.len(), accounts.clone()) }
+    // SAFETY: pointers and lengths are those of two slices and words that are borrowed for the call.
+    unsafe { lokhazim_image_in_place_write(at, room, heap.as_ptr(), heap.len(), words) }
 }
 
-pub fn image_write_form_1(image: &mut [u8], heap: &[u8], accounts: &Accounts) -> ImageReply {
+pub fn image_write_form_1(image: &mut [u8], heap: &[u8], words: &Words) -> ImageReply {
     let (at, room) = (image.as_mut_ptr(), image.len());
-    // SAFETY: pointers and lengths are those of two slices that are borrowed for the call.
-    unsafe { lokhazim_image_write_form_1(at, room, heap.as_ptr(), heap.len(), accounts.clone()) }
+    // SAFETY: pointers and lengths are those of two slices and words that are borrowed for the call.
+    unsafe { lokhazim_image_in_place_write_form_1(at, room, heap.as_ptr(), heap.len(), words) }
 }
 
 pub fn image_move_up(image: &[u8], out: &mut [u8]) -> ImageReply {
@@ -285,10 +285,10 @@ pub fn image_next(first: &[u8], second: &[u8], part: u32, at: usize) -> NextRepl
     unsafe { lokhazim_image_compare_next(a, first.len(), b, second.len(), part, at) }
 }
 
-pub fn image_read(image: &[u8], heap: &mut [u8]) -> RestoreReply {
+pub fn image_read(image: &[u8], heap: &mut [u8], words: &mut Words) -> u32 {
     let (at, length) = (image.as_ptr(), image.len());
-    // SAFETY: pointers and lengths are those of two slices that are borrowed for the call.
-    unsafe { lokhazim_image_read(at, length, heap.as_mut_ptr(), heap.len()) }
+    // SAFETY: pointers and lengths are those of two slices and words that are borrowed for the call.
+    unsafe { lokhazim_image_in_place_read(at, length, heap.as_mut_ptr(), heap.len(), words) }
 }
 
 pub fn report_import(text: &[u8]) -> ImportReply {
@@ -337,9 +337,9 @@ pub fn queue_new(sender: u32, receiver: u32) -> Queue {
     unsafe { lokhazim_queue_new(sender, receiver) }
 }
 
-pub fn queue_receive(queue: Queue) -> ReceiveReply {
-    // SAFETY: the function takes and gives numbers.
-    unsafe { lokhazim_queue_receive(queue) }
+pub fn queue_receive(queue: &mut Queue) -> GivenHandle {
+    // SAFETY: the pointer is that of a queue that is borrowed for the call.
+    unsafe { lokhazim_queue_in_place_receive(queue) }
 }
 
 #[cfg(test)]

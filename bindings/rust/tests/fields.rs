@@ -13,8 +13,8 @@ use std::slice;
 
 use layout::{
     Accounts, AddReply, Amount, BlockReply, CompareReply, EntryReply, ExamineReply, ExportReply,
-    FindReply, GivenHandle, Grants, Handle, Hold, ImageReply, ImportReply, NextReply, Queue,
-    QueueReply, Quota, RangeReply, ReceiveReply, RestoreReply,
+    FindReply, GivenHandle, Grants, Handle, Hold, ImageReply, ImportReply, NextReply, Queue, Quota,
+    RangeReply,
 };
 use support::{compile, run};
 
@@ -149,13 +149,6 @@ impl Fields for ImageReply {
     }
 }
 
-impl Fields for RestoreReply {
-    fn visit(&mut self, visitor: &mut Visitor) {
-        self.accounts.visit(visitor);
-        visitor.visit32(&mut self.refusal);
-    }
-}
-
 impl Fields for ExamineReply {
     fn visit(&mut self, visitor: &mut Visitor) {
         visitor.visit32(&mut self.refusal);
@@ -237,21 +230,6 @@ impl Fields for Queue {
     }
 }
 
-impl Fields for QueueReply {
-    fn visit(&mut self, visitor: &mut Visitor) {
-        self.queue.visit(visitor);
-        visitor.visit32(&mut self.refusal);
-    }
-}
-
-impl Fields for ReceiveReply {
-    fn visit(&mut self, visitor: &mut Visitor) {
-        self.queue.visit(visitor);
-        visitor.visit32(&mut self.refusal);
-        self.handle.visit(visitor);
-    }
-}
-
 /// Takes the bytes of a struct from the front, visits its fields where they lie, and puts the bytes
 /// behind what is there.
 fn exchange<T: Fields>(visitor: &mut Visitor, bytes: &mut Vec<u8>) {
@@ -279,7 +257,6 @@ fn exchange_all(visitor: &mut Visitor, bytes: &mut Vec<u8>) {
     exchange::<RangeReply>(visitor, bytes);
     exchange::<BlockReply>(visitor, bytes);
     exchange::<ImageReply>(visitor, bytes);
-    exchange::<RestoreReply>(visitor, bytes);
     exchange::<ExamineReply>(visitor, bytes);
     exchange::<CompareReply>(visitor, bytes);
     exchange::<NextReply>(visitor, bytes);
@@ -289,8 +266,6 @@ fn exchange_all(visitor: &mut Visitor, bytes: &mut Vec<u8>) {
     exchange::<AddReply>(visitor, bytes);
     exchange::<EntryReply>(visitor, bytes);
     exchange::<Queue>(visitor, bytes);
-    exchange::<QueueReply>(visitor, bytes);
-    exchange::<ReceiveReply>(visitor, bytes);
 }
 
 /// The bytes of all structs as Rust sets them, and the number that each field got.

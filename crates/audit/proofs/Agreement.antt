@@ -46,7 +46,8 @@ module _ (last : ℕ) (o : Handle) (os : List Handle) (hs : List Hold) (owed : L
     pub paid : pay (o .serial) (charge-of (o .length)) (keys-of hs) (some (unpaid owed)) ≡ some payment
     pub rest : Agrees last os (strike-holds (o .serial) hs) (payment .owed)
 
-  pub settles : (p : Payment) → pay (o .serial) (charge-of (o .length)) (keys-of hs) (some (unpaid owed)) ≡ some p → Settles (o .serial) (charge-of (o .length)) hs (unpaid owed) p
+  pub settles : (p : Payment) → pay (o .serial) (charge-of (o .length)) (keys-of hs) (some (unpaid owed)) ≡ some p
+      → Settles (o .serial) (charge-of (o .length)) hs (unpaid owed) p
   settles p e = pay-settles (o .serial) (charge-of (o .length)) live hs well (unpaid owed) p (length-replicate {A = ℕ} QUOTAS 0, long) e
 
   charges-more : (q : ℕ) → charges hs q (o ∷ os) ≡ cond (has-record hs q (o .serial)) (charge-of (o .length)) 0 + charges hs q os
@@ -64,7 +65,8 @@ module _ (last : ℕ) (o : Handle) (os : List Handle) (hs : List Hold) (owed : L
         valid = valid-struck (o .serial) o refl os hs well ∙ f .rest .valid;
         unique = unique-struck (o .serial) hs ∙ and-both _ _ (g .once) (f .rest .unique);
         recorded = rw (f .recorded) (sym (recorded-kept (o .serial) os hs only) ∙ f .rest .recorded);
-        sums = λ q l. (let a = g .sum q l in let b = f .rest .sums q l in let c = charges-kept (o .serial) os hs q only in let d = charges-more q in omega arith);
+        sums = λ q l.
+            (let a = g .sum q l in let b = f .rest .sums q l in let c = charges-kept (o .serial) os hs q only in let d = charges-more q in omega arith);
       }
 
   pub agrees-first : Agrees last (o ∷ os) hs owed → First
@@ -73,7 +75,8 @@ module _ (last : ℕ) (o : Handle) (os : List Handle) (hs : List Hold) (owed : L
       let only : any (has-serial (o .serial)) os ≡ false = not-true _ (and-left (not (any (has-serial (o .serial)) os)) (serials-differ os) (a .differ)) in
       let both : (once-for (o .serial) hs && records-differ (strike-holds (o .serial) hs)) ≡ true = sym (unique-struck (o .serial) hs) ∙ a .unique in
       let r =
-      can-settle (o .serial) (charge-of (o .length)) live hs well (unpaid owed) (and-left (once-for (o .serial) hs) (records-differ (strike-holds (o .serial) hs)) both)
+      can-settle (o .serial) (charge-of (o .length)) live hs well (unpaid owed)
+      (and-left (once-for (o .serial) hs) (records-differ (strike-holds (o .serial) hs)) both)
       (λ q l t. (getD-replicate QUOTAS q 0 0 l, (let e = rw (charges-more q, t) at (a .sums q l) in omega arith))) in
       let g = settles (r .0) (r .1) in
       record {

@@ -57,7 +57,8 @@ module _ (last : ℕ) (b : Block) (bs : List Block) (ih : Says last bs) (at : �
       (go free (ih (at + size b) true hs owed well long))
     where
       go : (free : Bool) → (audit last bs (some (from true hs owed)) ≡ true) ↔ Passes last bs (at + size b) true hs owed
-          → (audit last bs (cond free none (some (from true hs owed))) ≡ true) ↔ (((not free && cut-after true bs) ≡ true) × Agrees last (objects-from (at + size b) bs) hs owed)
+          → (audit last bs (cond free none (some (from true hs owed))) ≡ true) ↔
+          (((not free && cut-after true bs) ≡ true) × Agrees last (objects-from (at + size b) bs) hs owed)
       go true f = (λ e. absurd (false≢true (sym (audit-none last bs) ∙ e)), λ r. absurd (false≢true (r .0)))
       go false f = f
 
@@ -90,7 +91,8 @@ module _ (last : ℕ) (b : Block) (bs : List Block) (ih : Says last bs) (at : �
 
   module _ (n : b .serial ≡ 0 → ⊥) (m : b .serial ≡ QUARANTINED → ⊥) where
     others : (p : Payment) → pay (b .serial) (size b) (keys-of hs) (some (unpaid owed)) ≡ some p
-        → (audit last bs (some (record { free = false; keys = strike (b .serial) (keys-of hs); owed = p .owed })) ≡ true) ↔ Passes last bs (at + size b) false (strike-holds (b .serial) hs) (p .owed)
+        → (audit last bs (some (record { free = false; keys = strike (b .serial) (keys-of hs); owed = p .owed })) ≡ true) ↔ Passes last bs
+        (at + size b) false (strike-holds (b .serial) hs) (p .owed)
     others p e =
         let g = settles last (object at b) (objects-from (at + size b) bs) hs owed well long n p (paid-for p .0 e) in
         rw (strike-keys (b .serial) n hs well) (ih (at + size b) false (strike-holds (b .serial) hs) (p .owed) (strike-well (b .serial) hs well) (g .long))
@@ -132,7 +134,8 @@ module _ (last : ℕ) (b : Block) (bs : List Block) (ih : Says last bs) (at : �
 
 pub audit-exactly : (last : ℕ) (bs : List Block) → Says last bs
 unfolding audit objects-from
-audit-exactly last [] at free hs owed well long = rw (cut-none free) (λ e. (refl, agrees-none last hs owed well long .0 e), λ r. agrees-none last hs owed well long .1 (r .1))
+audit-exactly last [] at free hs owed well long = rw (cut-none free)
+    (λ e. (refl, agrees-none last hs owed well long .0 e), λ r. agrees-none last hs owed well long .1 (r .1))
 audit-exactly last (b ∷ bs) at free hs owed well long =
     by-eq (b .serial) 0
     (λ z. free-says last b bs (audit-exactly last bs) at free hs owed well long z)
@@ -150,7 +153,9 @@ valid-well os z h e =
     let v = implies (used h) (any (has-serial (h .serial)) os && (ltb (h .quota) QUOTAS && leb 1 (h .count))) e u in
     and-both (leb 1 (h .serial)) (ltb (h .quota) QUOTAS && leb 1 (h .count))
     (by-eq (h .serial) 0
-    (λ q. absurd (true≢false (sym (and-left (any (has-serial (h .serial)) os) (ltb (h .quota) QUOTAS && leb 1 (h .count)) v) ∙ ap (λ (x : ℕ). any (has-serial x) os) q ∙ z)))
+    (λ q. absurd
+    (true≢false
+    (sym (and-left (any (has-serial (h .serial)) os) (ltb (h .quota) QUOTAS && leb 1 (h .count)) v) ∙ ap (λ (x : ℕ). any (has-serial x) os) q ∙ z)))
     (λ q. le-leb 1 (h .serial) (omega (arith, q))))
     (and-right (any (has-serial (h .serial)) os) (ltb (h .quota) QUOTAS && leb 1 (h .count)) v))
 
@@ -158,7 +163,8 @@ valid-well os z h e =
 pub tests-well : (bs : List Block) (k : Accounts) → Tests bs k → all well-formed (k .holds) ≡ true
 unfolding objects
 tests-well bs k t =
-    member-all well-formed (k .holds) (λ h m. valid-well (objects bs) (objects-serial 0 bs) h (all-member (record-valid (objects bs)) (k .holds) (t .valid) h m))
+    member-all well-formed (k .holds)
+    (λ h m. valid-well (objects bs) (objects-serial 0 bs) h (all-member (record-valid (objects bs)) (k .holds) (t .valid) h m))
 
 module _ (bs : List Block) (k : Accounts) (long : length (k .quotas) ≡ QUOTAS) where
   abbrev entry : ℕ → Quota
@@ -168,7 +174,8 @@ module _ (bs : List Block) (k : Accounts) (long : length (k .quotas) ≡ QUOTAS)
   owed-at q = List·getD-map owes (k .quotas) q zero-quota
 
   says : all well-formed (k .holds) ≡ true
-      → (audit (k .«last_serial») bs (some (begin (keys-of (k .holds)) (map owes (k .quotas)))) ≡ true) ↔ Passes (k .«last_serial») bs 0 false (k .holds) (map owes (k .quotas))
+      → (audit (k .«last_serial») bs (some (begin (keys-of (k .holds)) (map owes (k .quotas)))) ≡ true) ↔ Passes (k .«last_serial») bs 0 false
+      (k .holds) (map owes (k .quotas))
   says w = audit-exactly (k .«last_serial») bs 0 false (k .holds) (map owes (k .quotas)) w (length-map (k .quotas) owes ∙ long)
 
   audited-tests : audited (some bs) k ≡ true → Tests bs k

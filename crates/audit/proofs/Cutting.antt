@@ -44,7 +44,8 @@ module _ (free : Bool) (b : Block) (bs : List Block) where
   unfolding cut-after all long-enough starts-free free-apart
   cut-live n = rw (ne-eqb (b .serial) 0 n) (go free)
     where
-      go : (free : Bool) → ((leb 16 (size b) && all long-enough bs) && (not (free && false) && free-apart bs)) ≡ (leb 16 (size b) && (all long-enough bs && free-apart bs))
+      go : (free : Bool)
+          → ((leb 16 (size b) && all long-enough bs) && (not (free && false) && free-apart bs)) ≡ (leb 16 (size b) && (all long-enough bs && free-apart bs))
       go true = and-assoc (leb 16 (size b)) (all long-enough bs) (free-apart bs)
       go false = and-assoc (leb 16 (size b)) (all long-enough bs) (free-apart bs)
 
@@ -110,7 +111,8 @@ module _ (last s n : ℕ) (t : State) where
     unfolding visit visit-live settled
     step-passes p l = rw (ne-eqb s 0 live, ne-eqb s QUARANTINED alive, l .long, l .given, l .strikes, l .paid)
 
-    pub passes-step : (t′ : State) → visit last s n t ≡ some t′ → (p : Payment) × Live p × (some t′ ≡ some (record { free = false; keys = strike s (t .keys); owed = p .owed }))
+    pub passes-step : (t′ : State) → visit last s n t ≡ some t′
+        → (p : Payment) × Live p × (some t′ ≡ some (record { free = false; keys = strike s (t .keys); owed = p .owed }))
     unfolding visit visit-live settled
     passes-step t′ e =
         go (leb 16 n) (leb s last) (not (eqb (struck s (t .keys)) 0)) (pay s n (t .keys) (some (unpaid (t .owed)))) refl refl refl refl
@@ -119,7 +121,8 @@ module _ (last s n : ℕ) (t : State) where
         no : none ≡ some t′ → (p : Payment) × Live p × (some t′ ≡ some (record { free = false; keys = strike s (t .keys); owed = p .owed }))
         no e = let z : _≡_ {A = ℕ} 0 1 = cc in absurd (omega arith)
 
-        go : (x y z : Bool) (o : Option Payment) → leb 16 n ≡ x → leb s last ≡ y → not (eqb (struck s (t .keys)) 0) ≡ z → pay s n (t .keys) (some (unpaid (t .owed))) ≡ o
+        go : (x y z : Bool) (o : Option Payment) → leb 16 n ≡ x → leb s last ≡ y → not (eqb (struck s (t .keys)) 0) ≡ z
+            → pay s n (t .keys) (some (unpaid (t .owed))) ≡ o
             → cond (x && (y && z)) (settled (strike s (t .keys)) o) none ≡ some t′
             → (p : Payment) × Live p × (some t′ ≡ some (record { free = false; keys = strike s (t .keys); owed = p .owed }))
         go false y z o a b c d e = no e

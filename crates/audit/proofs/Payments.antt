@@ -64,7 +64,8 @@ module _ (s c : ℕ) (live : s ≡ 0 → ⊥) where
           long = f .long;
         }
 
-    settles-own : (p′ : Payment) → Long p → is-of s h ≡ true → cannot-pay c (h .quota) p ≡ false → Settles s c hs (pays c (h .quota) p) p′ → Settles s c (h ∷ hs) p p′
+    settles-own : (p′ : Payment) → Long p → is-of s h ≡ true → cannot-pay c (h .quota) p ≡ false → Settles s c hs (pays c (h .quota) p) p′
+        → Settles s c (h ∷ hs) p p′
     unfolding once-for
     settles-own p′ long e can f =
         let below : h .quota < QUOTAS = well-quota h w in
@@ -79,11 +80,14 @@ module _ (s c : ℕ) (live : s ≡ 0 → ⊥) where
               rw (has-more h hs q s, e)
               (by-eq (h .quota) q
               (λ x.
-              let a : getD (pays c (h .quota) p .owed) q 0 ≡ getD (p′ .owed) q 0 + 0 = rw (subst (λ (y : ℕ). has-record hs y s ≡ false) x alone) at (f .sum q l) in
-              let b = subst (λ (y : ℕ). getD (pays c (h .quota) p .owed) y 0 ≡ getD (p .owed) (h .quota) 0 - c) x (getD-set-same (p .owed) (h .quota) (getD (p .owed) (h .quota) 0 - c) 0 (omega (arith, long .1))) in
+              let a : getD (pays c (h .quota) p .owed) q 0 ≡ getD (p′ .owed) q 0 + 0 = rw (subst (λ (y : ℕ). has-record hs y s ≡ false) x alone) at
+              (f .sum q l) in
+              let b = subst (λ (y : ℕ). getD (pays c (h .quota) p .owed) y 0 ≡ getD (p .owed) (h .quota) 0 - c) x
+              (getD-set-same (p .owed) (h .quota) (getD (p .owed) (h .quota) 0 - c) 0 (omega (arith, long .1))) in
               let o : getD (p .owed) (h .quota) 0 ≡ getD (p .owed) q 0 = ap (λ (y : ℕ). getD (p .owed) y 0) x in
               rw (eq-eqb (h .quota) q x) (omega (arith, ask .1)))
-              (λ n. rw (ne-eqb (h .quota) q n) (sym (getD-set-other (p .owed) (h .quota) q (getD (p .owed) (h .quota) 0 - c) 0 (λ x. n (sym x))) ∙ f .sum q l)));
+              (λ n. rw (ne-eqb (h .quota) q n)
+              (sym (getD-set-other (p .owed) (h .quota) q (getD (p .owed) (h .quota) 0 - c) 0 (λ x. n (sym x))) ∙ f .sum q l)));
           unseen = λ q l t.
               by-eq (h .quota) q
               (λ x. subst (λ (y : ℕ). getD (p .seen) y 0 ≡ 0) x (ask .0))
@@ -116,7 +120,8 @@ module _ (s c : ℕ) (live : s ≡ 0 → ⊥) where
       (λ t. settles-other h hs v p p′ t (pay-settles hs vs p p′ long (sym (pay-other h hs v p t) ∙ e)))
 
   -- and a payment that can succeed does
-  pub can-settle : (hs : List Hold) → all well-formed hs ≡ true → (p : Payment) → once-for s hs ≡ true → Can s c hs p → (p′ : Payment) × (pay s c (keys-of hs) (some p) ≡ some p′)
+  pub can-settle : (hs : List Hold) → all well-formed hs ≡ true → (p : Payment) → once-for s hs ≡ true → Can s c hs p
+      → (p′ : Payment) × (pay s c (keys-of hs) (some p) ≡ some p′)
   unfolding pay once-for all
   can-settle [] w p o f = (p, refl)
   can-settle (h ∷ hs) w p o f =

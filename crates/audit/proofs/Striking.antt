@@ -49,7 +49,8 @@ module _ (c q : ℕ) (p : Payment) where
 
 module _ (s c : ℕ) (ks : List ℕ) (p : Option Payment) where
   -- the key at a place
-  pay-at : (i : ℕ) → i < length ks → pay s c (drop i ks) p ≡ pay s c (drop (suc i) ks) (cond (for-serial s (getD ks i 0)) (pay-one c (quota-of (getD ks i 0)) p) p)
+  pay-at : (i : ℕ) → i < length ks
+      → pay s c (drop i ks) p ≡ pay s c (drop (suc i) ks) (cond (for-serial s (getD ks i 0)) (pay-one c (quota-of (getD ks i 0)) p) p)
   unfolding pay
   pay-at i l = ap (λ (t : List ℕ). pay s c t p) (drop-cons ks i 0 l)
 
@@ -57,7 +58,8 @@ module _ (s c : ℕ) (ks : List ℕ) (p : Option Payment) where
   pay-pass i l e = pay-at i l ∙ rw e
 
   -- keys of other serials are leapt over
-  pub pay-skip : (d i j : ℕ) → j ≡ i + d → j ≤ length ks → ((x : ℕ) → i ≤ x → x < j → for-serial s (getD ks x 0) ≡ false) → pay s c (drop i ks) p ≡ pay s c (drop j ks) p
+  pub pay-skip : (d i j : ℕ) → j ≡ i + d → j ≤ length ks → ((x : ℕ) → i ≤ x → x < j → for-serial s (getD ks x 0) ≡ false)
+      → pay s c (drop i ks) p ≡ pay s c (drop j ks) p
   pay-skip zero i j e l f = let z : i ≡ j = omega arith in ap (λ (x : ℕ). pay s c (drop x ks) p) z
   pay-skip (suc d) i j e l f = pay-pass i (omega arith) (f i (omega arith) (omega arith)) ∙ pay-skip d (suc i) j (omega arith) l (λ x a b. f x (omega arith) b)
 
@@ -71,7 +73,8 @@ module _ (s c : ℕ) (ks : List ℕ) (p : Payment) (i : ℕ) (l : i < length ks)
   unfolding pay-one
   pay-fails t = pay-at s c ks (some p) i l ∙ rw (e, t) (pay-none s c (drop (suc i) ks))
 
-  pub pay-hit : cannot-pay c (quota-of (getD ks i 0)) p ≡ false → pay s c (drop i ks) (some p) ≡ pay s c (drop (suc i) ks) (some (pays c (quota-of (getD ks i 0)) p))
+  pub pay-hit : cannot-pay c (quota-of (getD ks i 0)) p ≡ false
+      → pay s c (drop i ks) (some p) ≡ pay s c (drop (suc i) ks) (some (pays c (quota-of (getD ks i 0)) p))
   unfolding pay-one
   pay-hit t = pay-at s c ks (some p) i l ∙ rw (e, t)
 
@@ -89,7 +92,8 @@ module _ (s : ℕ) (live : s ≡ 0 → ⊥) where
   struck-set (k ∷ ks) zero l e = rw (zero-not s live, e)
   struck-set (k ∷ ks) (suc p) l e = go (for-serial s k) (struck-set ks p (omega arith) e)
     where
-      go : (t : Bool) → struck s ks ≡ suc (struck s (set ks p 0)) → cond t (suc (struck s ks)) (struck s ks) ≡ suc (cond t (suc (struck s (set ks p 0))) (struck s (set ks p 0)))
+      go : (t : Bool) → struck s ks ≡ suc (struck s (set ks p 0))
+          → cond t (suc (struck s ks)) (struck s ks) ≡ suc (cond t (suc (struck s (set ks p 0))) (struck s (set ks p 0)))
       go true e = ap suc e
       go false e = e
 

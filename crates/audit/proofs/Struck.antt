@@ -85,7 +85,8 @@ module _ (s : ℕ) where
     unfolding strike all
     strike-keys [] w = refl
     strike-keys (h ∷ hs) w =
-        rw (key-is-of h (and-left (well-formed h) (all well-formed hs) w) s live, strike-keys hs (and-right (well-formed h) (all well-formed hs) w)) (go (is-of s h))
+        rw (key-is-of h (and-left (well-formed h) (all well-formed hs) w) s live, strike-keys hs (and-right (well-formed h) (all well-formed hs) w))
+        (go (is-of s h))
       where
         go : (t : Bool) → cond t 0 (key-of h) ∷ keys-of (strike-holds s hs) ≡ key-of (cond t zero-hold h) ∷ keys-of (strike-holds s hs)
         go true = refl
@@ -95,9 +96,11 @@ module _ (s : ℕ) where
     unfolding struck held any all
     struck-held [] w = refl
     struck-held (h ∷ hs) w =
-        rw (key-is-of h (and-left (well-formed h) (all well-formed hs) w) s live) (go (is-of s h) (struck-held hs (and-right (well-formed h) (all well-formed hs) w)))
+        rw (key-is-of h (and-left (well-formed h) (all well-formed hs) w) s live)
+        (go (is-of s h) (struck-held hs (and-right (well-formed h) (all well-formed hs) w)))
       where
-        go : (t : Bool) → not (eqb (struck s (keys-of hs)) 0) ≡ held hs s → not (eqb (cond t (suc (struck s (keys-of hs))) (struck s (keys-of hs))) 0) ≡ (t || held hs s)
+        go : (t : Bool) → not (eqb (struck s (keys-of hs)) 0) ≡ held hs s
+            → not (eqb (cond t (suc (struck s (keys-of hs))) (struck s (keys-of hs))) 0) ≡ (t || held hs s)
         go true ih = rw (ne-eqb (suc (struck s (keys-of hs))) 0 (λ e. omega arith))
         go false ih = ih
 
@@ -124,14 +127,16 @@ module _ (s : ℕ) where
   unfolding record-valid used
   zero-valid os = refl
 
-  pub valid-struck : (o : Handle) → o .serial ≡ s → (os : List Handle) (hs : List Hold) → all well-formed hs ≡ true → all (record-valid (o ∷ os)) hs ≡ all (record-valid os) (strike-holds s hs)
+  pub valid-struck : (o : Handle) → o .serial ≡ s → (os : List Handle) (hs : List Hold) → all well-formed hs ≡ true
+      → all (record-valid (o ∷ os)) hs ≡ all (record-valid os) (strike-holds s hs)
   unfolding all
   valid-struck o q os [] w = refl
   valid-struck o q os (h ∷ hs) w =
       rw (valid-struck o q os hs (and-right (well-formed h) (all well-formed hs) w)) (go (is-of s h) refl (and-left (well-formed h) (all well-formed hs) w))
     where
       go : (t : Bool) → is-of s h ≡ t → well-formed h ≡ true
-          → (record-valid (o ∷ os) h && all (record-valid os) (strike-holds s hs)) ≡ (record-valid os (cond t zero-hold h) && all (record-valid os) (strike-holds s hs))
+          → (record-valid (o ∷ os) h && all (record-valid os) (strike-holds s hs)) ≡
+          (record-valid os (cond t zero-hold h) && all (record-valid os) (strike-holds s hs))
       go true e v = rw (valid-own o os h q v e, zero-valid os)
       go false e v = rw (valid-other o os h q e)
 
@@ -145,7 +150,8 @@ module _ (s : ℕ) where
       rw (p .0, p .1) (sym (and-assoc (not (any (is-for s (h .quota)) hs)) a b))
 
   unique-other : (h : Hold) (hs : List Hold) (a b : Bool) → is-of s h ≡ false
-      → (not (used h && any (is-for (h .serial) (h .quota)) hs) && (a && b)) ≡ (a && (not (used h && any (is-for (h .serial) (h .quota)) (strike-holds s hs)) && b))
+      → (not (used h && any (is-for (h .serial) (h .quota)) hs) && (a && b)) ≡
+      (a && (not (used h && any (is-for (h .serial) (h .quota)) (strike-holds s hs)) && b))
   unfolding has-record
   unique-other h hs a b e =
       by-test (used h)
@@ -165,7 +171,8 @@ module _ (s : ℕ) where
       go : (t : Bool) → is-of s h ≡ t
           → (not (used h && any (is-for (h .serial) (h .quota)) hs) && (once-for s hs && records-differ (strike-holds s hs)))
           ≡ (((not t || not (has-record hs (h .quota) s)) && once-for s hs)
-          && (not (used (cond t zero-hold h) && any (is-for (cond t zero-hold h .serial) (cond t zero-hold h .quota)) (strike-holds s hs)) && records-differ (strike-holds s hs)))
+          && (not (used (cond t zero-hold h) && any (is-for (cond t zero-hold h .serial) (cond t zero-hold h .quota))
+          (strike-holds s hs)) && records-differ (strike-holds s hs)))
       go true e = unique-own h hs (once-for s hs) (records-differ (strike-holds s hs)) e
       go false e = unique-other h hs (once-for s hs) (records-differ (strike-holds s hs)) e
 
@@ -175,10 +182,12 @@ module _ (s : ℕ) where
       fails (any (has-serial s) os)
       (λ e.
       let m = any-member (has-serial s) os e in
-      true≢false (sym (all-member (λ o. held (strike-holds s hs) (o .serial)) os h (m .0) (m .1)) ∙ ap (held (strike-holds s hs)) (eqb-true (m .0 .serial) s (m .2)) ∙ held-gone hs))
+      true≢false (sym (all-member (λ o. held (strike-holds s hs) (o .serial)) os h (m .0) (m .1))
+      ∙ ap (held (strike-holds s hs)) (eqb-true (m .0 .serial) s (m .2)) ∙ held-gone hs))
 
   -- of objects with other serials it says, and charges, what it did
-  pub recorded-kept : (os : List Handle) (hs : List Hold) → any (has-serial s) os ≡ false → all (λ o. held (strike-holds s hs) (o .serial)) os ≡ all (λ o. held hs (o .serial)) os
+  pub recorded-kept : (os : List Handle) (hs : List Hold) → any (has-serial s) os ≡ false
+      → all (λ o. held (strike-holds s hs) (o .serial)) os ≡ all (λ o. held hs (o .serial)) os
   unfolding all any
   recorded-kept [] hs n = refl
   recorded-kept (o ∷ os) hs n =

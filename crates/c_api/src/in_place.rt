@@ -13,10 +13,10 @@ ghost use Rattle.rounding.specs.Rounding.{table};
 ghost use Rattle.model.specs.Answers.{refused};
 ghost use Rattle.model.specs.Calls.{open-heap, allocate, allocate-array, claim, release, free-all, reallocate, clear, sweep};
 ghost use Rattle.results.specs.Results.{outcome};
-ghost use Rattle.words.specs.Words.{edition-of, accounts-of, Padded};
+ghost use Rattle.words.specs.Words.{edition-of, accounts-of, Padded, Unpadded};
 ghost use Rattle.c_api.specs.Replies.{settings-of, amount-numbers, handle-numbers};
 
-// One free block covers the heap, and every quota has its grant; where it is refused, the accounts are zero. All words are set, padding too.
+// One free block covers the heap, and every quota has its grant; where it is refused, the accounts are zero. All words are set, padding to zero.
 #[no_mangle]
 pub extern "C" fn lokhazim_in_place_open(
     heap: &mut [u8],
@@ -25,8 +25,9 @@ pub extern "C" fn lokhazim_in_place_open(
     kind: u32,
     edition: u32,
 ) -> u32
-    ensures { λ r. ⌜ outcome (now (heap .exit)) (accounts-of (now (words .exit))) (refused r)
+    ensures holds { λ r. ⌜ outcome (now (heap .exit)) (accounts-of (now (words .exit))) (refused r)
         ≡ open-heap (settings-of kind edition) (now (heap .entry)) (grants .values) ⌝ }
+    ensures pads { λ _. ⌜ Unpadded (now (words .exit)) ⌝ }
 {
     let values = grants.values;
     let settings = settings_of(kind, edition);

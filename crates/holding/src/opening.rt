@@ -9,6 +9,7 @@ ghost use mathlib.Core.Path.{_≡_};
 ghost use Prim.Native.Nat.{_/_};
 ghost use Rattle.layout.specs.Bytes.{zero-part};
 ghost use Rattle.layout.specs.Blocks.{write-header};
+ghost use Rattle.words.specs.Words.{Unpadded};
 ghost use Rattle.model.specs.Calls.{open-heap};
 ghost use Rattle.results.specs.Results.{opened-outcome, opened-result};
 
@@ -26,14 +27,16 @@ pub(crate) fn clear(heap: &mut [u8], len: usize)
     layout::write_header(heap, 0, header);
 }
 
-// One free block covers the heap, and every quota has its grant; or the length is not allowed, no byte changes, and the accounts are zero. All words are set.
+// One free block covers the heap, and every quota has its grant; or the length is not allowed, no byte changes, and the accounts are zero. All words are
+// set, padding to zero.
 pub fn open(
     heap: &mut [u8],
     words: &mut [u32; WORDS],
     grants: [u32; QUOTAS],
     settings: Settings,
 ) -> Verdict
-    ensures { λ r. ⌜ opened-outcome (now (heap .exit)) (opened-result (now (words .exit)) r) ≡ open-heap settings (now (heap .entry)) grants ⌝ }
+    ensures holds { λ r. ⌜ opened-outcome (now (heap .exit)) (opened-result (now (words .exit)) r) ≡ open-heap settings (now (heap .entry)) grants ⌝ }
+    ensures pads { λ _. ⌜ Unpadded (now (words .exit)) ⌝ }
 {
     let len = heap.len();
     if !model::is_allowed(len) {

@@ -22,7 +22,8 @@ use Rattle.image_model.specs.declared.Form.{Form}
 use Rattle.image_model.specs.declared.ImageRefusal.{ImageRefusal}
 use Rattle.image_model.specs.Items.{every, all-zero}
 use Rattle.image_model.specs.Stream.{form-1, form-2, form-numbered, marks-right, entries-at, entry-width, record-width, records-at, head-length}
-use Rattle.image_model.specs.Reading.{entry-right, record-right, marks-in, length-in, form-in, form-of, size-in, accounts-in, items-right, contents-right}
+use Rattle.image_model.specs.Reading.{entry-right, record-right, marks-in, length-in, form-in, form-of, size-in, accounts-of, accounts-in, items-right}
+use Rattle.image_model.specs.Reading.{contents-right}
 use Rattle.image_model.specs.Answers.{image-refusal-number}
 use Rattle.image_model.specs.Images.{line-21, line-22, line-23, line-24, shape-lines}
 use Rattle.image_model.proofs.Places.{form-is-known, known-shaped}
@@ -247,3 +248,29 @@ parts-of-injective p q e =
     let s = sym (shape-back (p .shape) (p .accounts)) ∙ ap shape-from e ∙ shape-back (q .shape) (q .accounts) in
     let k = sym (accounts-back (p .shape) (p .accounts)) ∙ ap (λ (x : Parts). x .accounts) e ∙ accounts-back (q .shape) (q .accounts) in
     λ i. record { accounts = k i; shape = s i }
+
+-- a shape stands with the accounts that the image has
+own-accounts : (i : List ℕ) (s : Shape) (k : Accounts) → shape-parts s k ≡ parts-in i → shape-parts s (parts-in i .accounts) ≡ parts-in i
+own-accounts i s k e = ap (shape-parts s) (sym (ap (λ (x : Parts). x .accounts) e) ∙ accounts-back s k) ∙ e
+
+pub refused-shape : (i : List ℕ) (r : ImageRefusal) → first-refusal (shape-lines i) ≡ image-refusal-number r
+    → shape-parts (Refused r) (parts-in i .accounts) ≡ parts-in i
+refused-shape i r l = own-accounts i (Refused r) zero-accounts (refused-parts i (record { accounts = zero-accounts; shape = Refused r }) r refl l)
+
+pub found-shape : (i : List ℕ) (f : Form) (n : ℕ) → first-refusal (shape-lines i) ≡ 0 → f ≡ form-of i → n ≡ size-in i
+    → shape-parts (Image f n) (parts-in i .accounts) ≡ parts-in i
+unfolding shape-parts
+found-shape i f n l e g =
+    own-accounts i (Image f n) (accounts-in i) (found-parts i f n (accounts-in i) (record { lines = l; form = e; size = g; accounts = refl }))
+
+-- what was found by a shape: the accounts are those that a stream of its form says
+pub shape-found : (i : List ℕ) (s : Shape) (f : Form) (n : ℕ) → shape-parts s (parts-in i .accounts) ≡ parts-in i → s ≡ Image f n
+    → Found i f n (accounts-of f (stream-of i))
+unfolding accounts-in
+shape-found i s f n told e =
+    let w = image-found i (record { accounts = parts-in i .accounts; shape = s }) f n told e in
+    record { lines = w .lines; form = w .form; size = w .size; accounts = ap (λ (x : Form). accounts-of x (stream-of i)) (w .form) }
+
+pub shape-refused : (i : List ℕ) (s : Shape) (r : ImageRefusal) → shape-parts s (parts-in i .accounts) ≡ parts-in i → s ≡ Refused r
+    → first-refusal (shape-lines i) ≡ image-refusal-number r
+shape-refused i s r told e = refused-found i (record { accounts = parts-in i .accounts; shape = s }) r told e

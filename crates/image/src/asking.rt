@@ -58,7 +58,7 @@ pub fn examine(image: &[u8]) -> Parsed
     let Shape::Image(form, size) = shape else {
         return parsed;
     };
-    let from = heap_at(form) as u32;
+    let from = heap_at(form) as u16;
     if !is_sound(image, from, size, accounts) {
         return refused(ImageRefusal::Unsound);
     }

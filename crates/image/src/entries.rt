@@ -5,12 +5,14 @@ use crate::numbers::wide;
 use accounts::ALL_PERMISSIONS;
 use accounts::QUOTAS;
 use accounts::Quota;
+use words::WORDS;
 ghost use mathlib.Core.Path.{_≡_};
 ghost use mathlib.Core.Bool.{cond};
 ghost use mathlib.Core.List.{_++_};
 ghost use Prim.Native.Nat.{_+_, _*_, _≤_, _<_, _^_};
 ghost use lib.ListN.{length, take, drop, getD, replicate};
 ghost use Rattle.accounts.specs.Accounts.{QUOTAS, ALL-PERMISSIONS};
+ghost use Rattle.words.specs.Words.{quotas-of};
 ghost use Rattle.layout.specs.Bytes.{bytes, overwrite};
 ghost use Rattle.model.specs.Lists.{all};
 ghost use Rattle.framing.specs.Frames.{stream-of};
@@ -21,12 +23,13 @@ ghost use Rattle.image_model.specs.declared.Form.{Form};
 ghost use Rattle.image.specs.Parsing.{width-of};
 
 // Whether each quota has every permission.
-pub(crate) fn are_permitted(quotas: [Quota; QUOTAS]) -> bool
-    ensures { λ r. ⌜ r ≡ all all-permitted quotas ⌝ }
+pub(crate) fn are_permitted(words: &[u32; WORDS]) -> bool
+    ensures { λ r. ⌜ r ≡ all all-permitted (quotas-of (now (words .entry))) ⌝ }
 {
     let mut i: usize = 0;
     while i < QUOTAS {
-        if quotas[i].permissions != ALL_PERMISSIONS {
+        let quota = words::quota_at(words, i);
+        if quota.permissions != ALL_PERMISSIONS {
             return false;
         }
         i += 1;
@@ -35,12 +38,13 @@ pub(crate) fn are_permitted(quotas: [Quota; QUOTAS]) -> bool
 }
 
 // Whether no quota from one on has a grant.
-pub(crate) fn no_grants(quotas: [Quota; QUOTAS], from: usize) -> bool
-    ensures { λ r. ⌜ r ≡ all no-grant (drop from quotas) ⌝ }
+pub(crate) fn no_grants(words: &[u32; WORDS], from: usize) -> bool
+    ensures { λ r. ⌜ r ≡ all no-grant (drop from (quotas-of (now (words .entry)))) ⌝ }
 {
     let mut i = from;
     while i < QUOTAS {
-        if quotas[i].grant != 0 {
+        let quota = words::quota_at(words, i);
+        if quota.grant != 0 {
             return false;
         }
         i += 1;
@@ -69,14 +73,15 @@ fn write_entry(head: &mut [u8], at: usize, quota: Quota, full: bool)
 }
 
 // The entries of the first quotas, so many of them.
-pub(crate) fn write_entries(head: &mut [u8], quotas: [Quota; QUOTAS], count: usize, full: bool)
+pub(crate) fn write_entries(head: &mut [u8], words: &[u32; WORDS], count: usize, full: bool)
     requires { ⌜ (count ≤ QUOTAS) × (12 + count * width-of full ≤ length (now head)) ⌝ }
-    ensures { λ _. ⌜
-        ((f : Form) → f .full ≡ full → now (head .exit) ≡ overwrite entries-at (many (entry-bytes f) (take count quotas)) (now (head .entry))) ⌝ }
+    ensures { λ _. ⌜ ((f : Form) → f .full ≡ full → now (head .exit)
+        ≡ overwrite entries-at (many (entry-bytes f) (take count (quotas-of (now (words .entry))))) (now (head .entry))) ⌝ }
 {
     let mut i: usize = 0;
     while i < count {
-        write_entry(head, entry_at(i, full), quotas[i], full);
+        let quota = words::quota_at(words, i);
+        write_entry(head, entry_at(i, full), quota, full);
         i += 1;
     }
 }
@@ -92,7 +97,7 @@ fn read_permissions(image: &[u8], at: usize, full: bool) -> u8
 }
 
 // The quota of the entry at a place of the stream.
-fn read_entry(image: &[u8], at: usize, full: bool) -> Quota
+pub(crate) fn read_entry(image: &[u8], at: usize, full: bool) -> Quota
     requires { ⌜ at + 12 < 2 ^ 32 ⌝ }
     ensures { λ r. ⌜ ((f : Form) → f .full ≡ full → r ≡ entry-of f (take (entry-width f) (drop at (stream-of (now (image .entry)))))) ⌝ }
 {

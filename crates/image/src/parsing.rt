@@ -24,7 +24,7 @@ ghost use Rattle.framing.specs.Frames.{stream-of};
 ghost use Rattle.image_model.specs.Items.{all-zero};
 ghost use Rattle.image_model.specs.Reading.{accounts-of, contents-right, form-of, length-in};
 ghost use Rattle.image.specs.declared.Shape.the-variants.{Refused};
-ghost use Rattle.image.specs.Parsing.{FormFits, parts-in, parts-of};
+ghost use Rattle.image.specs.Parsing.{FormFits, shape-parts, parts-in, parts-of};
 
 // Whether all bytes of the stream from a place on are zero.
 fn zero_from(image: &[u8], from: usize) -> bool
@@ -92,31 +92,42 @@ pub(crate) fn refused(refusal: ImageRefusal) -> Parsed
     }
 }
 
+// What an image is by its own bytes, whatever they are: the parts that it has but its accounts.
+pub fn shape_of(image: &[u8]) -> Shape
+    ensures { λ r. ⌜ shape-parts r (parts-in (now (image .entry)) .accounts) ≡ parts-in (now (image .entry)) ⌝ }
+{
+    if image.len() == 0 {
+        return Shape::Refused(ImageRefusal::ImageLength);
+    }
+    if image.len() % 512 != 0 {
+        return Shape::Refused(ImageRefusal::ImageLength);
+    }
+    if !framing::all_right(image) {
+        return Shape::Refused(ImageRefusal::FrameWrong);
+    }
+    let FormAnswer::Known(form) = form_numbered(read_pair(image, 0)) else {
+        return Shape::Refused(ImageRefusal::FormNumber);
+    };
+    if !marks_right(image, form.full) {
+        return Shape::Refused(ImageRefusal::FormNumber);
+    }
+    let size = read_quad(image, 4) as usize;
+    if !contents_right(image, form, size) {
+        return Shape::Refused(ImageRefusal::Contents);
+    }
+    Shape::Image(form, size)
+}
+
 // What an image says by its own bytes, whatever they are.
 pub fn parse_image(image: &[u8]) -> Parsed
     ensures { λ r. ⌜ parts-of r ≡ parts-in (now (image .entry)) ⌝ }
 {
-    if image.len() == 0 {
-        return refused(ImageRefusal::ImageLength);
-    }
-    if image.len() % 512 != 0 {
-        return refused(ImageRefusal::ImageLength);
-    }
-    if !framing::all_right(image) {
-        return refused(ImageRefusal::FrameWrong);
-    }
-    let FormAnswer::Known(form) = form_numbered(read_pair(image, 0)) else {
-        return refused(ImageRefusal::FormNumber);
-    };
-    if !marks_right(image, form.full) {
-        return refused(ImageRefusal::FormNumber);
-    }
-    let size = read_quad(image, 4) as usize;
-    if !contents_right(image, form, size) {
-        return refused(ImageRefusal::Contents);
-    }
-    Parsed {
-        accounts: read_accounts(image, form),
-        shape: Shape::Image(form, size),
+    let shape = shape_of(image);
+    match shape {
+        Shape::Image(form, size) => Parsed {
+            accounts: read_accounts(image, form),
+            shape: Shape::Image(form, size),
+        },
+        Shape::Refused(refusal) => refused(refusal),
     }
 }

@@ -3,11 +3,13 @@ use crate::numbers::read_pair;
 use crate::numbers::read_quad;
 use accounts::HOLDS;
 use accounts::Hold;
+use words::WORDS;
 ghost use mathlib.Core.Path.{_≡_};
 ghost use mathlib.Core.List.{_++_};
 ghost use Prim.Native.Nat.{_+_, _*_, _≤_, _<_, _^_};
 ghost use lib.ListN.{length, take, drop};
 ghost use Rattle.accounts.specs.Accounts.{HOLDS, unused};
+ghost use Rattle.words.specs.Words.{holds-of};
 ghost use Rattle.layout.specs.Bytes.{bytes, overwrite};
 ghost use Rattle.model.specs.Lists.{all};
 ghost use Rattle.framing.specs.Frames.{stream-of};
@@ -17,12 +19,13 @@ ghost use Rattle.image_model.specs.Reading.{record-of, record-right};
 ghost use Rattle.image_model.specs.declared.Form.{Form};
 
 // Whether no record from a place on is used.
-pub(crate) fn none_used(holds: [Hold; HOLDS], from: usize) -> bool
-    ensures { λ r. ⌜ r ≡ all unused (drop from holds) ⌝ }
+pub(crate) fn none_used(words: &[u32; WORDS], from: usize) -> bool
+    ensures { λ r. ⌜ r ≡ all unused (drop from (holds-of (now (words .entry)))) ⌝ }
 {
     let mut i = from;
     while i < HOLDS {
-        if holds[i].is_used() {
+        let hold = words::hold_at(words, i);
+        if hold.is_used() {
             return false;
         }
         i += 1;
@@ -50,19 +53,20 @@ fn write_record(head: &mut [u8], at: usize, hold: Hold)
 }
 
 // The first records, so many of them, from a place of the head on.
-pub(crate) fn write_records(head: &mut [u8], at: usize, holds: [Hold; HOLDS], count: usize)
+pub(crate) fn write_records(head: &mut [u8], at: usize, words: &[u32; WORDS], count: usize)
     requires { ⌜ (count ≤ HOLDS) × (at + count * 8 ≤ length (now head)) ⌝ }
-    ensures { λ _. ⌜ now (head .exit) ≡ overwrite at (many record-bytes (take count holds)) (now (head .entry)) ⌝ }
+    ensures { λ _. ⌜ now (head .exit) ≡ overwrite at (many record-bytes (take count (holds-of (now (words .entry))))) (now (head .entry)) ⌝ }
 {
     let mut i: usize = 0;
     while i < count {
-        write_record(head, at + i * 8, holds[i]);
+        let hold = words::hold_at(words, i);
+        write_record(head, at + i * 8, hold);
         i += 1;
     }
 }
 
 // The record at a place of the stream.
-fn read_record(image: &[u8], at: usize) -> Hold
+pub(crate) fn read_record(image: &[u8], at: usize) -> Hold
     requires { ⌜ at + 8 < 2 ^ 32 ⌝ }
     ensures { λ r. ⌜ r ≡ record-of (take record-width (drop at (stream-of (now (image .entry))))) ⌝ }
 {

@@ -6,6 +6,9 @@ mod exports;
 mod replies;
 
 pub use exports::lokhazim_image_examine;
+pub use exports::lokhazim_image_in_place_read;
+pub use exports::lokhazim_image_in_place_write;
+pub use exports::lokhazim_image_in_place_write_form_1;
 pub use exports::lokhazim_image_length;
 pub use exports::lokhazim_image_length_form_1;
 pub use exports::lokhazim_image_move_down;

@@ -2,7 +2,6 @@
 use crate::ExamineReply;
 use crate::ImageReply;
 use crate::RestoreReply;
-use image::Parsed;
 use image::Shape;
 use image_model::ReadAnswer;
 use image_model::ReadResult;
@@ -12,7 +11,7 @@ ghost use Prim.Native.Nat.{ℕ};
 ghost use mathlib.Core.List.{List};
 ghost use Rattle.accounts.specs.declared.Accounts.{Accounts};
 ghost use Rattle.image_model.specs.Answers.{imaged, restored-to};
-ghost use Rattle.image.specs.Parsing.{parts-of};
+ghost use Rattle.image.specs.Parsing.{shape-parts};
 ghost use Rattle.image_api.specs.Replies.{image-reply, restore-reply, examine-reply};
 
 // The reply of the writer.
@@ -32,7 +31,7 @@ pub(crate) fn reply_of_write(answer: WriteAnswer) -> ImageReply
 }
 
 // The refusal's number, 0 where there is none.
-fn number_of(answer: ReadAnswer) -> u32
+pub(crate) fn number_of(answer: ReadAnswer) -> u32
     ensures { λ r. ⌜ ((s : List ℕ) (k : Accounts) → record { heap = s; accounts = k; refusal = r } ≡ restored-to s k answer) ⌝ }
 {
     match answer {
@@ -54,10 +53,9 @@ pub(crate) fn reply_of_read(result: ReadResult) -> RestoreReply
 }
 
 // The reply on an image's own bytes.
-pub(crate) fn reply_of_parsed(parsed: Parsed) -> ExamineReply
-    ensures { λ r. ⌜ r ≡ examine-reply (parts-of parsed) ⌝ }
+pub(crate) fn reply_of_shape(shape: Shape) -> ExamineReply
+    ensures { λ r. ⌜ ((k : Accounts) → r ≡ examine-reply (shape-parts shape k)) ⌝ }
 {
-    let shape = parsed.shape;
     match shape {
         Shape::Image(form, size) => ExamineReply {
             refusal: 0,

@@ -92,14 +92,16 @@ module _ (a n : ℕ) (positive : 0 < a) where
   no-higher base at back (x ∷ xs) f ys e multiple low high =
       go (has-room a n (placed at back x)) refl (no-higher base (at + size x) (units x) xs f ys e multiple (omega arith) (omega arith))
     where
-      go : (t : Bool) → has-room a n (placed at back x) ≡ t → (m : Met) × (first (has-room a n) (met-of (at + size x) (units x) (xs ++ (f ∷ ys))) ≡ some m) × (base-in a m ≤ base)
+      go : (t : Bool) → has-room a n (placed at back x) ≡ t
+          → (m : Met) × (first (has-room a n) (met-of (at + size x) (units x) (xs ++ (f ∷ ys))) ≡ some m) × (base-in a m ≤ base)
           → (m : Met) × (first (has-room a n) (met-of at back (x ∷ xs ++ (f ∷ ys))) ≡ some m) × (base-in a m ≤ base)
       go true t ih = (placed at back x, rw t, omega (arith, room-ends a n (placed at back x) t))
       go false t ih = (ih .0, rw t (ih .1), ih .2)
 
   module _ (s : List ℕ) (bs : List Block) (e : parse s ≡ some bs) (apart : free-apart bs ≡ true) where
     -- so a suitable multiple of a is no lower than the base of the first block that has room
-    suitable-found : (base : ℕ) → base % a ≡ 0 → suitable (length s) bs n base ≡ true → (m : Met) × (first (has-room a n) (met s) ≡ some m) × (base-in a m ≤ base)
+    suitable-found : (base : ℕ) → base % a ≡ 0 → suitable (length s) bs n base ≡ true
+        → (m : Met) × (first (has-room a n) (met s) ≡ some m) × (base-in a m ≤ base)
     suitable-found base multiple fits =
         let t : length s ≡ total size bs = sym (total-parsed s bs e) ∙ total-is bs in
         let c = carved base n 0 bs apart (rw t at fits) in
@@ -122,7 +124,8 @@ module _ (a n : ℕ) (positive : 0 < a) where
         let place = w .place in
         let sized = w .sized in
         let t = total-parsed s bs e in
-        let l : total-size bs ≡ total-size (w .front) + (size (w .block) + total-size (w .behind)) = ap total-size (w .split) ∙ size-append (w .front) (w .block ∷ w .behind) in
+        let l : total-size bs ≡ total-size (w .front) + (size (w .block) + total-size (w .behind)) = ap total-size (w .split)
+        ∙ size-append (w .front) (w .block ∷ w .behind) in
         let out = outside-free (b - 8) (b + n) 0 (w .front) (w .block) (w .behind) free (omega arith) (omega arith) in
         rw (le-leb 8 b (omega arith), le-leb (b + n) (length s) (omega arith), w .split) out
 
@@ -139,7 +142,8 @@ module _ (a n : ℕ) (positive : 0 < a) where
         let low : m .at + 8 ≤ b = rw is at (multiple-behind a positive (m .at + 8)) in
         let high : b + n ≤ m .at + m .size = rw is at (room-ends a n m t) in
         record {
-          lowest = rw (blocks-parsed s bs e) (some-lowest (length s) bs a n positive b (record { multiple = multiple; fits = run-suitable m w free b low high; lower = none-lower m b f is }));
+          lowest = rw (blocks-parsed s bs e)
+              (some-lowest (length s) bs a n positive b (record { multiple = multiple; fits = run-suitable m w free b low high; lower = none-lower m b f is }));
           stands = w;
           free = free;
           multiple = multiple;

@@ -26,7 +26,8 @@ as-object none = none
 as-object (some m) = some (object-met m)
 
 -- the first object that passes a test is that of the first live block whose object does
-first-object : (p : Handle → Bool) (at back : ℕ) (bs : List Block) → first p (objects-from at bs) ≡ as-object (first (λ m. live-met m && p (object-met m)) (met-of at back bs))
+first-object : (p : Handle → Bool) (at back : ℕ) (bs : List Block)
+    → first p (objects-from at bs) ≡ as-object (first (λ m. live-met m && p (object-met m)) (met-of at back bs))
 unfolding first objects-from met-of
 first-object p at back [] = refl
 first-object p at back (b ∷ bs) = go (live b) (p (object at b)) refl refl (first-object p (at + size b) (units b) bs)

@@ -80,7 +80,8 @@ walked-step fuel back at s bs e rest (Starts h) p = go (eqb (h .back) back) refl
     block : Block
     block = read-block (drop at s)
 
-    behind : (o : Option (List Block)) → cut (h .size) (drop (at + 8 * h .size) s) ≡ o → h .back ≡ back → in-front block o ≡ some bs → Walked (suc fuel) back at s bs
+    behind : (o : Option (List Block)) → cut (h .size) (drop (at + 8 * h .size) s) ≡ o → h .back ≡ back → in-front block o ≡ some bs
+        → Walked (suc fuel) back at s bs
     behind none r q t = let z : _≡_ {A = ℕ} 0 1 = cc in absurd (omega arith)
     behind (some rs) r q t =
         let eq : block ∷ rs ≡ bs = cc in
@@ -140,7 +141,8 @@ found-stands p xs (b ∷ bs) m e = go (p (placed (total-size xs) (back-after 0 x
     here = record { front = xs; block = b; behind = bs; split = refl; place = refl; sized = refl; back = refl; serial = refl }
 
     go : (x : Bool) → p (placed (total-size xs) (back-after 0 xs) b) ≡ x
-        → (first p (met-of (total-size (xs ++ (b ∷ []))) (back-after 0 (xs ++ (b ∷ []))) bs) ≡ some m → Stands (xs ++ (b ∷ []) ++ bs) m) → Stands (xs ++ (b ∷ bs)) m
+        → (first p (met-of (total-size (xs ++ (b ∷ []))) (back-after 0 (xs ++ (b ∷ []))) bs) ≡ some m → Stands (xs ++ (b ∷ []) ++ bs) m)
+        → Stands (xs ++ (b ∷ bs)) m
     go true t ih =
         let q : placed (total-size xs) (back-after 0 xs) b ≡ m = cc in
         rw q at here

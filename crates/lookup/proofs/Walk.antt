@@ -109,7 +109,8 @@ module _ (p : Met → Bool) (s : List ℕ) where
       Ends : ℕ → Type 0
       Ends k = (x : ℕ) → first p (met-from k x s) ≡ some m → met-at (m .at) s ≡ Found m
 
-      by-test : (k x : ℕ) → Ends k → (b : Met) → met-at x s ≡ Found b → (t : Bool) → cond t (some b) (first p (met-from k (b .at + b .size) s)) ≡ some m → met-at (m .at) s ≡ Found m
+      by-test : (k x : ℕ) → Ends k → (b : Met) → met-at x s ≡ Found b → (t : Bool)
+          → cond t (some b) (first p (met-from k (b .at + b .size) s)) ≡ some m → met-at (m .at) s ≡ Found m
       by-test k x ih b e true f = let q : b ≡ m = cc in rw q at (ap (λ (n : ℕ). met-at n s) (met-known x s b e .place) ∙ e)
       by-test k x ih b e false f = ih (b .at + b .size) f
 

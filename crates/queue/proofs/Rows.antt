@@ -1,13 +1,14 @@
--- Computed rows: sends on both sides of each line and what they leave, receives, and a list of both.
+-- Computed rows: sends on both sides of each line and what they leave, receives, a list of both, and a queue as words.
 -- Assumes nothing.
 use Prim.Native.Nat.{ℕ}
 use mathlib.Core.Path.{_≡_, refl}
 use mathlib.Core.List.{List, [], _∷_, _++_, map}
 use mathlib.Core.Option.{none}
-use lib.ListN.{replicate}
+use lib.ListN.{length, replicate}
 use Rattle.accounts.specs.declared.Hold.{Hold}
 use Rattle.accounts.specs.Accounts.{zero-hold}
 use Rattle.rounding.specs.Rounding.{unit, table}
+use Rattle.words.specs.Words.{table as each-place}
 use Rattle.model.specs.Answers.{zero-handle}
 use Rattle.model.specs.Calls.{Outcome, lend, release}
 use Rattle.model.specs.Marked.{handle}
@@ -21,6 +22,7 @@ use Rattle.queue.specs.declared.Queue.{Queue}
 use Rattle.queue.specs.declared.QueueRefusal.the-variants.{Damaged, Full, Empty, Heap}
 use Rattle.queue.specs.Queue.{PLACES, empty-queue, waiting, with-handle, without-oldest, line-53, line-51, line-52, line-of, Sent, sent-unless}
 use Rattle.queue.specs.Queue.{send-lines, send, received-unless, receive-lines, receive}
+use Rattle.queue.specs.Places.{QUEUE-WORDS, handles-of, queue-of}
 use Rattle.queue.specs.Results.{queue-refusal-number}
 use Rattle.queue.specs.Runs.{by-rules, QueueCall, Sends, Receives, and-then, next, traffic}
 use Rattle.queue.specs.Packets.{send-events}
@@ -154,3 +156,17 @@ list-rows = (refl, refl, refl)
 
 number-rows : map queue-refusal-number (Full ∷ Empty ∷ Damaged ∷ Heap Inconsistent ∷ Heap NotPermitted ∷ []) ≡ 51 ∷ 52 ∷ 53 ∷ 2 ∷ 12 ∷ []
 number-rows = refl
+
+-- the queue that 51 words hold: numbers in the first words and in those of the first and the last place
+words : List ℕ
+words = 1 ∷ 2 ∷ 3 ∷ 10 ∷ 11 ∷ 12 ∷ (replicate 42 0 ++ (20 ∷ 21 ∷ 22 ∷ []))
+
+words-rows : (length words ≡ QUEUE-WORDS)
+    × (queue-of words ≡ record {
+      sender = 1;
+      receiver = 2;
+      count = 3;
+      handles = handle 10 11 12 ∷ (replicate 14 zero-handle ++ (handle 20 21 22 ∷ []));
+    })
+unfolding words handles-of each-place
+words-rows = (refl, refl)

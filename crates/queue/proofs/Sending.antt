@@ -2,7 +2,7 @@
 -- Assumes nothing.
 use Prim.Native.Nat.{ℕ, zero, suc, _≤_, _<_}
 use native.Mathlib.Omega.{arith}
-use mathlib.Core.Path.{_≡_, ap, sym, _∙_}
+use mathlib.Core.Path.{_≡_, refl, ap, sym, _∙_}
 use mathlib.Core.List.{List, [], _∷_}
 use lib.ListN.{getD}
 use borrow.Author.Tests.{lt-ltb, le-ltb, eq-eqb, ne-eqb}
@@ -14,6 +14,7 @@ use Rattle.model.specs.Calls.{Outcome, claim, release, can-release}
 use Rattle.model.specs.Step.{step}
 use Rattle.model.specs.declared.Handle.{Handle}
 use Rattle.model.specs.declared.Call.the-variants.{Claim}
+use Rattle.model.proofs.Refusals.{refused-changes-nothing}
 use Rattle.model.proofs.StepFrame.{step-keeps}
 use Rattle.queue.specs.declared.Queue.{Queue}
 use Rattle.queue.specs.Queue.{PLACES, with-handle, without-oldest, line-53, line-51, line-52, line-of, Sent, sent-unless, send-lines, send}
@@ -38,6 +39,18 @@ pub line-none : (t : Outcome) (rest : List Line) → t .values .refusal ≡ 0 �
 unfolding line-of first-refusal
 line-none t rest e = rw e
 
+-- a claim that is refused leaves the accounts
+claim-refused : (unit : ℕ → ℕ) (s : List ℕ) (k : Accounts) (q : ℕ) (h : Handle) (k₁ : Accounts) (v : Values)
+    → record { heap = s; accounts = k₁; values = v } ≡ claim unit s k q h → 0 < v .refusal → k₁ ≡ k
+unfolding step
+claim-refused unit s k q h k₁ v e p = go (v .refusal) refl
+  where
+    go : (n : ℕ) → v .refusal ≡ n → k₁ ≡ k
+    go zero z = absurd (omega arith)
+    go (suc n) z =
+        ap (λ (t : Outcome). t .accounts) e
+        ∙ ap (λ (t : Outcome). t .accounts) (refused-changes-nothing unit (Claim q h) s k n (sym (ap (λ (t : Outcome). t .values .refusal) e) ∙ z))
+
 module _ (unit : ℕ → ℕ) (s : List ℕ) (k : Accounts) (u : Queue) (h : Handle) where
   pub send-damaged : PLACES < u .count → kept s k u 53 ≡ send unit s k u h
   unfolding send send-lines line-53 first-refusal
@@ -60,6 +73,13 @@ module _ (unit : ℕ → ℕ) (s : List ℕ) (k : Accounts) (u : Queue) (h : Han
       send-unclaimed n e p =
           sym (kept-unless s k u _ _ n
           (heap-lines ∙ line-gives (claim unit s k (u .receiver) h) (line-of (can-release unit s k (u .sender) h) ∷ []) n e p) p)
+
+      -- the same of a claim that was made
+      pub send-stopped : (k₁ : Accounts) (v : Values) → record { heap = s; accounts = k₁; values = v } ≡ claim unit s k (u .receiver) h → 0 < v .refusal
+          → kept s k₁ u (v .refusal) ≡ send unit s k u h
+      send-stopped k₁ v e p =
+          let same = claim-refused unit s k (u .receiver) h k₁ v e p in
+          ap (λ (a : Accounts). kept s a u (v .refusal)) same ∙ send-unclaimed (v .refusal) (sym (ap (λ (t : Outcome). t .values .refusal) e)) p
 
       module _ (claims : claim unit s k (u .receiver) h .values .refusal ≡ 0) where
         release-line : first-refusal (send-lines unit s k u h) ≡ first-refusal (line-of (can-release unit s k (u .sender) h) ∷ [])

@@ -1,5 +1,6 @@
 -- The crate's definitions.
 pub mod Queue
+pub mod Places
 pub mod Results
 pub mod Runs
 pub mod Packets

@@ -11,9 +11,9 @@ use Rattle.queue.specs.declared.SendAnswer.the-variants.{Sent as Accepte
 use Rattle.queue.specs.declared.ReceiveAnswer.{ReceiveAnswer}
 use Rattle.queue.specs.declared.ReceiveAnswer.the-variants.{Given, Refused as NotGiven}
 use Rattle.queue.specs.declared.SendResult.{SendResult}
-use Rattle.queue.specs.declared.SentQueue.{SentQueue}
 use Rattle.queue.specs.declared.ReceiveResult.{ReceiveResult}
 use Rattle.queue.specs.Queue.{Sent, Received}
+use Rattle.queue.specs.Places.{queue-of}
 
 abbrev pub queue-refusal-number : QueueRefusal → ℕ
 queue-refusal-number Damaged = 53
@@ -36,9 +36,12 @@ receive-handle (NotGiven r) = zero-handle
 abbrev pub send-outcome : List ℕ → SendResult → Sent
 send-outcome s r = record { heap = s; accounts = r .accounts; queue = r .queue; refusal = send-number (r .answer) }
 
--- a send over words: the accounts that they hold at its exit, and the queue and the answer that it gives, as one result
-abbrev pub send-result : List ℕ → SentQueue → SendResult
-send-result words r = record { accounts = accounts-of words; queue = r .queue; answer = r .answer }
+-- a send over words: the accounts and the queue that they hold at its exit, and the answer that it gives, as one result
+abbrev pub send-result : List ℕ → List ℕ → SendAnswer → SendResult
+send-result words queue a = record { accounts = accounts-of words; queue = queue-of queue; answer = a }
 
 abbrev pub receive-outcome : ReceiveResult → Received
 receive-outcome r = record { queue = r .queue; refusal = receive-number (r .answer); handle = receive-handle (r .answer) }
+
+abbrev pub receive-result : List ℕ → ReceiveAnswer → ReceiveResult
+receive-result queue a = record { queue = queue-of queue; answer = a }

@@ -12,8 +12,11 @@ ghost use Rattle.queue.specs.Queue.{PLACES, empty-queue, with-handle, wi
 ghost use Rattle.queue.specs.Results.{queue-refusal-number, send-outcome, receive-outcome};
 
 mod in_place;
+mod places;
 
+pub use in_place::receive_in_place;
 pub use in_place::send_in_place;
+pub use places::QUEUE_WORDS;
 
 // How many handles a queue has room for.
 pub const PLACES: usize = 16;
@@ -50,12 +53,6 @@ pub enum ReceiveAnswer {
 // What a send gives: the accounts and the queue after it, and its answer.
 pub struct SendResult {
     pub accounts: Accounts,
-    pub queue: Queue,
-    pub answer: SendAnswer,
-}
-
-// What a send over the accounts where they lie gives: the queue after it, and its answer.
-pub struct SentQueue {
     pub queue: Queue,
     pub answer: SendAnswer,
 }

@@ -1,19 +1,22 @@
 // The exported functions, each the one of `queue` and its answer as numbers.
-use crate::QueueReply;
+use crate::OldestReply;
 use crate::ReceiveReply;
 use crate::SendReply;
+use crate::replies::number_of;
+use crate::replies::oldest_of;
 use crate::replies::reply_of_receive;
 use crate::replies::reply_of_send;
-use crate::replies::reply_of_sent;
 use accounts::Accounts;
 use model::Handle;
+use queue::QUEUE_WORDS;
 use queue::Queue;
 use words::WORDS;
 ghost use mathlib.Core.Path.{_≡_};
 ghost use Rattle.rounding.specs.Rounding.{table};
 ghost use Rattle.words.specs.Words.{edition-of, accounts-of, Padded};
 ghost use Rattle.queue.specs.Queue.{empty-queue, send, receive};
-ghost use Rattle.queue_api.specs.Replies.{send-reply, in-words, receive-reply};
+ghost use Rattle.queue.specs.Places.{queue-of};
+ghost use Rattle.queue_api.specs.Replies.{send-reply, sent-in, receive-reply, received-in};
 
 // A queue with nothing on its way from one quota to another.
 #[no_mangle]
@@ -36,19 +39,19 @@ pub extern "C" fn lokhazim_queue_send(
     reply_of_send(queue::send(heap, accounts, queue, handle))
 }
 
-// The same over the accounts where they lie.
+// The same over the accounts and the queue where they lie; the number is the refusal's.
 #[no_mangle]
 pub extern "C" fn lokhazim_queue_in_place_send(
     heap: &mut [u8],
     words: &mut [u32; WORDS],
-    queue: Queue,
+    queue: &mut [u32; QUEUE_WORDS],
     handle: Handle,
-) -> QueueReply
-    ensures holds { λ r. ⌜ send-reply (now (heap .exit)) (in-words (now (words .exit)) r)
-        ≡ send (table (edition-of (now (words .entry)))) (now (heap .entry)) (accounts-of (now (words .entry))) queue handle ⌝ }
+) -> u32
+    ensures holds { λ r. ⌜ send-reply (now (heap .exit)) (sent-in (now (words .exit)) (now (queue .exit)) r)
+        ≡ send (table (edition-of (now (words .entry)))) (now (heap .entry)) (accounts-of (now (words .entry))) (queue-of (now (queue .entry))) handle ⌝ }
     ensures pads { λ _. ⌜ Padded (now (words .entry)) (now (words .exit)) ⌝ }
 {
-    reply_of_sent(queue::send_in_place(heap, words, queue, handle))
+    number_of(queue::send_in_place(heap, words, queue, handle))
 }
 
 // The oldest handle is given.
@@ -57,4 +60,12 @@ pub extern "C" fn lokhazim_queue_receive(queue: Queue) -> ReceiveReply
     ensures { λ r. ⌜ receive-reply r ≡ receive queue ⌝ }
 {
     reply_of_receive(queue::receive(queue))
+}
+
+// The same over the queue where it lies.
+#[no_mangle]
+pub extern "C" fn lokhazim_queue_in_place_receive(queue: &mut [u32; QUEUE_WORDS]) -> OldestReply
+    ensures { λ r. ⌜ receive-reply (received-in (now (queue .exit)) r) ≡ receive (queue-of (now (queue .entry))) ⌝ }
+{
+    oldest_of(queue::receive_in_place(queue))
 }

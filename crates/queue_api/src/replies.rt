@@ -1,5 +1,5 @@
 // An answer as numbers: one function for each answer type.
-use crate::QueueReply;
+use crate::OldestReply;
 use crate::ReceiveReply;
 use crate::SendReply;
 use model::Handle;
@@ -7,15 +7,14 @@ use queue::ReceiveAnswer;
 use queue::ReceiveResult;
 use queue::SendAnswer;
 use queue::SendResult;
-use queue::SentQueue;
 ghost use Prim.Native.Nat.{ℕ};
 ghost use mathlib.Core.Path.{_≡_};
 ghost use mathlib.Core.List.{List};
-ghost use Rattle.queue.specs.Results.{send-number, send-outcome, receive-outcome};
+ghost use Rattle.queue.specs.Results.{send-number, send-outcome, receive-number, receive-handle, receive-outcome};
 ghost use Rattle.queue_api.specs.Replies.{send-reply, receive-reply};
 
 // The refusal's number, 0 where the handle is sent.
-fn number_of(answer: SendAnswer) -> u32
+pub(crate) fn number_of(answer: SendAnswer) -> u32
     ensures { λ r. ⌜ r ≡ send-number answer ⌝ }
 {
     match answer {
@@ -38,16 +37,23 @@ pub(crate) fn reply_of_send(result: SendResult) -> SendReply
     }
 }
 
-// The reply of send over the accounts where they lie.
-pub(crate) fn reply_of_sent(result: SentQueue) -> QueueReply
-    ensures { λ r. ⌜ r ≡ record { queue = result .queue; refusal = send-number (result .answer) } ⌝ }
+// The refusal's number and the handle of an answer, 0 and the oldest handle where it is given.
+pub(crate) fn oldest_of(answer: ReceiveAnswer) -> OldestReply
+    ensures { λ r. ⌜ r ≡ record { refusal = receive-number answer; handle = receive-handle answer } ⌝ }
 {
-    let queue = result.queue;
-    let answer = result.answer;
-    let refusal = number_of(answer);
-    QueueReply {
-        queue: queue,
-        refusal: refusal,
+    match answer {
+        ReceiveAnswer::Given(handle) => OldestReply {
+            refusal: 0,
+            handle: handle,
+        },
+        ReceiveAnswer::Refused(refusal) => OldestReply {
+            refusal: refusal.number(),
+            handle: Handle {
+                base: 0,
+                length: 0,
+                serial: 0,
+            },
+        },
     }
 }
 
@@ -57,20 +63,11 @@ pub(crate) fn reply_of_receive(result: ReceiveResult) -> ReceiveReply
 {
     let queue = result.queue;
     let answer = result.answer;
-    match answer {
-        ReceiveAnswer::Given(handle) => ReceiveReply {
-            queue: queue,
-            refusal: 0,
-            handle: handle,
-        },
-        ReceiveAnswer::Refused(refusal) => ReceiveReply {
-            queue: queue,
-            refusal: refusal.number(),
-            handle: Handle {
-                base: 0,
-                length: 0,
-                serial: 0,
-            },
-        },
+    let oldest = oldest_of(answer);
+    let handle = oldest.handle;
+    ReceiveReply {
+        queue: queue,
+        refusal: oldest.refusal,
+        handle: handle,
     }
 }

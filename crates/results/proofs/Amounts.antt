@@ -10,6 +10,7 @@ use Rattle.results.specs.Results.{outcome}
 use Rattle.results.specs.declared.AmountResult.{AmountResult}
 use Rattle.results.specs.Results.{amount-outcome}
 
-pub gives : (s : List ℕ) (k : Accounts) (n : ℕ) (r : AmountResult) → r ≡ record { accounts = k; answer = Amount n } → amount-outcome s r ≡ outcome s k (amount-of n)
+pub gives : (s : List ℕ) (k : Accounts) (n : ℕ) (r : AmountResult) → r ≡ record { accounts = k; answer = Amount n }
+    → amount-outcome s r ≡ outcome s k (amount-of n)
 unfolding amount-values
 gives s k n r e = ap (amount-outcome s) e

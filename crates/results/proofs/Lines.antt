@@ -64,7 +64,8 @@ module _ (unit : ℕ → ℕ) (s : List ℕ) (k : Accounts) (v : Verdict) (told 
       after-two (line-1 s) (line-2 unit s k) rest (check-by-lines unit s k .numbered) (sym checked ∙ ap (λ (x : Verdict). verdict-values x .refusal) e)
 
 -- a refused outcome
-pub refused-is : (n : ℕ) (s : List ℕ) (k : Accounts) (done : Outcome) (r : Refusal) → n ≡ refusal-number r → unchanged s k (refused (refusal-number r)) ≡ unless n s k done
+pub refused-is : (n : ℕ) (s : List ℕ) (k : Accounts) (done : Outcome) (r : Refusal) → n ≡ refusal-number r
+    → unchanged s k (refused (refusal-number r)) ≡ unless n s k done
 refused-is n s k done r e = let m = number-some r in rw (m .1) (sym (unless-refused n (m .0) s k done (e ∙ m .1)))
 
 -- an accepted one
@@ -91,7 +92,8 @@ unfolding line-3
 line-3-passes q rest h = line-passes 3 (leb QUOTAS q) rest (lt-leb QUOTAS q h)
 
 -- a state that the check accepts has an allowed length and is consistent
-pub check-consistent : (unit : ℕ → ℕ) (s : List ℕ) (k : Accounts) (v : Verdict) → verdict-values v ≡ check unit s k .values → v ≡ Accepted → (allowed (length s) ≡ true) × (consistent s k ≡ true) × (sound unit s k ≡ true)
+pub check-consistent : (unit : ℕ → ℕ) (s : List ℕ) (k : Accounts) (v : Verdict) → verdict-values v ≡ check unit s k .values → v ≡ Accepted
+    → (allowed (length s) ≡ true) × (consistent s k ≡ true) × (sound unit s k ≡ true)
 unfolding check-lines line-1 line-2 any verdict-values
 check-consistent unit s k v told e =
     let z : check unit s k .values .refusal ≡ 0 = sym (ap (λ (x : Values). x .refusal) told) ∙ ap (λ (x : Verdict). verdict-values x .refusal) e in

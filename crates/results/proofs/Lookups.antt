@@ -70,7 +70,8 @@ module _ (unit : ℕ → ℕ) (s : List ℕ) (k : Accounts) (v : Verdict) (told 
   located h m e =
       let n = lookup-found s (blocks-of s) cut h m e in
       let w = n .stands in
-      let l : total-size (blocks-of s) ≡ total-size (w .front) + (size (w .block) + total-size (w .behind)) = ap total-size (w .split) ∙ size-append (w .front) (w .block ∷ w .behind) in
+      let l : total-size (blocks-of s) ≡ total-size (w .front) + (size (w .block) + total-size (w .behind)) = ap total-size (w .split)
+      ∙ size-append (w .front) (w .block ∷ w .behind) in
       let t = total-parsed s (blocks-of s) cut in
       let b = short in
       let place = w .place in

@@ -12,21 +12,21 @@ use lib.Seq.{getD-set-same, getD-set-other}
 use Rattle.accounts.specs.Accounts.{HOLDS}
 use Rattle.audit.proofs.Cases.{by-eq}
 use Rattle.words.specs.Words.{serial-in}
-use Rattle.survey.specs.Index.{SLOTS, LINKS, FORKED, slot, bits-of, fork, Leads, here, head-of, Head, Reached, Growing, Built}
+use Rattle.survey.specs.Index.{SLOTS, LINKS, END, FORKED, slot, bits-of, fork, Leads, here, head-of, Head, Reached, Growing, Built}
 use Rattle.survey.specs.Contracts.{Hung}
 use Rattle.survey.proofs.Paths.{slot-small, fork-inside, fork-place, leads-kept}
 
-pub built-none : (words : List ℕ) → Built words 0 (replicate SLOTS HOLDS) (replicate LINKS HOLDS)
+pub built-none : (words : List ℕ) → Built words 0 (replicate SLOTS END) (replicate LINKS END)
 built-none words =
     record {
       inside = omega arith;
-      heads-long = length-replicate {A = ℕ} SLOTS HOLDS;
+      heads-long = length-replicate {A = ℕ} SLOTS END;
       growing = record {
-        long = length-replicate {A = ℕ} LINKS HOLDS;
-        flat = λ x l. omega (arith, getD-replicate LINKS x HOLDS 0 l);
-        rising = λ x l h. absurd (omega (arith, getD-replicate LINKS x HOLDS 0 l));
+        long = length-replicate {A = ℕ} LINKS END;
+        flat = λ x l. omega (arith, getD-replicate LINKS x END 0 l);
+        rising = λ x l h. absurd (omega (arith, getD-replicate LINKS x END 0 l));
       };
-      headed = λ x l. inl (getD-replicate SLOTS x HOLDS 0 l);
+      headed = λ x l. inl (getD-replicate SLOTS x END 0 l);
       reached = λ p l. absurd (omega arith);
     }
 
@@ -77,7 +77,7 @@ module _ {words heads links : List ℕ} {i : ℕ} (g : Built words i heads links
         (λ e. subst (Head (i + 1)) (sym (getD-set-other heads k x v 0 e)) (head-more (g .headed x a)))
 
     -- no record is in an empty slot
-    module _ (empty : getD heads k 0 ≡ HOLDS) where
+    module _ (empty : getD heads k 0 ≡ END) where
       nobody : (p : ℕ) → p < i → (serial-in words p ≡ 0 → ⊥) → slot (serial-in words p) ≡ k → ⊥
       nobody p a n e =
           let h = same-slot p e ∙ empty in
@@ -175,8 +175,8 @@ module _ {words heads links : List ℕ} {i : ℕ} (g : Built words i heads links
               (g .reached p a n)
 
       -- in a tree
-      pub built-hung : root ≡ getD heads k 0 - FORKED → HOLDS < getD heads k 0 → Built words (i + 1) heads links′
-      built-hung e forked =
+      pub built-hung : root ≡ getD heads k 0 - FORKED → FORKED ≤ getD heads k 0 → Built words (i + 1) heads links′
+      built-hung e big =
           record {
             inside = omega arith;
             heads-long = g .heads-long;
@@ -185,6 +185,5 @@ module _ {words heads links : List ℕ} {i : ℕ} (g : Built words i heads links
             reached = below-more (λ p. (serial-in words p ≡ 0 → ⊥) → Reached words heads links′ p) i
                 (λ p a n. ⊎-elim inl (λ w. inr (w .0, paths (omega arith) (w .1))) (g .reached p a n))
                 (λ n. let s = same-slot i (sym at) in
-                let big : FORKED ≤ getD heads k 0 = ⊎-elim (λ q. absurd (omega arith)) (⊎-elim (λ q. absurd (omega arith)) (λ w. w .0)) (g .headed k small) in
                 inr (omega (arith, s, big), subst (λ (y : ℕ). Leads links′ (bits-of (serial-in words i)) y i) (omega (arith, s, e)) (h .leads)));
           }

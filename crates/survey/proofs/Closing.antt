@@ -1,51 +1,28 @@
 -- The keys of the open records: a record is closed by its slot where it is alone, or by the flag in its first link, and its key is struck then.
 -- Assumes nothing.
-use Prim.Native.Nat.{ℕ, suc, _+_, _-_, _*_, _/_, _%_, _<_, _≤_}
+use Prim.Native.Nat.{ℕ, suc, _+_, _-_, _<_, _≤_}
 use mathlib.Core.Path.{_≡_, refl, ap, sym, subst, _∙_}
-use mathlib.Core.Bool.{Bool, true, false, cond, _&&_, true≢false}
-use mathlib.Core.List.{List, map}
-use mathlib.Core.Logic.{_⊎_, inl, inr, ⊎-elim}
+use mathlib.Core.Bool.{true, false, cond, _&&_, true≢false}
+use mathlib.Core.List.{List}
 use native.Mathlib.Omega.{arith}
-use borrow.Author.Tests.{eq-eqb, ne-eqb, lt-ltb, le-ltb, le-leb, lt-leb, eqb-true, ltb-true, ltb-false, leb-true}
+use borrow.Author.Tests.{eq-eqb, ne-eqb, lt-ltb, le-ltb, le-leb, lt-leb, eqb-true}
 use lib.Dec.{eqb, ltb, leb}
-use lib.ListN.{length, getD, set, length-set, length-map, List·getD-map}
+use lib.ListN.{length, getD, set, length-set}
 use lib.Seq.{getD-set-same, getD-set-other, ext-getD}
 use Rattle.accounts.specs.Accounts.{QUOTAS, HOLDS, zero-hold}
 use Rattle.model.specs.Lists.{all}
-use Rattle.model.proofs.Bools.{and-left, and-right, and-no}
-use Rattle.audit.specs.Keys.{well-formed, key-of, keys-of, serial-of, quota-of, for-serial}
+use Rattle.audit.specs.Keys.{well-formed, key-of, quota-of, for-serial}
 use Rattle.audit.proofs.Cases.{by-test, by-eq}
 use Rattle.audit.proofs.Tables.{all-at}
-use Rattle.audit.proofs.Records.{key-serial, key-quota, well-quota, no-key}
+use Rattle.audit.proofs.Records.{key-serial, key-quota, well-quota}
 use Rattle.audit.proofs.Striking.{zero-not}
-use Rattle.words.specs.Words.{table, serial-in, quota-in, hold-in, holds-of}
+use Rattle.words.specs.Words.{serial-in, quota-in, hold-in, holds-of}
 use Rattle.words.proofs.Words.{holds-long, holds-at, getD-table, length-table}
-use Rattle.survey.specs.Index.{SLOTS, LINKS, FORKED, CLOSED, slot, bits-of, fork, plain, step, Leads, Ascends, head-of, open-in, key-left, keys-left}
-use Rattle.survey.specs.Index.{waiting, Linked, Head, Built}
-use Rattle.survey.specs.Contracts.{Ready, Index}
-use Rattle.survey.proofs.Paths.{slot-small, fork-inside, fork-place}
+use Rattle.survey.specs.Index.{SLOTS, END, FORKED, CLOSED, slot, bits-of, plain, Leads, Ascends, head-of, open-in}
+use Rattle.survey.specs.Index.{key-left, keys-left, waiting}
+use Rattle.survey.specs.Contracts.{Ready}
 use Rattle.survey.proofs.Waiting.{waiting-struck}
-
--- links without flags
-pub plain-at : (links : List ℕ) (x : ℕ) → getD (plain links) x 0 ≡ getD links x 0 % CLOSED
-unfolding plain
-plain-at links x = List·getD-map (λ v. v % CLOSED) links x 0
-
-plain-long : (links : List ℕ) → length (plain links) ≡ length links
-unfolding plain
-plain-long links = length-map links (λ v. v % CLOSED)
-
-pub plain-closed : (links : List ℕ) (p : ℕ) → p < length links → plain (set links p (getD links p 0 + CLOSED)) ≡ plain links
-plain-closed links p l =
-    let v = getD links p 0 + CLOSED in
-    ext-getD 0 (plain (set links p v)) (plain links) (plain-long (set links p v) ∙ length-set links p v ∙ sym (plain-long links))
-    (λ x h.
-    plain-at (set links p v) x
-    ∙ by-eq x p
-    (λ e. ap (λ (y : ℕ). getD (set links p v) y 0 % CLOSED) e ∙ ap (λ (y : ℕ). y % CLOSED) (getD-set-same links p v 0 l) ∙ omega arith
-    ∙ ap (λ (y : ℕ). getD links y 0 % CLOSED) (sym e))
-    (λ e. ap (λ (y : ℕ). y % CLOSED) (getD-set-other links p x v 0 e))
-    ∙ sym (plain-at links x))
+use Rattle.survey.proofs.Plain.{plain-closed}
 
 module _ (words heads links : List ℕ) where
   pub left-long : length (keys-left words heads links) ≡ HOLDS
@@ -207,13 +184,13 @@ module _ {words heads links owed : List ℕ} {left : ℕ} (g : Ready words heads
   -- a record that is alone in its slot
   module _ {k h : ℕ} (small : k < SLOTS) (at : h ≡ getD heads k 0) (l : h < HOLDS) (own : slot (serial-in words h) ≡ k) (some : getD keys h 0 ≡ 0 → ⊥) where
     abbrev emptied : List ℕ
-    emptied = set heads k HOLDS
+    emptied = set heads k END
 
-    mine : (p : ℕ) → slot (serial-in words p) ≡ k → head-of words emptied p ≡ HOLDS
-    mine p e = ap (λ (x : ℕ). getD emptied x 0) e ∙ getD-set-same heads k HOLDS 0 (omega (arith, g .heads-long))
+    mine : (p : ℕ) → slot (serial-in words p) ≡ k → head-of words emptied p ≡ END
+    mine p e = ap (λ (x : ℕ). getD emptied x 0) e ∙ getD-set-same heads k END 0 (omega (arith, g .heads-long))
 
     theirs : (p : ℕ) → (slot (serial-in words p) ≡ k → ⊥) → head-of words emptied p ≡ head-of words heads p
-    theirs p n = getD-set-other heads k (slot (serial-in words p)) HOLDS 0 n
+    theirs p n = getD-set-other heads k (slot (serial-in words p)) END 0 n
 
     gone : (p : ℕ) → slot (serial-in words p) ≡ k → open-in words emptied links p ≡ false
     gone p e = open-nowhere words emptied links p (omega (arith, mine p e)) (omega (arith, mine p e))
@@ -233,7 +210,7 @@ module _ {words heads links owed : List ℕ} {left : ℕ} (g : Ready words heads
     alone-closed few =
         record {
           well = g .well;
-          heads-long = length-set heads k HOLDS ∙ g .heads-long;
+          heads-long = length-set heads k END ∙ g .heads-long;
           links-long = g .links-long;
           owed-long = few;
           up = g .up;
@@ -247,72 +224,7 @@ module _ {words heads links owed : List ℕ} {left : ℕ} (g : Ready words heads
               (λ z. n (ap (λ (t : List ℕ). getD t p 0) alone-keys ∙ z))) (omega (arith, same))));
           heads-inside = λ x b.
               by-eq x k
-              (λ e. let z = ap (λ (y : ℕ). getD emptied y 0) e ∙ getD-set-same heads k HOLDS 0 (omega (arith, g .heads-long)) in omega arith)
-              (λ e. omega (arith, g .heads-inside x b, getD-set-other heads k x HOLDS 0 e));
+              (λ e. let z = ap (λ (y : ℕ). getD emptied y 0) e ∙ getD-set-same heads k END 0 (omega (arith, g .heads-long)) in omega arith)
+              (λ e. omega (arith, g .heads-inside x b, getD-set-other heads k x END 0 e));
           waits = omega (arith, fewer h l some, ap (waiting HOLDS) alone-keys);
         }
-
--- the index is ready for the walk
-module _ {words heads links : List ℕ} {low used : ℕ} (i : Index words heads links low used) where
-  flat-plain : plain links ≡ links
-  flat-plain =
-      ext-getD 0 (plain links) links (plain-long links)
-      (λ x h. plain-at links x ∙ (let f = i .built .growing .flat x (omega (arith, i .built .growing .long, plain-long links)) in omega arith))
-
-  -- every used record is open
-  all-open : (p : ℕ) → p < HOLDS → (serial-in words p ≡ 0 → ⊥) → open-in words heads links p ≡ true
-  all-open p l n =
-      ⊎-elim
-      (λ e. open-alone words heads links p (omega arith) ∙ eq-eqb (head-of words heads p) p e)
-      (λ w. open-forked words heads links p (w .0) ∙ lt-ltb (getD links p 0) CLOSED (omega (arith, i .built .growing .flat p (omega arith))))
-      (i .built .reached p l n)
-
-  pub keyed : keys-left words heads links ≡ keys-of (holds-of words)
-  keyed =
-      ext-getD 0 (keys-left words heads links) (keys-of (holds-of words))
-      (left-long words heads links ∙ sym (length-map (holds-of words) key-of ∙ holds-long words))
-      (λ p h.
-      let l : p < HOLDS = omega (arith, left-long words heads links) in
-      let there : getD (keys-of (holds-of words)) p 0 ≡ key-of (hold-in words p) = List·getD-map key-of (holds-of words) p zero-hold
-      ∙ ap key-of (holds-at words p l) in
-      by-eq (serial-in words p) 0
-      (λ z.
-      let k = no-key (hold-in words p) (well-at words heads links (i .well) p l) z in
-      by-test (open-in words heads links p) (λ t. open-key words heads links p l t) (λ t. closed-key words heads links p l t ∙ sym k) ∙ sym there)
-      (λ n. open-key words heads links p l (all-open p l n) ∙ sym there))
-
-  head-inside : {h : ℕ} → Head HOLDS h → h < FORKED + HOLDS
-  head-inside (inl e) = omega arith
-  head-inside (inr (inl l)) = omega arith
-  head-inside (inr (inr w)) = omega (arith, w .0, w .1)
-
-  rise : (b p : ℕ) → p < HOLDS → (p < step links b p) × (step links b p ≤ HOLDS)
-  rise b p l =
-      let x = fork-inside p b l in
-      let f = i .built .growing .flat (p + fork b) x in
-      by-eq (step links b p) HOLDS
-      (λ e. (omega arith, f))
-      (λ e. let r = i .built .growing .rising (p + fork b) x (omega (arith, e)) in (omega (arith, r .0, fork-place p b l), f))
-
-  pub ready : {owed : List ℕ} → length owed ≡ QUOTAS → Ready words heads links owed used
-  ready few =
-      record {
-        well = i .well;
-        heads-long = i .built .heads-long;
-        links-long = i .built .growing .long;
-        owed-long = few;
-        up = subst Ascends (sym flat-plain) rise;
-        linked = λ p l n f. go p l (by-eq (serial-in words p) 0 (λ z. absurd (n (by-test (open-in words heads links p)
-            (λ t. open-key words heads links p l t ∙ no-key (hold-in words p) (well-at words heads links (i .well) p l) z)
-            (λ t. closed-key words heads links p l t)))) (λ z. z)) f;
-        heads-inside = λ x l. head-inside (i .built .headed x l);
-        waits = i .counted ∙ ap (waiting HOLDS) (sym keyed);
-      }
-    where
-      go : (p : ℕ) → p < HOLDS → (serial-in words p ≡ 0 → ⊥) → FORKED ≤ head-of words heads p
-          → Leads (plain links) (bits-of (serial-in words p)) (head-of words heads p - FORKED) p
-      go p l n f =
-          ⊎-elim
-          (λ e. absurd (omega arith))
-          (λ w. subst (λ (t : List ℕ). Leads t (bits-of (serial-in words p)) (head-of words heads p - FORKED) p) (sym flat-plain) (w .1))
-          (i .built .reached p l n)

@@ -2,8 +2,8 @@
 -- Assumes nothing.
 use Prim.Native.Nat.{ℕ, _+_, _%_, _<_, _≤_}
 use native.Mathlib.Omega.{arith}
-use borrow.Author.Tests.{eqb-true}
-use lib.Dec.{eqb, leb}
+use borrow.Author.Tests.{eqb-true, leb-true}
+use lib.Dec.{eqb, ltb, leb}
 use mathlib.Core.Path.{_≡_, refl, ap, sym, _∙_}
 use mathlib.Core.Bool.{Bool, true, false, cond, _&&_, and-true}
 use mathlib.Core.List.{List, [], _∷_, map}
@@ -12,19 +12,23 @@ use lib.ListN.{length, drop, length-drop, length-map}
 use Rattle.accounts.specs.declared.Quota.{Quota}
 use Rattle.accounts.specs.declared.Accounts.{Accounts}
 use Rattle.accounts.specs.Accounts.{QUOTAS, HOLDS, permissions, permissible}
+use Rattle.rounding.specs.Rounding.{table}
+use Rattle.words.specs.Words.{last-of, kind-of, edition-of, quotas-of, accounts-of}
+use Rattle.words.proofs.Words.{quotas-long}
 use Rattle.layout.specs.Blocks.{cut, parse}
 use Rattle.layout.proofs.Fuel.{cut-end}
 use Rattle.layout.specs.Blocks.{greatest-heap}
 use Rattle.model.specs.Objects.{objects-from}
 use Rattle.survey.specs.Index.{keys-left}
-use Rattle.survey.specs.Contracts.{judged, Walked-to}
+use Rattle.survey.specs.Contracts.{Index, Ready, judged, Walked-to}
 use Rattle.survey.proofs.Waiting.{waiting-all}
 use Rattle.survey.proofs.Closing.{left-long}
+use Rattle.survey.proofs.Opening.{keyed, ready}
 use Rattle.model.specs.declared.Refusal.the-variants.{HeapLength, Inconsistent}
 use Rattle.model.specs.declared.Verdict.the-variants.{Accepted, Refused}
 use Rattle.model.specs.Lists.{all}
 use Rattle.model.specs.Answers.{verdict-values}
-use Rattle.model.specs.Consistent.{allowed, in-range, sound}
+use Rattle.model.specs.Consistent.{allowed, in-range, sound, greatest-serial}
 use Rattle.model.specs.Refusals.{first-refusal, line-1, line-2, check-lines}
 use Rattle.model.specs.Calls.{unless, check}
 use Rattle.model.proofs.Bools.{and-left, and-right, and-no, and-yes}
@@ -131,3 +135,23 @@ walked-end unit kind last s words whole at back before heads links owed left ok 
     ∙ judged-end unit kind last back before s keys owed (at-end (length s) at ok (w .0 .inside) (w .0 .even) (w .1))
     ∙ ap (λ (x : Bool). x && all-zero owed)
     (sym (waiting-all keys HOLDS (sym (left-long words heads links))) ∙ ap (λ (x : ℕ). eqb x 0) (sym (w .0 .ready .waits)))
+
+-- by the words: the last serial of accounts whose numbers are in range
+pub last-given : (words : List ℕ) → in-range (accounts-of words) ≡ true → last-of words ≤ greatest-serial
+unfolding in-range
+last-given words e =
+    leb-true (last-of words) greatest-serial
+    (and-left (leb (last-of words) greatest-serial) (ltb (kind-of words) 2 && ltb (edition-of words) 2) e)
+
+-- what the walk starts from where the index is whole and the debts are known, and the verdict by what it judges
+module _ {words heads links owed : List ℕ} {low used : ℕ} (i : Index words heads links low used) (w : Owing (quotas-of words) true owed) where
+  pub walk-ready : Ready words heads links owed used
+  walk-ready = ready i (ap length (w .1 refl) ∙ length-map (quotas-of words) owes ∙ quotas-long words)
+
+  pub verdict-walked : (s : List ℕ) → allowed (length s) ≡ true → in-range (accounts-of words) ≡ true → (edition kind last : ℕ) → edition ≡ edition-of words
+      → kind ≡ kind-of words → last ≡ last-of words
+      → (t : Bool) → t ≡ judged (table edition) kind last 0 (cut 0 (drop 0 s)) 1 (keys-left words heads links) owed
+      → verdict-values (cond t Accepted (Refused Inconsistent)) ≡ check (table (edition-of words)) s (accounts-of words) .values
+  verdict-walked s fits ranged edition kind last e k l t j =
+      verdict-judged (table (edition-of words)) s (accounts-of words) fits ranged (quotas-long words) (i .well) (keyed i) w t
+      (j ∙ (λ n. judged (table (e n)) (k n) (l n) 0 (cut 0 (drop 0 s)) 1 (keys-left words heads links) owed))

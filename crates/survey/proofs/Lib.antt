@@ -5,11 +5,14 @@ pub mod Debts
 pub mod Lowest
 pub mod Tracing
 pub mod Passes
+pub mod Plain
 pub mod Closing
+pub mod Opening
 pub mod Settlement
 pub mod Trees
 pub mod Visits
 pub mod Walks
+pub mod Headers
 pub mod Judgement
 pub mod Blocks
 pub mod Routes

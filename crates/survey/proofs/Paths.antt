@@ -7,12 +7,14 @@ use mathlib.Core.Bool.{Bool, true, false, true≢false}
 use mathlib.Core.List.{List}
 use mathlib.Core.Logic.{_⊎_, inl, inr}
 use native.Mathlib.Omega.{arith}
+use borrow.Author.Tests.{ltb-true, ltb-false}
+use lib.Dec.{ltb}
 use lib.ListN.{length, getD, set, length-set}
 use lib.Seq.{getD-set-same, getD-set-other}
 use Rattle.accounts.specs.Accounts.{HOLDS}
 use Rattle.audit.specs.Keys.{for-serial}
 use Rattle.audit.proofs.Cases.{by-test, by-eq}
-use Rattle.survey.specs.Index.{SLOTS, LINKS, slot, fork, step, Leads, here, on, Ascends, Findable, Growing}
+use Rattle.survey.specs.Index.{SLOTS, LINKS, slot, fork, step, Leads, here, on, Findable, Growing}
 use Rattle.survey.specs.Contracts.{Hung}
 
 pub slot-small : (s : ℕ) → slot s < SLOTS
@@ -40,7 +42,12 @@ fork-inside n b l =
 
 -- where bits lead
 module _ (trail : List ℕ) where
-  pub leads-up : Ascends trail → {b n p : ℕ} → Leads trail b n p → n ≤ p
+  -- from a place behind the table to no other
+  pub leads-end : {b n p : ℕ} → HOLDS ≤ n → Leads trail b n p → n ≡ p
+  leads-end h here = refl
+  leads-end h (on l r) = absurd (omega arith)
+
+  pub leads-up : ((b p : ℕ) → p < HOLDS → p < step trail b p) → {b n p : ℕ} → Leads trail b n p → n ≤ p
   leads-up a here = omega arith
   leads-up a (on {b} {n} {p} l r) = let h = a b n l in let k = leads-up a r in omega arith
 
@@ -54,7 +61,7 @@ pub before-path : {keys trail : List ℕ} {bits from s : ℕ} → Findable keys 
     → for-serial s (getD keys x 0) ≡ false
 before-path {keys} {trail} {s = s} f x l b =
     by-test (for-serial s (getD keys x 0))
-    (λ e. let k = leads-up trail (f .up) (f .covers x l e) in absurd (omega arith))
+    (λ e. let k = leads-up trail (λ b p h. f .up b p h .0) (f .covers x l e) in absurd (omega arith))
     (λ e. e)
 
 -- one link on, from a place that does not have the serial
@@ -97,7 +104,7 @@ way-more stay l h = go l h stay
 way-more (go a e w) l h = go a e (way-more w l h)
 
 -- an empty link is on no way, and leads to no place
-module _ (links : List ℕ) (x i : ℕ) (empty : getD links x 0 ≡ HOLDS) where
+module _ (links : List ℕ) (x i : ℕ) (empty : HOLDS ≤ getD links x 0) where
   kept : (b n : ℕ) → step links b n < HOLDS → step (set links x i) b n ≡ step links b n
   kept b n h = getD-set-other links x (n + fork b) i 0 (λ e. let z = ap (λ (y : ℕ). getD links y 0) e in absurd (omega arith))
 
@@ -105,17 +112,13 @@ module _ (links : List ℕ) (x i : ℕ) (empty : getD links x 0 ≡ HOLDS) where
   way-leads stay r = r
   way-leads {p = p} (go {b} {n} a e w) r = on a (subst (λ (y : ℕ). Leads (set links x i) (b / 2) y p) (sym (kept b n e)) (way-leads w r))
 
-  ends : {b p : ℕ} → Leads links b HOLDS p → p ≡ HOLDS
-  ends here = refl
-  ends (on l r) = absurd (omega arith)
-
   pub leads-kept : {b n p : ℕ} → p < HOLDS → Leads links b n p → Leads (set links x i) b n p
   leads-kept l here = here
   leads-kept {p = p} l (on {b} {n} h r) =
       by-eq (n + fork b) x
       (λ e.
-      let z : step links b n ≡ HOLDS = ap (λ (y : ℕ). getD links y 0) e ∙ empty in
-      let w = ends (subst (λ (y : ℕ). Leads links (b / 2) y p) z r) in absurd (omega arith))
+      let z : step links b n ≡ getD links x 0 = ap (λ (y : ℕ). getD links y 0) e in
+      let w = leads-end links (omega (arith, z, empty)) r in absurd (omega (arith, w, z, empty)))
       (λ e. on h (subst (λ (y : ℕ). Leads (set links x i) (b / 2) y p) (sym (getD-set-other links x (n + fork b) i 0 e)) (leads-kept l r)))
 
 -- the record at the end of the way
@@ -124,15 +127,14 @@ pub hangs : {links : List ℕ} {bits root i at way : ℕ} → Growing i links �
 hangs {links} {i = i} {at = at} {way = way} g w a l e =
     let x = at + fork way in
     let inside = fork-inside at way (omega arith) in
-    let empty : getD links x 0 ≡ HOLDS = omega (arith, g .flat x inside) in
     let new : step (set links x i) way at ≡ i = getD-set-same links x i 0 (omega (arith, g .long)) in
     record {
       place = at;
       way = way;
       inside = a;
-      empty = empty;
+      empty = e;
       put = refl;
-      leads = way-leads links x i empty w (on (omega arith) (subst (λ (y : ℕ). Leads (set links x i) (way / 2) y i) (sym new) here));
+      leads = way-leads links x i e w (on (omega arith) (subst (λ (y : ℕ). Leads (set links x i) (way / 2) y i) (sym new) here));
     }
 
 -- the end of a path: an empty link of a record before place i
@@ -146,13 +148,11 @@ pub record End (links : List ℕ) (bits root i link : ℕ) : Type 0 where
 
 pub link-rises : {links : List ℕ} {i at : ℕ} (bits : ℕ) → Growing i links → at < HOLDS → at < step links bits at
 link-rises {links} {at = at} bits g l =
-    by-eq (step links bits at) HOLDS
-    (λ e. omega arith)
-    (λ e.
-    let x = fork-inside at bits l in
-    let f = g .flat (at + fork bits) x in
-    let r = g .rising (at + fork bits) x (omega (arith, e)) in
+    by-test (ltb (step links bits at) HOLDS)
+    (λ t.
+    let r = g .rising (at + fork bits) (fork-inside at bits l) (ltb-true (step links bits at) HOLDS t) in
     omega (arith, r .0, fork-place at bits l))
+    (λ t. omega (arith, ltb-false (step links bits at) HOLDS t))
 
 pub hangs-at : {links : List ℕ} {bits root i link : ℕ} → Growing i links → i < HOLDS → End links bits root i link → Hung bits root i links (set links link i)
 hangs-at {links} {bits} {root} {i} g l e = subst (λ (x : ℕ). Hung bits root i links (set links x i)) (sym (e .there))

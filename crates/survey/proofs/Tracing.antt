@@ -21,10 +21,10 @@ use Rattle.audit.proofs.Tables.{all-at}
 use Rattle.audit.proofs.Records.{well-used}
 use Rattle.words.specs.Words.{hold-in, serial-in, quota-in, holds-of}
 use Rattle.words.proofs.Words.{holds-long, holds-at}
-use Rattle.survey.specs.Index.{FORKED, slot, bits-of, step, Leads, here, Ascends, Head, head-of, Reached, Growing, Built}
+use Rattle.survey.specs.Index.{FORKED, slot, bits-of, step, Leads, here, Head, head-of, Reached, Built}
 use Rattle.survey.specs.Survey.{place-of, shares}
 use Rattle.survey.specs.Contracts.{sought}
-use Rattle.survey.proofs.Paths.{slot-small, fork-inside, leads-up, leads-case, link-rises}
+use Rattle.survey.proofs.Paths.{slot-small, leads-up, leads-case, link-rises}
 use Rattle.survey.proofs.Lowest.{serial-used, place-first, place-none}
 
 pub sought-of : (own : Bool) (serial quota : ℕ) (h : Hold) → sought own serial quota h ≡ true → (used h ≡ true) × (h .serial ≡ serial)
@@ -32,27 +32,15 @@ unfolding sought shares
 sought-of true serial quota h t = let r = is-for-exactly serial quota h .0 t in (r .0, r .1)
 sought-of false serial quota h t = is-of-exactly serial h .0 (and-left (is-of serial h) (not (eqb (h .quota) quota)) t)
 
--- links go up
-pub ascends : {i : ℕ} {links : List ℕ} → Growing i links → Ascends links
-ascends g b p l = (link-rises b g l, g .flat _ (fork-inside p b l))
-
 -- the path from a place on leads to each record that is sought
 pub record Tracing (words links : List ℕ) (own : Bool) (serial quota bits at : ℕ) : Type 0 where
-  pub inside : at ≤ HOLDS
   pub covers : (p : ℕ) → p < HOLDS → sought own serial quota (hold-in words p) ≡ true → Leads links bits at p
 
 module _ {words heads links : List ℕ} (g : Built words HOLDS heads links) (own : Bool) (serial quota : ℕ) where
-  -- the slot's record, alone or with others below it
-  root : {h : ℕ} → Head HOLDS h → h % FORKED ≤ HOLDS
-  root {h} (inl e) = omega arith
-  root {h} (inr (inl l)) = omega arith
-  root {h} (inr (inr w)) = omega (arith, w .0, w .1)
-
   pub trace-start : (serial ≡ 0 → ⊥) → {at bits : ℕ} → at ≡ getD heads (slot serial) 0 % FORKED → bits ≡ bits-of serial
       → Tracing words links own serial quota bits at
   trace-start live {at} {bits} e b =
       record {
-        inside = omega (arith, e, root (g .headed (slot serial) (slot-small serial)));
         covers = λ p l t.
             (let same = sought-of own serial quota (hold-in words p) t .1 in
             go p l same (g .reached p l (λ z. live (sym same ∙ z))));
@@ -89,7 +77,8 @@ module _ {words heads links : List ℕ} (g : Built words HOLDS heads links) (own
   module _ {at bits : ℕ} (t : Tracing words links own serial quota bits at) where
     -- no place before the path is one
     before : (p : ℕ) → p < HOLDS → p < at → sought own serial quota (hold-in words p) ≡ false
-    before p l b = fails (sought own serial quota (hold-in words p)) (λ e. let k = leads-up links (ascends (g .growing)) (t .covers p l e) in omega arith)
+    before p l b = fails (sought own serial quota (hold-in words p))
+        (λ e. let k = leads-up links (λ b n h. link-rises b (g .growing) h) (t .covers p l e) in omega arith)
 
     pub trace-end : HOLDS ≤ at → place-of at ≡ first-from (sought own serial quota) 0 (holds-of words)
     trace-end l = place-none words (sought own serial quota) at l (λ j h. before j h (omega arith))
@@ -114,7 +103,6 @@ module _ {words heads links : List ℕ} (g : Built words HOLDS heads links) (own
       pub trace-on : r ≡ false → {y : ℕ} → y ≡ step links bits at → Tracing words links own serial quota (bits / 2) y
       trace-on e {y} n =
           record {
-            inside = omega (arith, n, ascends (g .growing) bits at l .1);
             covers = λ p h x. subst (λ (z : ℕ). Leads links (bits / 2) z p) (sym n) (go p x (leads-case links (t .covers p h x)));
           }
         where

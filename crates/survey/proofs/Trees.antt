@@ -17,11 +17,12 @@ use Rattle.audit.specs.Contracts.{Settled, Charged}
 use Rattle.audit.proofs.Cases.{by-test, by-eq}
 use Rattle.audit.proofs.Striking.{zero-not}
 use Rattle.words.specs.Words.{serial-in, quota-in}
-use Rattle.survey.specs.Index.{SLOTS, LINKS, FORKED, CLOSED, slot, bits-of, plain, step, Leads, Findable, head-of, open-in, keys-left}
+use Rattle.survey.specs.Index.{SLOTS, LINKS, END, FORKED, CLOSED, slot, bits-of, inner, plain, step, Leads, Findable, head-of, open-in, keys-left}
 use Rattle.survey.specs.Contracts.{Ready, Done}
 use Rattle.survey.proofs.Paths.{slot-small}
+use Rattle.survey.proofs.Plain.{inner-place, inner-end, plain-closed}
 use Rattle.survey.proofs.Closing.{left-long, open-nowhere, open-alone, open-for, alone-for, alone-keys, alone-closed, key-open, tree-for, open-quota}
-use Rattle.survey.proofs.Closing.{quota-small, plain-closed, path-keys, path-closed, some-left}
+use Rattle.survey.proofs.Closing.{quota-small, path-keys, path-closed, some-left}
 use Rattle.survey.proofs.Settlement.{Settling, settling-start, settling-none, settling-end, settling-skip, struck-less, settling-paid, settling-short}
 use Rattle.survey.proofs.Settlement.{settling-more, settled-none, one-short, one-paid}
 
@@ -71,12 +72,19 @@ pub record Goes (words heads links₀ owed₀ : List ℕ) (s c : ℕ) (links owe
   pub end : HOLDS ≤ at → Going words heads links₀ owed₀ s c links owed left seen found HOLDS bits
 
 pub goes : {words heads links₀ owed₀ : List ℕ} {s c : ℕ} {links owed : List ℕ} {left : ℕ} {seen : List ℕ} {found : Bool} {at bits : ℕ}
-    → Going words heads links₀ owed₀ s c links owed left seen found at bits → Goes words heads links₀ owed₀ s c links owed left seen found at bits
+    → Going words heads links₀ owed₀ s c links owed left seen found (inner at) bits → Goes words heads links₀ owed₀ s c links owed left seen found at bits
 goes {words} {heads} {links₀} {owed₀} {s} {c} {links} {owed} {left} {seen} {found} {at} {bits} g =
     record {
-      on = λ l. g;
-      end = λ h. subst (λ (x : ℕ). Going words heads links₀ owed₀ s c links owed left seen found x bits) (omega (arith, g .settling .path .inside)) g;
+      on = λ l. subst (λ (x : ℕ). Going words heads links₀ owed₀ s c links owed left seen found x bits) (inner-place at l) g;
+      end = λ h. subst (λ (x : ℕ). Going words heads links₀ owed₀ s c links owed left seen found x bits) (inner-end at h) g;
     }
+
+-- the next place is further up
+pub inner-less : (at n : ℕ) → at < HOLDS → at < inner n → HOLDS - n < HOLDS - at
+inner-less at n l h =
+    by-test (ltb n HOLDS)
+    (λ t. omega (arith, l, h, inner-place n (ltb-true n HOLDS t), ltb-true n HOLDS t))
+    (λ t. omega (arith, l, ltb-false n HOLDS t))
 
 module _ {words heads links owed : List ℕ} {left s c bits : ℕ} (g : Ready words heads links owed left) (live : s ≡ 0 → ⊥) (h : HOLDS ≤ getD heads (slot s) 0)
     (b : bits ≡ bits-of s) where
@@ -103,7 +111,8 @@ module _ {words heads links owed : List ℕ} {left s c bits : ℕ} (g : Ready wo
       record { on = λ l. absurd (omega (arith, n u, l)); end = λ l. begun (omega arith) (λ f. absurd (omega (arith, f, u))) (λ f. absurd (omega (arith, f))) })
       (λ t.
       let u = ltb-false (getD heads (slot s) 0) FORKED t in
-      goes (begun (omega (arith, e u, g .heads-inside (slot s) (slot-small s))) e (λ f. u)))
+      let few : at < HOLDS = omega (arith, e u, g .heads-inside (slot s) (slot-small s)) in
+      record { on = λ l. begun (omega arith) e (λ f. u); end = λ l. absurd (omega (arith, few, l)) })
 
 module _ {words heads links₀ owed₀ : List ℕ} {s c : ℕ} {links owed : List ℕ} {left : ℕ} {seen : List ℕ} {found : Bool} {at bits : ℕ}
     (g : Going words heads links₀ owed₀ s c links owed left seen found at bits) (live : s ≡ 0 → ⊥) where
@@ -241,10 +250,10 @@ module _ {words heads links owed : List ℕ} {left s : ℕ} (g : Ready words hea
     )
 
     pub alone-paid : (c : ℕ) {q : ℕ} → q ≡ quota-in words h → q < QUOTAS → c ≤ getD owed q 0 → {owed′ : List ℕ} → owed′ ≡ set owed q (getD owed q 0 - c)
-        → Done s c words heads links owed true (set heads k HOLDS) links owed′ (left - 1)
+        → Done s c words heads links owed true (set heads k END) links owed′ (left - 1)
     alone-paid c {q} z few enough {owed′} o =
         let mine : slot (serial-in words h) ≡ k = ap slot own ∙ sym slots in (
-          one-paid s c keys owed live (left-long words heads links) h l hit others (keys-left words (set heads k HOLDS) links) owed′ q (quota-is z) few enough
+          one-paid s c keys owed live (left-long words heads links) h l hit others (keys-left words (set heads k END) links) owed′ q (quota-is z) few enough
               (g .owed-long)
               (alone-keys g small at l mine has-key) o,
           λ e. alone-closed g small at l mine has-key (ap length o ∙ length-set owed q (getD owed q 0 - c) ∙ g .owed-long),

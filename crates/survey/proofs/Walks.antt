@@ -156,6 +156,10 @@ module _ {unit : ℕ → ℕ} {kind last : ℕ} {s words : List ℕ} {whole fits
               fit = units-step (omega (arith, w .0)) q ∙ ap (λ (x : Bool). x && fitting unit kind end (cut (h .size) rest′)) (w .3);
             }
 
+-- an audit that fails
+pub one-fails : (a f : Bool) → a ≡ false → (a && f) ≡ false
+one-fails a f e = rw e
+
 -- the beginning, from a place on
 pub walking-start : (unit : ℕ → ℕ) (kind last : ℕ) (s : List ℕ) {words heads links owed : List ℕ} {left at : ℕ} → Stage s words heads links owed left at
     → (units before : ℕ)

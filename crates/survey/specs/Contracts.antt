@@ -9,6 +9,7 @@ use lib.ListN.{length, getD, set, drop}
 use Rattle.accounts.specs.declared.Hold.{Hold}
 use Rattle.accounts.specs.Accounts.{QUOTAS, HOLDS, is-for, lowest-unused}
 use Rattle.layout.specs.Blocks.{Block, cut}
+use Rattle.framing.specs.Frames.{padded, stream-of}
 use Rattle.model.specs.Lists.{all}
 use Rattle.audit.specs.Keys.{well-formed, keys-of}
 use Rattle.audit.specs.Audit.{behind, visit, audit-parsed}
@@ -31,7 +32,7 @@ pub record Hung (bits root i : ℕ) (links links′ : List ℕ) : Type 0 where
   pub place : ℕ
   pub way : ℕ
   pub inside : place < i
-  pub empty : getD links (place + fork way) 0 ≡ HOLDS
+  pub empty : HOLDS ≤ getD links (place + fork way) 0
   pub put : links′ ≡ set links (place + fork way) i
   pub leads : Leads links′ bits root i
 
@@ -93,3 +94,7 @@ Walked-to unit kind last edge s words whole true at back before heads links owed
     Stage s words heads links owed left at × (length s < at + edge)
     × (whole ≡ judged unit kind last at (cut back (drop at s)) before (keys-left words heads links) owed)
 Walked-to unit kind last edge s words whole false at back before heads links owed left = whole ≡ false
+
+-- the heap that has n bytes of an image's stream from a place on
+abbrev pub heap-in : ℕ → ℕ → List ℕ → List ℕ
+heap-in from n image = padded n (drop from (stream-of image))

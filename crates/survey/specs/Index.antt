@@ -13,12 +13,16 @@ use Rattle.model.specs.Lists.{all}
 use Rattle.audit.specs.Keys.{well-formed, key-of, for-serial}
 use Rattle.words.specs.Words.{table, hold-in, serial-in, holds-of}
 
--- the number of slots and of links; what is added to a slot's number when the record has others below it, and to a record's first link when it is closed
+-- the number of slots and of links; what an empty slot or link has; what is added to a slot's number when the record has others below it, and to a record's
+-- first link when it is closed
 abbrev pub SLOTS : ℕ
 SLOTS = 2 * HOLDS
 
 abbrev pub LINKS : ℕ
 LINKS = 2 * HOLDS
+
+abbrev pub END : ℕ
+END = HOLDS + HOLDS / 256
 
 abbrev pub FORKED : ℕ
 FORKED = 2 * HOLDS
@@ -37,9 +41,13 @@ bits-of serial = serial / 2
 unfoldable pub fork : ℕ → ℕ
 fork bits = HOLDS * (bits / HOLDS % 2)
 
+-- a place, the table's end for each one behind it
+unfoldable pub inner : ℕ → ℕ
+inner n = cond (ltb n HOLDS) n HOLDS
+
 -- the links without the flags of closed records
 unfoldable pub plain : List ℕ → List ℕ
-plain links = map (λ v. v % CLOSED) links
+plain links = map (λ v. inner (v % CLOSED)) links
 
 -- the place behind another one on the path
 abbrev pub step : List ℕ → ℕ → ℕ → ℕ
@@ -91,7 +99,7 @@ Linked words heads links =
 
 -- while the index is built, from place 0 up: the records before place i are in it, and no record is closed
 abbrev pub Head : ℕ → ℕ → Type 0
-Head i h = (h ≡ HOLDS) ⊎ ((h < i) ⊎ ((FORKED ≤ h) × (h - FORKED < i)))
+Head i h = (h ≡ END) ⊎ ((h < i) ⊎ ((FORKED ≤ h) × (h - FORKED < i)))
 
 abbrev pub Reached : List ℕ → List ℕ → List ℕ → ℕ → Type 0
 Reached words heads links p =
@@ -100,7 +108,7 @@ Reached words heads links p =
 -- the links of the index so far: each goes up, to a record before place i
 pub record Growing (i : ℕ) (links : List ℕ) : Type 0 where
   pub long : length links ≡ LINKS
-  pub flat : (x : ℕ) → x < LINKS → getD links x 0 ≤ HOLDS
+  pub flat : (x : ℕ) → x < LINKS → getD links x 0 ≤ END
   pub rising : (x : ℕ) → x < LINKS → getD links x 0 < HOLDS → (x % HOLDS < getD links x 0) × (getD links x 0 < i)
 
 pub record Built (words : List ℕ) (i : ℕ) (heads links : List ℕ) : Type 0 where

@@ -1,4 +1,5 @@
 // Which live blocks a record holds, asked of the records' index.
+use crate::END;
 use crate::LINKS;
 use crate::SLOTS;
 use crate::finding::on_path;
@@ -86,7 +87,7 @@ fn put_flags(
 pub fn held_blocks(heap: &[u8], words: &[u32; WORDS], kept: &mut [bool; HOLDS])
     ensures { λ _. ⌜ now (kept .exit) ≡ put-flags 0 (held-flags (holds-of (now (words .entry))) (now (heap .entry))) (now (kept .entry)) ⌝ }
 {
-    let end = HOLDS as u16;
+    let end = END as u16;
     let mut links = [end; LINKS];
     let mut heads = [end; SLOTS];
     let top = used_top(words);

@@ -1,4 +1,5 @@
 // The pass over the records that builds the index.
+use crate::END;
 use crate::FORKED;
 use crate::LINKS;
 use crate::SLOTS;
@@ -30,11 +31,14 @@ pub(crate) struct Tally {
     pub used: usize,
 }
 
-// Whether so many records from a place on are all zero.
+// Whether so many records from a place on are all zero. The last one is read first: where the table is full up to there, no other is.
 fn are_blank(words: &[u32; WORDS], from: usize, count: usize) -> bool
-    requires { ⌜ from + count ≤ HOLDS ⌝ }
+    requires { ⌜ (0 < count) × (from + count ≤ HOLDS) ⌝ }
     ensures { λ r. ⌜ (r ≡ true → Zeros (now (words .entry)) from count) ⌝ }
 {
+    if serial_in(words, from + count - 1) != 0 {
+        return false;
+    }
     let mut bits: u32 = 0;
     let mut i: usize = 0;
     while i < 2 * count {
@@ -44,19 +48,33 @@ fn are_blank(words: &[u32; WORDS], from: usize, count: usize) -> bool
     bits == 0
 }
 
-// A place from which on all records are blank, by steps down from one that is such.
+// A place from which on all records are blank, by steps down from one that is such. The lowest records are not looked at.
 fn used_end(words: &[u32; WORDS], from: usize, step: usize) -> usize
     requires { ⌜ (from ≤ HOLDS) × (0 < step) × Blank (now words) from ⌝ }
     ensures { λ r. ⌜ (r ≤ HOLDS) × Blank (now (words .entry)) r ⌝ }
 {
     let mut top = from;
-    while step <= top {
+    while step < top {
         if !are_blank(words, top - step, step) {
             return top;
         }
         top -= step;
     }
     top
+}
+
+// The same by one step at most.
+fn one_down(words: &[u32; WORDS], top: usize, step: usize) -> usize
+    requires { ⌜ (top ≤ HOLDS) × (0 < step) × Blank (now words) top ⌝ }
+    ensures { λ r. ⌜ (r ≤ HOLDS) × Blank (now (words .entry)) r ⌝ }
+{
+    if top < step {
+        return top;
+    }
+    if !are_blank(words, top - step, step) {
+        return top;
+    }
+    top - step
 }
 
 // Whether a record without a serial is unused.
@@ -127,7 +145,7 @@ fn enter(words: &[u32; WORDS], links: &mut [u16; LINKS], heads: &mut [u16; SLOTS
     let serial = serial_in(words, i);
     let slot = slot_of(serial);
     let head = head_in(heads, slot);
-    if head == HOLDS {
+    if head == END {
         heads[slot] = i as u16;
     } else if head < HOLDS {
         heads[slot] = (FORKED + head) as u16;
@@ -137,13 +155,16 @@ fn enter(words: &[u32; WORDS], links: &mut [u16; LINKS], heads: &mut [u16; SLOTS
     }
 }
 
-// A place from which on all records are blank, by steps of 64 and then of 8. It is no part of the index, which is then short enough to be compiled into both
-// of its callers.
+// A place from which on all records are blank, by steps of 128 and then by halves of these. It is no part of the index, which is then short enough to be
+// compiled into both of its callers.
 pub(crate) fn used_top(words: &[u32; WORDS]) -> usize
     ensures { λ r. ⌜ (r ≤ HOLDS) × Blank (now (words .entry)) r ⌝ }
 {
-    let most = used_end(words, HOLDS, 64);
-    used_end(words, most, 8)
+    let by_128 = used_end(words, HOLDS, 128);
+    let by_64 = one_down(words, by_128, 64);
+    let by_32 = one_down(words, by_64, 32);
+    let by_16 = one_down(words, by_32, 16);
+    one_down(words, by_16, 8)
 }
 
 // The used records before a place are entered from the first place up; from there on all are blank.

@@ -17,6 +17,7 @@ ghost use Rattle.survey.specs.Survey.{verdict-of, block-at, Survey};
 
 mod by_value;
 mod finding;
+mod framed;
 mod holders;
 mod indexing;
 mod parts;
@@ -35,6 +36,7 @@ pub use by_value::room;
 pub use by_value::survey_of;
 pub use by_value::unasked;
 use finding::on_path;
+pub use framed::check_in_frames;
 pub use holders::held_blocks;
 use indexing::index;
 use indexing::used_top;
@@ -54,6 +56,9 @@ use wanting::unit_of;
 const SLOTS: usize = 2 * HOLDS;
 
 const LINKS: usize = 2 * HOLDS;
+
+// The number of an empty slot or link. It is no record's place, and both of its bytes are the same, so that the compiler fills a table by memset.
+const END: usize = HOLDS + HOLDS / 256;
 
 // Added to a slot's number when the record has others below it.
 const FORKED: usize = 2 * HOLDS;
@@ -160,7 +165,7 @@ pub fn survey(heap: &[u8], words: &[u32; WORDS], wanted: Wanted) -> Surveyed
     if !numbers.fine {
         return refused(2);
     }
-    let end = HOLDS as u16;
+    let end = END as u16;
     let mut links = [end; LINKS];
     let mut heads = [end; SLOTS];
     let mut owed = [0usize; QUOTAS];

@@ -1,7 +1,7 @@
 // What the quotas owe.
 use crate::reading::grant_in;
-use crate::reading::permissions_in;
 use crate::reading::remainder_in;
+use crate::reading::spare_in;
 use accounts::ALL_PERMISSIONS;
 use accounts::QUOTAS;
 use std::num::wrapping_sub_u32;
@@ -37,10 +37,10 @@ pub(crate) fn owing(words: &[u32; WORDS], owed: &mut [usize; QUOTAS]) -> bool
     while i < QUOTAS {
         let grant = grant_in(words, i);
         let remainder = remainder_in(words, i);
-        let permissions = permissions_in(words, i);
+        let spare = spare_in(words, i);
         let due = wrapping_sub_u32(grant, remainder);
         short = short_at(short, grant, remainder);
-        bits = bits | permissions;
+        bits = bits | spare;
         owed[i] = due as usize;
         i += 1;
     }
@@ -48,7 +48,7 @@ pub(crate) fn owing(words: &[u32; WORDS], owed: &mut [usize; QUOTAS]) -> bool
         return false;
     }
     let most = ALL_PERMISSIONS as u32;
-    bits <= most
+    bits % 256 <= most
 }
 
 // Whether nothing is owed: whether the debts have no bit between them.

@@ -9,7 +9,7 @@ ghost use mathlib.Core.Path.{_≡_};
 ghost use Prim.Native.Nat.{_+_, _<_, _≤_};
 ghost use lib.ListN.{length, getD};
 ghost use Rattle.accounts.specs.Accounts.{QUOTAS, HOLDS};
-ghost use Rattle.words.specs.Words.{serial-in, quota-in, count-in, grant-in, remainder-in, permissions-in};
+ghost use Rattle.words.specs.Words.{serial-in, quota-in, count-in, grant-in, remainder-in, spare-in};
 ghost use Rattle.survey.specs.Index.{SLOTS, LINKS, slot, fork, step};
 
 // The serial of the record at a place.
@@ -52,12 +52,12 @@ pub(crate) fn remainder_in(words: &[u32; WORDS], at: usize) -> u32
     words[3 * at + 1]
 }
 
-// Its permissions.
-pub(crate) fn permissions_in(words: &[u32; WORDS], at: usize) -> u32
+// Its permissions, with what is unused of their word.
+pub(crate) fn spare_in(words: &[u32; WORDS], at: usize) -> u32
     requires { ⌜ at < QUOTAS ⌝ }
-    ensures { λ r. ⌜ r ≡ permissions-in (now (words .entry)) at ⌝ }
+    ensures { λ r. ⌜ r ≡ spare-in (now (words .entry)) at ⌝ }
 {
-    words[3 * at + 2] % 256
+    words[3 * at + 2]
 }
 
 // The slot of a serial.

@@ -1,5 +1,6 @@
 // The settlement of a live block: the open records of its serial are closed, and the quota of each pays for the block, once.
 use crate::CLOSED;
+use crate::END;
 use crate::FORKED;
 use crate::LINKS;
 use crate::SLOTS;
@@ -18,7 +19,7 @@ ghost use Prim.Native.Nat.{_+_, _<_, _≤_};
 ghost use lib.ListN.{length, getD, set};
 ghost use Rattle.accounts.specs.Accounts.{QUOTAS, HOLDS};
 ghost use Rattle.audit.specs.Contracts.{Charged};
-ghost use Rattle.survey.specs.Index.{LINKS, CLOSED, FORKED, slot, plain, step};
+ghost use Rattle.survey.specs.Index.{LINKS, CLOSED, FORKED, slot, inner, plain, step};
 ghost use Rattle.survey.specs.Contracts.{Ready, Done};
 
 // The charge is taken off what a quota owes; false where it owes less.
@@ -34,10 +35,10 @@ fn pay(owed: &mut [usize; QUOTAS], quota: usize, charge: usize) -> bool
     true
 }
 
-// The next record of a path.
+// The next record of a path, or a place behind the table.
 fn next_in(links: &[u16; LINKS], at: usize, bits: u32) -> usize
     requires { ⌜ at < HOLDS ⌝ }
-    ensures { λ r. ⌜ r ≡ step (plain (now (links .entry))) bits at ⌝ }
+    ensures { λ r. ⌜ inner r ≡ step (plain (now (links .entry))) bits at ⌝ }
 {
     link_in(links, at, bits) % CLOSED
 }
@@ -123,7 +124,7 @@ pub(crate) fn settle(
     if !pay(owed, quota, charge) {
         return false;
     }
-    heads[slot] = HOLDS as u16;
+    heads[slot] = END as u16;
     *left -= 1;
     true
 }

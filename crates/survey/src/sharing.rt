@@ -1,4 +1,5 @@
 // What a quota holds, in one pass over the records. A path of the index leads to another quota's record for the same object, past few records of other serials.
+use crate::END;
 use crate::LINKS;
 use crate::SLOTS;
 use crate::finding::on_path;
@@ -86,7 +87,7 @@ fn held_in(words: &[u32; WORDS], links: &[u16; LINKS], heads: &[u16; SLOTS], quo
 pub fn held_by(words: &[u32; WORDS], quota: u32) -> Holdings
     ensures { λ r. ⌜ r ≡ holdings quota (holds-of (now (words .entry))) ⌝ }
 {
-    let end = HOLDS as u16;
+    let end = END as u16;
     let mut links = [end; LINKS];
     let mut heads = [end; SLOTS];
     let top = used_top(words);

@@ -14,7 +14,8 @@ use Rattle.accounts.specs.Accounts.{QUOTAS, HOLDS, zero-quota, quota-at, remain
 use Rattle.accounts.specs.Accounts.{left-permissions, clear-at, clear-permissions, put-hold}
 use Rattle.accounts.proofs.Laws.{set-same, charge-pays, charge-no-quota, refund-pays, refund-no-quota}
 use Rattle.accounts.proofs.Permissions.{clear-there, clear-no-quota}
-use Rattle.words.specs.Words.{WORDS, LAST, FIRST, KINDS, grant-in, remainder-in, spare-in, permissions-in, entry-in, rest-in, quotas-of, accounts-of, Padded}
+use Rattle.words.specs.Words.{WORDS, LAST, FIRST, KINDS, grant-in, remainder-in}
+use Rattle.words.specs.Words.{spare-in, permissions-in, entry-in, rest-in, quotas-of, accounts-of, Padded}
 use Rattle.words.proofs.Words.{quotas-at}
 use Rattle.words.proofs.Readings.{remaining-is}
 use Rattle.words.proofs.Writing.{quotas-put, holds-kept, put-remainder, put-record, held}
@@ -67,7 +68,7 @@ module _ (words : List ℕ) (q n : ℕ) where
           )
 
 -- permissions
-low-byte : (h b : ℕ) → b < 256 → ((256 * h + b) % 256 ≡ b) × ((256 * h + b) / 256 ≡ h)
+pub low-byte : (h b : ℕ) → b < 256 → ((256 * h + b) % 256 ≡ b) × ((256 * h + b) / 256 ≡ h)
 low-byte h b l = (omega arith, omega arith)
 
 module _ (words : List ℕ) (q n : ℕ) where
@@ -91,7 +92,8 @@ module _ (words : List ℕ) (q n : ℕ) where
     entry-after =
         let at = quotas-at words q few in
         let g : grant-in after q ≡ getD (quotas-of words) q zero-quota .grant = other (3 * q) (λ e. omega arith) ∙ sym (ap (λ (x : Quota). x .grant) at) in
-        let r : remainder-in after q ≡ getD (quotas-of words) q zero-quota .remainder = other (3 * q + 1) (λ e. omega arith) ∙ sym (ap (λ (x : Quota). x .remainder) at) in
+        let r : remainder-in after q ≡ getD (quotas-of words) q zero-quota .remainder = other (3 * q + 1) (λ e. omega arith)
+        ∙ sym (ap (λ (x : Quota). x .remainder) at) in
         let p : permissions-in after q ≡ left-permissions q n (accounts-of words) =
         ap (λ (x : ℕ). x % 256) spare-after ∙ low-byte (spare-in words q / 256) left small .0 ∙ is in
         λ i. record { grant = g i; remainder = r i; permissions = p i }
@@ -100,7 +102,8 @@ module _ (words : List ℕ) (q n : ℕ) where
     clears =
         let hs = holds-kept words after (λ j h. (other (FIRST + 2 * j) (λ e. omega arith), other (FIRST + 2 * j + 1) (λ e. omega arith))) in
         let qs : quotas-of after ≡ set (quotas-of words) q (with-permissions (left-permissions q n (accounts-of words)) (quota-at q (accounts-of words))) =
-        quotas-put words after q few (λ j h d. (other (3 * j) (λ e. omega arith), other (3 * j + 1) (λ e. omega arith), other (3 * j + 2) (λ e. d (omega arith))))
+        quotas-put words after q few
+        (λ j h d. (other (3 * j) (λ e. omega arith), other (3 * j + 1) (λ e. omega arith), other (3 * j + 2) (λ e. d (omega arith))))
         ∙ ap (set (quotas-of words) q) entry-after in
         let last = other LAST (λ e. omega arith) in
         let kinds = other KINDS (λ e. omega arith) in
@@ -111,7 +114,7 @@ module _ (words : List ℕ) (q n : ℕ) where
         )
 
 -- a record's second word: quota and count below what was there
-two-bytes : (h c q : ℕ) → c < 256 → q < 256
+pub two-bytes : (h c q : ℕ) → c < 256 → q < 256
     → ((65536 * h + (256 * c + q)) % 256 ≡ q) × ((65536 * h + (256 * c + q)) / 256 % 256 ≡ c) × ((65536 * h + (256 * c + q)) / 65536 ≡ h)
 two-bytes h c q l m = (omega arith, omega arith, omega arith)
 

@@ -43,7 +43,16 @@ zero-dropped q = refl
 module _ (q : ℕ) (k : Accounts) where
   pub drops-none : Dropping q 0 k k
   drops-none =
-      record { same-quotas = refl; same-last = refl; same-kind = refl; same-edition = refl; long = refl; done = λ j l. absurd (omega arith); todo = λ j l. refl }
+      record {
+        same-quotas = refl;
+        same-last = refl;
+        same-kind = refl;
+        same-edition = refl;
+        long = refl;
+        done = λ j l. absurd
+            (omega arith);
+        todo = λ j l. refl;
+      }
 
   module _ (i : ℕ) (r : Accounts) (d : Dropping q i k r) where
     pub drops-more : i < length (k .holds) → (t : Accounts) → t ≡ drop-at i q r → Dropping q (i + 1) k t

@@ -7,7 +7,8 @@ use native.Mathlib.Omega.{arith}
 use lib.ListN.{length, getD, set, length-set}
 use lib.Seq.{getD-set-same, getD-set-other}
 use Rattle.accounts.specs.Accounts.{QUOTAS, HOLDS}
-use Rattle.words.specs.Words.{WORDS, LAST, FIRST, KINDS, rest-in, spare-in, kinds-of, Padded}
+use Rattle.words.specs.Words.{WORDS, LAST, FIRST, KINDS, rest-in, spare-in, kinds-of, Padded, Unpadded}
+use Rattle.words.specs.Opening.{Blank}
 use Rattle.words.proofs.Words.{by-eq}
 use Rattle.words.proofs.Writing.{held, held-other, held-rest}
 
@@ -19,6 +20,21 @@ padded-on f g = record {
   of-holds = λ p l. g .of-holds p l ∙ f .of-holds p l;
   of-quotas = λ q l. g .of-quotas q l ∙ f .of-quotas q l;
   of-kinds = g .of-kinds ∙ f .of-kinds;
+}
+
+-- padding that was zero stays zero; it is zero where all words are
+pub unpadded-on : {a b : List ℕ} → Unpadded a → Padded a b → Unpadded b
+unpadded-on f g = record {
+  of-holds = λ p l. g .of-holds p l ∙ f .of-holds p l;
+  of-quotas = λ q l. g .of-quotas q l ∙ f .of-quotas q l;
+  of-kinds = g .of-kinds ∙ f .of-kinds;
+}
+
+pub blank-unpadded : {words : List ℕ} → Blank words → Unpadded words
+blank-unpadded b = record {
+  of-holds = λ p l. ap (λ (x : ℕ). x / 65536) (b .1 (FIRST + 2 * p + 1));
+  of-quotas = λ q l. ap (λ (x : ℕ). x / 256) (b .1 (3 * q + 2));
+  of-kinds = ap (λ (x : ℕ). x / 65536) (b .1 KINDS);
 }
 
 -- the word at a place that has no padding
@@ -36,6 +52,9 @@ module _ (words : List ℕ) (at v : ℕ) where
 pub padded-remainder : (words : List ℕ) (q v : ℕ) → q < QUOTAS → Padded words (set words (3 * q + 1) v)
 padded-remainder words q v l = plain words (3 * q + 1) v (λ p h e. omega arith) (λ p h e. omega arith) (λ e. omega arith)
 
+pub padded-grant : (words : List ℕ) (q v : ℕ) → q < QUOTAS → Padded words (set words (3 * q) v)
+padded-grant words q v l = plain words (3 * q) v (λ p h e. omega arith) (λ p h e. omega arith) (λ e. omega arith)
+
 pub padded-last : (words : List ℕ) (v : ℕ) → Padded words (set words LAST v)
 padded-last words v = plain words LAST v (λ p h e. omega arith) (λ p h e. omega arith) (λ e. omega arith)
 
@@ -45,14 +64,24 @@ padded-spare words long q v l e = record {
   of-holds = λ p h. ap (λ (x : ℕ). x / 65536) (other words (3 * q + 2) v (FIRST + 2 * p + 1) (λ z. omega arith));
   of-quotas = λ j h. by-eq j q
       (λ z.
-      let same : spare-in (set words (3 * q + 2) v) q / 256 ≡ spare-in words q / 256 = ap (λ (x : ℕ). x / 256) (getD-set-same words (3 * q + 2) v 0 (omega (arith, long))) ∙ e in
+      let same : spare-in (set words (3 * q + 2) v) q / 256 ≡ spare-in words q / 256 = ap (λ (x : ℕ). x / 256)
+      (getD-set-same words (3 * q + 2) v 0 (omega (arith, long))) ∙ e in
       subst (λ (x : ℕ). spare-in (set words (3 * q + 2) v) x / 256 ≡ spare-in words x / 256) (sym z) same)
       (λ n. ap (λ (x : ℕ). x / 256) (other words (3 * q + 2) v (3 * j + 2) (λ z. n (omega arith))));
   of-kinds = ap (λ (x : ℕ). x / 65536) (other words (3 * q + 2) v KINDS (λ z. omega arith));
 }
 
+-- the word of kind and edition
+pub padded-kinds : (words : List ℕ) → length words ≡ WORDS → (v : ℕ) → v / 65536 ≡ kinds-of words / 65536 → Padded words (set words KINDS v)
+padded-kinds words long v e = record {
+  of-holds = λ p h. ap (λ (x : ℕ). x / 65536) (other words KINDS v (FIRST + 2 * p + 1) (λ z. omega arith));
+  of-quotas = λ q h. ap (λ (x : ℕ). x / 256) (other words KINDS v (3 * q + 2) (λ z. omega arith));
+  of-kinds = ap (λ (x : ℕ). x / 65536) (getD-set-same words KINDS v 0 (omega (arith, long))) ∙ e;
+}
+
 -- both words of a record
-pub padded-record : (words : List ℕ) (long : length words ≡ WORDS) (p serial rest : ℕ) (l : p < HOLDS) → rest / 65536 ≡ rest-in words p / 65536 → Padded words (held words long p serial rest l)
+pub padded-record : (words : List ℕ) (long : length words ≡ WORDS) (p serial rest : ℕ) (l : p < HOLDS) → rest / 65536 ≡ rest-in words p / 65536
+    → Padded words (held words long p serial rest l)
 padded-record words long p serial rest l e =
     let h = held words long p serial rest l in
     record {

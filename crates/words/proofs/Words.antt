@@ -52,7 +52,8 @@ module _ {A : Type 0} where
   table-same n f g d same =
       let m = length-table n f 0 in
       let k = length-table n g 0 in
-      ext-getD d (table n f 0) (table n g 0) (m ∙ sym k) (λ j h. getD-table n f j d (omega arith) ∙ same j (omega arith) ∙ sym (getD-table n g j d (omega arith)))
+      ext-getD d (table n f 0) (table n g 0) (m ∙ sym k)
+      (λ j h. getD-table n f j d (omega arith) ∙ same j (omega arith) ∙ sym (getD-table n g j d (omega arith)))
 
 module _ (words : List ℕ) where
   pub holds-long : length (holds-of words) ≡ HOLDS

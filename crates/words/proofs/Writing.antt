@@ -10,7 +10,8 @@ use Rattle.accounts.specs.declared.Accounts.{Accounts}
 use Rattle.accounts.specs.declared.Quota.{Quota}
 use Rattle.accounts.specs.declared.Hold.{Hold}
 use Rattle.accounts.specs.Accounts.{QUOTAS, HOLDS, zero-hold, zero-quota, remaining, set-remaining, with-remainder, hold-at, put-hold, with-last-serial}
-use Rattle.words.specs.Words.{WORDS, LAST, FIRST, KINDS, table, serial-in, rest-in, quota-in, count-in, hold-in, grant-in, remainder-in, spare-in, permissions-in, entry-in}
+use Rattle.words.specs.Words.{WORDS, LAST, FIRST, KINDS, table, serial-in, rest-in}
+use Rattle.words.specs.Words.{quota-in, count-in, hold-in, grant-in, remainder-in, spare-in, permissions-in, entry-in}
 use Rattle.words.specs.Words.{holds-of, quotas-of, last-of, kinds-of, kind-of, edition-of, accounts-of, Padded}
 use Rattle.words.specs.Filling.{Has-entry}
 use Rattle.words.proofs.Words.{by-eq, holds-long, holds-at, quotas-long, quotas-at, table-put, table-same}
@@ -30,7 +31,8 @@ module _ (words words′ : List ℕ) where
   entry-same : (j : ℕ) → Same-entry words words′ j → entry-in words′ j ≡ entry-in words j
   entry-same j e = λ i. record { grant = e .0 i; remainder = e .1 i; permissions = e .2 i % 256 }
 
-  pub holds-put : (p : ℕ) → p < HOLDS → ((j : ℕ) → j < HOLDS → (j ≡ p → ⊥) → Same-hold words words′ j) → holds-of words′ ≡ set (holds-of words) p (hold-in words′ p)
+  pub holds-put : (p : ℕ) → p < HOLDS → ((j : ℕ) → j < HOLDS → (j ≡ p → ⊥) → Same-hold words words′ j)
+      → holds-of words′ ≡ set (holds-of words) p (hold-in words′ p)
   unfolding holds-of
   holds-put p l same = table-put HOLDS (hold-in words) (hold-in words′) p zero-hold l (λ j h n. hold-same j (same j h n))
 
@@ -38,7 +40,8 @@ module _ (words words′ : List ℕ) where
   unfolding holds-of
   holds-kept same = table-same HOLDS (hold-in words′) (hold-in words) zero-hold (λ j h. hold-same j (same j h))
 
-  pub quotas-put : (q : ℕ) → q < QUOTAS → ((j : ℕ) → j < QUOTAS → (j ≡ q → ⊥) → Same-entry words words′ j) → quotas-of words′ ≡ set (quotas-of words) q (entry-in words′ q)
+  pub quotas-put : (q : ℕ) → q < QUOTAS → ((j : ℕ) → j < QUOTAS → (j ≡ q → ⊥) → Same-entry words words′ j)
+      → quotas-of words′ ≡ set (quotas-of words) q (entry-in words′ q)
   unfolding quotas-of
   quotas-put q l same = table-put QUOTAS (entry-in words) (entry-in words′) q zero-quota l (λ j h n. entry-same j (same j h n))
 
@@ -66,7 +69,8 @@ module _ (words : List ℕ) (long : length words ≡ WORDS) (q v : ℕ) (few : q
   entry-owing : entry-in owing q ≡ with-remainder v (getD (quotas-of words) q zero-quota)
   entry-owing =
       let at = quotas-at words q few in
-      let g : grant-in owing q ≡ getD (quotas-of words) q zero-quota .grant = other words (3 * q + 1) v (3 * q) (λ e. omega arith) ∙ sym (ap (λ (x : Quota). x .grant) at) in
+      let g : grant-in owing q ≡ getD (quotas-of words) q zero-quota .grant = other words (3 * q + 1) v (3 * q) (λ e. omega arith)
+      ∙ sym (ap (λ (x : Quota). x .grant) at) in
       let r : remainder-in owing q ≡ v = getD-set-same words (3 * q + 1) v 0 (omega (arith, long)) in
       let p : permissions-in owing q ≡ getD (quotas-of words) q zero-quota .permissions =
       ap (λ (x : ℕ). x % 256) (other words (3 * q + 1) v (3 * q + 2) (λ e. omega arith)) ∙ sym (ap (λ (x : Quota). x .permissions) at) in
@@ -146,11 +150,27 @@ module _ (words : List ℕ) (long : length words ≡ WORDS) (p serial rest : ℕ
   unfolding put-hold
   put-record h s q c =
       let hold : hold-in held p ≡ h =
-      (λ i. record { serial = (held-serial ∙ s) i; quota = (ap (λ (x : ℕ). x % 256) held-rest ∙ q) i; count = (ap (λ (x : ℕ). x / 256 % 256) held-rest ∙ c) i }) in
+      (λ i. record {
+        serial = (held-serial ∙ s) i;
+        quota = (ap (λ (x : ℕ). x % 256) held-rest ∙ q) i;
+        count =
+            (ap (λ (x : ℕ). x / 256 % 256) held-rest ∙ c) i;
+      }) in
       let hs : holds-of held ≡ set (holds-of words) p h =
-      holds-put words held p l (λ j b n. (held-other (FIRST + 2 * j) (λ e. n (omega arith)) (λ e. omega arith), held-other (FIRST + 2 * j + 1) (λ e. omega arith) (λ e. n (omega arith))))
+      holds-put words held p l
+      (λ j b n. (
+        held-other (FIRST + 2 * j) (λ e. n (omega arith)) (λ e. omega arith),
+        held-other (FIRST + 2 * j + 1) (λ e. omega arith)
+            (λ e. n (omega arith)),
+      ))
       ∙ ap (set (holds-of words) p) hold in
-      let qs = quotas-kept words held (λ j b. (held-other (3 * j) (λ e. omega arith) (λ e. omega arith), held-other (3 * j + 1) (λ e. omega arith) (λ e. omega arith), held-other (3 * j + 2) (λ e. omega arith) (λ e. omega arith))) in
+      let qs = quotas-kept words held
+      (λ j b. (
+        held-other (3 * j) (λ e. omega arith) (λ e. omega arith),
+        held-other (3 * j + 1) (λ e. omega arith) (λ e. omega arith),
+        held-other
+            (3 * j + 2) (λ e. omega arith) (λ e. omega arith),
+      )) in
       let last = held-other LAST (λ e. omega arith) (λ e. omega arith) in
       let kinds = held-other KINDS (λ e. omega arith) (λ e. omega arith) in
       λ i. record { quotas = qs i; «last_serial» = last i; holds = hs i; kind = kinds i % 256; edition = kinds i / 256 % 256 }

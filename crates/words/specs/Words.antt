@@ -110,3 +110,9 @@ pub record Padded (words words′ : List ℕ) : Type 0 where
   pub of-holds : (p : ℕ) → p < HOLDS → rest-in words′ p / 65536 ≡ rest-in words p / 65536
   pub of-quotas : (q : ℕ) → q < QUOTAS → spare-in words′ q / 256 ≡ spare-in words q / 256
   pub of-kinds : kinds-of words′ / 65536 ≡ kinds-of words / 65536
+
+-- padding is zero
+pub record Unpadded (words : List ℕ) : Type 0 where
+  pub of-holds : (p : ℕ) → p < HOLDS → rest-in words p / 65536 ≡ 0
+  pub of-quotas : (q : ℕ) → q < QUOTAS → spare-in words q / 256 ≡ 0
+  pub of-kinds : kinds-of words / 65536 ≡ 0

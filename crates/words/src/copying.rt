@@ -1,31 +1,17 @@
 // The accounts that some words hold, by value.
 use crate::WORDS;
 use crate::readers::edition;
+use crate::readers::entry_in;
 use crate::readers::hold_at;
 use crate::readers::kind;
 use crate::readers::last_serial;
-use crate::readers::word_at;
 use accounts::Accounts;
 use accounts::HOLDS;
 use accounts::Hold;
 use accounts::QUOTAS;
 use accounts::Quota;
 ghost use mathlib.Core.Path.{_≡_};
-ghost use Prim.Native.Nat.{_<_};
-ghost use Rattle.accounts.specs.Accounts.{QUOTAS};
-ghost use Rattle.words.specs.Words.{entry-in, quotas-of, holds-of, accounts-of};
-
-// The quota with a number.
-fn entry_in(words: &[u32; WORDS], q: usize) -> Quota
-    requires { ⌜ q < QUOTAS ⌝ }
-    ensures { λ r. ⌜ r ≡ entry-in (now (words .entry)) q ⌝ }
-{
-    Quota {
-        grant: word_at(words, 3 * q),
-        remainder: word_at(words, 3 * q + 1),
-        permissions: (word_at(words, 3 * q + 2) % 256) as u8,
-    }
-}
+ghost use Rattle.words.specs.Words.{quotas-of, holds-of, accounts-of};
 
 // The quotas.
 fn quotas_of(words: &[u32; WORDS]) -> [Quota; QUOTAS]

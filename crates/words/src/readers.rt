@@ -6,11 +6,12 @@ use crate::WORDS;
 use accounts::HOLDS;
 use accounts::Hold;
 use accounts::QUOTAS;
+use accounts::Quota;
 ghost use mathlib.Core.Path.{_≡_};
 ghost use Prim.Native.Nat.{_<_};
 ghost use lib.ListN.{getD};
-ghost use Rattle.accounts.specs.Accounts.{quota-at, remaining, spent, hold-at, left-permissions};
-ghost use Rattle.words.specs.Words.{WORDS, accounts-of};
+ghost use Rattle.accounts.specs.Accounts.{QUOTAS, quota-at, remaining, spent, hold-at, left-permissions};
+ghost use Rattle.words.specs.Words.{WORDS, entry-in, accounts-of};
 
 // The word at a place.
 pub(crate) fn word_at(words: &[u32; WORDS], at: usize) -> u32
@@ -34,6 +35,32 @@ pub fn hold_at(words: &[u32; WORDS], place: usize) -> Hold
         quota: (rest % 256) as u8,
         count: (rest / 256 % 256) as u8,
     }
+}
+
+// The quota with a number.
+pub(crate) fn entry_in(words: &[u32; WORDS], q: usize) -> Quota
+    requires { ⌜ q < QUOTAS ⌝ }
+    ensures { λ r. ⌜ r ≡ entry-in (now (words .entry)) q ⌝ }
+{
+    Quota {
+        grant: word_at(words, 3 * q),
+        remainder: word_at(words, 3 * q + 1),
+        permissions: (word_at(words, 3 * q + 2) % 256) as u8,
+    }
+}
+
+// The quota with a number, of zeros where there is none.
+pub fn quota_at(words: &[u32; WORDS], q: usize) -> Quota
+    ensures { λ r. ⌜ r ≡ quota-at q (accounts-of (now (words .entry))) ⌝ }
+{
+    if QUOTAS <= q {
+        return Quota {
+            grant: 0,
+            remainder: 0,
+            permissions: 0,
+        };
+    }
+    entry_in(words, q)
 }
 
 // What remains of a quota; 0 where there is no such quota.

@@ -9,7 +9,9 @@ use crate::judge::forms::Form;
 use crate::run::boundary::images as proved;
 use crate::run::calls::Pair;
 use crate::run::lent::Lent;
-use crate::state::State;
+use crate::run::words::{accounts_of, is_plain, Words};
+use crate::seed::Seed;
+use crate::state::{Call, State};
 
 /// What an image function leaves and answers, as one side has it.
 #[derive(PartialEq, Eq)]
@@ -53,6 +55,14 @@ impl Pair {
         };
         let guards = image.guards_hold() && heap.guards_hold();
         self.judge("write", (lent, &state.heap), &found, &expected, guards)?;
+        let (found, guards) = self.written_in_place(form, state, lent);
+        self.judge(
+            "write in place",
+            (lent, &state.heap),
+            &found,
+            &expected,
+            guards,
+        )?;
         self.tally.count_image(form.written, refusal);
         Ok((refusal, found.image))
     }
@@ -82,9 +92,59 @@ impl Pair {
         };
         let guards = lent_image.guards_hold() && heap.guards_hold();
         self.judge("read", (image, lent), &found, &expected, guards)?;
+        let (found, guards) = self.read_in_place(image, lent);
+        self.judge("read in place", (image, lent), &found, &expected, guards)?;
         self.tally.count_image("read", refusal);
         let (heap, accounts) = (found.heap, found.accounts);
         Ok((refusal, State { heap, accounts }))
+    }
+
+    /// Writes an image over the accounts where they lie, with any padding; says what is left, and whether
+    /// no other byte or word has changed.
+    fn written_in_place(&self, form: Form, state: &State, lent: &[u8]) -> (Done, bool) {
+        let (mut image, mut heap) = (self.lend(lent), self.lend(&state.heap));
+        let mut words = self.lend_words(state);
+        let before = *words.part();
+        let (refusal, length) =
+            proved::write_in_place(form, image.part(), heap.part(), words.part());
+        let found = Done {
+            refusal,
+            length,
+            accounts: accounts_of(words.part()),
+            image: image.part().to_vec(),
+            heap: heap.part().to_vec(),
+        };
+        let same = *words.part() == before && words.guards_hold();
+        (found, same && image.guards_hold() && heap.guards_hold())
+    }
+
+    /// Reads an image into words that hold anything, as above; their padding is to be zero then.
+    fn read_in_place(&self, image: &[u8], lent: &[u8]) -> (Done, bool) {
+        let (mut lent_image, mut heap) = (self.lend(image), self.lend(lent));
+        let mut words = self.lend_words(&State {
+            heap: Vec::new(),
+            accounts: Accounts::default(),
+        });
+        let mut any = Seed::of_case(image.len() as u64, lent.len() as u64);
+        words.part().fill_with(|| any.word());
+        let refusal = proved::read_in_place(lent_image.part(), heap.part(), words.part());
+        let found = Done {
+            refusal,
+            length: 0,
+            accounts: accounts_of(words.part()),
+            image: lent_image.part().to_vec(),
+            heap: heap.part().to_vec(),
+        };
+        let guards = lent_image.guards_hold() && heap.guards_hold() && words.guards_hold();
+        (found, guards && is_plain(words.part()))
+    }
+
+    /// Lends the accounts of a state as words.
+    fn lend_words(&self, state: &State) -> Words {
+        match self.guarded {
+            true => Words::guarded(state, Call::Check),
+            false => Words::exact(state, Call::Check),
+        }
     }
 
     /// Lends a copy of bytes to the proved code.

@@ -12,6 +12,7 @@ pub mod images;
 pub mod lent;
 pub mod moves;
 pub mod programs;
+mod queue_words;
 pub mod queues;
 pub mod reports;
 pub mod rounds;

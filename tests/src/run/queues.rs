@@ -13,7 +13,7 @@ use crate::judge::compare::Failure;
 use crate::judge::cut::live_handles;
 use crate::run::boundary::queue as proved;
 use crate::run::calls::Pair;
-use crate::run::sending::{by_value, in_place};
+use crate::run::sending::{receive_in_place, send_by_value, send_in_place};
 use crate::seed::Seed;
 use crate::state::{Call, State};
 
@@ -39,8 +39,8 @@ fn number<T>(answer: &Result<T, QueueRefusal>) -> u32 {
 }
 
 impl Queues {
-    /// Sends on both sides, by the proved code with the accounts by value and where they lie, and
-    /// takes state and queue on to what all left; gives the refusal. A refused send has to leave
+    /// Sends on both sides, by the proved code with accounts and queue by value and where they lie,
+    /// and takes state and queue on to what all left; gives the refusal. A refused send has to leave
     /// everything.
     ///
     /// # Panics
@@ -50,7 +50,7 @@ impl Queues {
         let before = (state.clone(), queue.clone());
         let wanted = number(&send(&mut state.heap, &mut state.accounts, queue, handle));
         let asked = (&before.1, handle);
-        for made in [by_value, in_place] {
+        for made in [send_by_value, send_in_place] {
             let (left, found, refusal) = made(&before.0, &before.1, handle);
             assert_eq!(refusal, wanted, "proved, then reference, of {asked:?}");
             assert_eq!(found, *queue, "the queue that {asked:?} leaves");
@@ -64,7 +64,8 @@ impl Queues {
         wanted
     }
 
-    /// Receives on both sides and takes the queue on to what both left.
+    /// Receives on both sides, by the proved code with the queue by value and where it lies, and
+    /// takes the queue on to what all left.
     ///
     /// # Errors
     ///
@@ -72,25 +73,25 @@ impl Queues {
     ///
     /// # Panics
     ///
-    /// Where the two differ.
+    /// Where they differ.
     pub fn receive(&mut self, queue: &mut Queue) -> Result<Handle, u32> {
         let before = queue.clone();
         let wanted = receive(queue);
-        let (found, refusal, handle) = proved::receive(&before);
-        let numbers = (number(&wanted), wanted.unwrap_or_default());
-        assert_eq!((refusal, handle), numbers, "proved, then reference");
-        assert_eq!(
-            found, *queue,
-            "the queue that a receive of {before:?} leaves"
-        );
+        let refusal = number(&wanted);
+        let numbers = (refusal, wanted.as_ref().copied().unwrap_or_default());
+        for made in [proved::receive, receive_in_place] {
+            let (found, refusal, handle) = made(&before);
+            assert_eq!((refusal, handle), numbers, "proved, then reference");
+            assert_eq!(
+                found, *queue,
+                "the queue that a receive of {before:?} leaves"
+            );
+        }
         if refusal != 0 {
             assert_eq!(*queue, before);
         }
         *self.receives.entry(refusal).or_default() += 1;
-        match refusal {
-            0 => Ok(handle),
-            _ => Err(refusal),
-        }
+        wanted.map_err(|_| refusal)
     }
 
     /// How often sending gave this refusal, 0 for accepted.

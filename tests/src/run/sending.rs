@@ -1,17 +1,21 @@
-//! Sends by the proved code, with the accounts by value and where they lie.
+//! Sends and receives by the proved code, with accounts and queue by value and where they lie.
 
 use lokhazim_reference::{Handle, Queue};
 
 use crate::run::boundary::queue as proved;
 use crate::run::lent::Lent;
+use crate::run::queue_words::{queue_of, QueueWords};
 use crate::run::words::{accounts_of, padding_differences, Words};
 use crate::state::{Call, State};
 
 /// What a send left, and its refusal.
 pub type Sent = (State, Queue, u32);
 
-/// Sends by the proved code with the accounts by value.
-pub fn by_value(state: &State, queue: &Queue, handle: Handle) -> Sent {
+/// What a receive left, its refusal, and the handle.
+pub type Received = (Queue, u32, Handle);
+
+/// Sends by the proved code with accounts and queue by value.
+pub fn send_by_value(state: &State, queue: &Queue, handle: Handle) -> Sent {
     let mut lent = Lent::guarded(&state.heap);
     let (accounts, found, refusal) = proved::send(lent.part(), &state.accounts, queue, handle);
     let heap = lent.part().to_vec();
@@ -19,20 +23,34 @@ pub fn by_value(state: &State, queue: &Queue, handle: Handle) -> Sent {
     (State { heap, accounts }, found, refusal)
 }
 
-/// Sends by the proved code over the accounts where they lie, with any padding, which has to stay.
-/// A refused send has to leave every word.
-pub fn in_place(state: &State, queue: &Queue, handle: Handle) -> Sent {
+/// Sends by the proved code over the accounts, with any padding, which has to stay, and the queue
+/// where they lie. A refused send has to leave every word.
+pub fn send_in_place(state: &State, queue: &Queue, handle: Handle) -> Sent {
     let claim = Call::Claim(queue.receiver, handle);
     let mut lent = Lent::guarded(&state.heap);
     let mut words = Words::guarded(state, claim);
-    let before = *words.part();
-    let (found, refusal) = proved::send_in_place(lent.part(), words.part(), queue, handle);
-    let (heap, after) = (lent.part().to_vec(), *words.part());
+    let mut lying = QueueWords::guarded(queue);
+    let before = (*words.part(), *lying.part());
+    let refusal = proved::send_in_place(lent.part(), words.part(), lying.part(), handle);
+    let (heap, after) = (lent.part().to_vec(), (*words.part(), *lying.part()));
     assert!(lent.guards_hold(), "{queue:?} wrote outside the heap");
     assert!(words.guards_hold(), "{queue:?} wrote outside the accounts");
-    let differences = padding_differences(&before, &after, claim);
+    assert!(lying.guards_hold(), "{queue:?} wrote outside the queue");
+    let differences = padding_differences(&before.0, &after.0, claim);
     assert!(differences.is_empty(), "{queue:?}: {differences:?}");
     assert!(refusal == 0 || after == before, "{queue:?} refused");
-    let accounts = accounts_of(&after);
-    (State { heap, accounts }, found, refusal)
+    let accounts = accounts_of(&after.0);
+    (State { heap, accounts }, queue_of(&after.1), refusal)
+}
+
+/// Receives by the proved code over the queue where it lies. A refused receive has to leave every
+/// word.
+pub fn receive_in_place(queue: &Queue) -> Received {
+    let mut lying = QueueWords::guarded(queue);
+    let before = *lying.part();
+    let (refusal, handle) = proved::receive_in_place(lying.part());
+    let after = *lying.part();
+    assert!(lying.guards_hold(), "{queue:?} wrote outside the queue");
+    assert!(refusal == 0 || after == before, "{queue:?} refused");
+    (queue_of(&after), refusal, handle)
 }

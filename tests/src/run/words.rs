@@ -48,6 +48,11 @@ fn plain(accounts: &Accounts) -> Vec<u32> {
     words.chain([kinds]).collect()
 }
 
+/// Tells whether words have zeros as padding.
+pub fn is_plain(words: &[u32; WORDS]) -> bool {
+    words[..] == plain(&accounts_of(words))
+}
+
 /// Gives the accounts that words hold, whatever their padding is.
 pub fn accounts_of(words: &[u32; WORDS]) -> Accounts {
     let bytes = |place: usize| words[place].to_le_bytes();

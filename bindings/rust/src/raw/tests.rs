@@ -1,7 +1,7 @@
 //! Every field of the accounts goes through the library and back, as Rust sets it.
 
 use super::*;
-use crate::layout::{Hold, Quota, HOLDS, QUOTAS};
+use crate::layout::{Accounts, Hold, Quota, HOLDS, QUOTAS};
 
 const INCONSISTENT: u32 = 2;
 
@@ -135,26 +135,62 @@ fn each_call_leaves_padding_as_it_is() {
     assert_eq!(words.0, marked(&accounts).0);
 }
 
-#[test]
-fn a_send_hands_back_every_field_that_it_refuses() {
-    let accounts = distinct();
+/// A handle whose three fields are distinct numbers.
+fn marked_handle(n: usize) -> Handle {
     let mark = |n: usize| n as u32 * 0x0101_0101;
-    let handle = |n: usize| Handle {
+    Handle {
         base: mark(n),
         length: mark(n + 1),
         serial: mark(n + 2),
-    };
-    let queue = Queue {
-        sender: mark(1),
-        receiver: mark(2),
-        count: 3,
-        handles: core::array::from_fn(|i| handle(3 * i + 3)),
-    };
+    }
+}
+
+/// A queue with this count whose other fields are distinct numbers.
+fn marked_queue(count: u32) -> Queue {
+    Queue {
+        sender: 0x0101_0101,
+        receiver: 0x0202_0202,
+        count,
+        handles: core::array::from_fn(|i| marked_handle(3 * i + 3)),
+    }
+}
+
+#[test]
+fn a_send_leaves_every_field_that_it_refuses() {
+    let accounts = distinct();
     let mut words = marked(&accounts);
-    let reply = queue_send(&mut [0; 64], &mut words, queue.clone(), handle(60));
-    assert_eq!(reply.refusal, INCONSISTENT);
-    assert_eq!(words.0, marked(&accounts).0);
-    assert_eq!(reply.queue, queue);
+    for (count, refusal) in [(3, INCONSISTENT), (16, 51), (17, 53), (u32::MAX, 53)] {
+        let mut queue = marked_queue(count);
+        let handle = marked_handle(60);
+        assert_eq!(
+            queue_send(&mut [0; 64], &mut words, &mut queue, handle),
+            refusal
+        );
+        assert_eq!(words.0, marked(&accounts).0);
+        assert_eq!(queue, marked_queue(count));
+    }
+}
+
+#[test]
+fn a_receive_moves_every_field_or_leaves_it() {
+    let none = Handle {
+        base: 0,
+        length: 0,
+        serial: 0,
+    };
+    for (count, refusal) in [(0, 52), (17, 53), (u32::MAX, 53)] {
+        let mut queue = marked_queue(count);
+        let reply = queue_receive(&mut queue);
+        assert_eq!((reply.refusal, reply.handle), (refusal, none));
+        assert_eq!(queue, marked_queue(count));
+    }
+    let mut queue = marked_queue(16);
+    let reply = queue_receive(&mut queue);
+    assert_eq!((reply.refusal, reply.handle), (0, marked_handle(3)));
+    let mut left = marked_queue(15);
+    left.handles.rotate_left(1);
+    left.handles[15] = none;
+    assert_eq!(queue, left);
 }
 
 #[test]

@@ -138,12 +138,6 @@ static void visit_image_reply(struct lokhazim_image_reply *it)
     visit_size(&it->length);
 }
 
-static void visit_restore_reply(struct lokhazim_restore_reply *it)
-{
-    visit_accounts(&it->accounts);
-    visit32(&it->refusal);
-}
-
 static void visit_examine_reply(struct lokhazim_examine_reply *it)
 {
     visit32(&it->refusal);
@@ -216,19 +210,6 @@ static void visit_queue(struct lokhazim_queue *it)
     }
 }
 
-static void visit_queue_reply(struct lokhazim_queue_reply *it)
-{
-    visit_queue(&it->queue);
-    visit32(&it->refusal);
-}
-
-static void visit_receive_reply(struct lokhazim_receive_reply *it)
-{
-    visit_queue(&it->queue);
-    visit32(&it->refusal);
-    visit_handle(&it->handle);
-}
-
 /* Stops where fewer bytes could be read or written than a struct has. */
 static void need(size_t done)
 {
@@ -265,7 +246,6 @@ int main(int count, char **words)
     EXCHANGE(range_reply);
     EXCHANGE(block_reply);
     EXCHANGE(image_reply);
-    EXCHANGE(restore_reply);
     EXCHANGE(examine_reply);
     EXCHANGE(compare_reply);
     EXCHANGE(next_reply);
@@ -275,7 +255,5 @@ int main(int count, char **words)
     EXCHANGE(add_reply);
     EXCHANGE(entry_reply);
     EXCHANGE(queue);
-    EXCHANGE(queue_reply);
-    EXCHANGE(receive_reply);
     return EXIT_SUCCESS;
 }

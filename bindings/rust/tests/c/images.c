@@ -183,6 +183,19 @@ static void marked(uint8_t kind, uint8_t edition)
     CHECK(lokhazim_image_move_down(changed, length, image, sizeof image).refusal == LOKHAZIM_IMAGE_NOT_CARRIED);
 }
 
+/* A board that starts: the accounts become the image's, or zeros; a refused image leaves the heap. */
+static void resume(size_t length)
+{
+    struct lokhazim_accounts zeros;
+    struct lokhazim_accounts back;
+    memset(&zeros, 0, sizeof zeros);
+    memset(&back, 5, sizeof back);
+    CHECK(lokhazim_heap_resume(other, sizeof other, &back, image, length - 512) == LOKHAZIM_IMAGE_FRAME);
+    CHECK(other[0] == 9 && other[sizeof other - 1] == 9 && same(&zeros, &back));
+    CHECK(lokhazim_heap_resume(other, sizeof other, &back, image, length) == LOKHAZIM_IMAGE_ACCEPTED);
+    CHECK(memcmp(heap, other, sizeof heap) == 0 && same(&accounts, &back));
+}
+
 int main(void)
 {
     size_t length = 1;
@@ -209,6 +222,7 @@ int main(void)
     image[600] ^= 1;
     CHECK(lokhazim_heap_restore(other, sizeof other - 8, &back, image, length) == LOKHAZIM_IMAGE_ROOM);
     CHECK(other[0] == 9 && other[sizeof other - 1] == 9 && same(&accounts, &back));
+    resume(length);
     compare();
     form_1();
     moves();

@@ -64,37 +64,71 @@ static void in_order(void)
     CHECK(queue.count == 0);
 }
 
-/* A damaged queue and a sender that holds nothing: both are refused, and nothing changes. */
-static void refuse(void)
+/* A queue with another number in every word, and this count. */
+static struct lokhazim_queue filled(uint32_t count)
 {
-    struct lokhazim_queue queue = fresh();
-    struct lokhazim_handle packet;
-    uint8_t before[sizeof heap];
-    memcpy(before, heap, sizeof heap);
-    queue.count = LOKHAZIM_QUEUE_PLACES + 1;
-    CHECK(put(&queue, packets[0]) == LOKHAZIM_QUEUE_DAMAGED && queue.count == LOKHAZIM_QUEUE_PLACES + 1);
-    CHECK(lokhazim_queue_take(&queue, &packet) == LOKHAZIM_QUEUE_DAMAGED && queue.count == LOKHAZIM_QUEUE_PLACES + 1);
-    queue.count = 0;
-    CHECK(put(&queue, packets[0]) == LOKHAZIM_NOT_HELD && queue.count == 0);
-    CHECK(memcmp(before, heap, sizeof heap) == 0);
-    CHECK(lokhazim_heap_check(heap, sizeof heap, &accounts) == LOKHAZIM_ACCEPTED);
-}
-
-/* Every field of a queue comes back from a call that refuses it, and the others are at their places after a receive. */
-static void every_field(void)
-{
-    struct lokhazim_queue queue = { .sender = 0x01020304, .receiver = 0x05060708, .count = 17, .handles = { { 0, 0, 0 } } };
+    struct lokhazim_queue queue = { .sender = 0x01020304, .receiver = 0x05060708, .count = count, .handles = { { 0, 0, 0 } } };
     for (uint32_t i = 0; i < LOKHAZIM_QUEUE_PLACES; i++) {
         queue.handles[i] = (struct lokhazim_handle){ 3 * i + 1, 3 * i + 2, 3 * i + 3 };
     }
-    struct lokhazim_receive_reply reply = lokhazim_queue_receive(queue);
-    CHECK(reply.refusal == LOKHAZIM_QUEUE_DAMAGED && memcmp(&reply.queue, &queue, sizeof queue) == 0);
-    queue.count = LOKHAZIM_QUEUE_PLACES;
-    reply = lokhazim_queue_receive(queue);
-    CHECK(reply.refusal == LOKHAZIM_QUEUE_ACCEPTED && same(reply.handle, queue.handles[0]));
-    CHECK(reply.queue.sender == 0x01020304 && reply.queue.receiver == 0x05060708 && reply.queue.count == 15);
-    CHECK(memcmp(reply.queue.handles, queue.handles + 1, 15 * sizeof queue.handles[0]) == 0);
-    CHECK(reply.queue.handles[15].base == 0 && reply.queue.handles[15].length == 0 && reply.queue.handles[15].serial == 0);
+    return queue;
+}
+
+/* A send is refused with this number, and leaves heap, accounts and queue as they are. */
+static void not_put(struct lokhazim_queue queue, uint32_t refusal)
+{
+    const struct lokhazim_queue before = queue;
+    const struct lokhazim_accounts owed = accounts;
+    uint8_t bytes[sizeof heap];
+    memcpy(bytes, heap, sizeof heap);
+    CHECK(put(&queue, packets[0]) == refusal);
+    CHECK(memcmp(&before, &queue, sizeof queue) == 0);
+    CHECK(memcmp(&owed, &accounts, sizeof accounts) == 0);
+    CHECK(memcmp(bytes, heap, sizeof heap) == 0);
+}
+
+/* Damaged queues, full ones, quotas that there are not, and a sender that holds nothing: all are refused, and nothing changes. */
+static void refuse(void)
+{
+    struct lokhazim_queue queue = filled(0);
+    not_put(filled(LOKHAZIM_QUEUE_PLACES + 1), LOKHAZIM_QUEUE_DAMAGED);
+    not_put(filled(UINT32_MAX), LOKHAZIM_QUEUE_DAMAGED);
+    not_put(filled(LOKHAZIM_QUEUE_PLACES), LOKHAZIM_QUEUE_FULL);
+    not_put(queue, LOKHAZIM_QUOTA_NUMBER);
+    queue.receiver = 1;
+    not_put(queue, LOKHAZIM_QUOTA_NUMBER);
+    queue.sender = 0;
+    not_put(queue, LOKHAZIM_NOT_HELD);
+    CHECK(lokhazim_heap_check(heap, sizeof heap, &accounts) == LOKHAZIM_ACCEPTED);
+}
+
+/* Every word of a queue stays where a receive is refused, and is at its place after one that is not; by value and in place. */
+static void every_field(void)
+{
+    static const struct lokhazim_handle none;
+    static const uint32_t refused[][2] = {
+        { 0, LOKHAZIM_QUEUE_EMPTY }, { LOKHAZIM_QUEUE_PLACES + 1, LOKHAZIM_QUEUE_DAMAGED }, { UINT32_MAX, LOKHAZIM_QUEUE_DAMAGED }
+    };
+    for (size_t i = 0; i < sizeof refused / sizeof refused[0]; i++) {
+        const struct lokhazim_queue before = filled(refused[i][0]);
+        struct lokhazim_queue queue = before;
+        const struct lokhazim_receive_reply reply = lokhazim_queue_receive(queue);
+        CHECK(reply.refusal == refused[i][1] && same(reply.handle, none) && memcmp(&reply.queue, &before, sizeof before) == 0);
+        const struct lokhazim_given_handle given = lokhazim_queue_in_place_receive(&queue);
+        CHECK(given.refusal == refused[i][1] && same(given.handle, none) && memcmp(&queue, &before, sizeof before) == 0);
+    }
+    for (uint32_t count = 1; count <= LOKHAZIM_QUEUE_PLACES; count++) {
+        const struct lokhazim_queue before = filled(count);
+        struct lokhazim_queue queue = before;
+        const struct lokhazim_receive_reply reply = lokhazim_queue_receive(queue);
+        CHECK(reply.refusal == LOKHAZIM_QUEUE_ACCEPTED && same(reply.handle, before.handles[0]));
+        CHECK(reply.queue.sender == 0x01020304 && reply.queue.receiver == 0x05060708 && reply.queue.count == count - 1);
+        CHECK(memcmp(reply.queue.handles, before.handles + 1, 15 * sizeof before.handles[0]) == 0);
+        CHECK(same(reply.queue.handles[15], none));
+        const struct lokhazim_given_handle given = lokhazim_queue_in_place_receive(&queue);
+        CHECK(given.refusal == LOKHAZIM_QUEUE_ACCEPTED && same(given.handle, before.handles[0]));
+        CHECK(memcmp(&queue, &reply.queue, sizeof queue) == 0);
+    }
 }
 
 int main(void)

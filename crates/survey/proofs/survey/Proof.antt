@@ -4,35 +4,34 @@
 -- Where
 -- they pass, the paths give the serial's records, the walk's first part the object, and the walk the room.
 -- Assumes nothing.
-use Prim.Native.Nat.{ℕ, _-_, _*_, _<_, _≤_}
+use Prim.Native.Nat.{ℕ, _-_, _*_, _≤_}
 use native.Mathlib.Omega.{arith}
 use borrow.Author.Needs.{needs}
-use borrow.Author.Tests.{not-true, not-false, leb-true}
-use mathlib.Core.Path.{_≡_, refl, ap, sym, subst, _∙_}
+use borrow.Author.Tests.{not-true, not-false}
+use mathlib.Core.Path.{_≡_, refl, sym, subst, _∙_}
 use mathlib.Core.Bool.{Bool, true, false, cond, _&&_}
 use mathlib.Core.List.{List}
-use lib.Dec.{leb, ltb, eqb}
-use lib.ListN.{length, drop, length-map}
-use Rattle.accounts.specs.Accounts.{QUOTAS, find-hold}
+use lib.Dec.{eqb}
+use lib.ListN.{length, drop}
+use Rattle.accounts.specs.Accounts.{find-hold}
 use Rattle.rounding.specs.Rounding.{table}
 use Rattle.layout.specs.Blocks.{greatest-heap, cut}
 use Rattle.model.specs.declared.Refusal.the-variants.{Inconsistent}
 use Rattle.model.specs.declared.Verdict.the-variants.{Accepted, Refused}
 use Rattle.model.specs.Answers.{verdict-values}
-use Rattle.model.specs.Consistent.{allowed, in-range, greatest-serial}
+use Rattle.model.specs.Consistent.{allowed, in-range}
 use Rattle.model.specs.Calls.{check as check-of}
-use Rattle.model.proofs.Bools.{and-left}
-use Rattle.audit.specs.Audit.{owes, all-zero}
+use Rattle.audit.specs.Audit.{all-zero}
 use Rattle.audit.specs.Contracts.{Owing}
-use Rattle.words.specs.Words.{last-of, kind-of, edition-of, quotas-of, holds-of, accounts-of}
+use Rattle.words.specs.Words.{edition-of, quotas-of, holds-of, accounts-of}
 use Rattle.words.proofs.Words.{quotas-long}
 use Rattle.survey.specs.Index.{keys-left}
-use Rattle.survey.specs.Contracts.{sought, Told, Index, Stage, judged, Walked-to}
+use Rattle.survey.specs.Contracts.{sought, Told, Index, judged, Walked-to}
 use Rattle.survey.proofs.Building.{built-none}
-use Rattle.survey.proofs.Closing.{keyed, ready}
-use Rattle.survey.proofs.Judgement.{verdict-length, verdict-range, verdict-ill, verdict-insolvent, verdict-judged, walked-end}
+use Rattle.survey.proofs.Judgement.{verdict-length, verdict-range, verdict-ill, verdict-insolvent, walked-end, last-given, walk-ready}
+use Rattle.survey.proofs.Judgement.{verdict-walked}
 use Rattle.survey.specs.declared.Wanted.{Wanted}
-use Rattle.survey.specs.Survey.{verdict-of, handle-of, shares, Known, Survey}
+use Rattle.survey.specs.Survey.{verdict-of, handle-of, shares, Known}
 use Rattle.survey.specs.Route.{Halved}
 use Rattle.survey.proofs.Naming.{named-half, half-bounds}
 use Rattle.survey.proofs.Surveys.{refused-length, refused-state, allowed-range, place-any, fit-known}
@@ -174,23 +173,15 @@ abbrev owed : tie.After-left → tie.Else4
 owed c = paths c .before .before .before .before .before .before
 
 walk-parts-requires : tie.Need-walk-parts-requires
-unfolding in-range
 walk-parts-requires c κs =
     let i = tally (owed c) in
     let u = needs-of c .before in
-    let r = range i in
-    let ok = ranged (i .before .before .before .before) in
-    let last = leb-true (last-of (words r)) greatest-serial
-    (and-left (leb (last-of (words r)) greatest-serial) (ltb (kind-of (words r)) 2 && ltb (edition-of (words r)) 2) ok) in (
-      omega (arith, last, r .numbers-in .ensures .1),
+    let r = range i in (
+      omega (arith, last-given (words r) (ranged (i .before .before .before .before)), r .numbers-in .ensures .1),
       u .before .edge-of .ensures .1,
       u .unit-of .ensures .0,
       u .unit-of .ensures .1,
-      record {
-        inside = omega arith;
-        even = refl;
-        ready = ready (entered (owed c)) (ap length (debts (owed c) .1 refl) ∙ length-map (quotas-of (words r)) owes ∙ quotas-long (words r));
-      },
+      record { inside = omega arith; even = refl; ready = walk-ready (entered (owed c)) (debts (owed c)) },
     )
 
 -- and what it says
@@ -207,25 +198,15 @@ Whole c =
     judged (table (n .edition)) (n .kind) (n .last) 0 (cut 0 (drop 0 (start (ranging c) .args .heap .now))) 1
     (keys-left (words (ranging c)) (i .index .last .1 .1 .0) (i .index .last .1 .0)) (owed (at c) .before .owing .last .1 .0)
 
-same : (c : tie.After-walk-parts)
-    → let i = tally (owed (at c)) in let ws = words (ranging c) in
-    Whole c ≡ judged (table (edition-of ws)) (kind-of ws) (last-of ws) 0 (cut 0 (drop 0 (start (ranging c) .args .heap .now))) 1
-    (keys-left ws (i .index .last .1 .1 .0) (i .index .last .1 .0)) (owed (at c) .before .owing .last .1 .0)
-same c =
-    let i = tally (owed (at c)) in
-    let n = ranging c .numbers-in .ensures in
-    λ j. judged (table (n .3 j)) (n .2 j) (n .1 j) 0 (cut 0 (drop 0 (start (ranging c) .args .heap .now))) 1
-    (keys-left (words (ranging c)) (i .index .last .1 .1 .0) (i .index .last .1 .0)) (owed (at c) .before .owing .last .1 .0)
-
 verdict : (c : tie.After-walk-parts) (t : Bool) → t ≡ Whole c
     → verdict-values (cond t Accepted (Refused Inconsistent)) ≡ check-of (table (edition-of (words (ranging c)))) (start (ranging c) .args .heap .now)
     (accounts-of (words (ranging c))) .values
 verdict c t e =
     let i = tally (owed (at c)) in
     let r = ranging c in
-    verdict-judged (table (edition-of (words r))) (start r .args .heap .now) (accounts-of (words r)) (allows r) (ranged (i .before .before .before .before))
-    (quotas-long (words r))
-    (entered (owed (at c)) .well) (keyed (entered (owed (at c)))) (debts (owed (at c))) t (e ∙ same c)
+    let n = r .numbers-in in
+    verdict-walked (entered (owed (at c))) (debts (owed (at c))) (start r .args .heap .now) (allows r) (ranged (i .before .before .before .before))
+    (n .result .edition) (n .result .kind) (n .result .last) (n .ensures .3) (n .ensures .2) (n .ensures .1) t e
 
 abbrev Says : tie.After-walk-parts → Bool → Type 0
 Says c t =

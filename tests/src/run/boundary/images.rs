@@ -4,6 +4,7 @@ use lokhazim_reference::{Accounts, Difference};
 
 use super::CAccounts;
 use crate::judge::forms::Form;
+use crate::run::words::WORDS;
 
 /// What writing an image gives back.
 #[repr(C)]
@@ -89,6 +90,27 @@ extern "C" {
         heap: *mut u8,
         heap_length: usize,
     ) -> RestoreReply;
+    fn lokhazim_image_in_place_write(
+        image: *mut u8,
+        image_length: usize,
+        heap: *const u8,
+        heap_length: usize,
+        words: *const u32,
+    ) -> ImageReply;
+    fn lokhazim_image_in_place_write_form_1(
+        image: *mut u8,
+        image_length: usize,
+        heap: *const u8,
+        heap_length: usize,
+        words: *const u32,
+    ) -> ImageReply;
+    fn lokhazim_image_in_place_read(
+        image: *const u8,
+        image_length: usize,
+        heap: *mut u8,
+        heap_length: usize,
+        words: *mut u32,
+    ) -> u32;
 }
 
 /// Gives the length of the image of a heap of this length, 0 for a length that is not allowed.
@@ -123,6 +145,44 @@ pub fn write(form: Form, image: &mut [u8], heap: &mut [u8], accounts: &Accounts)
         )
     };
     (reply.refusal, reply.length)
+}
+
+/// Writes an image of the accounts where they lie, and gives the refusal and the length.
+pub fn write_in_place(
+    form: Form,
+    image: &mut [u8],
+    heap: &mut [u8],
+    words: &mut [u32; WORDS],
+) -> (u32, usize) {
+    let write = match form.number {
+        1 => lokhazim_image_in_place_write_form_1,
+        _ => lokhazim_image_in_place_write,
+    };
+    // Safety: as above, and the words are as many as the accounts have.
+    let reply = unsafe {
+        write(
+            image.as_mut_ptr(),
+            image.len(),
+            heap.as_mut_ptr(),
+            heap.len(),
+            words.as_mut_ptr(),
+        )
+    };
+    (reply.refusal, reply.length)
+}
+
+/// Reads an image into the accounts where they lie, and gives the refusal.
+pub fn read_in_place(image: &mut [u8], heap: &mut [u8], words: &mut [u32; WORDS]) -> u32 {
+    // Safety: as above.
+    unsafe {
+        lokhazim_image_in_place_read(
+            image.as_mut_ptr(),
+            image.len(),
+            heap.as_mut_ptr(),
+            heap.len(),
+            words.as_mut_ptr(),
+        )
+    }
 }
 
 /// Reads an image by the proved code and gives the refusal and the accounts.

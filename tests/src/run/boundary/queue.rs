@@ -3,6 +3,7 @@
 use lokhazim_reference::{Accounts, Handle, Queue, QUEUE_PLACES};
 
 use super::{CAccounts, CHandle};
+use crate::run::queue_words::QUEUE_WORDS;
 use crate::run::words::WORDS;
 
 /// A queue as it crosses the boundary.
@@ -23,17 +24,17 @@ struct SendReply {
     refusal: u32,
 }
 
-/// What sending gives back over the accounts where they lie.
-#[repr(C)]
-struct QueueReply {
-    queue: CQueue,
-    refusal: u32,
-}
-
 /// What receiving gives back.
 #[repr(C)]
 struct ReceiveReply {
     queue: CQueue,
+    refusal: u32,
+    handle: CHandle,
+}
+
+/// What receiving gives back over the queue where it lies.
+#[repr(C)]
+struct OldestReply {
     refusal: u32,
     handle: CHandle,
 }
@@ -51,10 +52,11 @@ extern "C" {
         heap: *mut u8,
         heap_length: usize,
         words: *mut u32,
-        queue: CQueue,
+        queue: *mut u32,
         handle: CHandle,
-    ) -> QueueReply;
+    ) -> u32;
     fn lokhazim_queue_receive(queue: CQueue) -> ReceiveReply;
+    fn lokhazim_queue_in_place_receive(queue: *mut u32) -> OldestReply;
 }
 
 impl From<CHandle> for Handle {
@@ -109,19 +111,19 @@ pub fn send(
     (r.accounts.into(), r.queue.into(), r.refusal)
 }
 
-/// Sends a handle by the proved code over the accounts where they lie, and gives the queue and the
+/// Sends a handle by the proved code over the accounts and the queue where they lie, and gives the
 /// refusal.
 pub fn send_in_place(
     heap: &mut [u8],
     words: &mut [u32; WORDS],
-    queue: &Queue,
+    queue: &mut [u32; QUEUE_WORDS],
     handle: Handle,
-) -> (Queue, u32) {
-    let (p, len, w) = (heap.as_mut_ptr(), heap.len(), words.as_mut_ptr());
-    // Safety: the pointers and the length are those of a slice and an array that are borrowed, the
-    // structs have the layout of the boundary, and the function accepts any bytes, words and numbers.
-    let r = unsafe { lokhazim_queue_in_place_send(p, len, w, queue.into(), handle.into()) };
-    (r.queue.into(), r.refusal)
+) -> u32 {
+    let (p, len) = (heap.as_mut_ptr(), heap.len());
+    let (w, q) = (words.as_mut_ptr(), queue.as_mut_ptr());
+    // Safety: the pointers and the length are those of a slice and two arrays that are borrowed, the
+    // handle has the layout of the boundary, and the function accepts any bytes, words and numbers.
+    unsafe { lokhazim_queue_in_place_send(p, len, w, q, handle.into()) }
 }
 
 /// Receives by the proved code and gives the queue, the refusal and the handle.
@@ -129,4 +131,11 @@ pub fn receive(queue: &Queue) -> (Queue, u32, Handle) {
     // Safety: the structs have the layout of the boundary, and the function accepts any numbers.
     let r = unsafe { lokhazim_queue_receive(queue.into()) };
     (r.queue.into(), r.refusal, r.handle.into())
+}
+
+/// Receives by the proved code over the queue where it lies, and gives the refusal and the handle.
+pub fn receive_in_place(queue: &mut [u32; QUEUE_WORDS]) -> (u32, Handle) {
+    // Safety: the pointer is that of an array that is borrowed, and the function accepts any words.
+    let r = unsafe { lokhazim_queue_in_place_receive(queue.as_mut_ptr()) };
+    (r.refusal, r.handle.into())
 }

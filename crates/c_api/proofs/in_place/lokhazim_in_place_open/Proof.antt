@@ -25,10 +25,12 @@ returns : tie.Need-returns
 returns c =
     let o = c .before .before .before in
     let g = o .before .before .before in
-    let a = g .before .before .before .args in
-    ap (outcome (o .«open» .last .0) (accounts-of (o .«open» .last .1 .0))) (c .number-of .ensures)
-    ∙ o .«open» .ensures
-    ∙ ap (λ (x : Settings). open-heap x (a .heap .now) (a .grants .values)) (g .settings-of .ensures)
+    let a = g .before .before .before .args in (
+      ap (outcome (o .«open» .last .0) (accounts-of (o .«open» .last .1 .0))) (c .number-of .ensures)
+          ∙ o .«open» .ensures .0
+          ∙ ap (λ (x : Settings). open-heap x (a .heap .now) (a .grants .values)) (g .settings-of .ensures),
+      o .«open» .ensures .1,
+    )
 
 pub lokhazim-in-place-open-spec : {M : Type 1} → statement M
 lokhazim-in-place-open-spec =

@@ -17,7 +17,8 @@ returns : tie.Need-returns
 returns c =
     let k = c .before .before .before .is-allowed in
     let a = c .before .before .before .before .before .args in
-    open-refused (a .settings) (a .heap .now) (a .grants) _ (c .clear .ensures) (sym (k .ensures) ∙ not-true (k .result) (c .before .before .if1 .taken))
+    let w = c .clear .ensures in
+    (open-refused (a .settings) (a .heap .now) (a .grants) _ (w .0) (sym (k .ensures) ∙ not-true (k .result) (c .before .before .if1 .taken)), w .1)
 
 clear-requires-2 : tie.Need-clear-requires-2
 clear-requires-2 c κs = search needs
@@ -33,8 +34,11 @@ returns-2 c =
     let k = c .before .before .before .before .before .before .before .is-allowed in
     let w = c .before .before .before .before .clear2 in
     let a = c .before .before .before .before .before .before .before .before .before .args in
-    open-accepted (a .settings) (a .heap .now) (a .grants) _ (w .last .0) (c .«open» .ensures) (w .ensures)
-    (sym (k .ensures) ∙ not-false (k .result) (c .before .before .before .before .before .before .if1 .left))
+    let o = c .«open» .ensures in (
+      open-accepted (a .settings) (a .heap .now) (a .grants) _ (w .last .0) (o .0) (w .ensures)
+          (sym (k .ensures) ∙ not-false (k .result) (c .before .before .before .before .before .before .if1 .left)),
+      o .1,
+    )
 
 pub open-spec : {M : Type 1} → statement M
 open-spec =

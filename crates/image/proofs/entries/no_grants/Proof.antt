@@ -4,9 +4,11 @@ use Prim.Native.Nat.{_-_}
 use native.Mathlib.Omega.{arith}
 use borrow.Author.Needs.{needs}
 use borrow.Author.Tests.{eq-eqb, ne-eqb}
-use mathlib.Core.Path.{_≡_, refl}
-use lib.ListN.{length, drop, getD}
+use mathlib.Core.Path.{_≡_, refl, ap, sym, _∙_}
+use lib.ListN.{drop}
 use Rattle.accounts.specs.Accounts.{QUOTAS, zero-quota}
+use Rattle.words.specs.Words.{quotas-of}
+use Rattle.words.proofs.Words.{quotas-long}
 use Rattle.model.specs.Lists.{all}
 use Rattle.image_model.specs.Stream.{no-grant}
 use Rattle.image.proofs.Zeros.{all-stop, all-go-on, all-end}
@@ -14,29 +16,24 @@ use Rattle.image.proofs.entries.no_grants.Statement.{statement}
 use Rattle.image.proofs.entries.no_grants.Tie as tie
 
 abbrev Inv-loop : tie.InvT-loop
-Inv-loop from quotas i₀ i = all no-grant (drop i quotas) ≡ all no-grant (drop from quotas)
+Inv-loop words from i₀ i = all no-grant (drop i (quotas-of words)) ≡ all no-grant (drop from (quotas-of words))
 
 abbrev μ-loop : tie.MeasureT-loop
-μ-loop from quotas i₀ i = QUOTAS - i
-
-long : (c : tie.Start Inv-loop μ-loop) → length (c .args .t1) ≡ QUOTAS
-long c = c .good .0 .1 .0 .1
+μ-loop words from i₀ i = QUOTAS - i
 
 loop-holds : tie.Need-loop-holds Inv-loop μ-loop
 loop-holds c = refl
 
-mul-if1 : tie.Need-mul-if1 Inv-loop μ-loop
-mul-if1 c = search needs
-
-element-copy-out-if1 : tie.Need-element-copy-out-if1 Inv-loop μ-loop
-element-copy-out-if1 c = search needs
+quota-at-requires : tie.Need-quota-at-requires Inv-loop μ-loop
+quota-at-requires c κs = search needs
 
 returns : tie.Need-returns Inv-loop μ-loop
 returns c =
-    let l = c .before .before in
+    let q = c .before .before in
+    let l = q .before .before in
     let a = l .before .args in
-    all-stop no-grant zero-quota (a .t1) (a .from) (l .loop .i) (l .loop .inv) (omega (arith, long (l .before)))
-    (ne-eqb (getD (a .t1) (l .loop .i) zero-quota .grant) 0 (c .if1 .taken))
+    all-stop no-grant zero-quota (quotas-of (a .words .now)) (a .from) (l .loop .i) (l .loop .inv) (omega (arith, quotas-long (a .words .now)))
+    (ap no-grant (sym (q .quota-at .ensures)) ∙ ne-eqb _ 0 (c .if1 .taken))
 
 add-i : tie.Need-add-i Inv-loop μ-loop
 add-i c = search needs
@@ -46,16 +43,17 @@ loop-less c = search needs
 
 loop-again : tie.Need-loop-again Inv-loop μ-loop
 loop-again c =
-    let l = c .before .before in
+    let q = c .before .before in
+    let l = q .before .before in
     let a = l .before .args in
-    all-go-on no-grant zero-quota (a .t1) (a .from) (l .loop .i) (l .loop .inv) (omega (arith, long (l .before)))
-    (eq-eqb (getD (a .t1) (l .loop .i) zero-quota .grant) 0 (c .if1 .left))
+    all-go-on no-grant zero-quota (quotas-of (a .words .now)) (a .from) (l .loop .i) (l .loop .inv) (omega (arith, quotas-long (a .words .now)))
+    (ap no-grant (sym (q .quota-at .ensures)) ∙ eq-eqb _ 0 (c .if1 .left))
 
 returns-2 : tie.Need-returns-2 Inv-loop μ-loop
 returns-2 c =
     let l = c .before in
     let a = l .before .args in
-    all-end no-grant zero-quota (a .t1) (a .from) (l .loop .i) (l .loop .inv) (omega (arith, long (l .before)))
+    all-end no-grant zero-quota (quotas-of (a .words .now)) (a .from) (l .loop .i) (l .loop .inv) (omega (arith, quotas-long (a .words .now)))
 
 pub no-grants-spec : {M : Type 1} → statement M
 no-grants-spec =
@@ -64,8 +62,7 @@ no-grants-spec =
     Inv-loop
     μ-loop
     loop-holds
-    mul-if1
-    element-copy-out-if1
+    quota-at-requires
     returns
     add-i
     loop-less

@@ -7,6 +7,8 @@ use mathlib.Core.List.{List}
 use lib.ListN.{length, take, getD}
 use borrow.Author.Needs.{needs}
 use Rattle.accounts.specs.Accounts.{QUOTAS, zero-quota}
+use Rattle.words.specs.Words.{quotas-of}
+use Rattle.words.proofs.Words.{quotas-long}
 use Rattle.layout.specs.Bytes.{overwrite}
 use Rattle.layout.proofs.Overwrite.{length-overwrite}
 use Rattle.image_model.specs.Items.{many}
@@ -20,11 +22,11 @@ use Rattle.image.proofs.entries.write_entries.Statement.{statement}
 use Rattle.image.proofs.entries.write_entries.Tie as tie
 
 abbrev Inv-loop : tie.InvT-loop
-Inv-loop head₀ count full quotas i₀ head i =
-    (i ≤ count) × ((f : Form) → f .full ≡ full → head ≡ overwrite 12 (many (entry-bytes f) (take i quotas)) head₀)
+Inv-loop head₀ words count full i₀ head i =
+    (i ≤ count) × ((f : Form) → f .full ≡ full → head ≡ overwrite 12 (many (entry-bytes f) (take i (quotas-of words))) head₀)
 
 abbrev μ-loop : tie.MeasureT-loop
-μ-loop head₀ count full quotas i₀ head i = count - i
+μ-loop head₀ words count full i₀ head i = count - i
 
 -- the length stays
 len : (c : tie.At-loop Inv-loop μ-loop) → length (c .loop .head) ≡ length (c .before .before .args .head .now)
@@ -32,30 +34,26 @@ unfolding some-form
 len c =
     let a = c .before .before .args in
     let f = some-form (a .full) in
-    ap length (c .loop .inv .1 f refl) ∙ length-overwrite 12 (many (entry-bytes f) (take (c .loop .i) (a .t2))) (a .head .now)
+    ap length (c .loop .inv .1 f refl) ∙ length-overwrite 12 (many (entry-bytes f) (take (c .loop .i) (quotas-of (a .words .now)))) (a .head .now)
 
 loop-holds : tie.Need-loop-holds Inv-loop μ-loop
 loop-holds c =
     let a = c .before .args in
-    (omega arith, λ (f : Form) e. written-none (entry-bytes f) (entry-width f) (entry-length f) 12 (a .t2) (a .head .now))
+    (omega arith, λ (f : Form) e. written-none (entry-bytes f) (entry-width f) (entry-length f) 12 (quotas-of (a .words .now)) (a .head .now))
+
+quota-at-requires : tie.Need-quota-at-requires Inv-loop μ-loop
+quota-at-requires c κs = search needs
 
 entry-at-requires : tie.Need-entry-at-requires Inv-loop μ-loop
 entry-at-requires c κs = search needs
 
-mul-write-entry : tie.Need-mul-write-entry Inv-loop μ-loop
-mul-write-entry c = search needs
-
-array-copy-out-write-entry : tie.Need-array-copy-out-write-entry Inv-loop μ-loop
-array-copy-out-write-entry c = search needs
-
 write-entry-requires : tie.Need-write-entry-requires Inv-loop μ-loop
 write-entry-requires c κs =
-    let e = c .before in
-    let at = e .before .before .before in
+    let at = c .before .before .before .before in
     let start = at .before .before in
     let a = start .args in
     let n = entry-inside (at .loop .i) (a .count) (width-of (a .full)) (length (a .head .now)) (omega arith) (start .pre .1) in
-    omega (arith, n, len at, e .entry-at .ensures .0)
+    omega (arith, n, len at, c .entry-at .ensures .0)
 
 add-i : tie.Need-add-i Inv-loop μ-loop
 add-i c = search needs
@@ -66,20 +64,23 @@ loop-less c = omega arith
 loop-again : tie.Need-loop-again Inv-loop μ-loop
 loop-again c =
     let w = c .before .before in
-    let p = w .before .before in
-    let at = p .before .before .before in
+    let p = w .before in
+    let q = p .before .before in
+    let at = q .before .before in
     let start = at .before .before in
     let a = start .args in
     let i = at .loop .i in
-    let l : length (a .t2) ≡ QUOTAS = start .good .1 .0 .1 .0 .1 in
+    let l : length (quotas-of (a .words .now)) ≡ QUOTAS = quotas-long (a .words .now) in
     let last = w .write-entry .last .0 in (
       omega arith,
-      λ (f : Form) e. written-more (entry-bytes f) (entry-width f) (entry-length f) 12 i (a .t2) zero-quota (a .head .now) (at .loop .head) last
+      λ (f : Form) e. written-more (entry-bytes f) (entry-width f) (entry-length f) 12 i (quotas-of (a .words .now)) zero-quota (a .head .now)
+          (at .loop .head) last
           (omega arith)
           (entry-inside i (a .count) (entry-width f) (length (a .head .now)) (omega arith) (rw (width-is f (a .full) e) at (start .pre .1)))
           (at .loop .inv .1 f e)
           (w .write-entry .ensures f e
-          ∙ ap (λ (n : ℕ). overwrite n (entry-bytes f (getD (a .t2) i zero-quota)) (at .loop .head))
+          ∙ (λ j. overwrite (p .entry-at .result) (entry-bytes f (q .quota-at .ensures j)) (at .loop .head))
+          ∙ ap (λ (n : ℕ). overwrite n (entry-bytes f (getD (quotas-of (a .words .now)) i zero-quota)) (at .loop .head))
           (p .entry-at .ensures .0 ∙ ap (λ (k : ℕ). 12 + i * k) (width-is f (a .full) e))),
     )
 
@@ -91,7 +92,7 @@ returns c =
     let at = c .before in
     let a = at .before .before .args in
     let e : at .loop .i ≡ a .count = omega arith in
-    λ (f : Form) g. at .loop .inv .1 f g ∙ ap (λ (n : ℕ). overwrite 12 (many (entry-bytes f) (take n (a .t2))) (a .head .now)) e
+    λ (f : Form) g. at .loop .inv .1 f g ∙ ap (λ (n : ℕ). overwrite 12 (many (entry-bytes f) (take n (quotas-of (a .words .now)))) (a .head .now)) e
 
 pub write-entries-spec : {M : Type 1} → statement M
 write-entries-spec =
@@ -100,9 +101,8 @@ write-entries-spec =
     Inv-loop
     μ-loop
     loop-holds
+    quota-at-requires
     entry-at-requires
-    mul-write-entry
-    array-copy-out-write-entry
     write-entry-requires
     add-i
     loop-less

@@ -1,192 +1,54 @@
--- The tests are the lines, in their order; what they leave are the parts (`Parses`).
+-- The shape, and the accounts that an image of its form says (`Parses`).
 -- Assumes nothing.
-use mathlib.Core.Path.{_≡_, refl, ap, sym, _∙_}
+use mathlib.Core.Path.{ap, _∙_}
 use borrow.Author.Needs.{needs}
-use mathlib.Core.Option.{some}
-use lib.ListN.{take}
-use borrow.Author.Tests.{not-true, not-false}
-use Rattle.layout.specs.Bytes.{number}
 use Rattle.framing.specs.Frames.{stream-of}
-use Rattle.image_model.specs.declared.Form.{Form}
-use Rattle.image_model.specs.declared.ImageRefusal.the-variants.{ImageLength, FrameWrong, FormNumber, Contents}
-use Rattle.image_model.specs.Stream.{form-numbered}
-use Rattle.image_model.specs.Reading.{form-of, size-in, accounts-of, accounts-in}
-use Rattle.image.specs.Parsing.{FormFits, known-form, shape-parts}
-use Rattle.image.proofs.Parses.{form-fits, refused-empty, refused-part, refused-frames, refused-number, form-is, refused-marks, refused-contents}
-use Rattle.image.proofs.Parses.{refused-none, refused-parts, found-parts}
+use Rattle.image_model.specs.Reading.{accounts-of}
+use Rattle.image.specs.declared.Shape.the-variants.{Image}
+use Rattle.image.specs.Parsing.{shape-parts}
+use Rattle.image.proofs.Parses.{Found, shape-found, shape-refused, found-fits, found-parts, refused-parts}
 use Rattle.image.proofs.parsing.parse_image.Statement.{statement}
 use Rattle.image.proofs.parsing.parse_image.Tie as tie
 
--- past the tests of length and frames, the number of the form
-known : (c : tie.After-form)
-    → form-numbered (number (take 2 (stream-of (c .before .before .before .before .before .before .before .before .before .args .image .now)))) ≡ some
-    (c .form .given .0 .0)
-known c =
-    sym (ap form-numbered (c .before .before .before .read-pair .ensures .0)) ∙ sym (c .before .before .form-numbered .ensures)
-    ∙ ap known-form (c .form .given .1)
+shape-of-requires : tie.Need-shape-of-requires
+shape-of-requires c κs = search needs
 
--- the form is the image's
-form-found : (c : tie.After-form)
-    → c .form .given .0 .0 ≡ form-of (c .before .before .before .before .before .before .before .before .before .args .image .now)
-form-found c =
-    let r = c .before .before .before .before .before in
-    form-is (r .before .before .before .before .args .image .now) (r .before .before .if1 .left) (r .before .if2 .left) (r .all-right .result)
-    (r .all-right .ensures) (not-false _ (c .before .before .before .before .if3 .left)) (c .form .given .0 .0) (known c)
+enum-known-shape : tie.Need-enum-known-shape
+enum-known-shape c = search needs
 
-fits : (c : tie.After-form) → FormFits (c .form .given .0 .0)
-fits c =
-    form-fits (number (take 2 (stream-of (c .before .before .before .before .before .before .before .before .before .args .image .now))))
-    (c .form .given .0 .0) (known c)
+-- what the image was found to be
+found : (c : tie.After-shape)
+    → let i = c .before .before .before .before .args .image .now in
+    Found i (c .shape .given .0 .0) (c .shape .given .0 .1 .0) (accounts-of (c .shape .given .0 .0) (stream-of i))
+found c =
+    let p = c .before .before in
+    shape-found (p .before .before .args .image .now) (p .shape-of .result) (c .shape .given .0 .0) (c .shape .given .0 .1 .0) (p .shape-of .ensures)
+    (c .shape .given .1)
+
+read-accounts-requires : tie.Need-read-accounts-requires
+read-accounts-requires c κs = found-fits _ _ _ _ (found (c .before))
+
+enum-known-shape-2 : tie.Need-enum-known-shape-2
+enum-known-shape-2 c = search needs
 
 refused-requires : tie.Need-refused-requires
 refused-requires c κs = search needs
 
 returns : tie.Need-returns
+unfolding shape-parts
 returns c =
-    let i = c .before .before .before .args .image .now in
-    refused-parts i (c .refused .result) ImageLength (c .refused .ensures) (refused-empty i (c .before .if1 .taken))
-
-refused-requires-2 : tie.Need-refused-requires-2
-refused-requires-2 c κs = search needs
+    let s = c .before .before in
+    ap (shape-parts (Image (s .shape .given .0 .0) (s .shape .given .0 .1 .0))) (c .read-accounts .ensures)
+    ∙ found-parts (s .before .before .before .before .args .image .now) _ _ _ (found s)
 
 returns-2 : tie.Need-returns-2
 returns-2 c =
-    let i = c .before .before .before .before .args .image .now in
-    refused-parts i (c .refused2 .result) ImageLength (c .refused2 .ensures) (refused-part i (c .before .before .if1 .left) (c .before .if2 .taken))
-
-all-right-requires : tie.Need-all-right-requires
-all-right-requires c κs = search needs
-
-refused-requires-3 : tie.Need-refused-requires-3
-refused-requires-3 c κs = search needs
-
-returns-3 : tie.Need-returns-3
-returns-3 c =
-    let r = c .before .before in
-    let i = r .before .before .before .before .args .image .now in
-    refused-parts i (c .refused3 .result) FrameWrong (c .refused3 .ensures)
-    (refused-frames i (r .before .before .if1 .left) (r .before .if2 .left) (r .all-right .result) (r .all-right .ensures)
-    (not-true _ (c .before .if3 .taken)))
-
-read-pair-requires : tie.Need-read-pair-requires
-read-pair-requires c κs = search needs
-
-form-numbered-requires : tie.Need-form-numbered-requires
-form-numbered-requires c κs = search needs
-
-enum-known-form : tie.Need-enum-known-form
-enum-known-form c = search needs
-
-enum-told : tie.Need-enum-told
-enum-told c = search needs
-
-refused-requires-4 : tie.Need-refused-requires-4
-refused-requires-4 c κs = search needs
-
-returns-4 : tie.Need-returns-4
-returns-4 c =
-    let n = c .before .before .before in
-    let r = n .before .before .before in
-    let i = r .before .before .before .before .args .image .now in
-    refused-parts i (c .refused4 .result) FormNumber (c .refused4 .ensures)
-    (refused-number i (r .before .before .if1 .left) (r .before .if2 .left) (r .all-right .result) (r .all-right .ensures)
-    (not-false _ (n .before .before .if3 .left))
-    (sym (ap form-numbered (n .before .read-pair .ensures .0)) ∙ sym (n .form-numbered .ensures) ∙ ap known-form (c .before .enum-told .given .1)))
-
-marks-right-requires : tie.Need-marks-right-requires
-marks-right-requires c κs = search needs
-
-refused-requires-5 : tie.Need-refused-requires-5
-refused-requires-5 c κs = search needs
-
-returns-5 : tie.Need-returns-5
-returns-5 c =
-    let m = c .before .before in
-    let f = m .before .before in
-    let r = f .before .before .before .before .before in
-    let i = r .before .before .before .before .args .image .now in
-    refused-parts i (c .refused5 .result) FormNumber (c .refused5 .ensures)
-    (refused-marks i (r .before .before .if1 .left) (r .before .if2 .left) (r .all-right .result) (r .all-right .ensures)
-    (not-false _ (f .before .before .before .before .if3 .left)) (f .form .given .0 .0) (known f)
-    (m .marks-right .result) (m .marks-right .ensures (f .form .given .0 .0) refl) (not-true _ (c .before .if4 .taken)))
-
-read-quad-requires : tie.Need-read-quad-requires
-read-quad-requires c κs = search needs
-
-cast-size : tie.Need-cast-size
-cast-size c = search needs
-
-contents-right-requires : tie.Need-contents-right-requires
-contents-right-requires c κs =
-    let f = c .before .before .before .before in
-    (fits f, form-found f, c .read-quad .ensures)
-
-refused-requires-6 : tie.Need-refused-requires-6
-refused-requires-6 c κs = search needs
-
-returns-6 : tie.Need-returns-6
-returns-6 c =
-    let q = c .before .before in
-    let m = q .before .before .before in
-    let f = m .before .before in
-    let r = f .before .before .before .before .before in
-    let i = r .before .before .before .before .args .image .now in
-    refused-parts i (c .refused6 .result) Contents (c .refused6 .ensures)
-    (refused-contents i (r .before .before .if1 .left) (r .before .if2 .left) (r .all-right .result) (r .all-right .ensures)
-    (not-false _ (f .before .before .before .before .if3 .left)) (f .form .given .0 .0) (known f)
-    (m .marks-right .result) (m .marks-right .ensures (f .form .given .0 .0) refl) (not-false _ (q .before .before .if4 .left))
-    (q .contents-right .result) (q .contents-right .ensures)
-    (not-true _ (c .before .if5 .taken)))
-
-read-accounts-requires : tie.Need-read-accounts-requires
-read-accounts-requires c κs = fits (c .before .before .before .before .before .before)
-
-returns-7 : tie.Need-returns-7
-unfolding shape-parts size-in accounts-in
-returns-7 c =
-    let q = c .before .before in
-    let m = q .before .before .before in
-    let f = m .before .before in
-    let r = f .before .before .before .before .before in
-    let i = r .before .before .before .before .args .image .now in
-    let none =
-    refused-none i (r .before .before .if1 .left) (r .before .if2 .left) (r .all-right .result) (r .all-right .ensures)
-    (not-false _ (f .before .before .before .before .if3 .left)) (f .form .given .0 .0) (known f)
-    (m .marks-right .result) (m .marks-right .ensures (f .form .given .0 .0) refl) (not-false _ (q .before .before .if4 .left))
-    (q .contents-right .result) (q .contents-right .ensures)
-    (not-false _ (c .before .if5 .left)) in
-    found-parts i (f .form .given .0 .0) (q .before .read-quad .result) (c .read-accounts .result)
-    (record {
-      lines = none;
-      form = form-found f;
-      size = q .before .read-quad .ensures;
-      accounts = c .read-accounts .ensures ∙ ap (λ (x : Form). accounts-of x (stream-of i)) (form-found f);
-    })
+    let s = c .before .before in
+    let p = s .before .before in
+    let i = p .before .before .args .image .now in
+    refused-parts i (c .refused .result) (s .shape2 .given .0 .0) (c .refused .ensures)
+    (shape-refused i (p .shape-of .result) (s .shape2 .given .0 .0) (p .shape-of .ensures) (s .shape2 .given .1))
 
 pub parse-image-spec : {M : Type 1} → statement M
 parse-image-spec =
-    tie.close
-    (tie.spec
-    refused-requires
-    returns
-    refused-requires-2
-    returns-2
-    all-right-requires
-    refused-requires-3
-    returns-3
-    read-pair-requires
-    form-numbered-requires
-    enum-known-form
-    enum-told
-    refused-requires-4
-    returns-4
-    marks-right-requires
-    refused-requires-5
-    returns-5
-    read-quad-requires
-    cast-size
-    contents-right-requires
-    refused-requires-6
-    returns-6
-    read-accounts-requires
-    returns-7)
+    tie.close (tie.spec shape-of-requires enum-known-shape read-accounts-requires enum-known-shape-2 refused-requires returns returns-2)

@@ -5,43 +5,40 @@ use native.Mathlib.Omega.{arith}
 use borrow.Author.Needs.{needs}
 use mathlib.Core.Path.{_≡_, refl, ap, sym, _∙_}
 use mathlib.Core.Bool.{not}
-use lib.ListN.{length, drop}
+use lib.ListN.{drop}
 use borrow.Author.Tests.{not-false}
-use Rattle.accounts.specs.Accounts.{HOLDS, zero-hold, unused}
+use Rattle.accounts.specs.Accounts.{HOLDS, zero-hold, unused, hold-at}
+use Rattle.words.specs.Words.{holds-of}
+use Rattle.words.proofs.Words.{holds-long}
 use Rattle.model.specs.Lists.{all}
 use Rattle.image.proofs.Zeros.{all-stop, all-go-on, all-end}
 use Rattle.image.proofs.records.none_used.Statement.{statement}
 use Rattle.image.proofs.records.none_used.Tie as tie
 
 abbrev Inv-loop : tie.InvT-loop
-Inv-loop from holds i₀ i = all unused (drop i holds) ≡ all unused (drop from holds)
+Inv-loop words from i₀ i = all unused (drop i (holds-of words)) ≡ all unused (drop from (holds-of words))
 
 abbrev μ-loop : tie.MeasureT-loop
-μ-loop from holds i₀ i = HOLDS - i
-
-long : (c : tie.Start Inv-loop μ-loop) → length (c .args .t1) ≡ HOLDS
-long c = c .good .0 .1 .0 .1
+μ-loop words from i₀ i = HOLDS - i
 
 loop-holds : tie.Need-loop-holds Inv-loop μ-loop
 loop-holds c = refl
 
-mul-is-used : tie.Need-mul-is-used Inv-loop μ-loop
-mul-is-used c = search needs
-
-array-copy-out-is-used : tie.Need-array-copy-out-is-used Inv-loop μ-loop
-array-copy-out-is-used c = search needs
+hold-at-requires : tie.Need-hold-at-requires Inv-loop μ-loop
+hold-at-requires c κs = search needs
 
 is-used-requires : tie.Need-is-used-requires Inv-loop μ-loop
 is-used-requires c κs = search needs
 
 returns : tie.Need-returns Inv-loop μ-loop
-unfolding unused
+unfolding unused hold-at
 returns c =
     let u = c .before in
-    let l = u .before .before .before in
+    let h = u .before in
+    let l = h .before .before in
     let a = l .before .args in
-    all-stop unused zero-hold (a .t1) (a .from) (l .loop .i) (l .loop .inv) (omega (arith, long (l .before)))
-    (ap not (sym (u .is-used .ensures) ∙ c .if1 .taken))
+    all-stop unused zero-hold (holds-of (a .words .now)) (a .from) (l .loop .i) (l .loop .inv) (omega (arith, holds-long (a .words .now)))
+    (ap unused (sym (h .hold-at .ensures)) ∙ ap not (sym (u .is-used .ensures) ∙ c .if1 .taken))
 
 add-i : tie.Need-add-i Inv-loop μ-loop
 add-i c = search needs
@@ -50,19 +47,20 @@ loop-less : tie.Need-loop-less Inv-loop μ-loop
 loop-less c = search needs
 
 loop-again : tie.Need-loop-again Inv-loop μ-loop
-unfolding unused
+unfolding unused hold-at
 loop-again c =
     let u = c .before in
-    let l = u .before .before .before in
+    let h = u .before in
+    let l = h .before .before in
     let a = l .before .args in
-    all-go-on unused zero-hold (a .t1) (a .from) (l .loop .i) (l .loop .inv) (omega (arith, long (l .before)))
-    (ap not (sym (u .is-used .ensures) ∙ c .if1 .left))
+    all-go-on unused zero-hold (holds-of (a .words .now)) (a .from) (l .loop .i) (l .loop .inv) (omega (arith, holds-long (a .words .now)))
+    (ap unused (sym (h .hold-at .ensures)) ∙ ap not (sym (u .is-used .ensures) ∙ c .if1 .left))
 
 returns-2 : tie.Need-returns-2 Inv-loop μ-loop
 returns-2 c =
     let l = c .before in
     let a = l .before .args in
-    all-end unused zero-hold (a .t1) (a .from) (l .loop .i) (l .loop .inv) (omega (arith, long (l .before)))
+    all-end unused zero-hold (holds-of (a .words .now)) (a .from) (l .loop .i) (l .loop .inv) (omega (arith, holds-long (a .words .now)))
 
 pub none-used-spec : {M : Type 1} → statement M
 none-used-spec =
@@ -71,8 +69,7 @@ none-used-spec =
     Inv-loop
     μ-loop
     loop-holds
-    mul-is-used
-    array-copy-out-is-used
+    hold-at-requires
     is-used-requires
     returns
     add-i

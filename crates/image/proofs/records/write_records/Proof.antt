@@ -2,10 +2,12 @@
 -- Assumes nothing.
 use native.Mathlib.Omega.{arith}
 use mathlib.Core.Path.{_≡_, ap, _∙_}
-use Prim.Native.Nat.{ℕ, _-_, _≤_}
+use Prim.Native.Nat.{ℕ, _+_, _*_, _-_, _≤_}
 use lib.ListN.{length, take}
 use borrow.Author.Needs.{needs}
-use Rattle.accounts.specs.Accounts.{HOLDS, zero-hold}
+use Rattle.accounts.specs.Accounts.{HOLDS, zero-hold, hold-at}
+use Rattle.words.specs.Words.{holds-of}
+use Rattle.words.proofs.Words.{holds-long}
 use Rattle.layout.specs.Bytes.{overwrite}
 use Rattle.layout.proofs.Overwrite.{length-overwrite}
 use Rattle.image_model.specs.Items.{many}
@@ -16,31 +18,28 @@ use Rattle.image.proofs.records.write_records.Statement.{statement}
 use Rattle.image.proofs.records.write_records.Tie as tie
 
 abbrev Inv-loop : tie.InvT-loop
-Inv-loop head₀ at count holds i₀ head i = (i ≤ count) × head ≡ overwrite at (many record-bytes (take i holds)) head₀
+Inv-loop head₀ at words count i₀ head i = (i ≤ count) × head ≡ overwrite at (many record-bytes (take i (holds-of words))) head₀
 
 abbrev μ-loop : tie.MeasureT-loop
-μ-loop head₀ at count holds i₀ head i = count - i
+μ-loop head₀ at words count i₀ head i = count - i
 
 -- the length stays
 len : (c : tie.At-loop Inv-loop μ-loop) → length (c .loop .head) ≡ length (c .before .before .args .head .now)
 len c =
     let a = c .before .before .args in
-    ap length (c .loop .inv .1) ∙ length-overwrite (a .at) (many record-bytes (take (c .loop .i) (a .t3))) (a .head .now)
+    ap length (c .loop .inv .1) ∙ length-overwrite (a .at) (many record-bytes (take (c .loop .i) (holds-of (a .words .now)))) (a .head .now)
 
 loop-holds : tie.Need-loop-holds Inv-loop μ-loop
-loop-holds c = let a = c .before .args in (omega arith, written-none record-bytes 8 record-length (a .at) (a .t3) (a .head .now))
+loop-holds c = let a = c .before .args in (omega arith, written-none record-bytes 8 record-length (a .at) (holds-of (a .words .now)) (a .head .now))
+
+hold-at-requires : tie.Need-hold-at-requires Inv-loop μ-loop
+hold-at-requires c κs = search needs
 
 mul-write-record : tie.Need-mul-write-record Inv-loop μ-loop
 mul-write-record c = search needs
 
 add-write-record : tie.Need-add-write-record Inv-loop μ-loop
 add-write-record c = search needs
-
-mul-write-record-2 : tie.Need-mul-write-record-2 Inv-loop μ-loop
-mul-write-record-2 c = search needs
-
-array-copy-out-write-record : tie.Need-array-copy-out-write-record Inv-loop μ-loop
-array-copy-out-write-record c = search needs
 
 write-record-requires : tie.Need-write-record-requires Inv-loop μ-loop
 write-record-requires c κs = let l = len (c .before .before .before) in omega arith
@@ -52,15 +51,18 @@ loop-less : tie.Need-loop-less Inv-loop μ-loop
 loop-less c = omega arith
 
 loop-again : tie.Need-loop-again Inv-loop μ-loop
+unfolding hold-at
 loop-again c =
     let w = c .before .before in
-    let at = w .before .before .before .before in
+    let h = w .before .before in
+    let at = h .before .before in
     let start = at .before .before in
     let a = start .args in
-    let l : length (a .t3) ≡ HOLDS = start .good .1 .1 .0 .1 .0 .1 in (
+    let l : length (holds-of (a .words .now)) ≡ HOLDS = holds-long (a .words .now) in (
       omega arith,
-      written-more record-bytes 8 record-length (a .at) (at .loop .i) (a .t3) zero-hold (a .head .now) (at .loop .head)
-          (w .write-record .last .0) (omega arith) (omega arith) (at .loop .inv .1) (w .write-record .ensures),
+      written-more record-bytes 8 record-length (a .at) (at .loop .i) (holds-of (a .words .now)) zero-hold (a .head .now) (at .loop .head)
+          (w .write-record .last .0) (omega arith) (omega arith) (at .loop .inv .1)
+          (w .write-record .ensures ∙ (λ j. overwrite (a .at + at .loop .i * 8) (record-bytes (h .hold-at .ensures j)) (at .loop .head))),
     )
 
 same-length : tie.Need-same-length Inv-loop μ-loop
@@ -71,7 +73,7 @@ returns c =
     let at = c .before in
     let a = at .before .before .args in
     let e : at .loop .i ≡ a .count = omega arith in
-    at .loop .inv .1 ∙ ap (λ (n : ℕ). overwrite (a .at) (many record-bytes (take n (a .t3))) (a .head .now)) e
+    at .loop .inv .1 ∙ ap (λ (n : ℕ). overwrite (a .at) (many record-bytes (take n (holds-of (a .words .now)))) (a .head .now)) e
 
 pub write-records-spec : {M : Type 1} → statement M
 write-records-spec =
@@ -80,10 +82,9 @@ write-records-spec =
     Inv-loop
     μ-loop
     loop-holds
+    hold-at-requires
     mul-write-record
     add-write-record
-    mul-write-record-2
-    array-copy-out-write-record
     write-record-requires
     add-i
     loop-less

@@ -1,18 +1,17 @@
--- The image in form 1.
+-- `image::write_form_1` meets its contract: the words hold the accounts.
 -- Assumes nothing.
 use mathlib.Core.Path.{ap, _∙_}
 use borrow.Author.Needs.{needs}
-use Rattle.image_model.specs.declared.Form.{Form}
+use Rattle.image_model.specs.Stream.{form-1}
 use Rattle.image_model.specs.Images.{write-image}
-use Rattle.image.proofs.Parses.{form-1-fits}
 use Rattle.image.proofs.writing.write_form_1.Statement.{statement}
 use Rattle.image.proofs.writing.write_form_1.Tie as tie
 
-form-1-requires : tie.Need-form-1-requires
-form-1-requires c κs = search needs
+words-of-requires : tie.Need-words-of-requires
+words-of-requires c κs = search needs
 
-write-as-requires : tie.Need-write-as-requires
-write-as-requires c κs = form-1-fits (c .form-1 .result) (c .form-1 .ensures)
+write-form-1-requires : tie.Need-write-form-1-requires
+write-form-1-requires c κs = search needs
 
 same-length : tie.Need-same-length
 same-length c = search needs
@@ -20,9 +19,9 @@ same-length c = search needs
 returns : tie.Need-returns
 returns c =
     let w = c .before .before in
-    let g = w .before in
-    let a = g .before .before .before .before .args in
-    w .write-as .ensures ∙ ap (λ (f : Form). write-image f (a .image .now) (a .heap .now) (a .accounts)) (g .form-1 .ensures)
+    let n = w .before .before .before in
+    let a = n .before .before .before .args in
+    w .write-form-1 .ensures ∙ ap (write-image form-1 (a .image .now) (a .heap .now)) (n .words-of .ensures .1)
 
 pub write-form-1-spec : {M : Type 1} → statement M
-write-form-1-spec = tie.close (tie.spec form-1-requires write-as-requires same-length returns)
+write-form-1-spec = tie.close (tie.spec words-of-requires write-form-1-requires same-length returns)

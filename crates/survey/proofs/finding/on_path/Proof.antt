@@ -12,7 +12,8 @@ use lib.ListN.{getD}
 use Rattle.accounts.specs.Accounts.{HOLDS}
 use Rattle.words.specs.Words.{serial-in, quota-in}
 use Rattle.survey.specs.Index.{FORKED, bits-of}
-use Rattle.survey.proofs.Tracing.{Tracing, ascends, trace-start, trace-none, trace-end, trace-hit, trace-on}
+use Rattle.survey.proofs.Paths.{link-rises}
+use Rattle.survey.proofs.Tracing.{Tracing, trace-start, trace-none, trace-end, trace-hit, trace-on}
 use Rattle.survey.proofs.finding.on_path.Statement.{statement}
 use Rattle.survey.proofs.finding.on_path.Tie as tie
 
@@ -85,8 +86,8 @@ loop-less : tie.Need-loop-less Inv-loop μ-loop
 loop-less c =
     let b = c .before .before in
     let l = turn b .before .loop in
-    let u = ascends (start b .pre .0 .growing) (l .bits) (l .at) (turn b .loop-test .taken) in
-    omega (arith, u .0, c .link-in .ensures .0, turn b .loop-test .taken)
+    let u = link-rises (l .bits) (start b .pre .0 .growing) (turn b .loop-test .taken) in
+    omega (arith, u, c .link-in .ensures .0, turn b .loop-test .taken)
 
 loop-again : tie.Need-loop-again Inv-loop μ-loop
 loop-again c =

@@ -9,7 +9,7 @@ use mathlib.Core.Logic.{⊎-elim}
 use lib.ListN.{getD, set}
 use Rattle.accounts.specs.Accounts.{HOLDS}
 use Rattle.words.specs.Words.{serial-in}
-use Rattle.survey.specs.Index.{SLOTS, FORKED, slot, bits-of, Built}
+use Rattle.survey.specs.Index.{SLOTS, END, FORKED, slot, bits-of, Built}
 use Rattle.survey.specs.Contracts.{Hung}
 use Rattle.survey.proofs.Building.{built-alone, built-fork, built-hung}
 use Rattle.survey.proofs.indexing.enter.Statement.{statement}
@@ -52,11 +52,12 @@ lone c l =
     let e = c .head-in .ensures .0 in
     ⊎-elim (λ q. absurd (omega arith)) (⊎-elim (λ q. omega arith) (λ w. absurd (omega (arith, w .0)))) (start c .pre .2 .headed (place c) (small c))
 
-forked : (c : tie.After-head-in) → HOLDS < c .head-in .result → (FORKED ≤ c .head-in .result) × (c .head-in .result - FORKED < start c .args .i)
-forked c l =
+forked : (c : tie.After-head-in) → HOLDS ≤ c .head-in .result → (c .head-in .result ≡ END → ⊥)
+    → (FORKED ≤ c .head-in .result) × (c .head-in .result - FORKED < start c .args .i)
+forked c l n =
     let e = c .head-in .ensures .0 in
     let i = start c .pre .0 in
-    ⊎-elim (λ q. absurd (omega arith)) (⊎-elim (λ q. absurd (omega arith)) (λ w. (omega (arith, w .0), omega (arith, w .1))))
+    ⊎-elim (λ q. absurd (n (e ∙ q))) (⊎-elim (λ q. absurd (omega arith)) (λ w. (omega (arith, w .0), omega (arith, w .1))))
     (start c .pre .2 .headed (place c) (small c))
 
 hang-requires : tie.Need-hang-requires
@@ -76,16 +77,16 @@ mul-heads-2 c = search needs
 element-write-heads-2 : tie.Need-element-write-heads-2
 element-write-heads-2 c = omega (arith, start (c .before .before) .pre .2 .heads-long, small (c .before .before))
 
-above : (c : tie.Else2) → HOLDS < c .before .before .head-in .result
-above c = omega (arith, c .if2 .left, c .before .if1 .left)
+above : (c : tie.Else2) → HOLDS ≤ c .before .before .head-in .result
+above c = omega (arith, c .if2 .left)
 
 sub-hang : tie.Need-sub-hang
-sub-hang c = forked (c .before .before .before) (above (c .before)) .0
+sub-hang c = forked (c .before .before .before) (above (c .before)) (c .before .before .if1 .left) .0
 
 hang-requires-2 : tie.Need-hang-requires-2
 hang-requires-2 c κs =
     let h = c .before .before .before in
-    (forked h (above (c .before)) .1, start h .pre .0, start h .pre .2 .growing)
+    (forked h (above (c .before)) (c .before .before .if1 .left) .1, start h .pre .0, start h .pre .2 .growing)
 
 -- the path is that of the record's serial
 hung : (c : tie.After-head-in) {root : ℕ} {links′ : List ℕ}
@@ -109,7 +110,7 @@ returns-3 c =
     let h = c .before .before .before .before in
     let e = h .head-in .ensures .0 in
     built-hung (start h .pre .2) (start h .pre .0) (at-slot h) (small h) (hung h (c .hang2 .ensures)) (ap (λ (x : ℕ). x - FORKED) e)
-    (omega (arith, above (c .before .before)))
+    (omega (arith, e, forked h (above (c .before .before)) (c .before .before .before .if1 .left) .0))
 
 pub enter-spec : {M : Type 1} → statement M
 enter-spec =

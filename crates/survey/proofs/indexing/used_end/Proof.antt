@@ -19,11 +19,17 @@ abbrev μ-loop : tie.MeasureT-loop
 loop-holds : tie.Need-loop-holds Inv-loop μ-loop
 loop-holds c = (c .pre .0, c .pre .2)
 
+sub-are-blank : tie.Need-sub-are-blank Inv-loop μ-loop
+sub-are-blank c = omega (arith, c .loop-test .taken)
+
 are-blank-requires : tie.Need-are-blank-requires Inv-loop μ-loop
-are-blank-requires c κs = omega (arith, c .before .loop .inv .0, c .loop-test .taken)
+are-blank-requires c κs = (c .before .before .pre .1, omega (arith, c .before .loop .inv .0, c .loop-test .taken))
 
 returns : tie.Need-returns Inv-loop μ-loop
 returns c = c .before .before .before .loop .inv
+
+sub-top : tie.Need-sub-top Inv-loop μ-loop
+sub-top c = omega (arith, c .before .before .loop-test .taken)
 
 loop-less : tie.Need-loop-less Inv-loop μ-loop
 loop-less c = let l = c .before .before in omega (arith, l .before .before .pre .1, l .loop-test .taken)
@@ -33,7 +39,7 @@ loop-again c =
     let l = c .before .before in
     let s = l .before .before in (
       omega (arith, l .before .loop .inv .0),
-      blank-more (s .args .words .now) (l .before .loop .inv .1) (l .loop-test .taken)
+      blank-more (s .args .words .now) (l .before .loop .inv .1) (omega (arith, l .loop-test .taken))
           (c .before .are-blank .ensures (not-false _ (c .if1 .left))),
     )
 
@@ -41,4 +47,4 @@ returns-2 : tie.Need-returns-2 Inv-loop μ-loop
 returns-2 c = c .before .loop .inv
 
 pub used-end-spec : {M : Type 1} → statement M
-used-end-spec = tie.close (tie.spec Inv-loop μ-loop loop-holds are-blank-requires returns loop-less loop-again returns-2)
+used-end-spec = tie.close (tie.spec Inv-loop μ-loop loop-holds sub-are-blank are-blank-requires returns sub-top loop-less loop-again returns-2)

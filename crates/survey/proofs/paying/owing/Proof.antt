@@ -2,13 +2,13 @@
 -- of
 -- them owes stands at its place. The measure is what is left of the table.
 -- Assumes nothing.
-use Prim.Native.Nat.{ℕ, _-_, _≤_}
+use Prim.Native.Nat.{ℕ, _-_, _%_, _≤_}
 use native.Mathlib.Omega.{arith}
 use borrow.Author.Needs.{needs}
 use borrow.Author.Tests.{eq-eqb, ne-eqb}
 use mathlib.Core.Path.{_≡_, ap, sym, _∙_}
 use mathlib.Core.Bool.{Bool, cond, _&&_, false≢true}
-use lib.Bits.{bitOr}
+use lib.Bits.{bitOr, or-mod}
 use lib.Dec.{ltb, leb}
 use lib.ListN.{getD}
 use Rattle.accounts.specs.declared.Quota.{Quota}
@@ -20,7 +20,7 @@ use Rattle.survey.proofs.paying.owing.Statement.{statement}
 use Rattle.survey.proofs.paying.owing.Tie as tie
 
 abbrev Inv-loop : tie.InvT-loop
-Inv-loop words owed₀ short₀ bits₀ i₀ owed short bits i = Tallied (quotas-of words) i short bits owed
+Inv-loop words owed₀ short₀ bits₀ i₀ owed short bits i = Tallied (quotas-of words) i short (bits % 256) owed
 
 abbrev μ-loop : tie.MeasureT-loop
 μ-loop words owed₀ short₀ bits₀ i₀ owed short bits i = QUOTAS - i
@@ -34,8 +34,8 @@ grant-in-requires c κs = search needs
 remainder-in-requires : tie.Need-remainder-in-requires Inv-loop μ-loop
 remainder-in-requires c κs = search needs
 
-permissions-in-requires : tie.Need-permissions-in-requires Inv-loop μ-loop
-permissions-in-requires c κs = search needs
+spare-in-requires : tie.Need-spare-in-requires Inv-loop μ-loop
+spare-in-requires c κs = search needs
 
 wrapping-sub-u32-requires : tie.Need-wrapping-sub-u32-requires Inv-loop μ-loop
 wrapping-sub-u32-requires c κs = search needs
@@ -75,10 +75,11 @@ loop-again c =
     let q = quotas-at ws (l .loop .i) (omega (arith, t .loop-test .taken)) in
     let grant : g .grant-in .result ≡ x .grant = g .grant-in .ensures ∙ sym (ap (λ (y : Quota). y .grant) q) in
     let remainder : r .remainder-in .result ≡ x .remainder = r .remainder-in .ensures ∙ sym (ap (λ (y : Quota). y .remainder) q) in
-    let permissions : p .permissions-in .result ≡ x .permissions = p .permissions-in .ensures ∙ sym (ap (λ (y : Quota). y .permissions) q) in
+    let permissions : p .spare-in .result % 256 ≡ x .permissions =
+    ap (λ (y : ℕ). y % 256) (p .spare-in .ensures) ∙ sym (ap (λ (y : Quota). y .permissions) q) in
     tallied-more (l .loop .inv) (quotas-long ws) (t .loop-test .taken)
     (c .short-at .ensures ∙ (λ j. cond (ltb (grant j) (remainder j)) 1 (l .loop .short)))
-    (ap (bitOr (l .loop .bits)) permissions)
+    (or-mod (l .loop .bits) (p .spare-in .result) 8 ∙ ap (bitOr (l .loop .bits % 256)) permissions)
     (λ h. omega (arith, w .wrapping-sub-u32 .ensures, grant, remainder, h))
 
 returns : tie.Need-returns Inv-loop μ-loop
@@ -86,7 +87,7 @@ returns c =
     let l = c .before .before in
     let ws = l .before .args .words .now in (
       sym (tallied-end (l .loop .inv) (quotas-long ws) (omega (arith, c .before .loop-test .left))
-          ∙ ap (λ (b : Bool). b && leb (l .loop .bits) 7) (ne-eqb (l .loop .short) 0 (c .if1 .taken))),
+          ∙ ap (λ (b : Bool). b && leb (l .loop .bits % 256) 7) (ne-eqb (l .loop .short) 0 (c .if1 .taken))),
       λ e. absurd (false≢true e),
     )
 
@@ -98,7 +99,7 @@ returns-2 c =
     let l = c .before .before in
     let ws = l .before .args .words .now in
     let h : QUOTAS ≤ l .loop .i = omega (arith, c .before .loop-test .left) in (
-      sym (tallied-end (l .loop .inv) (quotas-long ws) h ∙ ap (λ (b : Bool). b && leb (l .loop .bits) 7) (eq-eqb (l .loop .short) 0 (c .if1 .left))),
+      sym (tallied-end (l .loop .inv) (quotas-long ws) h ∙ ap (λ (b : Bool). b && leb (l .loop .bits % 256) 7) (eq-eqb (l .loop .short) 0 (c .if1 .left))),
       λ e. tallied-dues (l .loop .inv) (quotas-long ws) h (c .if1 .left),
     )
 
@@ -111,7 +112,7 @@ owing-spec =
     loop-holds
     grant-in-requires
     remainder-in-requires
-    permissions-in-requires
+    spare-in-requires
     wrapping-sub-u32-requires
     short-at-requires
     cast-owed

@@ -14,10 +14,11 @@ use Rattle.accounts.specs.Accounts.{QUOTAS, HOLDS}
 use Rattle.model.proofs.Bools.{and-no, and-both}
 use Rattle.audit.specs.Contracts.{Charged}
 use Rattle.words.specs.Words.{serial-in, quota-in}
-use Rattle.survey.specs.Index.{LINKS, FORKED, CLOSED, slot, bits-of, plain, step}
+use Rattle.survey.specs.Index.{LINKS, FORKED, CLOSED, slot, bits-of, inner, plain, step}
 use Rattle.survey.proofs.Paths.{slot-small}
 use Rattle.survey.proofs.Closing.{quota-small}
-use Rattle.survey.proofs.Trees.{Going, Goes, goes, going-start, going-end, going-skip, going-paid, going-short, going-more, unflagged, one-left}
+use Rattle.survey.proofs.Trees.{Going, Goes, goes, inner-less, going-start, going-end}
+use Rattle.survey.proofs.Trees.{going-skip, going-paid, going-short, going-more, unflagged, one-left}
 use Rattle.survey.proofs.settling.settle_path.Statement.{statement}
 use Rattle.survey.proofs.settling.settle_path.Tie as tie
 
@@ -102,7 +103,7 @@ loop-less c =
     let t = turn (c .before .before .before) in
     let l = t .before .loop in
     let u = going t .ready .up (l .bits) (l .at) (t .loop-test .taken) in
-    omega (arith, u .0, c .next-in .ensures, t .loop-test .taken)
+    inner-less (l .at) (c .next-in .result) (t .loop-test .taken) (omega (arith, u .0, c .next-in .ensures))
 
 loop-again : tie.Need-loop-again Inv-loop μ-loop
 loop-again c =
@@ -121,7 +122,7 @@ loop-less-2 c =
     let t = turn (same (c .before .before .before)) in
     let l = t .before .loop in
     let u = going t .ready .up (l .bits) (l .at) (t .loop-test .taken) in
-    omega (arith, u .0, c .next-in2 .ensures, t .loop-test .taken)
+    inner-less (l .at) (c .next-in2 .result) (t .loop-test .taken) (omega (arith, u .0, c .next-in2 .ensures))
 
 loop-again-2 : tie.Need-loop-again-2 Inv-loop μ-loop
 loop-again-2 c =
@@ -213,7 +214,7 @@ again : (c : tie.After-next-in3 Inv-loop μ-loop)
     → let p = paid c in let a = start (round p) .args in let l = round p .before .loop in
     Going (a .words .now) (a .heads .now) (a .links .now) (a .owed .now) (a .serial) (a .charge) (c .before .before .before .close .last .0) (p .pay .last .0)
     (l .left - 1)
-    (set (l .seen) (quota p .quota-in .result) 1) true (c .next-in3 .result) (l .bits / 2)
+    (set (l .seen) (quota p .quota-in .result) 1) true (inner (c .next-in3 .result)) (l .bits / 2)
 again c =
     let p = paid c in
     let h = quota p .before in
@@ -229,7 +230,7 @@ loop-less-3 c =
     let l = t .before .loop in
     let g = again c in
     let u = g .ready .up (l .bits) (l .at) (t .loop-test .taken) in
-    omega (arith, u .0, c .next-in3 .ensures, t .loop-test .taken)
+    inner-less (l .at) (c .next-in3 .result) (t .loop-test .taken) (omega (arith, u .0, c .next-in3 .ensures))
 
 loop-again-3 : tie.Need-loop-again-3 Inv-loop μ-loop
 loop-again-3 c = goes (again c)

@@ -8,7 +8,7 @@ use borrow.Author.Needs.{needs}
 use borrow.Author.Tests.{not-true, not-false}
 use borrow.Rule.Slice.PartAt.{part-to-end}
 use mathlib.Core.Path.{_≡_, refl, ap, sym, subst, _∙_}
-use mathlib.Core.Bool.{Bool, true, false, cond, _&&_, false≢true}
+use mathlib.Core.Bool.{Bool, true, false, cond, false≢true}
 use mathlib.Core.List.{List}
 use mathlib.Core.Option.{some}
 use lib.ListN.{length, take, drop, length-drop}
@@ -19,7 +19,7 @@ use Rattle.audit.specs.Fitting.{fitting}
 use Rattle.survey.specs.Index.{keys-left}
 use Rattle.survey.specs.Contracts.{Visited, Stage, judged, Walked-to}
 use Rattle.survey.proofs.Walks.{Walking, walking-start, walking-long, walking-back, walking-fails, walking-on, walking-judged, suffix-start, suffix-on}
-use Rattle.survey.proofs.Walks.{walked-far}
+use Rattle.survey.proofs.Walks.{walked-far, one-fails}
 use Rattle.survey.specs.Route.{Reaches, Passed}
 use Rattle.survey.proofs.Routes.{room-same, passed-start, passed-on}
 use Rattle.survey.proofs.walking.walk.Statement.{statement}
@@ -91,10 +91,6 @@ mul-size c = omega (arith, c .before .header-at .ensures .1)
 failed-requires : tie.Need-failed-requires Inv-loop μ-loop
 failed-requires c κs = search needs
 
--- an audit that fails
-fails : (a f : Bool) → a ≡ false → (a && f) ≡ false
-fails a f e = rw e
-
 abbrev Says : tie.After-header-at Inv-loop μ-loop → ℕ → ℕ → ℕ → List ℕ → List ℕ → List ℕ → ℕ → Bool → Type 0
 Says c at back before heads links owed left t =
     let a = start c .args in
@@ -110,7 +106,7 @@ returns c =
     let l = turn h .before .loop in
     let r = c .failed .result in (
       subst (Says h (r .at) (r .back) (r .before) (l .heads) (l .links) (l .owed) (l .left)) (sym (c .failed .ensures))
-          (fails _ _ (walking-long (l .inv .0) (read h) (some-rest h) (c .before .if1 .taken))),
+          (one-fails _ _ (walking-long (l .inv .0) (read h) (some-rest h) (c .before .if1 .taken))),
       λ e. absurd (false≢true (sym (c .failed .ensures) ∙ e)),
     )
 
@@ -125,7 +121,7 @@ returns-2 c =
     let l = turn h .before .loop in
     let r = c .failed2 .result in (
       subst (Says h (r .at) (r .back) (r .before) (l .heads) (l .links) (l .owed) (l .left)) (sym (c .failed2 .ensures))
-          (fails _ _ (walking-back (l .inv .0) (read h) (some-rest h) (f .if1 .left) (λ e. omega (arith, c .before .if2 .taken)))),
+          (one-fails _ _ (walking-back (l .inv .0) (read h) (some-rest h) (f .if1 .left) (λ e. omega (arith, c .before .if2 .taken)))),
       λ e. absurd (false≢true (sym (c .failed2 .ensures) ∙ e)),
     )
 

@@ -50,7 +50,8 @@ loop-again c =
       length-set (l .holds) (l .i) (c .hold-at .result) ∙ l .inv .1,
       below-more (λ (j : ℕ). getD (set (l .holds) (l .i) (c .hold-at .result)) j zero-hold ≡ hold-in (a .words .now) j) (l .i)
           (λ j b. getD-set-other (l .holds) (l .i) j (c .hold-at .result) zero-hold (λ e. omega arith) ∙ l .inv .2 j b)
-          (getD-set-same (l .holds) (l .i) (c .hold-at .result) zero-hold (omega (arith, l .inv .1, c .before .loop-test .taken)) ∙ (c .hold-at .ensures ∙ sym (hold-is (a .words .now) (l .i) (c .before .loop-test .taken)))),
+          (getD-set-same (l .holds) (l .i) (c .hold-at .result) zero-hold (omega (arith, l .inv .1, c .before .loop-test .taken))
+          ∙ (c .hold-at .ensures ∙ sym (hold-is (a .words .now) (l .i) (c .before .loop-test .taken)))),
     )
 
 returns : tie.Need-returns Inv-loop μ-loop

@@ -19,8 +19,11 @@ returns : tie.Need-returns
 returns c =
     let h = c .before .before in
     let a = h .before .before .args in
-    let x = h .hold-at .result in
-    (drops-not (a .at) (a .quota) (accounts-of (a .words .now)) x (h .hold-at .ensures) (rw (ne-eqb (x .quota) (a .quota) (c .if1 .taken)) (and-false (used x))), padded-same (a .words .now))
+    let x = h .hold-at .result in (
+      drops-not (a .at) (a .quota) (accounts-of (a .words .now)) x (h .hold-at .ensures)
+          (rw (ne-eqb (x .quota) (a .quota) (c .if1 .taken)) (and-false (used x))),
+      padded-same (a .words .now),
+    )
 
 is-used-requires : tie.Need-is-used-requires
 is-used-requires c κs = search needs

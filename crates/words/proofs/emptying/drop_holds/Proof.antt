@@ -36,7 +36,8 @@ loop-again c =
     let a = at .before .args in
     let l = at .loop in (
       search needs,
-      drops-more (a .quota) (accounts-of (a .words .now)) (l .i) (accounts-of (l .words)) (l .inv .1) (omega (arith, n .loop-test .taken, holds-long (a .words .now))) _ (c .drop-at .ensures .0),
+      drops-more (a .quota) (accounts-of (a .words .now)) (l .i) (accounts-of (l .words)) (l .inv .1)
+          (omega (arith, n .loop-test .taken, holds-long (a .words .now))) _ (c .drop-at .ensures .0),
       padded-on (l .inv .2) (c .drop-at .ensures .1),
     )
 
@@ -44,8 +45,11 @@ returns : tie.Need-returns Inv-loop μ-loop
 returns c =
     let at = c .before in
     let a = at .before .args in
-    let l = at .loop in
-    (drops-all (a .quota) (accounts-of (a .words .now)) (l .i) (accounts-of (l .words)) (l .inv .1) (omega (arith, c .loop-test .left, holds-long (a .words .now))), l .inv .2)
+    let l = at .loop in (
+      drops-all (a .quota) (accounts-of (a .words .now)) (l .i) (accounts-of (l .words)) (l .inv .1)
+          (omega (arith, c .loop-test .left, holds-long (a .words .now))),
+      l .inv .2,
+    )
 
 pub drop-holds-spec : {M : Type 1} → statement M
 drop-holds-spec = tie.close (tie.spec Inv-loop μ-loop loop-holds drop-at-requires add-i loop-less loop-again returns)

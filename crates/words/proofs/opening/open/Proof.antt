@@ -6,13 +6,14 @@ use borrow.Author.Needs.{needs}
 use mathlib.Core.Path.{_≡_, _∙_}
 use lib.ListN.{length}
 use Rattle.accounts.specs.Accounts.{QUOTAS}
-use Rattle.words.specs.Words.{accounts-of}
+use Rattle.words.specs.Words.{accounts-of, Unpadded}
+use Rattle.words.proofs.Padding.{unpadded-on, blank-unpadded}
 use Rattle.words.proofs.Openings.{blank-zero, Granting, granting-start, granting-more, granting-all}
 use Rattle.words.proofs.opening.open.Statement.{statement}
 use Rattle.words.proofs.opening.open.Tie as tie
 
 abbrev Inv-loop : tie.InvT-loop
-Inv-loop words₀ grants kind edition i₀ words i = (i ≤ QUOTAS) × Granting grants i (accounts-of words)
+Inv-loop words₀ grants kind edition i₀ words i = (i ≤ QUOTAS) × Granting grants i (accounts-of words) × Unpadded words
 
 abbrev μ-loop : tie.MeasureT-loop
 μ-loop words₀ grants kind edition i₀ words i = QUOTAS - i
@@ -21,7 +22,9 @@ wipe-requires : tie.Need-wipe-requires Inv-loop μ-loop
 wipe-requires c κs = search needs
 
 loop-holds : tie.Need-loop-holds Inv-loop μ-loop
-loop-holds c = (search needs, granting-start (c .before .before .args .t2) _ (blank-zero _ (c .wipe .ensures)))
+loop-holds c =
+    let b = c .wipe .ensures in
+    (search needs, granting-start (c .before .before .args .t2) _ (blank-zero _ b), blank-unpadded b)
 
 mul-grant : tie.Need-mul-grant Inv-loop μ-loop
 mul-grant c = search needs
@@ -43,8 +46,11 @@ loop-again c =
     let n = c .before .before in
     let at = n .before in
     let a = at .before .before .before .args in
-    let l = at .loop in
-    (search needs, granting-more (a .t2) (l .i) (accounts-of (l .words)) _ (l .inv .1) (n .loop-test .taken) (c .put-grant .ensures))
+    let l = at .loop in (
+      search needs,
+      granting-more (a .t2) (l .i) (accounts-of (l .words)) _ (l .inv .1) (n .loop-test .taken) (c .put-grant .ensures .0),
+      unpadded-on (l .inv .2) (c .put-grant .ensures .1),
+    )
 
 number-requires : tie.Need-number-requires Inv-loop μ-loop
 number-requires c κs = search needs
@@ -63,9 +69,12 @@ returns c =
     let at = p .before in
     let s = at .before .before .before in
     let a = s .args in
-    let l = at .loop in
-    c .put-kinds .ensures
-    ∙ granting-all (a .t2) (s .good .1 .0 .1 .0 .1) (l .i) (accounts-of (l .words)) (l .inv .1) (p .loop-test .left) (a .settings) (k .number .result) (e .number2 .result) (k .number .ensures) (e .number2 .ensures)
+    let l = at .loop in (
+      c .put-kinds .ensures .0
+          ∙ granting-all (a .t2) (s .good .1 .0 .1 .0 .1) (l .i) (accounts-of (l .words)) (l .inv .1) (p .loop-test .left) (a .settings)
+          (k .number .result) (e .number2 .result) (k .number .ensures) (e .number2 .ensures),
+      unpadded-on (l .inv .2) (c .put-kinds .ensures .1),
+    )
 
 pub open-spec : {M : Type 1} → statement M
 open-spec =

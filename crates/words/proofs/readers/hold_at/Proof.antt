@@ -47,7 +47,8 @@ returns-2 c =
     let w = c .before in
     let a = w .before .before .args in
     let rest = c .word-at2 .ensures in
-    (λ i. record { serial = w .word-at .ensures i; quota = rest i % 256; count = rest i / 256 % 256 }) ∙ hold-is (a .words .now) (a .place) (w .before .if1 .left)
+    (λ i. record { serial = w .word-at .ensures i; quota = rest i % 256; count = rest i / 256 % 256 })
+    ∙ hold-is (a .words .now) (a .place) (w .before .if1 .left)
 
 pub hold-at-spec : {M : Type 1} → statement M
 hold-at-spec =

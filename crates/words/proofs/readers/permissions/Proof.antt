@@ -23,7 +23,8 @@ cast-result : tie.Need-cast-result
 cast-result c = search needs
 
 returns-2 : tie.Need-returns-2
-returns-2 c = let a = c .before .before .args in ap (λ (x : ℕ). x % 256) (c .word-at .ensures) ∙ permissions-is (a .words .now) (a .quota) (c .before .if1 .left)
+returns-2 c = let a = c .before .before .args in ap (λ (x : ℕ). x % 256) (c .word-at .ensures)
+    ∙ permissions-is (a .words .now) (a .quota) (c .before .if1 .left)
 
 pub permissions-spec : {M : Type 1} → statement M
 permissions-spec =

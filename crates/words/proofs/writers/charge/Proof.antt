@@ -48,7 +48,8 @@ returns-3 c =
     let e = w .before .before in
     let k = e .before in
     let a = k .before .before .args in
-    rw (w .word-at .ensures) (charges (a .words .now) (a .quota) (a .amount) (omega (arith, e .if1 .left)) (k .count .ensures .0) (omega (arith, c .if2 .left, w .word-at .ensures)))
+    rw (w .word-at .ensures)
+    (charges (a .words .now) (a .quota) (a .amount) (omega (arith, e .if1 .left)) (k .count .ensures .0) (omega (arith, c .if2 .left, w .word-at .ensures)))
 
 pub charge-spec : {M : Type 1} → statement M
 charge-spec =

@@ -56,7 +56,8 @@ returns-2 c =
     let k = e .before in
     let a = k .before .before .args in
     rw (c .word-at .ensures)
-    (clears (a .words .now) (a .quota) (a .bits) (omega (arith, e .if1 .left)) (k .count .ensures .0) (w .wide .result) (w .wide .ensures .1) (w .wide .ensures .0 ∙ l .left-permissions .ensures))
+    (clears (a .words .now) (a .quota) (a .bits) (omega (arith, e .if1 .left)) (k .count .ensures .0) (w .wide .result) (w .wide .ensures .1)
+    (w .wide .ensures .0 ∙ l .left-permissions .ensures))
 
 pub clear-permissions-spec : {M : Type 1} → statement M
 clear-permissions-spec =

@@ -84,7 +84,8 @@ returns-2 c =
     let k = e .before in
     let a = k .before .before .args in
     rw (c .word-at .ensures)
-    (puts (a .words .now) (k .count .ensures .0) (a .at) (omega (arith, e .if1 .left)) (a .hold) (t .wide2 .result) (w .wide .result) (t .wide2 .ensures .0) (w .wide .ensures .0) (t .wide2 .ensures .1) (w .wide .ensures .1))
+    (puts (a .words .now) (k .count .ensures .0) (a .at) (omega (arith, e .if1 .left)) (a .hold) (t .wide2 .result) (w .wide .result)
+    (t .wide2 .ensures .0) (w .wide .ensures .0) (t .wide2 .ensures .1) (w .wide .ensures .1))
 
 pub put-hold-spec : {M : Type 1} → statement M
 put-hold-spec =

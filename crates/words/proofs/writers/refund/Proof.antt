@@ -54,7 +54,8 @@ returns-3 c =
     let e = w .before .before in
     let k = e .before in
     let a = k .before .before .args in
-    rw (w .word-at .ensures) (refunds (a .words .now) (a .quota) (a .amount) (omega (arith, e .if1 .left)) (k .count .ensures .0) (omega (arith, c .if2 .left, w .word-at .ensures)))
+    rw (w .word-at .ensures)
+    (refunds (a .words .now) (a .quota) (a .amount) (omega (arith, e .if1 .left)) (k .count .ensures .0) (omega (arith, c .if2 .left, w .word-at .ensures)))
 
 pub refund-spec : {M : Type 1} → statement M
 refund-spec =

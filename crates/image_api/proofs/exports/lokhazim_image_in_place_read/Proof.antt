@@ -1,0 +1,25 @@
+-- The number makes, with the heap and the words at exit, what the answer makes.
+-- Assumes nothing.
+use mathlib.Core.Path.{_∙_}
+use borrow.Author.Needs.{needs}
+use Rattle.words.specs.Words.{accounts-of}
+use Rattle.image_api.proofs.exports.lokhazim_image_in_place_read.Statement.{statement}
+use Rattle.image_api.proofs.exports.lokhazim_image_in_place_read.Tie as tie
+
+read-image-requires : tie.Need-read-image-requires
+read-image-requires c κs = search needs
+
+number-of-requires : tie.Need-number-of-requires
+number-of-requires c κs = search needs
+
+same-length : tie.Need-same-length
+same-length c = search needs
+
+returns : tie.Need-returns
+returns c =
+    let w = c .before .before .before in
+    (c .number-of .ensures (w .read-image .last .1 .0) (accounts-of (w .read-image .last .1 .1 .0)) ∙ w .read-image .ensures .0, w .read-image .ensures .1)
+
+pub lokhazim-image-in-place-read-spec : {M : Type 1} → statement M
+lokhazim-image-in-place-read-spec =
+    tie.close (tie.spec read-image-requires number-of-requires same-length returns)
