@@ -131,25 +131,33 @@ struct lokhazim_next_reply {
     size_t at;
 };
 
-LOKHAZIM_ASSERT(sizeof(struct lokhazim_image_reply) == 16, "the size of struct lokhazim_image_reply is not 16");
-LOKHAZIM_ASSERT(offsetof(struct lokhazim_image_reply, refusal) == 0, "struct lokhazim_image_reply: the offset of refusal is not 0");
-LOKHAZIM_ASSERT(offsetof(struct lokhazim_image_reply, length) == 8, "struct lokhazim_image_reply: the offset of length is not 8");
-LOKHAZIM_ASSERT(sizeof(struct lokhazim_restore_reply) == 4492, "the size of struct lokhazim_restore_reply is not 4492");
-LOKHAZIM_ASSERT(offsetof(struct lokhazim_restore_reply, accounts) == 0, "struct lokhazim_restore_reply: the offset of accounts is not 0");
-LOKHAZIM_ASSERT(offsetof(struct lokhazim_restore_reply, refusal) == 4488, "struct lokhazim_restore_reply: the offset of refusal is not 4488");
+#define LOKHAZIM_IMAGE_SIZE(type, bytes) \
+    LOKHAZIM_ASSERT(sizeof(struct type) == (bytes), "the size of struct " #type " is not " #bytes)
+#define LOKHAZIM_IMAGE_OFFSET(type, field, bytes) \
+    LOKHAZIM_ASSERT(offsetof(struct type, field) == (bytes), "struct " #type ": the offset of " #field " is not " #bytes)
 
-LOKHAZIM_ASSERT(sizeof(struct lokhazim_examine_reply) == 16, "the size of struct lokhazim_examine_reply is not 16");
-LOKHAZIM_ASSERT(offsetof(struct lokhazim_examine_reply, refusal) == 0, "struct lokhazim_examine_reply: the offset of refusal is not 0");
-LOKHAZIM_ASSERT(offsetof(struct lokhazim_examine_reply, form) == 4, "struct lokhazim_examine_reply: the offset of form is not 4");
-LOKHAZIM_ASSERT(offsetof(struct lokhazim_examine_reply, heap_length) == 8, "struct lokhazim_examine_reply: the offset of heap_length is not 8");
+LOKHAZIM_IMAGE_SIZE(lokhazim_image_reply, 2 * sizeof(size_t));
+LOKHAZIM_IMAGE_OFFSET(lokhazim_image_reply, refusal, 0);
+LOKHAZIM_IMAGE_OFFSET(lokhazim_image_reply, length, sizeof(size_t));
+LOKHAZIM_IMAGE_SIZE(lokhazim_restore_reply, 4492);
+LOKHAZIM_IMAGE_OFFSET(lokhazim_restore_reply, accounts, 0);
+LOKHAZIM_IMAGE_OFFSET(lokhazim_restore_reply, refusal, 4488);
 
-LOKHAZIM_ASSERT(sizeof(struct lokhazim_compare_reply) == 32, "the size of struct lokhazim_compare_reply is not 32");
-LOKHAZIM_ASSERT(offsetof(struct lokhazim_compare_reply, kind) == 8, "struct lokhazim_compare_reply: the offset of kind is not 8");
-LOKHAZIM_ASSERT(offsetof(struct lokhazim_compare_reply, place) == 16, "struct lokhazim_compare_reply: the offset of place is not 16");
-LOKHAZIM_ASSERT(sizeof(struct lokhazim_next_reply) == 40, "the size of struct lokhazim_next_reply is not 40");
-LOKHAZIM_ASSERT(offsetof(struct lokhazim_next_reply, place) == 8, "struct lokhazim_next_reply: the offset of place is not 8");
-LOKHAZIM_ASSERT(offsetof(struct lokhazim_next_reply, part) == 24, "struct lokhazim_next_reply: the offset of part is not 24");
-LOKHAZIM_ASSERT(offsetof(struct lokhazim_next_reply, at) == 32, "struct lokhazim_next_reply: the offset of at is not 32");
+LOKHAZIM_IMAGE_SIZE(lokhazim_examine_reply, 8 + sizeof(size_t));
+LOKHAZIM_IMAGE_OFFSET(lokhazim_examine_reply, refusal, 0);
+LOKHAZIM_IMAGE_OFFSET(lokhazim_examine_reply, form, 4);
+LOKHAZIM_IMAGE_OFFSET(lokhazim_examine_reply, heap_length, 8);
+
+LOKHAZIM_IMAGE_SIZE(lokhazim_compare_reply, sizeof(size_t) == 8 ? 32 : 20);
+LOKHAZIM_IMAGE_OFFSET(lokhazim_compare_reply, kind, 8);
+LOKHAZIM_IMAGE_OFFSET(lokhazim_compare_reply, place, sizeof(size_t) == 8 ? 16 : 12);
+LOKHAZIM_IMAGE_SIZE(lokhazim_next_reply, 5 * sizeof(size_t));
+LOKHAZIM_IMAGE_OFFSET(lokhazim_next_reply, place, sizeof(size_t));
+LOKHAZIM_IMAGE_OFFSET(lokhazim_next_reply, part, 3 * sizeof(size_t));
+LOKHAZIM_IMAGE_OFFSET(lokhazim_next_reply, at, 4 * sizeof(size_t));
+
+#undef LOKHAZIM_IMAGE_SIZE
+#undef LOKHAZIM_IMAGE_OFFSET
 
 /* ---- The library's functions: accounts by value ---- */
 

@@ -1,8 +1,10 @@
 # Takes the text of the proved build's LLVM module and takes off what is for x86-64 alone: the data layout, the target, the attributes of that processor, and
 # the wrappers that pass structs as C does there. What a wrapper calls becomes visible as lokhazim_core_NAME; it takes every struct and every lent slice by
-# pointer, which all processors pass alike. port/calls.c gives C's functions over these.
+# pointer, which all processors pass alike. The files port/*.c give C's functions over these.
 # Nothing else is changed. It stops where the module is not of the form that it knows.
-# Usage: awk -f port/retarget.awk MODULE.ll >CORE.ll
+# Usage: awk -v crate=NAME -f port/retarget.awk MODULE.ll >CORE.ll
+
+BEGIN { function_inside = "@\"" crate "::[a-z_]+::lokhazim_[a-z0-9_]+\"" }
 
 function complain(text) { print "port/retarget.awk: line " NR ": " text >"/dev/stderr"; bad = 1 }
 
@@ -11,7 +13,7 @@ function exported(text) { sub(/.*::/, "", text); sub(/"$/, "", text); return tex
 
 # The line with each call's name as it is visible from outside.
 function renamed(line,    name) {
-    while (match(line, /@"c_api::[a-z_]+::lokhazim_[a-z_]+"/)) {
+    while (match(line, function_inside)) {
         name = exported(substr(line, RSTART, RLENGTH))
         line = substr(line, 1, RSTART - 1) "@lokhazim_core_" substr(name, 10) substr(line, RSTART + RLENGTH)
     }
@@ -28,14 +30,13 @@ function renamed(line,    name) {
     if ($0 !~ /"x86_64-/) complain("the module is not for x86-64.")
     next
 }
-/^define [^@]*@lokhazim_[a-z_]+\(/ {
-    match($0, /@lokhazim_[a-z_]+/)
+/^define [^@]*@lokhazim_[a-z0-9_]+\(/ {
+    match($0, /@lokhazim_[a-z0-9_]+/)
     wrapper[substr($0, RSTART + 1, RLENGTH - 1)] = 1
     inside = 1
 }
 inside { if (/^}/) inside = 0; next }
-/^define internal .*@"c_api::[a-z_]+::lokhazim_[a-z_]+"\(/ {
-    match($0, /@"c_api::[a-z_]+::lokhazim_[a-z_]+"/)
+/^define internal / && match($0, function_inside) {
     core[exported(substr($0, RSTART, RLENGTH))]++
     sub(/^define internal /, "define ")
 }

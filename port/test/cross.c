@@ -1,7 +1,7 @@
 /*
  * The same calls on every processor: random ones on random heaps, with damaged heaps and accounts among them, and a crowded heap in which all hold records are
  * used. Each answer, each byte of the heap and each number of the accounts goes into two sums after each call. BY_VALUE=1 makes every fourth call by value,
- * which answers the same.
+ * which answers the same. IMAGES=1 saves and reads images and hands packets on between the calls.
  */
 #include "cross.h"
 
@@ -49,13 +49,9 @@ static void mix(uint32_t number)
     outcome.sums[1] = ((outcome.sums[1] << 5 | outcome.sums[1] >> 27) ^ number) * 2654435761u;
 }
 
-/* Every byte of the heap and every number of the accounts. */
-static void mix_state(void)
+/* Every number of the accounts. */
+static void mix_accounts(const struct lokhazim_accounts *accounts)
 {
-    const struct lokhazim_accounts *accounts = &state.accounts;
-    for (size_t i = 0; i < length; i += 4) {
-        mix(state.heap[i] | (uint32_t)state.heap[i + 1] << 8 | (uint32_t)state.heap[i + 2] << 16 | (uint32_t)state.heap[i + 3] << 24);
-    }
     for (int i = 0; i < LOKHAZIM_QUOTAS; i++) {
         mix(accounts->quotas[i].grant);
         mix(accounts->quotas[i].remainder);
@@ -67,6 +63,15 @@ static void mix_state(void)
     }
     mix(accounts->last_serial);
     mix((uint32_t)accounts->kind << 8 | accounts->edition);
+}
+
+/* Every byte of the heap and every number of the accounts. */
+static void mix_state(void)
+{
+    for (size_t i = 0; i < length; i += 4) {
+        mix(state.heap[i] | (uint32_t)state.heap[i + 1] << 8 | (uint32_t)state.heap[i + 2] << 16 | (uint32_t)state.heap[i + 3] << 24);
+    }
+    mix_accounts(&state.accounts);
 }
 
 static struct answer of_handle(uint32_t refusal, struct lokhazim_handle handle)
@@ -146,6 +151,10 @@ static struct answer in_place(const struct call *call)
 
 #if BY_VALUE
 #include "by_value.h"
+#endif
+
+#if IMAGES
+#include "images.h"
 #endif
 
 /* Makes a call, and counts it and what it gave. */
@@ -269,7 +278,7 @@ static struct call choose(void)
 
 struct outcome cross(uint32_t calls)
 {
-    const struct outcome none = { { 2166136261u, 1 }, 0, { 0 } };
+    const struct outcome none = { { 2166136261u, 1 }, 0, { 0 }, 0 };
     uint32_t next = 0;
     outcome = none;
     seed = 2463534242u;
@@ -283,6 +292,14 @@ struct outcome cross(uint32_t calls)
             }
             next = outcome.calls + EPOCH;
         }
+#if IMAGES
+        if (any(32) == 0) {
+            image_step();
+        }
+        if (any(8) == 0) {
+            queue_step();
+        }
+#endif
         struct call call = choose();
         if (any(8) == 0) {
             saved = state;

@@ -7,11 +7,13 @@
 /* The refusals 0 to 12. */
 #define REFUSALS 13
 
-/* What a run of calls gave: two sums over every answer, heap byte and number of the accounts, and how often each refusal was given. */
+/* What a run of calls gave: two sums over every answer, heap byte and number of the accounts, how often each refusal was given, and
+ * which refusals of images, 21 to 28 from bit 0 on, and of queues, 51 to 53 from bit 8 on. */
 struct outcome {
     uint32_t sums[2];
     uint32_t calls;
     uint32_t tally[REFUSALS];
+    uint32_t others;
 };
 
 /* Makes so many calls on a heap and its accounts, some of them damaged. It is the same run on every processor. */

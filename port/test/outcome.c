@@ -34,6 +34,8 @@ void outcome_text(char *line, const struct outcome *outcome)
         line = put(line, " ");
         line = put_number(line, outcome->tally[i], 10, 1);
     }
+    line = put(line, " others ");
+    line = put_number(line, outcome->others, 16, 3);
     *line = 0;
 }
 
