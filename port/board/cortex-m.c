@@ -1,14 +1,15 @@
 /* Start-up of a bare Cortex-M: the vectors, a guard below the stack where the processor has memory protection, and what a fault does. */
 #include "board.h"
 
+/* The bytes below the stack that are guarded, a power of two. */
 #define GUARDED 65536u
 
 void board_enter_fault(void);
 _Noreturn void board_enter(void);
 
 /*
- * The 64 KB below the stack may not be used, if the processor has the memory protection unit of the Cortex-M0+, M3, M4 or M7 and the stack begins at a
- * multiple of 64 KB. The unit's registers are type, control, region number, base, and size with access; anything else may be used as without it.
+ * The bytes below the stack may not be used, if the processor has the memory protection unit of the Cortex-M0+, M3, M4 or M7 and the stack begins at a
+ * multiple of so many. The unit's registers are type, control, region number, base, and size with access; anything else may be used as without it.
  */
 static void guard_stack(void)
 {
@@ -19,7 +20,7 @@ static void guard_stack(void)
     }
     unit[2] = 0;
     unit[3] = base;
-    unit[4] = 15u << 1 | 1u;
+    unit[4] = ((uint32_t)__builtin_ctz(GUARDED) - 1u) << 1 | 1u;
     unit[1] = 5u;
     __asm__ volatile("dsb\n\tisb" ::: "memory");
 }

@@ -124,51 +124,47 @@ pub fn image_length(form: Form, heap_length: usize) -> usize {
     }
 }
 
-/// Writes an image by the proved code and gives the refusal and the length.
+/// A function that writes an image, of accounts by value or of words where they lie.
+type Write<A> = unsafe extern "C" fn(*mut u8, usize, *const u8, usize, A) -> ImageReply;
+
+/// Writes an image by a function of the proved code and gives the refusal and the length.
 ///
 /// What is lent for reading gets a pointer made from a mutable borrow too, so that comparing the
 /// bytes afterwards would see a write.
-pub fn write(form: Form, image: &mut [u8], heap: &mut [u8], accounts: &Accounts) -> (u32, usize) {
-    let write = match form.number {
-        1 => lokhazim_image_write_form_1,
-        _ => lokhazim_image_write,
-    };
-    // Safety: each pointer and length are those of one borrowed slice, the struct has the layout
-    // of the boundary, and the function accepts any bytes and any numbers.
-    let reply = unsafe {
-        write(
-            image.as_mut_ptr(),
-            image.len(),
-            heap.as_mut_ptr(),
-            heap.len(),
-            accounts.into(),
-        )
-    };
+fn written<A>(write: Write<A>, image: &mut [u8], heap: &mut [u8], accounts: A) -> (u32, usize) {
+    let (to, room, from, length) = (
+        image.as_mut_ptr(),
+        image.len(),
+        heap.as_mut_ptr(),
+        heap.len(),
+    );
+    // Safety: each pointer and length are those of one borrowed slice, structs have the layout of the
+    // boundary, words are as many as the accounts have, and the function accepts any bytes and numbers.
+    let reply = unsafe { write(to, room, from, length, accounts) };
     (reply.refusal, reply.length)
 }
 
-/// Writes an image of the accounts where they lie, and gives the refusal and the length.
+/// Writes an image with the accounts by value.
+pub fn write(form: Form, image: &mut [u8], heap: &mut [u8], accounts: &Accounts) -> (u32, usize) {
+    let write: Write<CAccounts> = match form.number {
+        1 => lokhazim_image_write_form_1,
+        _ => lokhazim_image_write,
+    };
+    written(write, image, heap, accounts.into())
+}
+
+/// Writes an image of the accounts where they lie.
 pub fn write_in_place(
     form: Form,
     image: &mut [u8],
     heap: &mut [u8],
     words: &mut [u32; WORDS],
 ) -> (u32, usize) {
-    let write = match form.number {
+    let write: Write<*const u32> = match form.number {
         1 => lokhazim_image_in_place_write_form_1,
         _ => lokhazim_image_in_place_write,
     };
-    // Safety: as above, and the words are as many as the accounts have.
-    let reply = unsafe {
-        write(
-            image.as_mut_ptr(),
-            image.len(),
-            heap.as_mut_ptr(),
-            heap.len(),
-            words.as_mut_ptr(),
-        )
-    };
-    (reply.refusal, reply.length)
+    written(write, image, heap, words.as_mut_ptr())
 }
 
 /// Reads an image into the accounts where they lie, and gives the refusal.
