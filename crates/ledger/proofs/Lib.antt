@@ -1,5 +1,6 @@
 pub mod Recording
 pub mod Rows
+pub mod Short
 pub mod Wrong
 pub mod Agreement
 pub mod Matching
