@@ -10,6 +10,7 @@ pub mod Waiting
 pub mod Writing
 pub mod LentParts
 pub mod Opening
+pub mod Counting
 pub mod Tracking
 pub mod Steps
 pub mod Fields

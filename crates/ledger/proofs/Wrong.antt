@@ -35,7 +35,7 @@ unfoldable choosing : Unit {0}
 unfolding at-call at-allocate at-claim at-release at-remaining at-sweep
 choosing = tt
 
--- every call is refused for space: there is a run of bytes at 8
+-- `space`: every call is refused for space, and there is a run of bytes at 8
 pub refuted-refuses-all : Demand3 table refuses-all → ⊥
 unfolding computing recording listing refuses-all request-of passes-others in-live-block in-span taken
 refuted-refuses-all d =
@@ -45,19 +45,19 @@ refuted-refuses-all d =
     let e : _≡_ {A = ℕ} 11 0 = h .space (Allocate 0 8) _ refl refl 8 r in
     omega arith
 
--- two objects of the ledger have the same bytes
+-- `apart`: two objects of the ledger have the same bytes
 pub refuted-fixed-handle : Demand3 table fixed-handle → ⊥
 unfolding computing recording listing fixed-handle choosing
 refuted-fixed-handle d = said plain fixed-handle d (Allocate 0 8 ∷ Allocate 0 8 ∷ []) .apart 0 1 (omega arith) (omega arith) 8 (omega arith) (omega arith)
 
--- the ledger's sum: nothing is held any more, and the charge has not come back
+-- `balanced`: nothing is held any more, and the charge has not come back
 pub refuted-idle-release : Demand3 table idle-release → ⊥
 unfolding computing recording listing idle-release choosing
 refuted-idle-release d =
     let e : _≡_ {A = ℕ} 984 1000 = said plain idle-release d (Release 0 first ∷ Allocate 0 8 ∷ []) .balanced 0 (omega arith) in
     omega arith
 
--- the second object is in the ledger and not in the heap
+-- `recorded-live`: the second object is in the ledger and not in the heap
 pub refuted-pretends : Demand3 table pretends → ⊥
 unfolding computing recording listing pretends
 refuted-pretends d =
@@ -68,14 +68,14 @@ refuted-pretends d =
     other (inl e) = let z : _≡_ {A = ℕ} 2 1 = ap (λ (o : Handle). o .serial) e in omega arith
     other (inr x) = List·Memᴰ·not-nil x
 
--- remaining answers more than what remains
+-- `answered`: remaining answers more than what remains
 pub refuted-invented-remainder : Demand3 table invented-remainder → ⊥
 unfolding computing listing invented-remainder choosing
 refuted-invented-remainder d =
     let e : _≡_ {A = ℕ} 1001 1000 = ap (λ (v : Values). v .amount) (said plain invented-remainder d [] .answered 0 (omega arith)) in
     omega arith
 
--- a release gives back more than was paid
+-- `balanced`: a release gives back more than was paid
 pub refuted-invented-refund : Demand3 table invented-refund → ⊥
 unfolding computing recording listing invented-refund choosing
 refuted-invented-refund d =
@@ -88,7 +88,7 @@ one-split P x [] early e p q = subst P e q
 one-split P x (y ∷ late) [] e p q = p
 one-split P x (y ∷ late) (z ∷ early) e p q = absurd (omega (arith, simp length-append at (ap length e)))
 
--- an object goes with its first release, though a hold of the claim is left
+-- `stays`: an object goes with its first release, though a hold of the claim is left
 pub refuted-frees-early : Demand3 table frees-early → ⊥
 unfolding computing recording listing frees-early choosing
 refuted-frees-early d =
@@ -104,21 +104,21 @@ refuted-frees-early d =
     let m : List·Memᴰ first [] = h .stays refl first (List·Memᴰ·head refl) held in
     List·Memᴰ·not-nil m
 
--- the ledger has the block as quarantined, and the heap has it not
+-- `recorded-quarantined`: the ledger has the block as quarantined, and the heap has it not
 pub refuted-frees-at-once : Demand3 table frees-at-once → ⊥
 unfolding computing recording listing frees-at-once
 refuted-frees-at-once d =
     let m : List·Memᴰ block [] = said waiting frees-at-once d (Release 0 first ∷ Allocate 0 8 ∷ []) .recorded-quarantined block (List·Memᴰ·head refl) in
     List·Memᴰ·not-nil m
 
--- and the other way round
+-- `quarantined-recorded`: and the other way round
 pub refuted-never-sweeps : Demand3 table never-sweeps → ⊥
 unfolding computing recording listing never-sweeps choosing
 refuted-never-sweeps d =
     let m : List·Memᴰ block [] = said waiting never-sweeps d (Sweep ∷ Release 0 first ∷ Allocate 0 8 ∷ []) .quarantined-recorded block (List·Memᴰ·head refl) in
     List·Memᴰ·not-nil m
 
--- 4,089 bytes get 4,096 at a multiple of 16, and a heap of 4,104 bytes has no such place; edition 1 would give base 8
+-- `no-space`: 4,089 bytes get 4,096 at a multiple of 16, and a heap of 4,104 bytes has no such place; edition 1 gives base 8
 ample : List ℕ
 ample = 4104 ∷ replicate (QUOTAS - 1) 0
 
@@ -136,7 +136,7 @@ refuted-rounds-by-first d =
     let e : _≡_ {A = ℕ} 0 11 = h .no-space (Allocate 0 4089) _ refl refl .1 none in
     omega arith
 
--- the accounts say another edition than the ledger
+-- `edition-kept`: the accounts say another edition than the ledger
 pub refuted-forgets-edition : Demand3 table forgets-edition → ⊥
 unfolding computing recording listing forgets-edition
 refuted-forgets-edition d =
