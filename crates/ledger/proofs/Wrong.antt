@@ -25,14 +25,14 @@ use Rattle.ledger.specs.History.{Begins, Opening}
 use Rattle.ledger.specs.Demand3.{SuitableRun, in-live-block, in-span, taken, spans-differ, HeldIn, request-of, passes-others, Demand3}
 use Rattle.ledger.proofs.Recording.{recording}
 use Rattle.ledger.proofs.Short.{grants, below, after, events, history, said, listing, first, second, waiting, block, coarse}
-use Rattle.ledger.specs.Wrong.{at-call, at-allocate, at-claim, at-release, at-remaining, at-sweep, refuses-all, fixed-handle}
+use Rattle.ledger.specs.Wrong.{at-allocate, at-claim, at-release, at-remaining, at-sweep, refuses-all, fixed-handle}
 use Rattle.ledger.specs.Wrong.{idle-release, pretends, invented-remainder, invented-refund, frees-early, frees-at-once}
 use Rattle.ledger.specs.Wrong.{never-sweeps, rounds-by-first, forgets-edition, wrapped, wraps, loses-a-claim, takes-two-records, leaks}
 use Rattle.ledger.specs.Wrong.{keeps-the-record, never-joins, raise-grant, raises-the-grant, with-serial-1, repeats-the-serial, answers-the-block}
 use Rattle.ledger.specs.Wrong.{runs-over, loses-the-heap, forgets-kind, misnumbers}
 
 unfoldable choosing : Unit {0}
-unfolding at-call at-allocate at-claim at-release at-remaining at-sweep
+unfolding at-allocate at-claim at-release at-remaining at-sweep
 choosing = tt
 
 -- `space`: every call is refused for space, and there is a run of bytes at 8

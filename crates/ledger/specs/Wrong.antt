@@ -24,7 +24,7 @@ use Rattle.model.specs.declared.Call.the-variants.{Lend, Remaining, CanRelease,
 
 -- what is done at five kinds of calls, and what at any other
 module _ (new : ℕ → ℕ → Outcome) (more less : ℕ → Handle → Outcome) (asked : ℕ → Outcome) (swept other : Outcome) where
-  unfoldable pub at-call : Call → Outcome
+  abbrev pub at-call : Call → Outcome
   at-call (Allocate q n) = new q n
   at-call (AllocateArray q count size) = other
   at-call (Claim q h) = more q h
