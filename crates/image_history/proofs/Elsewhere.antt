@@ -1,6 +1,6 @@
--- An image that is read on any board: on the one that wrote it, on one that has started anew, on another, whatever went before
--- there. The reader gives back what was written, and a history led to that; what leads on from it joins that history, which
--- is ledger's. Nothing is asked of the accounts: along a history they are as their type has them.
+-- An image that is read on any board: on the one that wrote it, on one that has started anew, on another, whatever
+-- went before there. The reader gives back what was written, and a history led to that; what leads on from it joins
+-- that history, which is ledger's. Nothing is asked of the accounts: along a history they are as their type has them.
 -- Assumes nothing.
 use mathlib.Core.Path.{_≡_, refl, sym, subst}
 use mathlib.Core.List.{List}
@@ -20,13 +20,15 @@ use Rattle.image_history.specs.Restores.{written-image, Elsewhere, ReadA
 use Rattle.image_history.proofs.Typing.{restorable-typed}
 
 module _ (tables : ℕ → ℕ → ℕ) (units : (e : ℕ) → Units (tables e)) where
-  module _ (begun : Ledger) (early : List Event) (s₁ : List ℕ) (k₁ : Accounts) (led : History tables (by-own tables) begun early s₁ k₁) where
+  module _ (begun : Ledger) (early : List Event) (s₁ : List ℕ) (k₁ : Accounts)
+      (led : History tables (by-own tables) begun early s₁ k₁) where
     restored : (f : Form) (o h : List ℕ) → Known f → write-image f o s₁ k₁ .refusal ≡ 0 → length h ≡ length s₁
         → Elsewhere tables begun early s₁ k₁ h (read-image (written-image f o s₁ k₁) h)
     restored f o h known saved long =
         let fit = history-restorable tables units begun early s₁ k₁ led in
         let typed = restorable-typed (tables (k₁ .edition)) s₁ k₁ fit in
-        subst (Elsewhere tables begun early s₁ k₁ h) (sym (write-then-read f o s₁ k₁ h saved known (fit .octets) typed long))
+        subst (Elsewhere tables begun early s₁ k₁ h)
+        (sym (write-then-read f o s₁ k₁ h saved known (fit .octets) typed long))
         (record {
           state = refl;
           again = led;

@@ -3,22 +3,20 @@
 -- that of the image and of the events since. A refused read changes nothing, and the history goes on with the accounts from before.
 -- The reader gives back what the writer wrote, which is image_model's; a history with an image read is one without what came in between, which is ledger's.
 -- Assumes nothing.
-use mathlib.Core.Path.{_≡_, refl, ap, sym, _∙_, subst}
+use mathlib.Core.Path.{_≡_, refl, ap, sym, subst}
 use mathlib.Core.List.{List, [], _∷_, _++_}
 use Prim.Native.Nat.{ℕ, zero, suc}
-use lib.ListN.{length, take}
+use lib.ListN.{length}
 use Rattle.accounts.specs.declared.Accounts.{Accounts}
 use Rattle.rounding.specs.Rounding.{table, Units}
 use Rattle.layout.specs.Bytes.{Octets}
-use Rattle.ledger.specs.Ledger.{Ledger, Event, Saved, Restored, read-ledger, ledger-of}
+use Rattle.ledger.specs.Ledger.{Ledger, Event, Saved, Restored, read-ledger}
 use Rattle.ledger.specs.History.{Run, by-own, Restorable, Restoring, History}
 use Rattle.ledger.specs.Demand3.{Holds}
 use Rattle.ledger.proofs.Lengths.{saved-as-long}
 use Rattle.ledger.proofs.Rejoining.{saved-history, history-restorable, rejoined-ledger, rejoined-holds}
 use Rattle.image_model.specs.declared.Form.{Form}
-use Rattle.image_model.specs.Stream.{Typed}
 use Rattle.image_model.specs.Answers.{Restored-to}
-use Rattle.image_model.specs.Reading.{heap-in, accounts-in}
 use Rattle.image_model.specs.Images.{write-image, read-image}
 use Rattle.image_model.proofs.Places.{Known}
 use Rattle.image_model.proofs.Refusals.{refused-read, accepted-read}
@@ -83,7 +81,8 @@ module _ (tables : ℕ → ℕ → ℕ) (units : (e : ℕ) → Units (tables e))
       let fit = history-restorable tables units begun early s₁ k₁ own in
       let typed = restorable-typed (tables (k₁ .edition)) s₁ k₁ fit in
       let long = saved-as-long tables units begun early s₁ k₁ mid s k past in
-      subst (Continues tables begun early s₁ k₁ mid) (sym (write-then-read f o s₁ k₁ s saved known (fit .octets) typed long))
+      subst (Continues tables begun early s₁ k₁ mid)
+      (sym (write-then-read f o s₁ k₁ s saved known (fit .octets) typed long))
       (record {
         state = refl;
         goes-on = (s, k, past, sym long, fit, refl, refl);

@@ -1,24 +1,25 @@
--- Accounts that an image gives back are as their type has them: what `Typed` asks beside all quotas and records, grants of 32
--- bits and counts of one byte, rules 5.1 to 5.11 say of a consistent state.
+-- Accounts that an image gives back are as their type has them: what `Typed` asks beside all quotas and records,
+-- grants of 32 bits and counts of one byte, rules 5.1 to 5.11 say of a consistent state.
 -- Assumes nothing.
 use mathlib.Core.Path.{_≡_, refl, ap}
 use mathlib.Core.List.{List, [], _∷_, map, List·Memᴰ}
 use mathlib.Core.Bool.{Bool, true, false, _&&_}
-use Prim.Native.Nat.{ℕ, zero, suc, _+_, _≤_, _<_, _^_}
+use Prim.Native.Nat.{ℕ, zero, suc, _≤_, _<_, _^_}
 use native.Mathlib.Omega.{arith}
 use lib.ListN.{length, getD}
-use lib.Dec.{leb, ltb, eqb, lit<}
+use lib.Dec.{ltb, eqb}
 use borrow.Author.Tests.{leb-true, ltb-true, ltb-false, eqb-true, not-false}
 use Rattle.accounts.specs.declared.Quota.{Quota}
 use Rattle.accounts.specs.declared.Hold.{Hold}
 use Rattle.accounts.specs.declared.Accounts.{Accounts}
-use Rattle.accounts.specs.Accounts.{QUOTAS, zero-quota, zero-hold, permissible, used}
+use Rattle.accounts.specs.Accounts.{zero-quota, zero-hold, permissible, used}
 use Rattle.model.specs.Lists.{all}
 use Rattle.model.specs.Objects.{blocks-of}
 use Rattle.model.specs.Consistent.{in-range}
 use Rattle.model.proofs.Bools.{and-left, and-right}
 use Rattle.model.proofs.Lists.{getD-member}
-use Rattle.model.proofs.Consistent.{Facts, consistent-facts, sound-consistent, sound-permissible, sound-range, range-serial, range-kind}
+use Rattle.model.proofs.Consistent.{Facts, consistent-facts, sound-consistent, sound-permissible, sound-range}
+use Rattle.model.proofs.Consistent.{range-serial, range-kind}
 use Rattle.model.proofs.Consistent.{range-edition}
 use Rattle.ledger.specs.History.{Restorable}
 use Rattle.image_model.specs.Stream.{Typed}
@@ -41,8 +42,10 @@ permitted (x ∷ xs) e (suc q) = permitted xs (and-right (permissible (x .permis
 unused-zero : (h : Hold) → used h ≡ false → (h .serial ≡ 0) × (h .quota ≡ 0)
 unfolding used
 unused-zero h e =
-    let t = and-left (eqb (h .serial) 0 && eqb (h .quota) 0) (eqb (h .count) 0) (not-false _ e) in
-    (eqb-true (h .serial) 0 (and-left (eqb (h .serial) 0) (eqb (h .quota) 0) t), eqb-true (h .quota) 0 (and-right (eqb (h .serial) 0) (eqb (h .quota) 0) t))
+    let t = and-left (eqb (h .serial) 0 && eqb (h .quota) 0) (eqb (h .count) 0) (not-false _ e) in (
+      eqb-true (h .serial) 0 (and-left (eqb (h .serial) 0) (eqb (h .quota) 0) t),
+      eqb-true (h .quota) 0 (and-right (eqb (h .serial) 0) (eqb (h .quota) 0) t),
+    )
 
 module _ (unit : ℕ → ℕ) (s : List ℕ) (k : Accounts) (r : Restorable unit s k) where
   facts : Facts (blocks-of s) k
@@ -58,7 +61,8 @@ module _ (unit : ℕ → ℕ) (s : List ℕ) (k : Accounts) (r : Restorable unit
       go : (b : Bool) → ltb q (length (k .quotas)) ≡ b → getD (k .quotas) q zero-quota .remainder < 2 ^ 32
       go true b = omega (arith, facts .balance q (ltb-true q (length (k .quotas)) b), r .narrow q)
       go false b =
-          omega (arith, ap (λ (x : Quota). x .remainder) (behind (k .quotas) q zero-quota (ltb-false q (length (k .quotas)) b)))
+          let z = behind (k .quotas) q zero-quota (ltb-false q (length (k .quotas)) b) in
+          omega (arith, ap (λ (x : Quota). x .remainder) z)
 
   -- a record is of an object whose serial was given and of a quota that there is, or of zeros
   abbrev Narrow : Hold → Type 0
@@ -77,7 +81,9 @@ module _ (unit : ℕ → ℕ) (s : List ℕ) (k : Accounts) (r : Restorable unit
   record-narrow i = go (ltb i (length (k .holds))) refl
     where
       go : (b : Bool) → ltb i (length (k .holds)) ≡ b → Narrow (getD (k .holds) i zero-hold)
-      go true b = member-narrow (getD (k .holds) i zero-hold) (getD-member zero-hold (k .holds) i (ltb-true i (length (k .holds)) b))
+      go true b =
+          member-narrow (getD (k .holds) i zero-hold)
+          (getD-member zero-hold (k .holds) i (ltb-true i (length (k .holds)) b))
       go false b = rw (behind (k .holds) i zero-hold (ltb-false i (length (k .holds)) b)) (omega arith, omega arith)
 
   pub restorable-typed : Typed k

@@ -1,14 +1,13 @@
--- `ReadAnywhere` does not hold of the wrong readers. Each reads an image of a heap with one object; that the right reader gives
--- it back is `read-anywhere`, and what the wrong one makes of that is computed.
+-- `ReadAnywhere` does not hold of the wrong readers. Each reads an image of a heap with one object; that the right
+-- reader gives it back is `read-anywhere`, and what the wrong one makes of that is computed.
 -- Assumes nothing.
 use Prim.Native.Nat.{ℕ}
 use native.Mathlib.Omega.{arith}
-use mathlib.Core.Path.{_≡_, refl, ap, subst}
+use mathlib.Core.Path.{_≡_, refl, subst}
 use mathlib.Core.List.{List, [], _∷_, List·Memᴰ·head}
 use lib.ListN.{replicate}
-use Rattle.accounts.specs.declared.Accounts.{Accounts}
 use Rattle.accounts.specs.declared.settings.Settings.{Settings}
-use Rattle.accounts.specs.Accounts.{HOLDS, zero-hold, plain, with-holds, with-edition}
+use Rattle.accounts.specs.Accounts.{plain}
 use Rattle.rounding.specs.Rounding.{table}
 use Rattle.model.specs.Calls.{Outcome}
 use Rattle.model.specs.declared.Call.{Call}
@@ -23,7 +22,7 @@ use Rattle.image_model.specs.Images.{write-image, read-image}
 use Rattle.image_model.proofs.Computing.{computing}
 use Rattle.image_model.proofs.Places.{known-2}
 use Rattle.image_history.specs.Restores.{written-image, Reader, Elsewhere, ReadAnywhere}
-use Rattle.image_history.specs.Wrong.{forgets-holds, forgets-edition}
+use Rattle.image_history.specs.Wrong.{bare, forgets-holds, of-edition-1, forgets-edition}
 use Rattle.image_history.proofs.Elsewhere.{read-anywhere}
 
 -- a heap of 64 bytes with an object of 8, which quota 0 holds; an image of it fits 5,120 bytes
@@ -44,33 +43,36 @@ module _ (g : Settings) where
   image : List ℕ
   image = written-image form-2 (replicate 5120 0) (made .heap) (made .accounts)
 
-  -- what a reader that satisfied the statement would give back
-  module _ (read : Reader) (d : ReadAnywhere table read) (saved : Saved) where
-    read-as : Elsewhere table (empty g grants) led (made .heap) (made .accounts) (made .heap) (read image (made .heap))
-    unfolding calls made led image
-    read-as =
-        d .always (empty g grants) led (made .heap) (made .accounts) (history g (by-own table) calls)
-        form-2 (replicate 5120 0) (made .heap) known-2 saved refl
+  -- what the statement says of a reader that gives this image back
+  abbrev Gives : Restored-to → Type 0
+  Gives r = Elsewhere table (empty g grants) led (made .heap) (made .accounts) (made .heap) r
+
+  read-as : (read : Reader) → ReadAnywhere table read → Saved → Gives (read image (made .heap))
+  unfolding calls made led image
+  read-as read d saved =
+      d .always (empty g grants) led (made .heap) (made .accounts) (history g (by-own table) calls)
+      form-2 (replicate 5120 0) (made .heap) known-2 saved refl
+
+  -- and of one that changes what the right reader gives
+  given-back : (read : Reader) (change : Restored-to → Restored-to)
+      → ((i h : List ℕ) → read i h ≡ change (read-image i h)) → ReadAnywhere table read → Saved
+      → Gives (change (record { heap = made .heap; accounts = made .accounts; refusal = 0 }))
+  given-back read change is d saved =
+      subst (λ (r : Restored-to). Gives (change r)) (read-as read-image read-anywhere saved .state)
+      (subst Gives (is image (made .heap)) (read-as read d saved))
 
 -- `ledger`: an object on which quota 0 has no hold
 pub refuted-forgets-holds : ReadAnywhere table forgets-holds → ⊥
-unfolding computing recording listing calls made led forgets-holds
+unfolding computing recording listing calls made led bare forgets-holds
 refuted-forgets-holds d =
-    let given = read-as plain read-image read-anywhere refl .state in
-    let bare : Restored-to → Restored-to =
-    λ r. record { heap = r .heap; accounts = with-holds (replicate HOLDS zero-hold) (r .accounts); refusal = r .refusal } in
-    let e = subst (λ (r : Restored-to). Elsewhere table (empty plain grants) (led plain) (made plain .heap) (made plain .accounts) (made plain .heap) (bare r))
-    given (read-as plain forgets-holds d refl) in
+    let e = given-back plain forgets-holds bare (λ i h. refl) d refl in
     let x : _≡_ {A = ℕ} 0 1 = e .ledger .holds _ _ (List·Memᴰ·head refl) (List·Memᴰ·head refl) refl 0 in
     omega arith
 
 -- `ledger`: a heap of edition 2 comes back as one of edition 1
 pub refuted-forgets-edition : ReadAnywhere table forgets-edition → ⊥
-unfolding computing recording listing calls made led forgets-edition
+unfolding computing recording listing calls made led of-edition-1 forgets-edition
 refuted-forgets-edition d =
-    let given = read-as coarse read-image read-anywhere refl .state in
-    let first : Restored-to → Restored-to = λ r. record { heap = r .heap; accounts = with-edition 0 (r .accounts); refusal = r .refusal } in
-    let e = subst (λ (r : Restored-to). Elsewhere table (empty coarse grants) (led coarse) (made coarse .heap) (made coarse .accounts) (made coarse .heap) (first r))
-    given (read-as coarse forgets-edition d refl) in
+    let e = given-back coarse forgets-edition of-edition-1 (λ i h. refl) d refl in
     let x : _≡_ {A = ℕ} 0 1 = e .ledger .edition in
     omega arith

@@ -1,5 +1,5 @@
--- Short lists of calls on a heap of 64 bytes, made by any run: the state that they lead to, their events, and that these
--- are a history. What demand 3 says of them can be computed.
+-- Short lists of calls on a heap of 64 bytes, made by any run: the state that they lead to, their events, and that
+-- these are a history. What demand 3 says of them can be computed.
 -- Assumes nothing.
 use Prim.Native.Nat.{ℕ, zero, suc, _-_, _<_, _^_}
 use native.Mathlib.Omega.{arith}
@@ -41,7 +41,9 @@ module _ (g : Settings) where
 
   pub opening : Begins table (empty g grants) (fresh .heap) (fresh .accounts)
   unfolding computing grants fresh
-  opening = Opening g grants refl (record { before = replicate 64 0; quotas = refl; narrow = below grants refl; opens = refl })
+  opening =
+      Opening g grants refl
+      (record { before = replicate 64 0; quotas = refl; narrow = below grants refl; opens = refl })
 
   -- an opening and these calls, the newest first
   unfoldable pub after : Run → List Call → Outcome
@@ -52,15 +54,18 @@ module _ (g : Settings) where
   events run [] = []
   events run (c ∷ cs) = Called c (run c (after run cs .heap) (after run cs .accounts) .values) ∷ events run cs
 
-  pub history : (run : Run) (cs : List Call) → History table run (empty g grants) (events run cs) (after run cs .heap) (after run cs .accounts)
+  pub history : (run : Run) (cs : List Call)
+      → History table run (empty g grants) (events run cs) (after run cs .heap) (after run cs .accounts)
   unfolding after events
   history run [] = opening
   history run (c ∷ cs) = (after run cs .heap, after run cs .accounts, history run cs, refl)
 
   -- what demand 3 says of such a list
   pub said : (run : Run) → Demand3 table run → (cs : List Call)
-      → Holds (table (after run cs .accounts .edition)) run (empty g grants) (events run cs) [] (after run cs .heap) (after run cs .accounts)
-  said run d cs = d .always (empty g grants) (events run cs) [] (after run cs .heap) (after run cs .accounts) (history run cs)
+      → Holds (table (after run cs .accounts .edition)) run (empty g grants) (events run cs) []
+      (after run cs .heap) (after run cs .accounts)
+  said run d cs =
+      d .always (empty g grants) (events run cs) [] (after run cs .heap) (after run cs .accounts) (history run cs)
 
 -- the first two objects of 8 bytes
 abbrev pub first : Handle

@@ -1,12 +1,13 @@
--- Demand 3 does not hold of the wrong heaps: each is refuted by a short list of calls that is computed, at the field that
--- the line above it names. Every field of `Holds` has such a heap but three: `kind-begun`, `edition-begun` and `grants-begun` speak
--- of the ledger alone and hold of any events (`ledger-kept` in Theorem.antt), whatever heap answered.
+-- Demand 3 does not hold of the wrong heaps: each is refuted by a short list of calls that is computed, at the field
+-- that the line above it names. Every field of `Holds` has such a heap but three: `kind-begun`, `edition-begun` and
+-- `grants-begun` speak of the ledger alone and hold of any events (`ledger-kept` in Theorem.antt), whatever heap
+-- answered.
 -- Assumes nothing.
-use Prim.Native.Nat.{ℕ, _+_, _-_, _%_, _<_, _≤_}
+use Prim.Native.Nat.{ℕ, _+_, _-_, _%_, _≤_}
 use native.Mathlib.Omega.{arith}
 use mathlib.Core.Path.{_≡_, refl, ap, subst}
 use mathlib.Core.List.{List, [], _∷_, _++_, List·Memᴰ, List·Memᴰ·head, List·Memᴰ·cases-cons, List·Memᴰ·not-nil}
-use mathlib.Core.Bool.{Bool, true, false, false≢true}
+use mathlib.Core.Bool.{true, false, false≢true}
 use mathlib.Core.Logic.{_⊎_, inl, inr}
 use lib.ListN.{length, replicate, getD, length-append}
 use lib.Dec.{leb}
@@ -22,13 +23,19 @@ use Rattle.model.proofs.Lists.{all-member}
 use Rattle.model.proofs.Computing.{computing}
 use Rattle.ledger.specs.Ledger.{Event, Called, empty, ledger-of}
 use Rattle.ledger.specs.History.{Begins, Opening}
-use Rattle.ledger.specs.Demand3.{SuitableRun, in-live-block, in-span, taken, spans-differ, HeldIn, request-of, passes-others, Demand3}
+use Rattle.ledger.specs.Demand3.{SuitableRun, in-live-block, in-span, taken, spans-differ, HeldIn, request-of}
+use Rattle.ledger.specs.Demand3.{passes-others, Demand3}
 use Rattle.ledger.proofs.Recording.{recording}
-use Rattle.ledger.proofs.Short.{grants, below, after, events, history, said, listing, first, second, waiting, block, coarse}
-use Rattle.ledger.specs.Wrong.{at-allocate, at-claim, at-release, at-remaining, at-sweep, refuses-all, fixed-handle}
-use Rattle.ledger.specs.Wrong.{idle-release, pretends, invented-remainder, invented-refund, frees-early, frees-at-once}
-use Rattle.ledger.specs.Wrong.{never-sweeps, rounds-by-first, forgets-edition, wrapped, wraps, loses-a-claim, takes-two-records, leaks}
-use Rattle.ledger.specs.Wrong.{keeps-the-record, never-joins, raise-grant, raises-the-grant, with-serial-1, repeats-the-serial, answers-the-block}
+use Rattle.ledger.proofs.Short.{grants, below, after, events, history, said, listing, first, second, waiting}
+use Rattle.ledger.proofs.Short.{block, coarse}
+use Rattle.ledger.specs.Wrong.{at-allocate, at-claim, at-release, at-remaining, at-sweep, refuses-all}
+use Rattle.ledger.specs.Wrong.{fixed-handle}
+use Rattle.ledger.specs.Wrong.{idle-release, pretends, invented-remainder, invented-refund, frees-early}
+use Rattle.ledger.specs.Wrong.{frees-at-once}
+use Rattle.ledger.specs.Wrong.{never-sweeps, rounds-by-first, forgets-edition, wrapped, wraps, loses-a-claim}
+use Rattle.ledger.specs.Wrong.{takes-two-records, leaks}
+use Rattle.ledger.specs.Wrong.{keeps-the-record, never-joins, raise-grant, raises-the-grant, with-serial-1}
+use Rattle.ledger.specs.Wrong.{repeats-the-serial, answers-the-block}
 use Rattle.ledger.specs.Wrong.{runs-over, loses-the-heap, forgets-kind, misnumbers}
 
 unfoldable choosing : Unit {0}
@@ -118,7 +125,8 @@ refuted-never-sweeps d =
     let m : List·Memᴰ block [] = said waiting never-sweeps d (Sweep ∷ Release 0 first ∷ Allocate 0 8 ∷ []) .quarantined-recorded block (List·Memᴰ·head refl) in
     List·Memᴰ·not-nil m
 
--- `no-space`: 4,089 bytes get 4,096 at a multiple of 16, and a heap of 4,104 bytes has no such place; edition 1 gives base 8
+-- `no-space`: 4,089 bytes get 4,096 at a multiple of 16, and a heap of 4,104 bytes has no such place; edition 1 gives
+-- base 8
 ample : List ℕ
 ample = 4104 ∷ replicate (QUOTAS - 1) 0
 
@@ -162,7 +170,8 @@ refuted-loses-a-claim d =
 pub refuted-loses-a-hold : Demand3 table loses-a-claim → ⊥
 unfolding computing recording listing loses-a-claim choosing
 refuted-loses-a-hold d =
-    let m = said plain loses-a-claim d (Claim 0 first ∷ Allocate 0 8 ∷ []) .hold-recorded _ 0 (List·Memᴰ·head refl) (omega arith) in
+    let h = said plain loses-a-claim d (Claim 0 first ∷ Allocate 0 8 ∷ []) in
+    let m = h .hold-recorded _ 0 (List·Memᴰ·head refl) (omega arith) in
     let e : false ≡ true = all-member (λ (h : Hold). leb (h .count) 1) _ refl _ m in
     false≢true e
 
@@ -170,7 +179,8 @@ refuted-loses-a-hold d =
 pub refuted-keeps-the-record : Demand3 table keeps-the-record → ⊥
 unfolding computing recording listing keeps-the-record choosing
 refuted-keeps-the-record d =
-    let r = said plain keeps-the-record d (Release 0 first ∷ Allocate 0 8 ∷ []) .record-held _ (List·Memᴰ·head refl) refl in
+    let h = said plain keeps-the-record d (Release 0 first ∷ Allocate 0 8 ∷ []) in
+    let r = h .record-held _ (List·Memᴰ·head refl) refl in
     List·Memᴰ·not-nil (r .1)
 
 -- `records-once`: two records of one quota for one object
@@ -184,7 +194,8 @@ refuted-takes-two-records d =
 pub refuted-leaks : Demand3 table leaks → ⊥
 unfolding computing recording listing leaks choosing
 refuted-leaks d =
-    let m : List·Memᴰ first [] = said plain leaks d (Release 0 first ∷ Allocate 0 8 ∷ []) .live-recorded first (List·Memᴰ·head refl) in
+    let h = said plain leaks d (Release 0 first ∷ Allocate 0 8 ∷ []) in
+    let m : List·Memᴰ first [] = h .live-recorded first (List·Memᴰ·head refl) in
     List·Memᴰ·not-nil m
 
 -- `kept-sound`: two free blocks side by side
@@ -198,8 +209,8 @@ refuted-never-joins d =
 pub refuted-raises-the-grant : Demand3 table raises-the-grant → ⊥
 unfolding computing recording listing raise-grant raises-the-grant choosing
 refuted-raises-the-grant d =
-    let e : _≡_ {A = ℕ} 1016 1000 =
-    ap (λ (gs : List ℕ). getD gs 0 0) (said plain raises-the-grant d (Release 0 first ∷ Allocate 0 8 ∷ []) .grants-kept) in
+    let h = said plain raises-the-grant d (Release 0 first ∷ Allocate 0 8 ∷ []) in
+    let e : _≡_ {A = ℕ} 1016 1000 = ap (λ (gs : List ℕ). getD gs 0 0) (h .grants-kept) in
     omega arith
 
 -- `live-once`: two live objects have serial 1
@@ -257,5 +268,6 @@ refuted-gives-out-again d =
 pub refuted-misnumbers : Demand3 table misnumbers → ⊥
 unfolding computing listing misnumbers
 refuted-misnumbers d =
-    let e : _≡_ {A = ℕ} 6 5 = ap (λ (t : Outcome). t .values .refusal) (said plain misnumbers d [] .as-defined (Release 0 first)) in
+    let h = said plain misnumbers d [] in
+    let e : _≡_ {A = ℕ} 6 5 = ap (λ (t : Outcome). t .values .refusal) (h .as-defined (Release 0 first)) in
     omega arith

@@ -13,6 +13,6 @@ pub record Same (l m : Ledger) : Type 0 where
   pub edition : l .edition ≡ m .edition
   pub grants : l .grants ≡ m .grants
   pub objects : (o : Handle) → List·Memᴰ o (objects-in l) ↔ List·Memᴰ o (objects-in m)
-  pub holds : (x y : Entry) → List·Memᴰ x (l .entries) → List·Memᴰ y (m .entries) → x .object .serial ≡ y .object .serial
-      → (q : ℕ) → holds-of q x ≡ holds-of q y
+  pub holds : (x y : Entry) → List·Memᴰ x (l .entries) → List·Memᴰ y (m .entries)
+      → x .object .serial ≡ y .object .serial → (q : ℕ) → holds-of q x ≡ holds-of q y
   pub quarantined : (x : Span) → List·Memᴰ x (l .quarantined) ↔ List·Memᴰ x (m .quarantined)

@@ -147,8 +147,8 @@ loses-a-claim c s k =
 unfoldable pub takes-two-records : Call → List ℕ → Accounts → Outcome
 takes-two-records c s k =
     let t = step unit c s k in
-    let two : ℕ → Handle → Outcome = λ q h. with-accounts (with-holds (take-record (h .serial) q (k .holds)) (t .accounts)) t in
-    at-claim (λ q h. cond (eqb (t .values .refusal) 0) (two q h) t) c t
+    let two : ℕ → Handle → Accounts = λ q h. with-holds (take-record (h .serial) q (k .holds)) (t .accounts) in
+    at-claim (λ q h. cond (eqb (t .values .refusal) 0) (with-accounts (two q h) t) t) c t
 
 -- a release drops the hold and pays back, and leaves the block as it was
 unfoldable pub leaks : Call → List ℕ → Accounts → Outcome
@@ -166,7 +166,8 @@ keeps-the-record c s k =
 unfoldable pub never-joins : Call → List ℕ → Accounts → Outcome
 never-joins c s k =
     let t = step unit c s k in
-    at-release (λ q h. with-heap (render (changed (vacates (t .accounts .holds)) (vacate (k .kind)) (blocks-of s))) t) c t
+    let bs = changed (vacates (t .accounts .holds)) (vacate (k .kind)) (blocks-of s) in
+    at-release (λ q h. with-heap (render bs) t) c t
 
 -- a release adds what it gives back to the grant too
 unfoldable pub raise-grant : ℕ → ℕ → Accounts → Accounts
@@ -204,8 +205,8 @@ answers-the-block c s k =
 unfoldable pub runs-over : Call → List ℕ → Accounts → Outcome
 runs-over c s k =
     let t = step unit c s k in
-    let over : ℕ → Values = λ n. given (record { base = 8; length = object-length unit n; serial = k .«last_serial» + 1 }) in
-    at-allocate (λ q n. cond (eqb (t .values .refusal) 11) (unchanged s k (over n)) t) c t
+    let over : ℕ → Handle = λ n. record { base = 8; length = object-length unit n; serial = k .«last_serial» + 1 } in
+    at-allocate (λ q n. cond (eqb (t .values .refusal) 11) (unchanged s k (given (over n))) t) c t
 
 -- any call leaves no byte of the heap
 unfoldable pub loses-the-heap : Call → List ℕ → Accounts → Outcome

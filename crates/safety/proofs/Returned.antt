@@ -235,8 +235,8 @@ module _ (tables : ℕ → ℕ → ℕ) (units : (e : ℕ) → Units (tables e))
       → AtLastImage tables (by-own tables) begun (λ s k. blank s ≡ true) es s k h → NobodyHolds (ledger-of begun es)
       → (g : Settings) → kind-number (g .kind) ≡ k .kind → edition-number (g .edition) ≡ k .edition → AsOpened g (grants k) s k
   restored-returned begun es s k h p none =
-      as-opened (ledger-of begun es) s k (history-agrees tables units begun es s k h) none (nothing-left-of tables units .always begun es s k h p)
-      (history-records tables begun es s k h)
+      as-opened (ledger-of begun es) s k (history-agrees tables units begun es s k h) none
+      (nothing-left-of tables units .always begun es s k h p) (history-records tables begun es s k h)
 
   opened-returned : (g : Settings) (given : List ℕ) (es : List Event) (s : List ℕ) (k : Accounts) (h : History tables (by-own tables) (empty g given) es s k)
       → AtLastImage tables (by-own tables) (empty g given) (λ s k. ⊥) es s k h → NobodyHolds (ledger-of (empty g given) es) → AsOpened g given s k
