@@ -17,10 +17,12 @@ use Rattle.ledger.proofs.Lengths.{saved-as-long}
 use Rattle.ledger.proofs.Rejoining.{saved-history, history-restorable, rejoined-ledger, rejoined-holds}
 use Rattle.image_model.specs.declared.Form.{Form}
 use Rattle.image_model.specs.Answers.{Restored-to}
-use Rattle.image_model.specs.Images.{write-image, read-image}
-use Rattle.image_model.proofs.Places.{Known}
+use Rattle.image_model.specs.Stream.{form-2, image-of}
+use Rattle.image_model.specs.Images.{write-image, read-image, Accepts}
+use Rattle.image_model.proofs.Places.{Known, known-2, full-carries}
 use Rattle.image_model.proofs.Refusals.{refused-read, accepted-read}
 use Rattle.image_model.proofs.Read.{read-written}
+use Rattle.image_model.proofs.Written.{written-read}
 use Rattle.image_model.proofs.Trips.{write-then-read}
 use Rattle.image_history.specs.Restores.{written-image, Continues}
 use Rattle.image_history.proofs.Typing.{restorable-typed}
@@ -53,6 +55,22 @@ module _ (i h : List ℕ) (octets : Octets i) (accepted : read-image i h .refusa
   pub restored-goes-on : (run : Run) (begun : Ledger) (es : List Event) (k : Accounts) → History table run begun es h k
       → History table run begun (Restored (read-image i h .heap) (read-image i h .accounts) ∷ es) (read-image i h .heap) (read-image i h .accounts)
   restored-goes-on run begun es k past = (h, k, past, accepted-length, accepted-restorable, refl, refl)
+
+-- and what may be restored is what an image gives back, of form 2: a history begins with no other states
+pub restorable-given : (s : List ℕ) (k : Accounts) → Restorable (table (k .edition)) s k
+    → read-image (image-of form-2 s k) s ≡ record { heap = s; accounts = k; refusal = 0 }
+unfolding form-2
+restorable-given s k r =
+    let a : Accepts form-2 s k =
+    record {
+      known = known-2;
+      extent = r .extent;
+      octets = r .octets;
+      sound = r .sound;
+      typed = restorable-typed (table (k .edition)) s k r;
+      carried = full-carries form-2 k refl;
+    } in
+    written-read form-2 s k a s refl
 
 -- a refused read leaves the heap, so the history goes on with the accounts from before
 pub refused-keeps : (i s : List ℕ) → (read-image i s .refusal ≡ 0 → ⊥) → read-image i s .heap ≡ s
