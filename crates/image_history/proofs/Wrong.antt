@@ -65,8 +65,9 @@ module _ (g : Settings) where
 pub refuted-forgets-holds : ReadAnywhere table forgets-holds → ⊥
 unfolding computing recording listing calls made led bare forgets-holds
 refuted-forgets-holds d =
-    let e = given-back plain forgets-holds bare (λ i h. refl) d refl in
-    let x : _≡_ {A = ℕ} 0 1 = e .ledger .holds _ _ (List·Memᴰ·head refl) (List·Memᴰ·head refl) refl 0 in
+    let x : _≡_ {A = ℕ} 0 1 =
+    given-back plain forgets-holds bare (λ i h. refl) d refl .ledger .holds
+    _ _ (List·Memᴰ·head refl) (List·Memᴰ·head refl) refl 0 in
     omega arith
 
 -- `ledger`: a heap of edition 2 comes back as one of edition 1

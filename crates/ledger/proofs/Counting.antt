@@ -201,13 +201,13 @@ Whole hs = (length hs ≡ HOLDS) × Counted hs
 
 module _ (tables : ℕ → ℕ → ℕ) (begun : Ledger) where
   -- an image's counts are such, by its places
-  placed : (hs : List Hold) → ((i : ℕ) → getD hs i zero-hold .count < 2 ^ 8) → Counted hs
-  placed hs f = from-places byte-count zero-hold hs (λ i. lt-ltb (getD hs i zero-hold .count) 256 (omega (arith, f i)))
+  placed : (hs : List Hold) → ((i : ℕ) → getD hs i zero-hold .count < 256) → Counted hs
+  placed hs f = from-places byte-count zero-hold hs (λ i. lt-ltb (getD hs i zero-hold .count) 256 (f i))
 
   beginning-whole : (s : List ℕ) (k : Accounts) → Begins tables begun s k → Whole (k .holds)
   beginning-whole s k (Opening g grants e o) =
       (opening-records g grants s k o, rw (opening-unused g grants s k o) (all-alike byte-count zero-hold HOLDS refl))
-  beginning-whole s k (Restoring e r) = (r .records, placed (k .holds) (r .counts))
+  beginning-whole s k (Restoring e r) = (r .records, placed (k .holds) (λ i. omega (arith, r .counts i)))
 
   history-whole : (es : List Event) (s : List ℕ) (k : Accounts) → History tables (by-own tables) begun es s k
       → Whole (k .holds)
@@ -220,7 +220,7 @@ module _ (tables : ℕ → ℕ → ℕ) (begun : Ledger) where
       )
   history-whole (Wrote ∷ es) s k h = history-whole es (h .0) k (h .1)
   history-whole (Saved s₀ k₀ ∷ es) s k h = history-whole es s k (h .0)
-  history-whole (Restored s₁ k₁ ∷ es) s k h = (h .4 .records, placed (k .holds) (h .4 .counts))
+  history-whole (Restored s₁ k₁ ∷ es) s k h = (h .4 .records, placed (k .holds) (λ i. omega (arith, h .4 .counts i)))
 
   -- so along every history, in or out of a restore
   pub history-records : (es : List Event) (s : List ℕ) (k : Accounts) → History tables (by-own tables) begun es s k

@@ -170,8 +170,9 @@ refuted-loses-a-claim d =
 pub refuted-loses-a-hold : Demand3 table loses-a-claim → ⊥
 unfolding computing recording listing loses-a-claim choosing
 refuted-loses-a-hold d =
-    let h = said plain loses-a-claim d (Claim 0 first ∷ Allocate 0 8 ∷ []) in
-    let m = h .hold-recorded _ 0 (List·Memᴰ·head refl) (omega arith) in
+    let m =
+    said plain loses-a-claim d (Claim 0 first ∷ Allocate 0 8 ∷ []) .hold-recorded _ 0 (List·Memᴰ·head refl)
+    (omega arith) in
     let e : false ≡ true = all-member (λ (h : Hold). leb (h .count) 1) _ refl _ m in
     false≢true e
 
@@ -179,8 +180,8 @@ refuted-loses-a-hold d =
 pub refuted-keeps-the-record : Demand3 table keeps-the-record → ⊥
 unfolding computing recording listing keeps-the-record choosing
 refuted-keeps-the-record d =
-    let h = said plain keeps-the-record d (Release 0 first ∷ Allocate 0 8 ∷ []) in
-    let r = h .record-held _ (List·Memᴰ·head refl) refl in
+    let r =
+    said plain keeps-the-record d (Release 0 first ∷ Allocate 0 8 ∷ []) .record-held _ (List·Memᴰ·head refl) refl in
     List·Memᴰ·not-nil (r .1)
 
 -- `records-once`: two records of one quota for one object
@@ -194,8 +195,8 @@ refuted-takes-two-records d =
 pub refuted-leaks : Demand3 table leaks → ⊥
 unfolding computing recording listing leaks choosing
 refuted-leaks d =
-    let h = said plain leaks d (Release 0 first ∷ Allocate 0 8 ∷ []) in
-    let m : List·Memᴰ first [] = h .live-recorded first (List·Memᴰ·head refl) in
+    let m : List·Memᴰ first [] =
+    said plain leaks d (Release 0 first ∷ Allocate 0 8 ∷ []) .live-recorded first (List·Memᴰ·head refl) in
     List·Memᴰ·not-nil m
 
 -- `kept-sound`: two free blocks side by side
