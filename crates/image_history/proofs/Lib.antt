@@ -1,1 +1,4 @@
+pub mod Typing
 pub mod Restoring
+pub mod Elsewhere
+pub mod Wrong
