@@ -170,7 +170,7 @@ static void images_mean(void)
     IS(lokhazim_image_reply, written, length, 0);
     written = lokhazim_image_in_place_write(image, sizeof image, SMALL, &accounts);
     IS(lokhazim_image_reply, written, refusal, 0);
-    IS(lokhazim_image_reply, written, length, 5632);
+    IS(lokhazim_image_reply, written, length, 5120);
     restored = lokhazim_image_read(image, written.length, SMALL);
     IS(lokhazim_restore_reply, restored, refusal, 0);
     IS(lokhazim_restore_reply, restored, accounts.quotas[3].remainder, 1300 - 48);
