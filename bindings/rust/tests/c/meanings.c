@@ -57,7 +57,8 @@ static void is_first_object(const struct lokhazim_handle handle)
 /* The heap of 512 bytes anew, with the first object, which quota 3 holds twice. */
 static void begin(void)
 {
-    const struct lokhazim_open_reply opened = lokhazim_open(SMALL, some_grants(), LOKHAZIM_QUARANTINE, LOKHAZIM_EDITION_1);
+    const struct lokhazim_open_reply opened =
+        lokhazim_open(SMALL, some_grants(), LOKHAZIM_QUARANTINE, LOKHAZIM_EDITION_1);
     IS(lokhazim_open_reply, opened, refusal, 0);
     accounts = opened.accounts;
     is_first_object(lokhazim_in_place_allocate(SMALL, &accounts, 3, 40).handle);
@@ -310,8 +311,8 @@ static void settings_mean(void)
 }
 
 /*
- * The largest heap, of edition 2: live blocks of 24, 16 and 16 bytes, one of 112 in quarantine, and free ones of 32 and of
- * 32,568, which begins at 200. The longest request of unit 64 there has the base 256.
+ * The largest heap, of edition 2: live blocks of 24, 16 and 16 bytes, one of 112 in quarantine, and free ones of 32 and
+ * of 32,568, which begins at 200. The longest request of unit 64 there has the base 256.
  */
 static void figures_mean(void)
 {
