@@ -6,13 +6,14 @@ use mathlib.Core.List.{List, [], _∷_, _++_, map}
 use mathlib.Core.Option.{none}
 use lib.ListN.{length, replicate}
 use Rattle.accounts.specs.declared.Hold.{Hold}
-use Rattle.accounts.specs.Accounts.{zero-hold}
+use Rattle.accounts.specs.Accounts.{zero-hold, with-edition}
 use Rattle.rounding.specs.Rounding.{unit, table}
 use Rattle.words.specs.Words.{table as each-place}
 use Rattle.model.specs.Answers.{zero-handle}
 use Rattle.model.specs.Calls.{Outcome, lend, release}
 use Rattle.model.specs.Marked.{handle}
 use Rattle.model.specs.Tables.{head, zeros, parts, quota, quota-with, hold, places, accounts-of, state}
+use Rattle.model.specs.Units.{Placed, placed, gap, heap-with, accounts-with}
 use Rattle.model.specs.declared.Handle.{Handle}
 use Rattle.model.specs.declared.Call.the-variants.{Claim, Release}
 use Rattle.model.specs.declared.Refusal.the-variants.{Inconsistent, NotPermitted}
@@ -148,11 +149,26 @@ both =
     ∷ Sends (one-object 1 100 7 .heap) (one-object 1 100 7 .accounts) (handle 16 8 1)
     ∷ Sends (one-object 1 100 7 .heap) (one-object 1 100 7 .accounts) packet ∷ Receives ∷ []
 
-list-rows : (traffic (by-rules unit) (empty-queue 0 1) both .accepted ≡ packet ∷ handle 16 8 1 ∷ [])
-    × (traffic (by-rules unit) (empty-queue 0 1) both .given ≡ packet ∷ handle 16 8 1 ∷ [])
-    × (traffic (by-rules unit) (empty-queue 0 1) both .queue ≡ empty-queue 0 1)
+list-rows : (traffic (by-rules table) (empty-queue 0 1) both .accepted ≡ packet ∷ handle 16 8 1 ∷ [])
+    × (traffic (by-rules table) (empty-queue 0 1) both .given ≡ packet ∷ handle 16 8 1 ∷ [])
+    × (traffic (by-rules table) (empty-queue 0 1) both .queue ≡ empty-queue 0 1)
 unfolding rows both
 list-rows = (refl, refl, refl)
+
+-- sends on heaps of both editions, the newest first: an object of 4,096 bytes at 8 or at 16, sent by its quota to itself. Each
+-- goes by the table of its own accounts: edition 2 has no object of this length at 8, so the newest is refused
+sends-in : ℕ → Placed → QueueCall
+sends-in e (placed base length behind) =
+    let p = placed base length behind in
+    Sends (heap-with p) (with-edition e (accounts-with p)) (handle base length 1)
+
+either : List QueueCall
+either = sends-in 1 (placed 8 4096 0) ∷ sends-in 0 (placed 8 4096 0) ∷ sends-in 1 (placed 16 4096 0) ∷ []
+
+edition-rows : (traffic (by-rules table) (empty-queue 0 0) either .accepted ≡ handle 16 4096 1 ∷ handle 8 4096 1 ∷ [])
+    × (waiting (traffic (by-rules table) (empty-queue 0 0) either .queue) ≡ handle 16 4096 1 ∷ handle 8 4096 1 ∷ [])
+unfolding rows gap heap-with accounts-with sends-in either
+edition-rows = (refl, refl)
 
 number-rows : map queue-refusal-number (Full ∷ Empty ∷ Damaged ∷ Heap Inconsistent ∷ Heap NotPermitted ∷ []) ≡ 51 ∷ 52 ∷ 53 ∷ 2 ∷ 12 ∷ []
 number-rows = refl
