@@ -19,6 +19,7 @@ use Rattle.model.specs.declared.Call.the-variants.{Claim, Release}
 use Rattle.model.specs.declared.Refusal.the-variants.{Inconsistent, NotPermitted}
 use Rattle.model.proofs.Computing.{computing}
 use Rattle.ledger.specs.Ledger.{Called}
+use Rattle.safety.specs.Stale.{lines-before-5}
 use Rattle.queue.specs.declared.Queue.{Queue}
 use Rattle.queue.specs.declared.QueueRefusal.the-variants.{Damaged, Full, Empty, Heap}
 use Rattle.queue.specs.Queue.{PLACES, empty-queue, waiting, with-handle, without-oldest, line-53, line-51, line-52, line-of, Sent, sent-unless}
@@ -27,6 +28,7 @@ use Rattle.queue.specs.Places.{QUEUE-WORDS, handles-of, queue-of}
 use Rattle.queue.specs.Results.{queue-refusal-number}
 use Rattle.queue.specs.Runs.{by-rules, QueueCall, Sends, Receives, and-then, next, traffic}
 use Rattle.queue.specs.Packets.{send-events}
+use Rattle.queue.specs.Stale.{stale-send-refusal}
 
 -- a heap of 64 bytes with the object (8, 16, 1); quota 0 holds it so often, quota 1 has this remainder and permissions, and quota 2 holds nothing
 pub one-object : ℕ → ℕ → ℕ → Outcome
@@ -115,6 +117,20 @@ table-rows : (refusals full-table (queue-with 0 9 0 ∷ queue-with 0 1 0 ∷ [])
     × (sent full-table (queue-with 0 1 0) packet .accounts .holds ≡ zero-hold ∷ hold 1 1 2 ∷ map (λ (q : ℕ). hold 1 q 1) (2 ∷ 3 ∷ 4 ∷ 5 ∷ 6 ∷ 7 ∷ []))
 unfolding rows
 table-rows = (refl, refl)
+
+-- a handle with a serial that no object has: the send is refused as it is to be
+gone : Handle
+gone = handle 8 16 9
+
+stale-rows : (refusals (one-object 1 100 7) (queue-with 0 1 0 ∷ queue-with 2 1 15 ∷ queue-with 0 32 0 ∷ queue-with 0 1 16 ∷ queue-with 0 1 17 ∷ []) gone
+    ≡ 5 ∷ 5 ∷ 3 ∷ 51 ∷ 53 ∷ [])
+    × (map (λ (u : Queue). stale-send-refusal u gone (one-object 1 100 7 .accounts))
+    (queue-with 0 1 0 ∷ queue-with 2 1 15 ∷ queue-with 0 32 0 ∷ queue-with 0 1 16 ∷ queue-with 0 1 17 ∷ [])
+    ≡ 5 ∷ 5 ∷ 3 ∷ 51 ∷ 53 ∷ [])
+    × (refusals (one-object 1 100 5) (queue-with 0 1 0 ∷ queue-with 0 1 16 ∷ []) gone ≡ 12 ∷ 51 ∷ [])
+    × (map (λ (u : Queue). stale-send-refusal u gone (one-object 1 100 5 .accounts)) (queue-with 0 1 0 ∷ queue-with 0 1 16 ∷ []) ≡ 12 ∷ 51 ∷ [])
+unfolding rows gone lines-before-5 stale-send-refusal
+stale-rows = (refl, refl, refl, refl)
 
 -- receives: the oldest, the places behind it moved up; 53 before 52
 receive-rows : (receive (with-handle (handle 2 2 2) (with-handle (handle 1 1 1) (empty-queue 5 6)))
