@@ -1,5 +1,5 @@
--- Every list of calls that the functions make is a history, so demand 3 holds of it, at every split of its events: by value, and
--- in place, where words hold the accounts.
+-- Every list of calls that the functions make is a history, so demand 3 holds of it, at every split of its events: by
+-- value, and in place, where words hold the accounts.
 -- Assumes nothing.
 use Prim.Native.Nat.{ℕ}
 use mathlib.Core.Path.{_≡_, refl, sym, subst}
@@ -23,7 +23,8 @@ use Rattle.ledger.proofs.Theorem.{demand-3}
 use Rattle.results.specs.Results.{opened-outcome, opened-result}
 use Rattle.call_history.specs.Performs.{Granted, Performs, Opens, Calls, Writes}
 
--- what the contracts of `in_place::open` and `in_place::perform` promise, word for word, are the first event and the next one
+-- what the contracts of `in_place::open` and `in_place::perform` promise, word for word, are the first event and the
+-- next one
 module _ (settings : Settings) (grants : List ℕ) where
   pub opens-in-place : (before s words : List ℕ) (r : Verdict) → r ≡ Accepted
       → opened-outcome s (opened-result words r) ≡ open-heap settings before grants
@@ -63,7 +64,8 @@ module _ (settings : Settings) (grants : List ℕ) (granted : Granted grants) wh
       demand-3 .always (empty settings grants) front back s k (performs-history (λ (x : Accounts). x) p)
 
   -- and of calls in place
-  pub in-place-holds : (front back : List Event) (s words : List ℕ) → Performs accounts-of settings grants (back ++ front) s words
+  pub in-place-holds : (front back : List Event) (s words : List ℕ)
+      → Performs accounts-of settings grants (back ++ front) s words
       → Holds (table (edition-of words)) own-step (empty settings grants) front back s (accounts-of words)
   in-place-holds front back s words p =
       demand-3 .always (empty settings grants) front back s (accounts-of words) (performs-history accounts-of p)

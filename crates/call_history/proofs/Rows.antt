@@ -1,5 +1,5 @@
--- Computed rows: lists of calls that the functions make. A plain heap with an allocation and two releases; and a heap of
--- edition 2, whose table gives an object of 4,096 bytes the base 16.
+-- Computed rows: lists of calls that the functions make. A plain heap with an allocation and two releases; and a heap
+-- of edition 2, whose table gives an object of 4,096 bytes the base 16.
 -- Assumes nothing.
 use Prim.Native.Nat.{ℕ, _-_}
 use mathlib.Core.Path.{refl}
@@ -46,7 +46,8 @@ plain-row : List-of plain
     (fresh plain 64 .heap) (after made .accounts)
 unfolding computing performed answer-of verdict-values answer-values handle-values amount-values grants fresh after made
 plain-row =
-    let opened : List-of plain [] (fresh plain 64 .heap) (fresh plain 64 .accounts) = Opens (replicate 64 255) _ _ refl in
+    let opened : List-of plain [] (fresh plain 64 .heap) (fresh plain 64 .accounts) =
+    Opens (replicate 64 255) _ _ refl in
     Calls (Calls (Calls opened (Allocate 0 8) (OfHandle (Given (handle 8 8 1))) (made .heap) (made .accounts) refl)
     (Release 0 (handle 8 8 1)) (OfAmount (Amount 16)) (fresh plain 64 .heap) (after made .accounts) refl)
     (Release 0 (handle 8 8 1)) (OfAmount (NoAmount NoSuchObject)) (fresh plain 64 .heap) (after made .accounts) refl
@@ -58,5 +59,6 @@ long = own-step (Allocate 0 4089) (fresh second 4112 .heap) (fresh second 4112 .
 second-row : List-of second (Called (Allocate 0 4089) (given (handle 16 4096 1)) ∷ []) (long .heap) (long .accounts)
 unfolding computing performed answer-of verdict-values answer-values handle-values amount-values grants fresh long
 second-row =
-    let opened : List-of second [] (fresh second 4112 .heap) (fresh second 4112 .accounts) = Opens (replicate 4112 255) _ _ refl in
+    let opened : List-of second [] (fresh second 4112 .heap) (fresh second 4112 .accounts) =
+    Opens (replicate 4112 255) _ _ refl in
     Calls opened (Allocate 0 4089) (OfHandle (Given (handle 16 4096 1))) (long .heap) (long .accounts) refl

@@ -1,7 +1,7 @@
 -- Computed rows: two objects that two quotas hold, released in two orders. The heap is fresh again both times, and the answers come in another order,
 -- so the answers of two orders are not equal as lists. A list with a refused release goes on behind it. In a heap with quarantine the same lists leave two
--- blocks that wait side by side in front of a free one, whichever was released first. A release and a free-all go by the
--- table of their own accounts.
+-- blocks that wait side by side in front of a free one, whichever was released first. A release and a free-all go by
+-- the table of their own accounts.
 -- Assumes nothing.
 use Prim.Native.Nat.{ℕ}
 use mathlib.Core.Path.{_≡_, refl}
@@ -135,8 +135,8 @@ free-waiting-rows : (freed-waiting .values .amount ≡ 56) × (sum-of (waits-aft
 unfolding computing waiting-heap held-in held-waiting first second drop of-quota-0 waits-after block first-waits freed-waiting cleaned sum-of
 free-waiting-rows = (refl, refl, refl, refl)
 
--- an object of 4,096 bytes at 8 and at 16, by the number of the edition in the accounts: edition 2 has no object of this
--- length at 8, so its accounts don't go with that heap
+-- an object of 4,096 bytes at 8 and at 16, by the number of the edition in the accounts: edition 2 has no object of
+-- this length at 8, so its accounts don't go with that heap
 released-in : ℕ → Placed → Outcome
 released-in e (placed base length behind) =
     let p = placed base length behind in
@@ -145,7 +145,8 @@ released-in e (placed base length behind) =
 freed-in : ℕ → Placed → Outcome
 freed-in e p = own-free-all (heap-with p) (with-edition e (accounts-with p)) 0
 
-edition-rows : (released-in 0 (placed 8 4096 0) .values .amount ≡ 4104) × (released-in 0 (placed 8 4096 0) .values .refusal ≡ 0)
+edition-rows : (released-in 0 (placed 8 4096 0) .values .amount ≡ 4104)
+    × (released-in 0 (placed 8 4096 0) .values .refusal ≡ 0)
     × (released-in 1 (placed 8 4096 0) .values .refusal ≡ 2) × (released-in 1 (placed 16 4096 0) .values .amount ≡ 4104)
     × (freed-in 0 (placed 8 4096 0) .values .amount ≡ 4104) × (freed-in 0 (placed 8 4096 0) .values .refusal ≡ 0)
     × (freed-in 1 (placed 8 4096 0) .values .refusal ≡ 2) × (freed-in 1 (placed 16 4096 0) .values .amount ≡ 4104)

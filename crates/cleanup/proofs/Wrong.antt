@@ -18,8 +18,10 @@ use Rattle.model.specs.Cases.{opened-heap}
 use Rattle.model.specs.Quarantine.{waiting-heap}
 use Rattle.model.proofs.Bools.{and-left, and-right}
 use Rattle.model.proofs.Computing.{computing}
-use Rattle.cleanup.specs.Releases.{Run, own-release, Drop, cleaned, accepted-throughout, Fits, SameCleanup, AnyOrder}
-use Rattle.cleanup.specs.FreeAll.{all-for, sum-of, Freeing, own-free-all, AsFreeAll, FreeAllByReleases, releases-of, AllReleased}
+use Rattle.cleanup.specs.Releases.{Run, own-release, Drop, cleaned, accepted-throughout, Fits}
+use Rattle.cleanup.specs.Releases.{SameCleanup, AnyOrder}
+use Rattle.cleanup.specs.FreeAll.{all-for, sum-of, Freeing, own-free-all, AsFreeAll, FreeAllByReleases}
+use Rattle.cleanup.specs.FreeAll.{releases-of, AllReleased}
 use Rattle.cleanup.specs.Wrong.{newest-first, remembers-the-last, close-gap, closes-gaps, tells-the-remainder}
 use Rattle.cleanup.specs.Wrong.{sweeps-first, changes-the-edition}
 use Rattle.cleanup.specs.Wrong.{keeps-the-heap, pays-nothing, answers-the-remainder}
@@ -121,8 +123,8 @@ refuted-sweeps-first a =
     let e : _≡_ {A = ℕ} 255 0 = ap (λ (s : List ℕ). getD s 4 0) (said-in made-waiting fits-waiting sweeps-first a first second refl .heap) in
     omega arith
 
--- an object of 4,096 bytes at 8, which edition 2 would not place there, and one of 8 bytes: released first, the short one
--- leaves a heap that is not sound by edition 2
+-- an object of 4,096 bytes at 8, which edition 2 would not place there, and one of 8 bytes: released first, the short
+-- one leaves a heap that is not sound by edition 2
 made-long : Outcome
 made-long =
     let a = opened-heap 4120 5000 0 in
@@ -141,7 +143,8 @@ refuted-changes-the-edition a =
     false≢true e
 
 -- what is said of a free-all and of the four releases
-freed : (freeing : Freeing) → FreeAllByReleases own-release freeing → freeing (made .heap) (made .accounts) 0 .values .refusal ≡ 0
+freed : (freeing : Freeing) → FreeAllByReleases own-release freeing
+    → freeing (made .heap) (made .accounts) 0 .values .refusal ≡ 0
     → AsFreeAll own-release freeing 0 (first ∷ second ∷ third ∷ fourth ∷ []) (made .heap) (made .accounts)
 unfolding computing opened-heap made-in made drop first second third fourth cleaned accepted-throughout all-for
 freed freeing always a = always .always 0 (first ∷ second ∷ third ∷ fourth ∷ []) (made .heap) (made .accounts) fits a refl refl refl

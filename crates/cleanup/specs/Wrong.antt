@@ -17,7 +17,8 @@ use Rattle.cleanup.specs.FreeAll.{Freeing, own-free-all}
 
 -- only the newest object may be released
 unfoldable pub newest-first : Run
-newest-first s k q h = cond (all (λ o. leb (o .serial) (h .serial)) (objects-of s)) (own-release s k q h) (unchanged s k (refused 5))
+newest-first s k q h =
+    cond (all (λ o. leb (o .serial) (h .serial)) (objects-of s)) (own-release s k q h) (unchanged s k (refused 5))
 
 -- the heap's last byte tells which object was released last
 unfoldable pub remembers-the-last : Run

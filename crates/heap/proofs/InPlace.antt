@@ -6,7 +6,7 @@ use mathlib.Core.List.{List}
 use Rattle.accounts.specs.declared.Accounts.{Accounts}
 use Rattle.rounding.specs.Rounding.{table}
 use Rattle.words.specs.Words.{edition-of, accounts-of}
-use Rattle.model.specs.Answers.{Values, answer-of, verdict-values, handle-values, amount-values, range-values, block-values}
+use Rattle.model.specs.Answers.{Values, answer-of}
 use Rattle.model.specs.Calls.{Outcome}
 use Rattle.model.specs.Step.{Answered, step, performed}
 use Rattle.model.specs.declared.Answer.{Answer}
@@ -17,7 +17,8 @@ abbrev answered : List ℕ → Accounts → Answer → Answered
 answered s k a = record { heap = s; accounts = k; answer = a }
 
 -- the call x with the values v, of which the answer a is made
-pub made : (words s : List ℕ) {c x : Call} {t : List ℕ} {l : Accounts} {v : Values} {a : Answer} → c ≡ x → answer-of x v ≡ a
+pub made : (words s : List ℕ) {c x : Call} {t : List ℕ} {l : Accounts} {v : Values} {a : Answer}
+    → c ≡ x → answer-of x v ≡ a
     → outcome t l v ≡ step (table (edition-of words)) x s (accounts-of words)
     → record { heap = t; accounts = l; answer = a } ≡ performed (table (edition-of words)) c s (accounts-of words)
 unfolding performed

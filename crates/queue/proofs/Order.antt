@@ -97,18 +97,23 @@ module _ (tables : ℕ → ℕ → ℕ) where
   abbrev sent : List ℕ → Accounts → Handle → Traffic → Sent
   sent s k h t = send (tables (k .edition)) s k (t .queue) h
 
-  sends-keep : (s : List ℕ) (k : Accounts) (h : Handle) (t : Traffic) → Kept t → Kept (next (by-rules tables) (Sends s k h) t)
+  sends-keep : (s : List ℕ) (k : Accounts) (h : Handle) (t : Traffic) → Kept t
+      → Kept (next (by-rules tables) (Sends s k h) t)
   unfolding next and-then
   sends-keep s k h t z = go (send-way (tables (k .edition)) s k (t .queue) h)
     where
-      go : Way (t .queue) h (sent s k h t .refusal) (sent s k h t .queue) → Kept (next (by-rules tables) (Sends s k h) t)
+      go : Way (t .queue) h (sent s k h t .refusal) (sent s k h t .queue)
+          → Kept (next (by-rules tables) (Sends s k h) t)
       go (inl (n, e, l)) =
           record {
             sized = rw e (longer (t .queue) h (z .sized) l);
             order = rw (n, e, waiting-more (t .queue) h (z .sized) l, z .order, append-assoc);
           }
       go (inr (n, e)) =
-          record { sized = rw e (z .sized); order = rw (ne-eqb (sent s k h t .refusal) 0 (λ x. omega arith), e) (z .order) }
+          record {
+            sized = rw e (z .sized);
+            order = rw (ne-eqb (sent s k h t .refusal) 0 (λ x. omega arith), e) (z .order);
+          }
 
   receives-keep : (t : Traffic) → Kept t → Kept (next (by-rules tables) Receives t)
   unfolding next and-then

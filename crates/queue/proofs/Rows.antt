@@ -122,14 +122,18 @@ table-rows = (refl, refl)
 gone : Handle
 gone = handle 8 16 9
 
-stale-rows : (refusals (one-object 1 100 7) (queue-with 0 1 0 ∷ queue-with 2 1 15 ∷ queue-with 0 32 0 ∷ queue-with 0 1 16 ∷ queue-with 0 1 17 ∷ []) gone
-    ≡ 5 ∷ 5 ∷ 3 ∷ 51 ∷ 53 ∷ [])
-    × (map (λ (u : Queue). stale-send-refusal u gone (one-object 1 100 7 .accounts))
-    (queue-with 0 1 0 ∷ queue-with 2 1 15 ∷ queue-with 0 32 0 ∷ queue-with 0 1 16 ∷ queue-with 0 1 17 ∷ [])
-    ≡ 5 ∷ 5 ∷ 3 ∷ 51 ∷ 53 ∷ [])
-    × (refusals (one-object 1 100 5) (queue-with 0 1 0 ∷ queue-with 0 1 16 ∷ []) gone ≡ 12 ∷ 51 ∷ [])
-    × (map (λ (u : Queue). stale-send-refusal u gone (one-object 1 100 5 .accounts)) (queue-with 0 1 0 ∷ queue-with 0 1 16 ∷ []) ≡ 12 ∷ 51 ∷ [])
-unfolding rows gone lines-before-5 stale-send-refusal
+told : Outcome → List Queue → List ℕ
+told t us = map (λ (u : Queue). stale-send-refusal u gone (t .accounts)) us
+
+-- with room, with room for one, to a quota that is none, full, damaged
+queues : List Queue
+queues = queue-with 0 1 0 ∷ queue-with 2 1 15 ∷ queue-with 0 32 0 ∷ queue-with 0 1 16 ∷ queue-with 0 1 17 ∷ []
+
+stale-rows : (told (one-object 1 100 7) queues ≡ 5 ∷ 5 ∷ 3 ∷ 51 ∷ 53 ∷ [])
+    × (told (one-object 1 100 5) queues ≡ 12 ∷ 12 ∷ 3 ∷ 51 ∷ 53 ∷ [])
+    × (refusals (one-object 1 100 7) queues gone ≡ 5 ∷ 5 ∷ 3 ∷ 51 ∷ 53 ∷ [])
+    × (refusals (one-object 1 100 5) queues gone ≡ 12 ∷ 12 ∷ 3 ∷ 51 ∷ 53 ∷ [])
+unfolding rows gone told queues lines-before-5 stale-send-refusal
 stale-rows = (refl, refl, refl, refl)
 
 -- receives: the oldest, the places behind it moved up; 53 before 52
@@ -171,8 +175,9 @@ list-rows : (traffic (by-rules table) (empty-queue 0 1) both .accepted ≡ packe
 unfolding rows both
 list-rows = (refl, refl, refl)
 
--- sends on heaps of both editions, the newest first: an object of 4,096 bytes at 8 or at 16, sent by its quota to itself. Each
--- goes by the table of its own accounts: edition 2 has no object of this length at 8, so the newest is refused
+-- sends on heaps of both editions, the newest first: an object of 4,096 bytes at 8 or at 16, sent by its quota to
+-- itself. Each goes by the table of its own accounts: edition 2 has no object of this length at 8, so the newest is
+-- refused
 sends-in : ℕ → Placed → QueueCall
 sends-in e (placed base length behind) =
     let p = placed base length behind in

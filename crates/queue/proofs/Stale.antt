@@ -1,9 +1,9 @@
--- A send with a handle that names nothing is refused and changes nothing: by a line of the queue, else as the claim for the receiver
--- is. `stale-forever` (safety) says when a handle names nothing.
+-- A send with a handle that names nothing is refused and changes nothing: by a line of the queue, else as the claim for
+-- the receiver is. `stale-forever` (safety) says when a handle names nothing.
 -- Assumes nothing.
-use Prim.Native.Nat.{ℕ, _<_}
+use Prim.Native.Nat.{ℕ, _≤_, _<_}
 use native.Mathlib.Omega.{arith}
-use mathlib.Core.Path.{_≡_, refl, ap, sym, _∙_}
+use mathlib.Core.Path.{_≡_, refl, ap, sym}
 use mathlib.Core.List.{List, [], _∷_, _++_}
 use mathlib.Core.Bool.{Bool, true, false}
 use lib.Dec.{ltb, eqb}
@@ -28,30 +28,40 @@ positive true b = omega arith
 positive false true = omega arith
 positive false false = omega arith
 
-module _ (tables : ℕ → ℕ → ℕ) (s : List ℕ) (k : Accounts) (h : Handle) (nothing : NamesNothing (by-own tables) s k h) where
-  -- the claim that such a send asks for
+module _ (tables : ℕ → ℕ → ℕ) (s : List ℕ) (k : Accounts) (h : Handle)
+    (nothing : NamesNothing (by-own tables) s k h) where
+  -- what the claim that such a send asks for is refused by
   claim-positive : (q : ℕ) → 0 < stale-refusal (Claim q h) k
   unfolding stale-refusal lines-before-5 line-3 line-12
   claim-positive q = positive _ _
 
-  -- THE LAW
-  pub stale-send : (u : Queue) → send (tables (k .edition)) s k u h
-      ≡ record { heap = s; accounts = k; queue = u; refusal = stale-send-refusal u h k }
-  unfolding stale-send-refusal stale-refusal line-53 line-51 first-refusal step
-  stale-send u = damaged (ltb PLACES (u .count)) refl
-    where
-      rest : List Line
-      rest = lines-before-5 (Claim (u .receiver) h) k ++ ((5 when true) ∷ [])
+  module _ (u : Queue) where
+    abbrev Refused : ℕ → Type 0
+    Refused n = send (tables (k .edition)) s k u h ≡ kept s k u n
 
-      full : ltb PLACES (u .count) ≡ false → (b : Bool) → eqb (u .count) PLACES ≡ b
-          → send (tables (k .edition)) s k u h ≡ kept s k u (first-refusal ((51 when b) ∷ rest))
-      full d true e = sym (send-full (tables (k .edition)) s k u h (omega (arith, ltb-false PLACES (u .count) d)) (eqb-true (u .count) PLACES e))
-      full d false e =
-          sym (send-unclaimed (tables (k .edition)) s k u h (omega (arith, ltb-false PLACES (u .count) d)) (eqb-false (u .count) PLACES e)
-          (stale-refusal (Claim (u .receiver) h) k)
-          (ap (λ (t : Outcome). t .values .refusal) (nothing .refuses (Claim (u .receiver) h) refl)) (claim-positive (u .receiver)))
+    abbrev rest : List Line
+    rest = lines-before-5 (Claim (u .receiver) h) k ++ ((5 when true) ∷ [])
 
-      damaged : (b : Bool) → ltb PLACES (u .count) ≡ b
-          → send (tables (k .edition)) s k u h ≡ kept s k u (first-refusal ((53 when b) ∷ (51 when eqb (u .count) PLACES) ∷ rest))
-      damaged true d = sym (send-damaged (tables (k .edition)) s k u h (ltb-true PLACES (u .count) d))
-      damaged false d = full d (eqb (u .count) PLACES) refl
+    module _ (whole : u .count ≤ PLACES) where
+      unclaimed : (u .count ≡ PLACES → ⊥) → Refused (stale-refusal (Claim (u .receiver) h) k)
+      unfolding step
+      unclaimed room =
+          let r = ap (λ (t : Outcome). t .values .refusal) (nothing .refuses (Claim (u .receiver) h) refl) in
+          sym (send-unclaimed (tables (k .edition)) s k u h whole room _ r (claim-positive (u .receiver)))
+
+      full : (b : Bool) → eqb (u .count) PLACES ≡ b → Refused (first-refusal ((51 when b) ∷ rest))
+      unfolding first-refusal stale-refusal
+      full true e = sym (send-full (tables (k .edition)) s k u h whole (eqb-true (u .count) PLACES e))
+      full false e = unclaimed (eqb-false (u .count) PLACES e)
+
+    damaged : (b : Bool) → ltb PLACES (u .count) ≡ b
+        → Refused (first-refusal ((53 when b) ∷ (51 when eqb (u .count) PLACES) ∷ rest))
+    unfolding first-refusal
+    damaged true d = sym (send-damaged (tables (k .edition)) s k u h (ltb-true PLACES (u .count) d))
+    damaged false d = full (omega (arith, ltb-false PLACES (u .count) d)) (eqb (u .count) PLACES) refl
+
+    -- THE LAW
+    pub stale-send : send (tables (k .edition)) s k u h
+        ≡ record { heap = s; accounts = k; queue = u; refusal = stale-send-refusal u h k }
+    unfolding stale-send-refusal line-53 line-51
+    stale-send = damaged (ltb PLACES (u .count)) refl

@@ -10,7 +10,8 @@ ghost use Rattle.words.specs.Words.{edition-of, accounts-of, Padded};
 // The call is made, and its answer is given.
 pub fn perform(heap: &mut [u8], words: &mut [u32; WORDS], call: Call) -> Answer
     ensures holds { λ r. ⌜ record { heap = now (heap .exit); accounts = accounts-of (now (words .exit)); answer = r }
-        ≡ performed (table (edition-of (now (words .entry)))) call (now (heap .entry)) (accounts-of (now (words .entry))) ⌝ }
+        ≡ performed (table (edition-of (now (words .entry)))) call (now (heap .entry))
+        (accounts-of (now (words .entry))) ⌝ }
     ensures pads { λ _. ⌜ Padded (now (words .entry)) (now (words .exit)) ⌝ }
 {
     match call {
