@@ -23,7 +23,8 @@ use Rattle.image_model.proofs.Refusals.{examined-read}
 use Rattle.image_model.proofs.Read.{read-written}
 use Rattle.image_model.proofs.Answers.{image-refusal-at, image-refusal-is}
 use Rattle.comparison.specs.Differences.{state-in, differences}
-use Rattle.comparison.specs.Compare.{Compared, compared, line-29, line-27, pair-lines, unless-refused, nth-of, compare-second, compare-of}
+use Rattle.comparison.specs.Compare.{line-29, line-27, pair-lines, first-why, why-both, why-second, why-not}
+use Rattle.comparison.specs.Compare.{unless-refused, Compared, compared, nth-of, compare-of}
 use Rattle.comparison.specs.Listing.{OneSize}
 use Rattle.comparison.specs.declared.Difference.{Difference}
 use Rattle.comparison.specs.declared.Which.{Which}
@@ -39,24 +40,24 @@ Accepted i = first-refusal (examine-lines i) ≡ 0
 module _ (i j : List ℕ) (n : ℕ) where
   -- a bad first image decides, whatever the second is
   pub first-refused : (r : ℕ) → first-refusal (examine-lines i) ≡ suc r → compare-of i j n ≡ record { refusal = suc r; which = First; found = none }
-  unfolding compare-of compare-second nth-of unless-refused
+  unfolding compare-of why-not why-second why-both first-why nth-of unless-refused
   first-refused r e = rw e
 
   pub second-refused : Accepted i → (r : ℕ) → first-refusal (examine-lines j) ≡ suc r
       → compare-of i j n ≡ record { refusal = suc r; which = Second; found = none }
-  unfolding compare-of compare-second nth-of unless-refused
+  unfolding compare-of why-not why-second why-both first-why nth-of unless-refused
   second-refused a r e = rw (a, e)
 
   module _ (a : Accepted i) (b : Accepted j) where
     -- then the forms
     pub forms-refused : form-of i .number ≢ form-of j .number → compare-of i j n ≡ record { refusal = 29; which = Neither; found = none }
-    unfolding compare-of compare-second nth-of unless-refused line-29 pair-lines first-refusal
+    unfolding compare-of why-not why-second why-both first-why nth-of unless-refused line-29 pair-lines first-refusal
     forms-refused d = let t = ne-eqb (form-of i .number) (form-of j .number) d in rw (a, b, t)
 
     module _ (form : form-of i .number ≡ form-of j .number) where
       -- then the heaps' lengths
       pub lengths-refused : size-in i ≢ size-in j → compare-of i j n ≡ record { refusal = 27; which = Neither; found = none }
-      unfolding compare-of compare-second nth-of unless-refused line-29 line-27 pair-lines first-refusal
+      unfolding compare-of why-not why-second why-both first-why nth-of unless-refused line-29 line-27 pair-lines first-refusal
       lengths-refused d =
           let f = eq-eqb (form-of i .number) (form-of j .number) form in
           let t = ne-eqb (size-in i) (size-in j) d in
@@ -65,7 +66,7 @@ module _ (i j : List ℕ) (n : ℕ) where
       -- else the n-th is given, or none
       pub nth-given : size-in i ≡ size-in j
           → compare-of i j n ≡ record { refusal = 0; which = Neither; found = getElem? (differences (state-in i) (state-in j)) n }
-      unfolding compare-of compare-second nth-of unless-refused line-29 line-27 pair-lines first-refusal
+      unfolding compare-of why-not why-second why-both first-why nth-of unless-refused line-29 line-27 pair-lines first-refusal
       nth-given e =
           let f = eq-eqb (form-of i .number) (form-of j .number) form in
           let t = eq-eqb (size-in i) (size-in j) e in

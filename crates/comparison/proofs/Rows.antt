@@ -19,7 +19,7 @@ use Rattle.comparison.specs.declared.Difference.{Difference}
 use Rattle.comparison.specs.declared.Difference.the-variants.{LastSerial, Kind, Edition, Quota as QuotaAt, Record as RecordAt, Bytes}
 use Rattle.comparison.specs.declared.Position.the-variants.{Start, Kind as FromKind, Edition as FromEdition}
 use Rattle.comparison.specs.declared.Position.the-variants.{Quota as FromQuota, Record as FromRecord, Byte as FromByte}
-use Rattle.comparison.specs.declared.NextAnswer.the-variants.{Differs, Nothing}
+use Rattle.comparison.specs.declared.Step.the-variants.{Differs, Nothing}
 use Rattle.comparison.specs.declared.Which.{Which}
 use Rattle.comparison.specs.declared.Which.the-variants.{First, Second, Neither}
 use Rattle.comparison.proofs.Computing.{computing}
