@@ -2,3 +2,4 @@ pub mod Typing
 pub mod Restoring
 pub mod Elsewhere
 pub mod Wrong
+pub mod InPlace

@@ -5,8 +5,8 @@ use borrow.Author.Needs.{needs}
 use Rattle.comparison.specs.Differences.{state-in}
 use Rattle.comparison.specs.Positions.{differences-from, next-of}
 use Rattle.comparison.specs.declared.Position.{Position}
-use Rattle.comparison.proofs.going.next_difference.Statement.{statement}
-use Rattle.comparison.proofs.going.next_difference.Tie as tie
+use Rattle.comparison.proofs.going.step_from.Statement.{statement}
+use Rattle.comparison.proofs.going.step_from.Tie as tie
 
 enum-told : tie.Need-enum-told
 enum-told c = search needs
@@ -80,8 +80,8 @@ returns-6 c =
     let a = c .before .before .before .before .before .before .args in
     c .from-byte .ensures ∙ sym (ap (λ (p : Position). next-of p (state-in (a .first .now)) (state-in (a .second .now))) (c .before .before .from3 .given .1))
 
-pub next-difference-spec : {M : Type 1} → statement M
-next-difference-spec =
+pub step-from-spec : {M : Type 1} → statement M
+step-from-spec =
     tie.close
     (tie.spec
     enum-told
