@@ -84,6 +84,7 @@ fn walk_frames(
             serial,
             bytes,
             end,
+            0,
         ) {
             return false;
         }
