@@ -22,7 +22,7 @@ returns : tie.Need-returns
 returns c =
     let w = c .before .before .before in
     let l = w .restore-image .last in
-    let a = w .before .before .before .args in
+    let a = w .before .before .before .before .before .args in
     let e = c .number-of .ensures (l .1 .0) (accounts-of (l .1 .1 .0)) ∙ w .restore-image .ensures .0 in (
       e,
       subst (λ (n : ℕ). Left n (a .words .now) (l .1 .1 .0)) (sym (ap (λ (r : Restored-to). r .refusal) e)) (w .restore-image .ensures .1),
