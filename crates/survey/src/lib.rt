@@ -82,9 +82,9 @@ pub struct Wanted {
 }
 
 // What a survey gives: the refusal's number, and where that is not 0 nothing else (`refused`). Else the place of the
-// lowest unused record; the place of the first free block with room; whether the handle names an object, the place of its
-// block and the block's size; the places of the quota's record for it and of another quota's. A record's place is HOLDS or
-// more, and a block's the heap's length or more, where there is none.
+// lowest unused record; the place of the first free block with room; whether the handle names an object, the place of
+// its block and the block's size; the places of the quota's record for it and of another quota's. A record's place is
+// HOLDS or more, and a block's the heap's length or more, where there is none.
 pub struct Surveyed {
     pub refusal: u32,
     pub low: usize,
