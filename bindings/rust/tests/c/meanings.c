@@ -217,12 +217,17 @@ static void comparisons_mean(void)
 static void next_differences_mean(void)
 {
     const size_t length = two_images();
-    const struct lokhazim_next_reply next = lokhazim_image_compare_next(image, length, other, length, 0, 0);
+    struct lokhazim_next_reply next = lokhazim_image_compare_next(image, length, other, length, 0, 0);
+    IS(lokhazim_next_reply, next, refusal, 0);
+    IS(lokhazim_next_reply, next, which, 0);
     IS(lokhazim_next_reply, next, kind, LOKHAZIM_BYTES_DIFFER);
     IS(lokhazim_next_reply, next, place, 20);
     IS(lokhazim_next_reply, next, length, 3);
     IS(lokhazim_next_reply, next, part, 3);
     IS(lokhazim_next_reply, next, at, 23);
+    next = lokhazim_image_compare_next(image, length, other, length - 1, 0, 0);
+    IS(lokhazim_next_reply, next, refusal, LOKHAZIM_IMAGE_LENGTH);
+    IS(lokhazim_next_reply, next, which, 2);
 }
 
 /* Quota 3 sends the first object to quota 7. */
@@ -301,7 +306,7 @@ static void settings_mean(void)
     found = lokhazim_settings_find(store, sizeof store, 15, store, sizeof store, 0, 9, 300);
     IS(lokhazim_find_reply, found, refusal, LOKHAZIM_SETTINGS_MISSING);
     IS(lokhazim_find_reply, found, store, LOKHAZIM_SETTINGS_NOWHERE);
-    entry = lokhazim_settings_next(store, sizeof store, 15, 0, 0);
+    entry = lokhazim_settings_entry(store, sizeof store, 15, 0);
     IS(lokhazim_entry_reply, entry, refusal, 0);
     IS(lokhazim_entry_reply, entry, there, 1);
     IS(lokhazim_entry_reply, entry, version, 300);
