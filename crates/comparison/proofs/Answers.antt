@@ -26,7 +26,8 @@ use Rattle.image_model.proofs.Written.{image-has-length}
 use Rattle.image_model.proofs.Answers.{image-refusal-at, image-refusal-is}
 use Rattle.comparison.specs.Differences.{state-in, differences}
 use Rattle.comparison.specs.Compare.{line-29, line-27, pair-lines, first-why, why-both, why-second, why-not}
-use Rattle.comparison.specs.Compare.{unless-refused, Compared, compared, nth-of, compare-of, Advanced, stepped, advanced}
+use Rattle.comparison.specs.Compare.{unless-refused, Compared, compared, nth-of, compare-of, Advanced, stepped}
+use Rattle.comparison.specs.Compare.{advanced}
 use Rattle.comparison.specs.Listing.{OneSize}
 use Rattle.comparison.specs.declared.Difference.{Difference}
 use Rattle.comparison.specs.declared.Which.{Which}
@@ -36,7 +37,8 @@ use Rattle.comparison.specs.declared.CompareAnswer.the-variants.{Differs
 use Rattle.comparison.specs.declared.Step.{Step}
 use Rattle.comparison.specs.declared.Step.the-variants.{Differs as StepDiffers, Nothing as NoStep}
 use Rattle.comparison.specs.declared.NextAnswer.{NextAnswer}
-use Rattle.comparison.specs.declared.NextAnswer.the-variants.{Differs as NextDiffers, Nothing as NoNext, Refused as NextRefused}
+use Rattle.comparison.specs.declared.NextAnswer.the-variants.{Differs as NextDiffers, Nothing as NoNext}
+use Rattle.comparison.specs.declared.NextAnswer.the-variants.{Refused as NextRefused}
 use Rattle.comparison.proofs.Differences.{differences-self, differences-empty}
 
 -- an image that is accepted alone
@@ -63,7 +65,8 @@ module _ (i j : List ℕ) (n : ℕ) where
     module _ (form : form-of i .number ≡ form-of j .number) where
       -- then the heaps' lengths
       pub lengths-refused : size-in i ≢ size-in j → compare-of i j n ≡ record { refusal = 27; which = Neither; found = none }
-      unfolding compare-of why-not why-second why-both first-why nth-of unless-refused line-29 line-27 pair-lines first-refusal
+      unfolding compare-of why-not why-second why-both first-why nth-of unless-refused
+          line-29 line-27 pair-lines first-refusal
       lengths-refused d =
           let f = eq-eqb (form-of i .number) (form-of j .number) form in
           let t = ne-eqb (size-in i) (size-in j) d in
@@ -72,7 +75,8 @@ module _ (i j : List ℕ) (n : ℕ) where
       -- else the n-th is given, or none
       pub nth-given : size-in i ≡ size-in j
           → compare-of i j n ≡ record { refusal = 0; which = Neither; found = getElem? (differences (state-in i) (state-in j)) n }
-      unfolding compare-of why-not why-second why-both first-why nth-of unless-refused line-29 line-27 pair-lines first-refusal
+      unfolding compare-of why-not why-second why-both first-why nth-of unless-refused
+          line-29 line-27 pair-lines first-refusal
       nth-given e =
           let f = eq-eqb (form-of i .number) (form-of j .number) form in
           let t = eq-eqb (size-in i) (size-in j) e in
@@ -116,7 +120,8 @@ next-from (suc n) w s = NextRefused (image-refusal-at (suc n)) w
 abbrev next-answer-of : Advanced → NextAnswer
 next-answer-of c = next-from (c .refusal) (c .which) (c .step)
 
-next-refused-back : (n : ℕ) (r : ImageRefusal) (w : Which) → 1 ≤ n → image-refusal-at n ≡ r → next-from n w NoStep ≡ NextRefused r w
+next-refused-back : (n : ℕ) (r : ImageRefusal) (w : Which) → 1 ≤ n → image-refusal-at n ≡ r
+    → next-from n w NoStep ≡ NextRefused r w
 unfolding next-from
 next-refused-back zero r w l q = absurd (omega arith)
 next-refused-back (suc n) r w l q = ap (λ (t : ImageRefusal). NextRefused t w) q

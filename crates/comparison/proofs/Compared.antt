@@ -22,7 +22,8 @@ use Rattle.image.specs.declared.Parsed.{Parsed}
 use Rattle.image.specs.Parsing.{Parts, shape-parts, parts-of, unless-parts, examined-in}
 use Rattle.comparison.specs.Differences.{state-in, differences}
 use Rattle.comparison.specs.Positions.{next-of}
-use Rattle.comparison.specs.Compare.{Why, paired, line-29, line-27, pair-lines, first-why, why-both, why-second, why-not}
+use Rattle.comparison.specs.Compare.{Why, paired, line-29, line-27, pair-lines, first-why, why-both, why-second}
+use Rattle.comparison.specs.Compare.{why-not}
 use Rattle.comparison.specs.Compare.{unless-refused, compared, nth-of, compare-of, stepped, advanced, advance-of}
 use Rattle.comparison.specs.declared.Difference.{Difference}
 use Rattle.comparison.specs.declared.Which.{Which}
@@ -42,7 +43,8 @@ module _ (i : List ℕ) (p : Parsed) (told : parts-of p ≡ examined-in i) where
   unfolding examined-in
   by-shape s e = ap (λ (x : Shape). shape-parts x (p .accounts)) (sym e) ∙ told
 
-  image-from : (m : ℕ) (f : Form) (n : ℕ) (k : Accounts) → record { refusal = 0; form = f; size = n; accounts = k } ≡ unless-parts m said → m ≡ 0
+  image-from : (m : ℕ) (f : Form) (n : ℕ) (k : Accounts)
+      → record { refusal = 0; form = f; size = n; accounts = k } ≡ unless-parts m said → m ≡ 0
   unfolding unless-parts
   image-from zero f n k e = refl
   image-from (suc m) f n k e = let z : 0 ≡ suc m = ap (λ (x : Parts). x .refusal) e in absurd (omega arith)
@@ -67,13 +69,15 @@ unfolding first-why
 refuses zero w later l = absurd (omega arith)
 refuses (suc m) w later l = refl
 
-refused-as : (m : ℕ) (r : ImageRefusal) (w : Which) (later : Why) → m ≡ image-refusal-number r → paired (NotComparable r w) ≡ first-why m w later
+refused-as : (m : ℕ) (r : ImageRefusal) (w : Which) (later : Why) → m ≡ image-refusal-number r
+    → paired (NotComparable r w) ≡ first-why m w later
 unfolding paired
 refused-as m r w later e = rw e (refuses (image-refusal-number r) w later (image-refusal-is r .1))
 
 module _ (i j : List ℕ) where
   -- both images together
-  pub other-form : (form-of i .number ≡ form-of j .number → ⊥) → paired (NotComparable FormsDiffer Neither) ≡ why-both i j
+  pub other-form : (form-of i .number ≡ form-of j .number → ⊥)
+      → paired (NotComparable FormsDiffer Neither) ≡ why-both i j
   unfolding paired why-both line-29 pair-lines first-refusal
   other-form f = rw (ne-eqb (form-of i .number) (form-of j .number) f)
 
@@ -87,7 +91,8 @@ module _ (i j : List ℕ) where
     both-good e = rw (eq-eqb (form-of i .number) (form-of j .number) form, eq-eqb (size-in i) (size-in j) e)
 
   -- the second image
-  pub second-bad : (r : ImageRefusal) → first-refusal (examine-lines j) ≡ image-refusal-number r → paired (NotComparable r Second) ≡ why-second i j
+  pub second-bad : (r : ImageRefusal) → first-refusal (examine-lines j) ≡ image-refusal-number r
+      → paired (NotComparable r Second) ≡ why-second i j
   unfolding why-second
   second-bad r e = refused-as (first-refusal (examine-lines j)) r Second _ e
 
@@ -96,7 +101,8 @@ module _ (i j : List ℕ) where
   second-good e = rw e
 
   -- the first image
-  pub first-bad : (r : ImageRefusal) → first-refusal (examine-lines i) ≡ image-refusal-number r → paired (NotComparable r First) ≡ why-not i j
+  pub first-bad : (r : ImageRefusal) → first-refusal (examine-lines i) ≡ image-refusal-number r
+      → paired (NotComparable r First) ≡ why-not i j
   unfolding why-not
   first-bad r e = refused-as (first-refusal (examine-lines i)) r First _ e
 
@@ -109,7 +115,8 @@ module _ (i j : List ℕ) where
   unfolding compared nth-of
   none-given n e = rw e
 
-  pub one-given : (n : ℕ) (d : Difference) → getElem? (differences (state-in i) (state-in j)) n ≡ some d → compared (Differs d) ≡ nth-of i j n
+  pub one-given : (n : ℕ) (d : Difference) → getElem? (differences (state-in i) (state-in j)) n ≡ some d
+      → compared (Differs d) ≡ nth-of i j n
   unfolding compared nth-of
   one-given n d e = rw e
 
@@ -135,11 +142,13 @@ module _ (i j : List ℕ) where
     pub compared-refused : (n : ℕ) → compared (Refused r w) ≡ compare-of i j n
     unfolding paired compared compare-of
     compared-refused n =
-        rw (sym bad)
-        (λ k. record { refusal = image-refusal-number r; which = w; found = nothing-found (image-refusal-number r) none (nth-of i j n .found) (image-refusal-is r .1) k })
+        let m = image-refusal-number r in
+        let e = nothing-found m none (nth-of i j n .found) (image-refusal-is r .1) in
+        rw (sym bad) (λ k. record { refusal = m; which = w; found = e k })
 
     pub advanced-refused : (p : Position) → advanced (NextRefused r w) ≡ advance-of i j p
     unfolding paired advanced advance-of
     advanced-refused p =
-        rw (sym bad)
-        (λ k. record { refusal = image-refusal-number r; which = w; step = nothing-found (image-refusal-number r) NoStep (next-of p (state-in i) (state-in j)) (image-refusal-is r .1) k })
+        let m = image-refusal-number r in
+        let e = nothing-found m NoStep (next-of p (state-in i) (state-in j)) (image-refusal-is r .1) in
+        rw (sym bad) (λ k. record { refusal = m; which = w; step = e k })

@@ -4,8 +4,10 @@ use Rattle.comparison.specs.Differences.{state-in, same-quota, same-reco
 use Rattle.comparison.specs.Differences.{byte-part, differences}
 use Rattle.comparison.specs.Positions.{from-byte, from-record, from-quota, from-edition, from-kind, differences-from, behind, first-of, next-of}
 use Rattle.comparison.specs.Positions.{with-answer, asked}
-use Rattle.comparison.specs.Compare.{paired, line-29, line-27, pair-lines, first-why, why-both, why-second, why-not}
-use Rattle.comparison.specs.Compare.{unless-refused, compared, nth-of, compare-of, stepped, advanced, advance-of, walked}
+use Rattle.comparison.specs.Compare.{paired, line-29, line-27, pair-lines, first-why, why-both, why-second}
+use Rattle.comparison.specs.Compare.{why-not}
+use Rattle.comparison.specs.Compare.{unless-refused, compared, nth-of, compare-of, stepped, advanced}
+use Rattle.comparison.specs.Compare.{advance-of, walked}
 
 unfoldable pub computing : Unit {0}
 unfolding computing-images

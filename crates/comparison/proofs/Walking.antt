@@ -1,5 +1,5 @@
--- Asked for the next difference, two images are refused as compare refuses them. Asked from the start, each time from the position behind
--- the answer before, they give compare's list.
+-- Asked for the next difference, two images are refused as compare refuses them. Asked from the start, each time from
+-- the position behind the answer before, they give compare's list.
 -- Assumes nothing.
 use mathlib.Core.Path.{_≡_, refl, ap, _∙_}
 use mathlib.Core.List.{List, [], _∷_}
@@ -50,7 +50,8 @@ module _ (i j : List ℕ) where
     good-walk (suc n) p = λ k. with-answer (good-step p k) (λ d q. d ∷ good-walk n q k)
 
     -- as many questions as there are differences give them all
-    pub walked-all : (n : ℕ) → length (differences (state-in i) (state-in j)) ≤ n → walked n Start i j ≡ differences (state-in i) (state-in j)
+    pub walked-all : (n : ℕ) → length (differences (state-in i) (state-in j)) ≤ n
+        → walked n Start i j ≡ differences (state-in i) (state-in j)
     walked-all n l = good-walk n Start ∙ asked-all (state-in i) (state-in j) n l
 
     good-nth : (n k : ℕ) → k < n → getElem? (walked n Start i j) k ≡ compare-of i j k .found

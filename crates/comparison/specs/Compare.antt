@@ -1,5 +1,5 @@
--- Comparing two images (rules 14.1, 14.7 to 14.12): the refusals of both, each with the image that it is about, then the difference
--- that was asked for, by its number or from a position on.
+-- Comparing two images (rules 14.1, 14.7 to 14.12): the refusals of both, each with the image that it is about, then
+-- the difference that was asked for, by its number or from a position on.
 use Prim.Native.Nat.{ℕ, zero, suc}
 use mathlib.Core.List.{List, [], _∷_}
 use mathlib.Core.Bool.{not}
@@ -23,7 +23,8 @@ use Rattle.comparison.specs.declared.Position.{Position}
 use Rattle.comparison.specs.declared.Step.{Step}
 use Rattle.comparison.specs.declared.Step.the-variants.{Differs as StepDiffers, Nothing as NoStep}
 use Rattle.comparison.specs.declared.NextAnswer.{NextAnswer}
-use Rattle.comparison.specs.declared.NextAnswer.the-variants.{Differs as NextDiffers, Nothing as NoNext, Refused as NextRefused}
+use Rattle.comparison.specs.declared.NextAnswer.the-variants.{Differs as NextDiffers, Nothing as NoNext}
+use Rattle.comparison.specs.declared.NextAnswer.the-variants.{Refused as NextRefused}
 
 -- why two images are not compared: a refusal's number, 0 where there is none, and which image it is about
 pub record Why : Type 0 where
@@ -105,7 +106,8 @@ advanced (NextRefused r w) = record { refusal = image-refusal-number r; which = 
 unfoldable pub advance-of : List ℕ → List ℕ → Position → Advanced
 advance-of i j p =
     let w = why-not i j in
-    record { refusal = w .refusal; which = w .which; step = unless-refused (w .refusal) NoStep (next-of p (state-in i) (state-in j)) }
+    let due = next-of p (state-in i) (state-in j) in
+    record { refusal = w .refusal; which = w .which; step = unless-refused (w .refusal) NoStep due }
 
 -- rule 14.12: what so many questions give, each from the position behind the answer before
 unfoldable pub walked : ℕ → Position → List ℕ → List ℕ → List Difference

@@ -1,4 +1,5 @@
-// Two images compared: first whether they can be, then the difference that was asked for, by its number or from a position on.
+// Two images compared: first whether they can be, then the difference that was asked for, by its number or from a
+// position on.
 use crate::CompareAnswer;
 use crate::NextAnswer;
 use crate::Pair;
@@ -27,7 +28,8 @@ fn nth_difference(first: &[u8], second: &[u8], n: usize) -> CompareAnswer
     }
 }
 
-// The n-th difference, from 0, of the states that two images say; or why they are not compared, and which of them it is about.
+// The n-th difference, from 0, of the states that two images say; or why they are not compared, and which of them it
+// is about.
 pub fn compare(first: &[u8], second: &[u8], n: usize) -> CompareAnswer
     ensures { λ r. ⌜ compared r ≡ compare-of (now (first .entry)) (now (second .entry)) n ⌝ }
 {
@@ -47,8 +49,8 @@ fn answer_of(step: Step) -> NextAnswer
     }
 }
 
-// The first difference from a position on of the states that two images say, and the position behind it; or why they are not compared, and which of
-// them it is about.
+// The first difference from a position on of the states that two images say, and the position behind it; or why they
+// are not compared, and which of them it is about.
 pub fn next_difference(first: &[u8], second: &[u8], from: Position) -> NextAnswer
     ensures { λ r. ⌜ advanced r ≡ advance-of (now (first .entry)) (now (second .entry)) from ⌝ }
 {

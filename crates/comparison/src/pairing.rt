@@ -1,4 +1,5 @@
-// Whether two images are compared: the reader's refusals of the first, those of the second, then those of both together.
+// Whether two images are compared: the reader's refusals of the first, those of the second, then those of both
+// together.
 use crate::Pair;
 use crate::Which;
 use image::Shape;

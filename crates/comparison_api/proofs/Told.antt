@@ -76,11 +76,14 @@ advanced-from r =
       step = step-from (difference-from (r .kind) (r .place) (r .length)) (position-of (r .part) (r .at));
     }
 
-advanced-back : (n : ℕ) (w : Which) (s : Step) → advanced-from (step-reply n (which-number w) s) ≡ record { refusal = n; which = w; step = s }
+advanced-back : (n : ℕ) (w : Which) (s : Step)
+    → advanced-from (step-reply n (which-number w) s) ≡ record { refusal = n; which = w; step = s }
 unfolding step-from
-advanced-back n w (Differs d p) = λ i. record { refusal = n; which = which-back w i; step = step-from (difference-back d i) (position-back p i) }
+advanced-back n w (Differs d p) = λ i.
+    record { refusal = n; which = which-back w i; step = step-from (difference-back d i) (position-back p i) }
 advanced-back n w Nothing = λ i. record { refusal = n; which = which-back w i; step = Nothing }
 
 pub next-reply-injective : (a b : Advanced) → next-reply a ≡ next-reply b → a ≡ b
 next-reply-injective a b e =
-    sym (advanced-back (a .refusal) (a .which) (a .step)) ∙ ap advanced-from e ∙ advanced-back (b .refusal) (b .which) (b .step)
+    sym (advanced-back (a .refusal) (a .which) (a .step)) ∙ ap advanced-from e
+    ∙ advanced-back (b .refusal) (b .which) (b .step)

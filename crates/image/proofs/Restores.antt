@@ -1,4 +1,5 @@
--- The reader: whether an image's heap is consistent, what is left of reading once its shape is known, and what a restore leaves.
+-- The reader: whether an image's heap is consistent, what is left of reading once its shape is known, and what a
+-- restore leaves.
 -- Assumes nothing.
 use mathlib.Core.Path.{_≡_, refl, ap, sym, _∙_, subst}
 use mathlib.Core.List.{List, [], _∷_, _++_}
@@ -31,7 +32,8 @@ use Rattle.image_model.specs.declared.ReadAnswer.the-variants.{Restored, Refuse
 use Rattle.image_model.specs.Stream.{head-length}
 use Rattle.image_model.specs.Reading.{size-in, heap-of, heap-in}
 use Rattle.image_model.specs.Answers.{Restored-to, restored-to, image-refusal-number}
-use Rattle.image_model.specs.Images.{own-sound, line-25, line-26, shape-lines, read-lines, unless-read, read-image, kept-unless, restore-image}
+use Rattle.image_model.specs.Images.{own-sound, line-25, line-26, shape-lines, read-lines, unless-read, read-image}
+use Rattle.image_model.specs.Images.{kept-unless, restore-image}
 use Rattle.image_model.proofs.Answers.{image-refusal-is}
 use Rattle.image.specs.Parsing.{restore}
 use Rattle.image.specs.Restoring.{Left}
@@ -113,20 +115,25 @@ module _ (i h s : List ℕ) (k read : Accounts) where
   keeps (suc n) l = refl
 
   -- refused: the accounts from before stay
-  pub restored-kept : (r : ImageRefusal) → restored-to s read (NotRestored r) ≡ read-image i h → restored-to s k (NotRestored r) ≡ restore-image i h k
+  pub restored-kept : (r : ImageRefusal) → restored-to s read (NotRestored r) ≡ read-image i h
+      → restored-to s k (NotRestored r) ≡ restore-image i h k
   unfolding restored-to restore-image
   restored-kept r e =
       let n = image-refusal-number r in
       rw (sym e) (λ j. record { heap = s; accounts = keeps n (image-refusal-is r .1) j; refusal = n })
 
   -- and the words, with and without padding
-  pub left-read : (w v : List ℕ) → restored-to s read Restored ≡ restore-image i h k → Unpadded v → Left (restore-image i h k .refusal) w v
+  pub left-read : (w v : List ℕ) → restored-to s read Restored ≡ restore-image i h k → Unpadded v
+      → Left (restore-image i h k .refusal) w v
   unfolding restored-to
   left-read w v e u = subst (λ (n : ℕ). Left n w v) (ap (λ (r : Restored-to). r .refusal) e) u
 
-  pub left-kept : (w : List ℕ) (r : ImageRefusal) → restored-to s k (NotRestored r) ≡ restore-image i h k → Left (restore-image i h k .refusal) w w
+  pub left-kept : (w : List ℕ) (r : ImageRefusal) → restored-to s k (NotRestored r) ≡ restore-image i h k
+      → Left (restore-image i h k .refusal) w w
   unfolding restored-to
-  left-kept w r e = subst (λ (n : ℕ). Left n w w) (ap (λ (x : Restored-to). x .refusal) e) (same (image-refusal-number r) (image-refusal-is r .1))
+  left-kept w r e =
+      subst (λ (n : ℕ). Left n w w) (ap (λ (x : Restored-to). x .refusal) e)
+      (same (image-refusal-number r) (image-refusal-is r .1))
     where
       same : (n : ℕ) → 1 ≤ n → Left n w w
       same zero l = absurd (omega arith)

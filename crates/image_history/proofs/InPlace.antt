@@ -1,5 +1,5 @@
--- A restore where a heap and its accounts are in use (rule 13.19). A refused one leaves both, so the history goes on with the same events; an
--- accepted one is the event of a history.
+-- A restore where a heap and its accounts are in use (rule 13.19). A refused one leaves both, so the history goes on
+-- with the same events; an accepted one is the event of a history.
 -- Assumes nothing.
 use mathlib.Core.Path.{_≡_, refl, ap, sym}
 use mathlib.Core.List.{List, _∷_}
@@ -23,7 +23,8 @@ module _ (i s : List ℕ) (k : Accounts) where
       λ j. record { heap = r .heap; accounts = kept-unless (e j) k (r .accounts); refusal = r .refusal }
 
   -- refused, heap and accounts are as they were
-  pub restore-keeps : (n : ℕ) → read-image i s .refusal ≡ suc n → restore-image i s k ≡ record { heap = s; accounts = k; refusal = suc n }
+  pub restore-keeps : (n : ℕ) → read-image i s .refusal ≡ suc n
+      → restore-image i s k ≡ record { heap = s; accounts = k; refusal = suc n }
   unfolding restore-image kept-unless
   restore-keeps n e =
       let q = refused-read i s n e in
@@ -38,12 +39,15 @@ abbrev pub events-behind : Restored-to → List Event → List Event
 events-behind r es = restored-behind (r .refusal) (Restored (r .heap) (r .accounts)) es
 
 -- accepted or refused, the history goes on with what the restore leaves
-pub restore-goes-on : (run : Run) (begun : Ledger) (es : List Event) (i s : List ℕ) (k : Accounts) → Octets i → History table run begun es s k
-    → History table run begun (events-behind (restore-image i s k) es) (restore-image i s k .heap) (restore-image i s k .accounts)
+pub restore-goes-on : (run : Run) (begun : Ledger) (es : List Event) (i s : List ℕ) (k : Accounts) → Octets i
+    → History table run begun es s k
+    → History table run begun (events-behind (restore-image i s k) es) (restore-image i s k .heap)
+    (restore-image i s k .accounts)
 unfolding restored-behind
 restore-goes-on run begun es i s k octets past = go (read-image i s .refusal) refl
   where
     go : (n : ℕ) → read-image i s .refusal ≡ n
-        → History table run begun (events-behind (restore-image i s k) es) (restore-image i s k .heap) (restore-image i s k .accounts)
+        → History table run begun (events-behind (restore-image i s k) es) (restore-image i s k .heap)
+        (restore-image i s k .accounts)
     go zero e = rw (restore-read i s k e, e) (restored-goes-on i s octets e run begun es k past)
     go (suc n) e = rw (restore-keeps i s k n e) past

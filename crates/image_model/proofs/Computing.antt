@@ -10,7 +10,8 @@ use Rattle.image_model.specs.Reading.{entry-of, entry-right, record-of, 
 use Rattle.image_model.specs.Reading.{accounts-in, heap-in, contents-right}
 use Rattle.image_model.specs.Images.{line-28, put-lines, write-lines, line-21, line-22, line-23, line-24, line-25, line-26, shape-lines, read-lines}
 use Rattle.image_model.specs.Images.{examine-lines}
-use Rattle.image_model.specs.Images.{unless-written, unless-read, write-image, read-image, kept-unless, restore-image}
+use Rattle.image_model.specs.Images.{unless-written, unless-read, write-image, read-image, kept-unless}
+use Rattle.image_model.specs.Images.{restore-image}
 
 unfoldable pub computing : Unit {0}
 unfolding computing-calls bytes number overwrite

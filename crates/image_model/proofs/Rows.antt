@@ -132,10 +132,13 @@ unfolding small lent
 read-rows = (refl, refl)
 
 -- restored where heap and accounts are in use: the image's, or those of before
-restore-rows : (restore-image (image-of form-1 heap accounts) fresh fresh-accounts ≡ record { heap = heap; accounts = accounts; refusal = 0 })
-    × (restore-image (image-of form-1 fresh fresh-accounts) heap accounts ≡ record { heap = fresh; accounts = fresh-accounts; refusal = 0 })
+restore-rows : (restore-image (image-of form-1 heap accounts) fresh fresh-accounts
+    ≡ record { heap = heap; accounts = accounts; refusal = 0 })
+    × (restore-image (image-of form-1 fresh fresh-accounts) heap accounts
+    ≡ record { heap = fresh; accounts = fresh-accounts; refusal = 0 })
     × (restore-image [] heap accounts ≡ record { heap = heap; accounts = accounts; refusal = 21 })
-    × (restore-image (image-of form-1 heap accounts) (lent 72) fresh-accounts ≡ record { heap = lent 72; accounts = fresh-accounts; refusal = 25 })
+    × (restore-image (image-of form-1 heap accounts) (lent 72) fresh-accounts
+    ≡ record { heap = lent 72; accounts = fresh-accounts; refusal = 25 })
 unfolding small lent
 restore-rows = (refl, refl, refl, refl)
 

@@ -35,18 +35,21 @@ report-refusal-number-injective r t e = sym (report-refusal-is r .0) ∙ ap repo
 answered : {A : Type 0} → A → (ReportRefusal → A) → ℕ → A
 answered a refuse n = cond (eqb n 0) a (refuse (report-refusal-at n))
 
-answered-refused : {A : Type 0} (a : A) (refuse : ReportRefusal → A) (r : ReportRefusal) → answered a refuse (report-refusal-number r) ≡ refuse r
+answered-refused : {A : Type 0} (a : A) (refuse : ReportRefusal → A) (r : ReportRefusal)
+    → answered a refuse (report-refusal-number r) ≡ refuse r
 unfolding answered
 answered-refused a refuse r =
     let n = report-refusal-is r in
-    let e : eqb (report-refusal-number r) 0 ≡ false = ne-eqb (report-refusal-number r) 0 (λ z. omega (arith, z, n .1)) in
+    let e : eqb (report-refusal-number r) 0 ≡ false =
+    ne-eqb (report-refusal-number r) 0 (λ z. omega (arith, z, n .1)) in
     rw (e, n .0)
 
 -- of import
 import-answer : ImportTold → ImportAnswer
 import-answer t = answered Accepted (λ x. NotImported x (t .line)) (t .refusal)
 
-import-answer-is : (gs : List ℕ) (a : ImportAnswer) → (import-answer (grants-told gs a) ≡ a) × (grants-told gs a .grants ≡ gs)
+import-answer-is : (gs : List ℕ) (a : ImportAnswer)
+    → (import-answer (grants-told gs a) ≡ a) × (grants-told gs a .grants ≡ gs)
 unfolding import-answer answered grants-told
 import-answer-is gs Accepted = (refl, refl)
 import-answer-is gs (NotImported r n) = (answered-refused Accepted (λ x. NotImported x n) r, refl)

@@ -132,7 +132,8 @@ export-rows = (refl, refl, refl, refl, refl)
 -- answers in numbers: both cases of each, and every refusal
 told-rows : (import-told (good (7 ∷ [])) ≡ record { grants = 7 ∷ []; refusal = 0; line = 0 })
     × (import-told (bad Reserved 2) ≡ record { grants = replicate 32 0; refusal = 32; line = 2 })
-    × (map (λ (r : ReportRefusal). import-told (bad r 1) .refusal) (Character ∷ Reserved ∷ TooMany ∷ Room ∷ []) ≡ 31 ∷ 32 ∷ 33 ∷ 34 ∷ [])
+    × (map (λ (r : ReportRefusal). import-told (bad r 1) .refusal) (Character ∷ Reserved ∷ TooMany ∷ Room ∷ [])
+    ≡ 31 ∷ 32 ∷ 33 ∷ 34 ∷ [])
     × (text-told (1 ∷ []) (Exported 1728) ≡ record { text = 1 ∷ []; refusal = 0; length = 1728 })
     × (text-told (1 ∷ []) (Refused Room) ≡ record { text = 1 ∷ []; refusal = 34; length = 0 })
 unfolding shown

@@ -9,10 +9,14 @@ use Rattle.report.specs.declared.ReportRefusal.the-variants.{Character, Reserve
 use Rattle.report.specs.declared.ExportAnswer.the-variants.{Exported, Refused}
 use Rattle.report_api.specs.Replies.{import-reply, export-reply}
 
-import-rows : (import-reply (import-told (taken (7 ∷ replicate 31 0))) ≡ record { grants = record { values = 7 ∷ replicate 31 0 }; refusal = 0; line = 0 })
-    × (import-reply (import-told (bad-at Character 1)) ≡ record { grants = record { values = replicate 32 0 }; refusal = 31; line = 1 })
-    × (import-reply (import-told (bad-at Reserved 32)) ≡ record { grants = record { values = replicate 32 0 }; refusal = 32; line = 32 })
-    × (import-reply (import-told (bad-at TooMany 33)) ≡ record { grants = record { values = replicate 32 0 }; refusal = 33; line = 33 })
+import-rows : (import-reply (import-told (taken (7 ∷ replicate 31 0)))
+    ≡ record { grants = record { values = 7 ∷ replicate 31 0 }; refusal = 0; line = 0 })
+    × (import-reply (import-told (bad-at Character 1))
+    ≡ record { grants = record { values = replicate 32 0 }; refusal = 31; line = 1 })
+    × (import-reply (import-told (bad-at Reserved 32))
+    ≡ record { grants = record { values = replicate 32 0 }; refusal = 32; line = 32 })
+    × (import-reply (import-told (bad-at TooMany 33))
+    ≡ record { grants = record { values = replicate 32 0 }; refusal = 33; line = 33 })
 unfolding grants-told
 import-rows = (refl, refl, refl, refl)
 

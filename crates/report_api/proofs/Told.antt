@@ -1,5 +1,5 @@
--- A reply's numbers say everything: what was answered is had back from them. An export's reply says all but the text, which stands where it
--- was lent.
+-- A reply's numbers say everything: what was answered is had back from them. An export's reply says all but the text,
+-- which stands where it was lent.
 -- Assumes nothing.
 use mathlib.Core.Path.{_≡_, refl, ap, sym, _∙_}
 use mathlib.Core.List.{List}
@@ -31,7 +31,8 @@ unfolding text-told
 export-back t (Exported n) = refl
 export-back t (Refused r) = refl
 
-pub export-reply-injective : (t : List ℕ) (a b : ExportAnswer) → export-reply (text-told t a) ≡ export-reply (text-told t b) → a ≡ b
+pub export-reply-injective : (t : List ℕ) (a b : ExportAnswer)
+    → export-reply (text-told t a) ≡ export-reply (text-told t b) → a ≡ b
 export-reply-injective t a b e =
     ap (λ (w : Written). w .answer)
     (export-told-injective (record { text = t; answer = a }) (record { text = t; answer = b })

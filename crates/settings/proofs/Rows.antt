@@ -142,7 +142,8 @@ refused-rows : (add-of 7 0 (replicate 65 1) small 5 .answer ≡ NotAdded Malform
 unfolding shown
 refused-rows = (refl, refl, refl, refl, refl, refl, refl, refl, refl, refl, refl, refl)
 
--- an entry by its number: each, the end, none in an empty store, in one cut anywhere, and where more bytes are used than there are
+-- an entry by its number: each, the end, none in an empty store, in one cut anywhere, and where more bytes are used
+-- than there are
 told : ℕ → Option Entry → EntryTold
 told r e = record { refusal = r; found = e }
 
@@ -162,7 +163,8 @@ nth-rows = (refl, refl, refl, refl, refl, refl, refl, refl, refl, refl)
 -- an answer's numbers: the store, the span, and each refusal
 located-rows : (located (Board (span 4 9)) ≡ record { refusal = 0; store = 1; start = 4; end = 9 })
     × (located (Default (span 8 8)) ≡ record { refusal = 0; store = 2; start = 8; end = 8 })
-    × (map (λ (r : SettingsRefusal). located (Refused r) .refusal) (Malformed ∷ Missing ∷ ValueLength ∷ VersionFalls ∷ Full ∷ [])
+    × (map (λ (r : SettingsRefusal). located (Refused r) .refusal)
+    (Malformed ∷ Missing ∷ ValueLength ∷ VersionFalls ∷ Full ∷ [])
     ≡ 41 ∷ 42 ∷ 43 ∷ 44 ∷ 45 ∷ [])
     × (located (Refused Missing) ≡ record { refusal = 42; store = 0; start = 0; end = 0 })
     × (added-to small (Added 6) ≡ record { store = small; refusal = 0; used = 6 })

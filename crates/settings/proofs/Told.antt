@@ -13,7 +13,8 @@ use Rattle.settings.specs.declared.AddAnswer.the-variants.{Added, Refuse
 use Rattle.settings.specs.declared.NthEntry.{NthEntry}
 use Rattle.settings.specs.declared.NthEntry.the-variants.{There, End, Malformed}
 use Rattle.settings.specs.declared.SettingsRefusal.{SettingsRefusal}
-use Rattle.settings.specs.declared.SettingsRefusal.the-variants.{Malformed as Bad, Missing, ValueLength, VersionFalls, Full}
+use Rattle.settings.specs.declared.SettingsRefusal.the-variants.{Malformed as Bad, Missing, ValueLength}
+use Rattle.settings.specs.declared.SettingsRefusal.the-variants.{VersionFalls, Full}
 use Rattle.settings.specs.Entries.{EntryTold, entry-told}
 use Rattle.settings.specs.Find.{settings-refusal-number, Located, located}
 use Rattle.settings.specs.Add.{AddedTo, added-to}
@@ -30,14 +31,16 @@ refusal-back ValueLength = refl
 refusal-back VersionFalls = refl
 refusal-back Full = refl
 
-pub settings-refusal-number-injective : (r q : SettingsRefusal) → settings-refusal-number r ≡ settings-refusal-number q → r ≡ q
+pub settings-refusal-number-injective : (r q : SettingsRefusal)
+    → settings-refusal-number r ≡ settings-refusal-number q → r ≡ q
 settings-refusal-number-injective r q e = sym (refusal-back r) ∙ ap refusal-at e ∙ refusal-back q
 
 -- of a lookup
 abbrev place-from : Located → Place
 place-from l =
     getD
-    (Refused (refusal-at (l .refusal)) ∷ Board (record { start = l .start; end = l .end }) ∷ Default (record { start = l .start; end = l .end }) ∷ [])
+    (Refused (refusal-at (l .refusal)) ∷ Board (record { start = l .start; end = l .end })
+    ∷ Default (record { start = l .start; end = l .end }) ∷ [])
     (l .store) (Refused Full)
 
 place-back : (p : Place) → place-from (located p) ≡ p

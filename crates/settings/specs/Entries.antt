@@ -61,7 +61,8 @@ unfoldable pub last-of : Option (List Entry) → Last
 last-of none = LastMalformed
 last-of (some es) = Version (newest 0 es)
 
--- rule 20.10: what is told of an entry that is asked for by its number: 41 where the store is malformed; else the entry, if there are so many
+-- rule 20.10: what is told of an entry that is asked for by its number: 41 where the store is malformed; else the
+-- entry, if there are so many
 pub record EntryTold : Type 0 where
   pub refusal : ℕ
   pub found : Option Entry

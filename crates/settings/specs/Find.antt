@@ -59,8 +59,8 @@ chosen (Done Nothing) (Done Nothing) = Refused Missing
 unfoldable pub find : ℕ → ℕ → List ℕ → ℕ → List ℕ → ℕ → Place
 find name version b bu d du = chosen (found-in name version (stored b bu)) (found-in name version (stored d du))
 
--- rules 20.5 and 20.6, in numbers: the refusal's, 0 where there is none; the store, 1 the board's and 2 the defaults; the value's start and end.
--- What has no meaning is 0
+-- rules 20.5 and 20.6, in numbers: the refusal's, 0 where there is none; the store, 1 the board's and 2 the defaults;
+-- the value's start and end. What has no meaning is 0
 pub record Located : Type 0 where
   pub refusal : ℕ
   pub store : ℕ

@@ -8,7 +8,8 @@ use crate::Read;
 ghost use mathlib.Core.Path.{_≡_};
 ghost use Prim.Native.Nat.{_+_, _≤_, _<_};
 ghost use lib.ListN.{length};
-ghost use Rattle.settings.specs.Entries.{entry-at, read-entry, entries, stored, last-of, entry-told, nth-of, picked};
+ghost use Rattle.settings.specs.Entries.{entry-at, read-entry, entries, stored, last-of, entry-told, nth-of};
+ghost use Rattle.settings.specs.Entries.{picked};
 
 // A byte as a wider number.
 fn wide(byte: u8) -> u16

@@ -83,7 +83,8 @@ pub fn find(
     name: u8,
     version: u16,
 ) -> Place
-    ensures { λ r. ⌜ located r ≡ located (find name version (now (board .entry)) «board_used» (now (defaults .entry)) «defaults_used») ⌝ }
+    ensures { λ r. ⌜ located r
+        ≡ located (find name version (now (board .entry)) «board_used» (now (defaults .entry)) «defaults_used») ⌝ }
 {
     let own = find_used(board, board_used, name, version);
     let other = find_used(defaults, defaults_used, name, version);

@@ -23,7 +23,8 @@ found : ℕ → ℕ → ℕ → ℕ → FindReply
 found r s from to = record { refusal = r; store = s; start = from; end = to }
 
 find-rows : map (λ (p : Place). find-reply (located p))
-    (Board (record { start = 4; end = 9 }) ∷ Default (record { start = 8; end = 8 }) ∷ Refused Malformed ∷ Refused Missing ∷ [])
+    (Board (record { start = 4; end = 9 }) ∷ Default (record { start = 8; end = 8 }) ∷ Refused Malformed
+    ∷ Refused Missing ∷ [])
     ≡ found 0 1 4 9 ∷ found 0 2 8 8 ∷ found 41 0 0 0 ∷ found 42 0 0 0 ∷ []
 unfolding found located
 find-rows = refl

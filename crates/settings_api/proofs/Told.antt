@@ -1,5 +1,5 @@
--- A reply's numbers say everything: what was answered is had back from them, so no two answers give the same reply. An add's reply says all
--- but the store, which stands where it was lent.
+-- A reply's numbers say everything: what was answered is had back from them, so no two answers give the same reply.
+-- An add's reply says all but the store, which stands where it was lent.
 -- Assumes nothing.
 use Prim.Native.Nat.{ℕ, zero, suc}
 use mathlib.Core.Path.{_≡_, refl, ap, sym, _∙_}
@@ -36,7 +36,8 @@ stored-back s (Added n) = refl
 stored-back s (Refused r) = refl
 
 pub add-reply-injective : (s : List ℕ) (a b : AddAnswer) → add-reply (added-to s a) ≡ add-reply (added-to s b) → a ≡ b
-add-reply-injective s a b e = added-to-injective s s a b (sym (stored-back s a) ∙ ap (stored-with s) e ∙ stored-back s b) .1
+add-reply-injective s a b e =
+    added-to-injective s s a b (sym (stored-back s a) ∙ ap (stored-with s) e ∙ stored-back s b) .1
 
 entry-of : ℕ → EntryReply → Option Entry
 entry-of zero r = none
@@ -54,4 +55,5 @@ pub entry-reply-injective : (a b : NthEntry) → entry-reply (entry-told a) ≡ 
 entry-reply-injective a b e =
     let x = entry-told a in
     let y = entry-told b in
-    entry-told-injective a b (sym (told-back (x .refusal) (x .found)) ∙ ap told-from e ∙ told-back (y .refusal) (y .found))
+    entry-told-injective a b
+    (sym (told-back (x .refusal) (x .found)) ∙ ap told-from e ∙ told-back (y .refusal) (y .found))

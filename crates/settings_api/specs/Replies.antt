@@ -18,7 +18,8 @@ add-reply a = record { refusal = a .refusal; used = a .used }
 -- zeros where there is no entry
 abbrev pub entry-with : ℕ → Option Entry → EntryReply
 entry-with r none = record { refusal = r; there = 0; version = 0; name = 0; start = 0; end = 0 }
-entry-with r (some e) = record { refusal = r; there = 1; version = e .version; name = e .name; start = e .start; end = e .end }
+entry-with r (some e) =
+    record { refusal = r; there = 1; version = e .version; name = e .name; start = e .start; end = e .end }
 
 abbrev pub entry-reply : EntryTold → EntryReply
 entry-reply t = entry-with (t .refusal) (t .found)

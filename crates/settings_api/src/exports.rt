@@ -21,7 +21,9 @@ pub extern "C" fn lokhazim_settings_find(
     name: u8,
     version: u16,
 ) -> FindReply
-    ensures { λ r. ⌜ r ≡ find-reply (located (find name version (now (board .entry)) «board_used» (now (defaults .entry)) «defaults_used»)) ⌝ }
+    ensures { λ r. ⌜ r
+        ≡ find-reply
+        (located (find name version (now (board .entry)) «board_used» (now (defaults .entry)) «defaults_used»)) ⌝ }
 {
     reply_of_find(settings::find(board, board_used, defaults, defaults_used, name, version))
 }
@@ -35,7 +37,8 @@ pub extern "C" fn lokhazim_settings_add(
     version: u16,
     value: &[u8],
 ) -> AddReply
-    ensures answers { λ r. ⌜ r ≡ add-reply (add-told (add-of name version (now (value .entry)) (now (store .entry)) used)) ⌝ }
+    ensures answers { λ r. ⌜ r
+        ≡ add-reply (add-told (add-of name version (now (value .entry)) (now (store .entry)) used)) ⌝ }
     ensures writes { λ _. ⌜ now (store .exit) ≡ add-of name version (now (value .entry)) (now (store .entry)) used .store ⌝ }
 {
     reply_of_add(settings::add(store, used, name, version, value))

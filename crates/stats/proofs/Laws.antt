@@ -112,11 +112,13 @@ module _ (s : List ℕ) (k : Accounts) (ok : consistent s k ≡ true) where
         based n l q)
 
   -- and one in the unit 128 is as long as the greatest heap and always refused
-  pub space-refused : length s ≤ greatest-heap → (e n : ℕ) → 0 < n → alignment (table e) n ≡ 128 → line-11 (table e) s n ≡ (11 when true)
+  pub space-refused : length s ≤ greatest-heap → (e n : ℕ) → 0 < n → alignment (table e) n ≡ 128
+      → line-11 (table e) s n ≡ (11 when true)
   unfolding line-11 base-for alignment
   space-refused short e n l q =
       let x = object-length (table e) n in
       let long = unit-128 e x q (table-is e .stable n) in
-      let few : most (room-in 128) (met s) ≤ length s - 8 = rw (sym whole) (rooms-inside s (blocks-of s) cut 128 (omega arith)) in
+      let few : most (room-in 128) (met s) ≤ length s - 8 =
+      rw (sym whole) (rooms-inside s (blocks-of s) cut 128 (omega arith)) in
       let none = room-exactly s (blocks-of s) cut (consistent-apart s k ok) 128 x (omega arith) (omega arith) in
       ap (λ t. 11 when t) (rw q (none ∙ lt-ltb (most (room-in 128) (met s)) x (omega arith)))

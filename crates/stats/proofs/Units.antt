@@ -150,15 +150,19 @@ rounds u64 k = omega arith
 pub units-told : (e n : ℕ) → Told (table e n) ⊎ (table e n ≡ 128)
 unfolding table
 units-told zero n = by-row (λ v. Told v ⊎ (v ≡ 128)) n (λ _. inl u8) (λ _ _. inl u16) (λ _ _. inl u32) (λ _. inl u64)
-units-told (suc e) n = by-row-2 (λ v. Told v ⊎ (v ≡ 128)) n (λ _. inl u8) (λ _ _. inl u16) (λ _ _. inl u32) (λ _ _. inl u64) (λ _. inr refl)
+units-told (suc e) n =
+    by-row-2 (λ v. Told v ⊎ (v ≡ 128)) n (λ _. inl u8) (λ _ _. inl u16) (λ _ _. inl u32) (λ _ _. inl u64)
+    (λ _. inr refl)
 
 -- a length with the unit 128 that is rounded is as long as the greatest heap
 pub unit-128 : (e n : ℕ) → table e n ≡ 128 → object-length (table e) n ≡ n → 32768 ≤ n
 unfolding table object-length
 unit-128 zero n =
     by-row (λ v. v ≡ 128 → (n + (v - 1)) / v * v ≡ n → 32768 ≤ n) n
-    (λ _ z s. absurd (omega arith)) (λ _ _ z s. absurd (omega arith)) (λ _ _ z s. absurd (omega arith)) (λ _ z s. absurd (omega arith))
+    (λ _ z s. absurd (omega arith)) (λ _ _ z s. absurd (omega arith)) (λ _ _ z s. absurd (omega arith))
+    (λ _ z s. absurd (omega arith))
 unit-128 (suc e) n =
     by-row-2 (λ v. v ≡ 128 → (n + (v - 1)) / v * v ≡ n → 32768 ≤ n) n
-    (λ _ z s. absurd (omega arith)) (λ _ _ z s. absurd (omega arith)) (λ _ _ z s. absurd (omega arith)) (λ _ _ z s. absurd (omega arith))
+    (λ _ z s. absurd (omega arith)) (λ _ _ z s. absurd (omega arith)) (λ _ _ z s. absurd (omega arith))
+    (λ _ _ z s. absurd (omega arith))
     (λ l z s. omega arith)

@@ -8,12 +8,14 @@ ghost use Rattle.image_model.specs.Answers.{restored-to};
 ghost use Rattle.image_model.specs.Images.{restore-image};
 ghost use Rattle.image.specs.Restoring.{Left};
 
-// The heap of an image into the lent heap, and its accounts into the words; padding becomes zero. A refused restore leaves every byte and
-// every word: the accounts are read into words of its own, and copied where the image is accepted.
+// The heap of an image into the lent heap, and its accounts into the words; padding becomes zero. A refused restore
+// leaves every byte and every word: the accounts are read into words of its own, and copied where the image is
+// accepted.
 pub fn restore_image(image: &[u8], heap: &mut [u8], words: &mut [u32; WORDS]) -> ReadAnswer
     ensures holds { λ r. ⌜ restored-to (now (heap .exit)) (accounts-of (now (words .exit))) r
         ≡ restore-image (now (image .entry)) (now (heap .entry)) (accounts-of (now (words .entry))) ⌝ }
-    ensures leaves { λ _. ⌜ Left (restore-image (now (image .entry)) (now (heap .entry)) (accounts-of (now (words .entry))) .refusal)
+    ensures leaves { λ _. ⌜ Left
+        (restore-image (now (image .entry)) (now (heap .entry)) (accounts-of (now (words .entry))) .refusal)
         (now (words .entry)) (now (words .exit)) ⌝ }
 {
     let mut fresh = [0u32; WORDS];

@@ -29,7 +29,8 @@ returns c =
     let p = s .before .before in
     let a = p .before .before .before .args in
     let e = sym (ap paired (s .enum-told .given .1)) ∙ p .pair-of .ensures in
-    c .answer-of .ensures ∙ ap stepped (f .step-from .ensures) ∙ advanced-step (a .first .now) (a .second .now) e (a .from)
+    c .answer-of .ensures ∙ ap stepped (f .step-from .ensures)
+    ∙ advanced-step (a .first .now) (a .second .now) e (a .from)
 
 returns-2 : tie.Need-returns-2
 returns-2 c =

@@ -52,7 +52,8 @@ returns-2 c =
     one-given (a .first .now) (a .second .now) (a .n) (g .difference .given .0 .0)
     (sym (l .loop .inv)
     ∙ ap (getElem? (differences-from (l .loop .from) s t)) (c .if1 .taken)
-    ∙ next-first s t (l .loop .from) (g .difference .given .0 .1 .0) (g .difference .given .0 .0) (sym (d .step-from .ensures) ∙ g .difference .given .1))
+    ∙ next-first s t (l .loop .from) (g .difference .given .0 .1 .0) (g .difference .given .0 .0)
+    (sym (d .step-from .ensures) ∙ g .difference .given .1))
 
 sub-left : tie.Need-sub-left Inv-loop μ-loop
 sub-left c = search needs

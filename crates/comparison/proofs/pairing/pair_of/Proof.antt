@@ -32,7 +32,8 @@ returns-2 c =
     let p = s .before .before in
     let a = p .before .before .before .args in
     first-bad (a .first .now) (a .second .now) (s .shape .given .0 .0)
-    (examined-number (a .first .now) (p .examine .result) (p .examine .ensures) (s .shape .given .0 .0) (s .shape .given .1))
+    (examined-number (a .first .now) (p .examine .result) (p .examine .ensures) (s .shape .given .0 .0)
+    (s .shape .given .1))
 
 pub pair-of-spec : {M : Type 1} → statement M
 pair-of-spec =

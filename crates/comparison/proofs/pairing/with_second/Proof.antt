@@ -32,7 +32,8 @@ returns-2 c =
     let p = s .before .before in
     let a = p .before .before .before .args in
     second-bad (a .first .now) (a .second .now) (s .shape .given .0 .0)
-    (examined-number (a .second .now) (p .examine .result) (p .examine .ensures) (s .shape .given .0 .0) (s .shape .given .1))
+    (examined-number (a .second .now) (p .examine .result) (p .examine .ensures) (s .shape .given .0 .0)
+    (s .shape .given .1))
 
 pub with-second-spec : {M : Type 1} → statement M
 with-second-spec =

@@ -23,7 +23,9 @@ returns c =
     let p = d .before in
     let a = p .before .before .before .args in
     c .reply-of-next .ensures
-    ∙ ap next-reply (d .next-difference .ensures ∙ ap (λ (x : Position). advance-of (a .first .now) (a .second .now) x) (p .position-of .ensures))
+    ∙ ap next-reply
+    (d .next-difference .ensures
+    ∙ ap (λ (x : Position). advance-of (a .first .now) (a .second .now) x) (p .position-of .ensures))
 
 pub lokhazim-image-compare-next-spec : {M : Type 1} → statement M
 lokhazim-image-compare-next-spec =

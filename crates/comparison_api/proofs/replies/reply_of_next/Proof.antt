@@ -65,7 +65,16 @@ returns-3 : tie.Need-returns-3
 unfolding advanced
 returns-3 c =
     let n = c .before in
-    (λ i. record { refusal = n .number .ensures i; which = c .number-of .ensures i; kind = 0; place = 0; length = 0; part = 0; at = 0 })
+    (λ i.
+    record {
+      refusal = n .number .ensures i;
+      which = c .number-of .ensures i;
+      kind = 0;
+      place = 0;
+      length = 0;
+      part = 0;
+      at = 0;
+    })
     ∙ ap (λ (x : NextAnswer). next-reply (advanced x)) (sym (n .before .before .answer2 .given .1))
 
 pub reply-of-next-spec : {M : Type 1} → statement M

@@ -25,7 +25,8 @@ returns c =
     let a = w .before .before .before .before .before .args in
     let e = c .number-of .ensures (l .1 .0) (accounts-of (l .1 .1 .0)) ∙ w .restore-image .ensures .0 in (
       e,
-      subst (λ (n : ℕ). Left n (a .words .now) (l .1 .1 .0)) (sym (ap (λ (r : Restored-to). r .refusal) e)) (w .restore-image .ensures .1),
+      subst (λ (n : ℕ). Left n (a .words .now) (l .1 .1 .0)) (sym (ap (λ (r : Restored-to). r .refusal) e))
+          (w .restore-image .ensures .1),
     )
 
 pub lokhazim-image-in-place-restore-spec : {M : Type 1} → statement M

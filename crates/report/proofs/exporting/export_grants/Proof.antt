@@ -26,7 +26,8 @@ returns-2 c =
     let s = e .before .before in
     let a = s .args in
     ap export-told
-    (export-put (a .text .now) (a .grants) (omega arith) (s .good .1 .0 .1 .0 .1) (p .put-lines .last .0) (p .put-lines .ensures))
+    (export-put (a .text .now) (a .grants) (omega arith) (s .good .1 .0 .1 .0 .1) (p .put-lines .last .0)
+    (p .put-lines .ensures))
 
 pub export-grants-spec : {M : Type 1} → statement M
 export-grants-spec = tie.close (tie.spec returns put-lines-requires same-length returns-2)

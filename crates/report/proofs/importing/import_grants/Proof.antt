@@ -36,7 +36,8 @@ returns : tie.Need-returns Inv-loop μ-loop
 returns c =
     let l = c .before .before .before in
     ap import-told
-    (c .refused .ensures ∙ import-over (l .before .before .args .text .now) (l .loop .grants) (l .loop .i) (l .loop .inv .1)
+    (c .refused .ensures
+    ∙ import-over (l .before .before .args .text .now) (l .loop .grants) (l .loop .i) (l .loop .inv .1)
     (c .before .before .loop-test .taken) (omega arith))
 
 mul-read-line : tie.Need-mul-read-line Inv-loop μ-loop
@@ -66,8 +67,10 @@ returns-2 c =
     let r = m .before .before in
     let l = r .before .before .before in
     ap import-told
-    (c .refused2 .ensures ∙ import-bad (l .before .before .args .text .now) (l .loop .grants) (l .loop .i) (l .loop .inv .1)
-    (r .before .before .loop-test .taken) (m .line2 .given .0 .0) (r .before .if1 .left) (sym (m .line2 .given .1) ∙ r .read-line .ensures))
+    (c .refused2 .ensures
+    ∙ import-bad (l .before .before .args .text .now) (l .loop .grants) (l .loop .i) (l .loop .inv .1)
+    (r .before .before .loop-test .taken) (m .line2 .given .0 .0) (r .before .if1 .left)
+    (sym (m .line2 .given .1) ∙ r .read-line .ensures))
 
 add-i : tie.Need-add-i Inv-loop μ-loop
 add-i c = search needs
@@ -88,7 +91,9 @@ loop-again c =
 returns-3 : tie.Need-returns-3 Inv-loop μ-loop
 returns-3 c =
     let l = c .before in
-    ap import-told (import-end (l .before .before .args .text .now) (l .loop .grants) (l .loop .i) (l .loop .inv .1) (c .loop-test .left))
+    ap import-told
+    (import-end (l .before .before .args .text .now) (l .loop .grants) (l .loop .i) (l .loop .inv .1)
+    (c .loop-test .left))
 
 pub import-grants-spec : {M : Type 1} → statement M
 import-grants-spec =

@@ -21,7 +21,8 @@ returns : tie.Need-returns
 returns c =
     let w = c .before .before .before in
     let e = w .export-grants .ensures in
-    let q = export-told-injective (record { text = w .export-grants .last .0; answer = w .export-grants .result }) _ e in
+    let q = export-told-injective
+    (record { text = w .export-grants .last .0; answer = w .export-grants .result }) _ e in
     (c .reply-of-export .ensures (w .export-grants .last .0) ∙ ap export-reply e, ap (λ (x : Written). x .text) q)
 
 pub lokhazim-report-export-spec : {M : Type 1} → statement M

@@ -66,7 +66,8 @@ returns-3 c =
     let k = known l in
     let n = k .1 .1 in
     ap add-told
-    (add-falls (a .name) (a .version) (a .value .now) (a .store .now) (a .used) (k .0) (k .1 .0) (omega arith) (omega arith))
+    (add-falls (a .name) (a .version) (a .value .now) (a .store .now) (a .used) (k .0) (k .1 .0) (omega arith)
+    (omega arith))
 
 sub-if3 : tie.Need-sub-if3
 sub-if3 c =
@@ -88,7 +89,8 @@ returns-4 c =
     let k = known l in
     let n = k .1 .1 in
     ap add-told
-    (add-full (a .name) (a .version) (a .value .now) (a .store .now) (a .used) (k .0) (k .1 .0) (omega arith) (omega arith) (omega arith))
+    (add-full (a .name) (a .version) (a .value .now) (a .store .now) (a .used) (k .0) (k .1 .0) (omega arith)
+    (omega arith) (omega arith))
 
 put-entry-requires : tie.Need-put-entry-requires
 put-entry-requires c κs = search needs
@@ -112,7 +114,8 @@ returns-5 c =
     let e : a .used + 4 + length (a .value .now) ≡ a .used + (4 + length (a .value .now)) = omega arith in
     (λ i. added-to (p .put-entry .ensures i) (Added (e i)))
     ∙ ap add-told
-    (add-done (a .name) (a .version) (a .value .now) (a .store .now) (a .used) (k .0) (k .1 .0) (omega arith) (omega arith) (omega arith))
+    (add-done (a .name) (a .version) (a .value .now) (a .store .now) (a .used) (k .0) (k .1 .0) (omega arith)
+    (omega arith) (omega arith))
 
 pub add-spec : {M : Type 1} → statement M
 add-spec =

@@ -11,10 +11,14 @@ use Rattle.settings.proofs.entries.nth_entry.Tie as tie
 
 returns : tie.Need-returns
 unfolding entry-told nth-of
-returns c = let a = c .before .before .args in sym (ap (nth-of (a .n)) (stored-beyond (a .store .now) (a .used) (c .if1 .taken)))
+returns c =
+    let a = c .before .before .args in
+    sym (ap (nth-of (a .n)) (stored-beyond (a .store .now) (a .used) (c .if1 .taken)))
 
 slice-aggregate-nth-in : tie.Need-slice-aggregate-nth-in
-slice-aggregate-nth-in c = let a = c .before .before .before .args in sym (length-take-le (a .used) (a .store .now) (omega arith))
+slice-aggregate-nth-in c =
+    let a = c .before .before .before .args in
+    sym (length-take-le (a .used) (a .store .now) (omega arith))
 
 nth-in-requires : tie.Need-nth-in-requires
 nth-in-requires c κs = search needs

@@ -1,5 +1,5 @@
--- The invariant: the entries so far are read (`Walked`), they are counted, and what was found is the n-th of them (`nth-snoc`). The measure
--- is how many bytes are left.
+-- The invariant: the entries so far are read (`Walked`), they are counted, and what was found is the n-th of them
+-- (`nth-snoc`). The measure is how many bytes are left.
 -- Assumes nothing.
 use native.Mathlib.Omega.{arith}
 use Prim.Native.Nat.{_+_, _-_, _≤_}
@@ -18,7 +18,8 @@ use Rattle.settings.proofs.entries.nth_in.Tie as tie
 
 abbrev Inv-loop : tie.InvT-loop
 Inv-loop store n found₀ number₀ last₀ at₀ found number last at =
-    (read : List Entry) × (Walked store read last at × ((number ≡ length read) × ((number ≤ at) × (entry-told found ≡ nth-of n (some read)))))
+    (read : List Entry) × (Walked store read last at
+    × ((number ≡ length read) × ((number ≤ at) × (entry-told found ≡ nth-of n (some read)))))
 
 abbrev μ-loop : tie.MeasureT-loop
 μ-loop store n found₀ number₀ last₀ at₀ found number last at = length store - at
@@ -41,9 +42,11 @@ unfolding entry-told nth-of
 returns c =
     let at = c .before .before .before .before in
     let a = at .before .before .args in
-    let bad = unread (at .loop .last) (at .loop .at) (a .store .now) (sym (c .enum-told .given .1) ∙ c .before .before .read-entry .ensures) in
+    let bad = unread (at .loop .last) (at .loop .at) (a .store .now)
+    (sym (c .enum-told .given .1) ∙ c .before .before .read-entry .ensures) in
     let i = at .loop .inv in
-    sym (ap (nth-of (a .n)) (walk-bad (a .store .now) (i .0) (at .loop .last) (at .loop .at) (i .1 .0) (omega arith) bad))
+    sym (ap (nth-of (a .n))
+    (walk-bad (a .store .now) (i .0) (at .loop .last) (at .loop .at) (i .1 .0) (omega arith) bad))
 
 picked-requires : tie.Need-picked-requires Inv-loop μ-loop
 picked-requires c κs = search needs
@@ -92,7 +95,9 @@ returns-2 c =
     let at = c .before in
     let a = at .before .before .args in
     let i = at .loop .inv in
-    i .1 .1 .1 .1 ∙ sym (ap (nth-of (a .n)) (walk-end (a .store .now) (i .0) (at .loop .last) (at .loop .at) (i .1 .0) (omega arith)))
+    i .1 .1 .1 .1
+    ∙ sym (ap (nth-of (a .n))
+    (walk-end (a .store .now) (i .0) (at .loop .last) (at .loop .at) (i .1 .0) (omega arith)))
 
 pub nth-in-spec : {M : Type 1} → statement M
 nth-in-spec =

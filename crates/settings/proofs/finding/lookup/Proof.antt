@@ -73,7 +73,8 @@ returns : tie.Need-returns
 unfolding part bytes-of lies-at refusal-of
 returns c =
     let a = c .before .before .before .before .before .before .before .args in
-    let e = sym (c .before .before .span .given .1) ∙ located-injective _ _ (c .before .before .before .before .find .ensures) in (
+    let e = sym (c .before .before .span .given .1)
+    ∙ located-injective _ _ (c .before .before .before .before .find .ensures) in (
       ap (λ (p : Place). bytes-of p (a .board .now) (a .defaults .now)) e,
       (
         (λ i. (a .board .ptr .0, add-comm (c .before .before .span .given .0 .0 .start) (a .board .ptr .1) i))
@@ -86,7 +87,8 @@ returns-2 : tie.Need-returns-2
 unfolding part bytes-of lies-at refusal-of
 returns-2 c =
     let a = c .before .before .before .before .before .before .before .args in
-    let e = sym (c .before .before .span2 .given .1) ∙ located-injective _ _ (c .before .before .before .before .find .ensures) in (
+    let e = sym (c .before .before .span2 .given .1)
+    ∙ located-injective _ _ (c .before .before .before .before .find .ensures) in (
       ap (λ (p : Place). bytes-of p (a .board .now) (a .defaults .now)) e,
       (
         (λ i. (a .defaults .ptr .0, add-comm (c .before .before .span2 .given .0 .0 .start) (a .defaults .ptr .1) i))
@@ -99,7 +101,8 @@ returns-3 : tie.Need-returns-3
 unfolding part bytes-of lies-at refusal-of
 returns-3 c =
     let a = c .before .before .before .before .before .before .before .before .args in
-    let e = sym (c .before .before .before .why .given .1) ∙ located-injective _ _ (c .before .before .before .before .before .find .ensures) in (
+    let e = sym (c .before .before .before .why .given .1)
+    ∙ located-injective _ _ (c .before .before .before .before .before .find .ensures) in (
       ap (λ (p : Place). bytes-of p (a .board .now) (a .defaults .now)) e,
       (
         (λ i. (a .board .ptr .0, zero-add (a .board .ptr .1) i))

@@ -25,7 +25,8 @@ returns c =
     let r = c .before .before .before .before in
     let a = r .before .before .before .before .before .args in
     let l = r .read-image .last in
-    let e = sym (ap (restored-to (l .1 .0) (accounts-of (l .1 .1 .0))) (c .enum-told .given .1)) ∙ r .read-image .ensures .0 in
+    let e = sym (ap (restored-to (l .1 .0) (accounts-of (l .1 .1 .0))) (c .enum-told .given .1))
+    ∙ r .read-image .ensures .0 in
     let i = a .image .now in
     let h = a .heap .now in
     let k = accounts-of (a .words .now) in
