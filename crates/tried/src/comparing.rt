@@ -2,7 +2,7 @@
 use words::WORDS;
 
 // Every word of two accounts.
-pub fn same_words(one: &[u32; WORDS], two: &[u32; WORDS]) -> bool {
+pub(crate) fn same_words(one: &[u32; WORDS], two: &[u32; WORDS]) -> bool {
     let mut i = 0;
     while i < WORDS {
         if one[i] != two[i] {

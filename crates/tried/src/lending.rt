@@ -110,7 +110,7 @@ fn is_written_by_value() -> bool {
     check::same(&heap, &wanted)
 }
 
-pub fn all() {
+pub(crate) fn all() {
     tell(
         b"heap::in_place::lend",
         lends() && refuses() && is_written(),

@@ -27,17 +27,17 @@ fn handle(base: u32, length: u32, serial: u32) -> Handle {
     }
 }
 
-pub fn second() -> Handle {
+pub(crate) fn second() -> Handle {
     handle(32, 24, 2)
 }
 
 // A handle with a serial that no object has any more.
-pub fn stale() -> Handle {
+pub(crate) fn stale() -> Handle {
     handle(64, 8, 3)
 }
 
 // The bytes of a heap before it is opened.
-pub fn bytes() -> [u8; 128] {
+pub(crate) fn bytes() -> [u8; 128] {
     [170; 128]
 }
 
@@ -56,7 +56,7 @@ fn leave_one(heap: &mut [u8], words: &mut [u32; WORDS]) {
 }
 
 // The state that this page describes.
-pub fn start(heap: &mut [u8], words: &mut [u32; WORDS]) {
+pub(crate) fn start(heap: &mut [u8], words: &mut [u32; WORDS]) {
     open_with_two(heap, words);
     leave_one(heap, words);
 }

@@ -1,7 +1,7 @@
 // What was found of a function, as a line.
 
 // The function's name, and whether all was as expected.
-pub fn tell(name: &[u8], good: bool) {
+pub(crate) fn tell(name: &[u8], good: bool) {
     io::write_all(1, name);
     if good {
         io::write_all(1, b": ok\n");
