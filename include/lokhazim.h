@@ -76,13 +76,17 @@ extern "C" {
  *      LOKHAZIM_ALIGNMENT is 64, where it was 32
  *   6  lokhazim_queue_in_place_send takes the queue by pointer and gives the
  *      refusal's number; struct lokhazim_queue_reply is gone
+ *   7  struct lokhazim_next_reply begins with the refusal and the image that it is
+ *      about; lokhazim_settings_entry takes an entry's number, in the place of
+ *      lokhazim_settings_next; lokhazim_settings_get sets the value where it is
+ *      refused too
  */
-#define LOKHAZIM_INTERFACE 6
+#define LOKHAZIM_INTERFACE 7
 
 /* The version of the library, as text and by its three numbers. CHANGELOG.md says what each version brought. */
-#define LOKHAZIM_VERSION "0.6.0"
+#define LOKHAZIM_VERSION "0.7.0"
 #define LOKHAZIM_VERSION_MAJOR 0
-#define LOKHAZIM_VERSION_MINOR 6
+#define LOKHAZIM_VERSION_MINOR 7
 #define LOKHAZIM_VERSION_PATCH 0
 
 /* ---- Numbers ---- */

@@ -122,8 +122,10 @@ struct lokhazim_compare_reply {
     size_t length;
 };
 
-/* The reply of the next difference, with the position behind it. */
+/* The reply of the next difference, with the position behind it; refusal and which as of comparing. */
 struct lokhazim_next_reply {
+    uint32_t refusal;
+    uint32_t which;
     uint32_t kind;
     size_t place;
     size_t length;
@@ -151,10 +153,14 @@ LOKHAZIM_IMAGE_OFFSET(lokhazim_examine_reply, heap_length, 8);
 LOKHAZIM_IMAGE_SIZE(lokhazim_compare_reply, sizeof(size_t) == 8 ? 32 : 20);
 LOKHAZIM_IMAGE_OFFSET(lokhazim_compare_reply, kind, 8);
 LOKHAZIM_IMAGE_OFFSET(lokhazim_compare_reply, place, sizeof(size_t) == 8 ? 16 : 12);
-LOKHAZIM_IMAGE_SIZE(lokhazim_next_reply, 5 * sizeof(size_t));
-LOKHAZIM_IMAGE_OFFSET(lokhazim_next_reply, place, sizeof(size_t));
-LOKHAZIM_IMAGE_OFFSET(lokhazim_next_reply, part, 3 * sizeof(size_t));
-LOKHAZIM_IMAGE_OFFSET(lokhazim_next_reply, at, 4 * sizeof(size_t));
+LOKHAZIM_IMAGE_SIZE(lokhazim_next_reply, sizeof(size_t) == 8 ? 48 : 28);
+LOKHAZIM_IMAGE_OFFSET(lokhazim_next_reply, refusal, 0);
+LOKHAZIM_IMAGE_OFFSET(lokhazim_next_reply, which, 4);
+LOKHAZIM_IMAGE_OFFSET(lokhazim_next_reply, kind, 8);
+LOKHAZIM_IMAGE_OFFSET(lokhazim_next_reply, place, sizeof(size_t) == 8 ? 16 : 12);
+LOKHAZIM_IMAGE_OFFSET(lokhazim_next_reply, length, sizeof(size_t) == 8 ? 24 : 16);
+LOKHAZIM_IMAGE_OFFSET(lokhazim_next_reply, part, sizeof(size_t) == 8 ? 32 : 20);
+LOKHAZIM_IMAGE_OFFSET(lokhazim_next_reply, at, sizeof(size_t) == 8 ? 40 : 24);
 
 #undef LOKHAZIM_IMAGE_SIZE
 #undef LOKHAZIM_IMAGE_OFFSET
@@ -193,6 +199,10 @@ struct lokhazim_image_reply lokhazim_image_in_place_write_form_1(
 uint32_t lokhazim_image_in_place_read(
     const uint8_t *image, size_t image_length, uint8_t *heap, size_t length, struct lokhazim_accounts *accounts);
 
+/* The same where heap and accounts are in use: where it is refused, both stay, every byte. */
+uint32_t lokhazim_image_in_place_restore(
+    const uint8_t *image, size_t image_length, uint8_t *heap, size_t length, struct lokhazim_accounts *accounts);
+
 /* ---- The library's functions on images alone ---- */
 
 /* Tells the image's form and the length of the heap in it, by refusals 21 to 24; whether heap and accounts agree is told by reading. */
@@ -222,8 +232,8 @@ struct lokhazim_compare_reply lokhazim_image_compare(
     const uint8_t *first, size_t first_length, const uint8_t *second, size_t second_length, size_t n);
 
 /*
- * Tells the first difference from a position on, which begins as part 0, at 0, and goes on with the reply's. To list all of
- * two long images, ask lokhazim_image_compare once, whether they can be compared, and then this. It refuses nothing.
+ * Tells the first difference from a position on, which begins as part 0, at 0, and goes on with the reply's: asked so, it lists
+ * what lokhazim_image_compare lists. Both images are checked at each call. Refusals as of lokhazim_image_compare.
  */
 struct lokhazim_next_reply lokhazim_image_compare_next(
     const uint8_t *first, size_t first_length, const uint8_t *second, size_t second_length, uint32_t part, size_t at);
@@ -288,26 +298,23 @@ static inline enum lokhazim_image_refusal lokhazim_heap_save_form_1(
 }
 
 /*
- * Reads an image of either form into heap and accounts. Handles from before the image are good again, handles that were given
- * out after it mean nothing. Form 1 gives all permissions to every quota, and a plain heap of edition 1. Where it is refused,
- * heap and accounts stay as they were, and calls go on with them; for this it has second accounts on the stack, 4,488 bytes.
- * Refusals 21 to 26.
+ * Reads an image of either form into heap and accounts. Handles from before the image are good again. Drop every handle that was
+ * given out after it: serials are given again, so such a handle may name an object that another part was given since the restore,
+ * and no call can tell. Form 1 gives all permissions to every quota, and a plain heap of edition 1. Where it is refused, heap and
+ * accounts stay as they were, and calls go on with them; for this it has second accounts on the stack, 4,488 bytes. Refusals 21
+ * to 26.
  */
 static inline enum lokhazim_image_refusal lokhazim_heap_restore(
     uint8_t *heap, size_t length, struct lokhazim_accounts *accounts,
     const uint8_t *image, size_t image_length)
 {
-    struct lokhazim_accounts fresh;
-    const uint32_t refusal = lokhazim_image_in_place_read(image, image_length, heap, length, &fresh);
-    if (refusal == LOKHAZIM_IMAGE_ACCEPTED) {
-        *accounts = fresh;
-    }
-    return (enum lokhazim_image_refusal)refusal;
+    return (enum lokhazim_image_refusal)lokhazim_image_in_place_restore(image, image_length, heap, length, accounts);
 }
 
 /*
  * The same for a board that starts, whose accounts hold nothing yet: it needs no second accounts. Where it is refused, the heap
- * stays as it was and the accounts are zero; then open the heap. Refusals 21 to 26.
+ * stays as it was and the accounts are zero; then open the heap. Handles given out after the image are to be dropped here too,
+ * such as those that another board or a memory has kept. Refusals 21 to 26.
  */
 static inline enum lokhazim_image_refusal lokhazim_heap_resume(
     uint8_t *heap, size_t length, struct lokhazim_accounts *accounts,

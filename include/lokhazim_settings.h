@@ -78,7 +78,7 @@ struct lokhazim_add_reply {
     size_t used;
 };
 
-/* The reply of the next entry: `there` is 1 where there is one, 0 at the end and where it is refused. */
+/* The reply of an entry: `there` is 1 where there is one, 0 behind the last and where it is refused. */
 struct lokhazim_entry_reply {
     uint32_t refusal;
     uint32_t there;
@@ -114,12 +114,8 @@ struct lokhazim_add_reply lokhazim_settings_add(
     uint8_t *store, size_t length, size_t used,
     uint8_t name, uint16_t version, const uint8_t *value, size_t value_length);
 
-/*
- * Tells the entry at a place of a store, behind an entry of version `last`. Begin at place 0 with last 0, and go on with the
- * reply's end and version. Refusal 41.
- */
-struct lokhazim_entry_reply lokhazim_settings_next(
-    const uint8_t *store, size_t length, size_t used, size_t at, uint16_t last);
+/* Tells the n-th entry of a store, from 0. The whole store is read: refusal 41 where any entry is malformed. */
+struct lokhazim_entry_reply lokhazim_settings_entry(const uint8_t *store, size_t length, size_t used, size_t n);
 
 /* ---- A refusal in words ---- */
 
@@ -148,7 +144,7 @@ static inline const char *lokhazim_settings_refusal_text(uint32_t refusal)
 
 /*
  * Gives the value of a name at a version as the bytes where they lie, in `board` or in `defaults`: *value becomes their
- * address and *value_length their number, which can be 0. Where it is refused, both stay. Refusals 41, 42.
+ * address and *value_length their number, which can be 0. Where it is refused, they become NULL and 0. Refusals 41, 42.
  */
 static inline enum lokhazim_settings_refusal lokhazim_settings_get(
     const uint8_t *board, size_t board_length, size_t board_used,
@@ -157,9 +153,10 @@ static inline enum lokhazim_settings_refusal lokhazim_settings_get(
 {
     const struct lokhazim_find_reply reply = lokhazim_settings_find(
         board, board_length, board_used, defaults, defaults_length, defaults_used, name, version);
+    *value = NULL;
+    *value_length = reply.end - reply.start;
     if (reply.refusal == LOKHAZIM_SETTINGS_ACCEPTED) {
         *value = (reply.store == LOKHAZIM_SETTINGS_BOARD ? board : defaults) + reply.start;
-        *value_length = reply.end - reply.start;
     }
     return (enum lokhazim_settings_refusal)reply.refusal;
 }

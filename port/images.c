@@ -63,6 +63,14 @@ uint32_t lokhazim_image_in_place_read(
     return lokhazim_core_image_in_place_read(&from, &to, accounts);
 }
 
+uint32_t lokhazim_core_image_in_place_restore(const struct slice *, const struct slice *, struct lokhazim_accounts *);
+uint32_t lokhazim_image_in_place_restore(
+    const uint8_t *image, size_t image_length, uint8_t *heap, size_t length, struct lokhazim_accounts *accounts)
+{
+    const struct slice from = lent(image, image_length), to = lent(heap, length);
+    return lokhazim_core_image_in_place_restore(&from, &to, accounts);
+}
+
 void lokhazim_core_image_examine(struct core_examined *, const struct slice *);
 struct lokhazim_examine_reply lokhazim_image_examine(const uint8_t *image, size_t image_length)
 {

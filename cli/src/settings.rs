@@ -92,7 +92,7 @@ pub fn get(
 
 /// Whether the bytes are no run of entries.
 fn is_malformed(bytes: &[u8]) -> bool {
-    Store::whole(bytes).entries().any(|entry| entry.is_err())
+    matches!(Store::whole(bytes).entries().next(), Some(Err(_)))
 }
 
 /// Adds an entry to a file and prints its new length.
@@ -111,22 +111,16 @@ pub fn add(file: &str, name: &str, version: &str, value: &str, form: Form) -> Re
     files::print(format!("ok {used}\n").as_bytes())
 }
 
-/// Prints the entries of a file, a line each; those in front of a bad one too.
+/// Prints the entries of a file, a line each.
 pub fn list(file: &str) -> Result<(), Failure> {
     let bytes = files::read(file)?;
     let mut text = String::new();
-    let mut end = Ok(());
     for entry in Store::whole(&bytes).entries() {
-        match entry {
-            Ok(entry) => {
-                let (length, digits) = (entry.value.len(), hex(entry.value));
-                let line = format!("entry {} {} {length} {digits}", entry.version, entry.name);
-                text.push_str(line.trim_end());
-                text.push('\n');
-            }
-            Err(refusal) => end = Err(refused(file)(refusal)),
-        }
+        let entry = entry.map_err(refused(file))?;
+        let (length, digits) = (entry.value.len(), hex(entry.value));
+        let line = format!("entry {} {} {length} {digits}", entry.version, entry.name);
+        text.push_str(line.trim_end());
+        text.push('\n');
     }
-    files::print(text.as_bytes())?;
-    end
+    files::print(text.as_bytes())
 }

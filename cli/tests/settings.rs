@@ -90,12 +90,7 @@ fn each_refusal_names_file_number_and_reason() {
     assert_eq!(fs::read(folder.join("b")).unwrap(), good);
     assert_eq!(fs::read(folder.join("cut")).unwrap(), good[..5]);
     fs::write(folder.join("half"), [&good[..], &[3, 2, 7]].concat()).unwrap();
-    expect(
-        &run(&["list", "half"]),
-        1,
-        "entry 513 7 2 6f6e\n",
-        "half: refusal 41: a store",
-    );
+    expect(&run(&["list", "half"]), 1, "", "half: refusal 41: a store");
     assert_eq!(names(&folder), ["b", "cut", "e", "half"]);
 }
 

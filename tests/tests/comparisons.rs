@@ -3,7 +3,7 @@
 use lokhazim_reference::{Accounts, Difference, MAX_HEAP, QUOTAS};
 use lokhazim_tests::cases::states::Plan;
 use lokhazim_tests::judge::forms::{Form, FORMS, FORM_1, FORM_2};
-use lokhazim_tests::run::boundary::images::{all_differences, compare};
+use lokhazim_tests::run::boundary::images::{all_differences, compare, next_difference};
 use lokhazim_tests::run::calls::Pair;
 use lokhazim_tests::run::comparisons::pairs;
 use lokhazim_tests::run::image_cases::image_of;
@@ -53,7 +53,7 @@ fn each_kind_of_difference_by_itself() {
     let mut pair = Pair::new();
     let mut expect_in = |form: Form, change: &dyn Fn(&mut State), expected: &[Difference]| {
         let (first, second) = changed(&mut pair, form, 120, change);
-        assert_eq!(all_differences(&first, &second), expected);
+        assert_eq!(all_differences(&first, &second).as_deref(), Ok(expected));
         pair.compare_images(&first, &second)
             .unwrap_or_else(|failure| panic!("{failure}"));
     };
@@ -111,7 +111,7 @@ fn a_run_at_the_first_byte() {
     let mut pair = Pair::new();
     let (first, _) = changed(&mut pair, FORM_2, 40, |_| {});
     let (second, _) = changed(&mut pair, FORM_2, 48, |_| {});
-    let all = all_differences(&first, &second);
+    let all = all_differences(&first, &second).expect("two good images");
     assert_eq!(all[1], Difference::Bytes(0, 1));
     pair.compare_images(&first, &second)
         .unwrap_or_else(|failure| panic!("{failure}"));
@@ -145,10 +145,34 @@ fn thousands_of_runs_in_the_longest_heap() {
     let (first, second) = (striped(1), striped(2));
     let images =
         [&first, &second].map(|state| image_of(&mut pair, FORM_2, state).expect("no difference"));
-    let all = all_differences(&images[0], &images[1]);
+    let all = all_differences(&images[0], &images[1]).expect("two good images");
     assert!(all.len() > 1_000, "{}", all.len());
     pair.compare_images(&images[0], &images[1])
         .unwrap_or_else(|failure| panic!("{failure}"));
+}
+
+/// Bad images give no difference, however long the heap is that they state (rule 14.11).
+#[test]
+fn a_bad_image_has_no_next_difference() {
+    let mut pair = Pair::new();
+    let (first, second) = changed(&mut pair, FORM_2, 120, |state| state.heap[50] = 1);
+    let mut flipped = second.clone();
+    let last = flipped.len() - 400;
+    flipped[last] ^= 1;
+    let mut endless = [0; 512];
+    endless[8..12].fill(255);
+    for (a, b, refused) in [
+        (&first[..], &flipped[..], (22, 2)),
+        (&flipped, &first, (22, 1)),
+        (&endless, &endless, (22, 1)),
+        (&first, &endless, (22, 2)),
+        (&first, &[], (21, 2)),
+    ] {
+        assert_eq!(all_differences(a, b), Err(refused));
+        assert_eq!(next_difference(a, b, (3, 0)), Err(refused));
+        pair.compare_images(a, b)
+            .unwrap_or_else(|failure| panic!("{failure}"));
+    }
 }
 
 /// Images of one state in two forms are not compared (rule 16.9).

@@ -2,7 +2,7 @@
 //! bytes, versions that fall, used lengths beyond the bytes, room to the byte, and random stores.
 
 use lokhazim_reference::Store;
-use lokhazim_tests::run::boundary::settings::{next, EntryReply, FindReply};
+use lokhazim_tests::run::boundary::settings::{entry as nth, EntryReply, FindReply};
 use lokhazim_tests::run::settings::{damaged, entry, good, Made, Settings};
 use lokhazim_tests::seed::Seed;
 
@@ -142,31 +142,38 @@ fn random_stores_answer_alike() {
     }
 }
 
+/// Whether an entry is given.
+fn is_there(reply: &EntryReply) -> bool {
+    reply.there == 1
+}
+
 #[test]
 fn entries_come_one_after_the_other() {
     for n in 0..5_000 {
         let mut seed = Seed::of_case(SEED + 1, n);
         let made = damaged(&mut seed);
         let store = made.store();
-        let (mut at, mut last, mut listed) = (0, 0, Vec::new());
-        let end: EntryReply = loop {
-            let reply = next(store, at, last);
-            if reply.there == 0 {
-                break reply;
-            }
+        let mut listed = Vec::new();
+        let mut given: Vec<EntryReply> =
+            (0..).map(|n| nth(store, n)).take_while(is_there).collect();
+        for reply in &given {
             listed.extend(entry(
                 reply.version,
                 reply.name,
                 &made.bytes[reply.start..reply.end],
             ));
-            (at, last) = (reply.end, reply.version);
-        };
+        }
         let whole = lokhazim_reference::find_setting(store, whole(&[]), 0, 0);
         let malformed = whole.is_err_and(|refusal| refusal.number() == 41);
-        assert_eq!(end.refusal == 41, malformed, "{n}");
-        if !malformed {
-            assert_eq!(listed, made.bytes[..made.used], "{n}");
-        }
+        given.extend([given.len(), given.len() + 1, usize::MAX].map(|n| nth(store, n)));
+        let refusal = if malformed { 41 } else { 0 };
+        assert!(given.iter().all(|reply| reply.refusal == refusal), "{n}");
+        let expected = if malformed {
+            &[]
+        } else {
+            &made.bytes[..made.used]
+        };
+        assert_eq!(listed, expected, "{n}");
     }
 }
 

@@ -218,12 +218,6 @@ pub(crate) fn verdict(number: u32) -> Result<(), ImageRefusal> {
     }))
 }
 
-/// Reads an image into bytes and gives its accounts as words.
-fn restored(image: &[u8], bytes: &mut [u8]) -> Result<Words, ImageRefusal> {
-    let mut words = Words::ZERO;
-    verdict(raw::image_read(image, bytes, &mut words)).map(|()| words)
-}
-
 impl<'a> Heap<'a> {
     /// Writes an image of the heap and its accounts to the front of `image`; gives its length.
     /// Bytes behind it stay.
@@ -281,9 +275,11 @@ impl<'a> Heap<'a> {
 
     /// Takes up a heap from an image; the bytes have the length of the image's heap.
     ///
-    /// A board that was stopped goes on where it was: handles from before the image are good,
-    /// handles that were given out after it mean nothing. The heap's kind and edition come from the image
-    /// too. From form 1 every quota has all permissions, and the heap is plain and of the first edition.
+    /// A board that was stopped goes on where it was: handles from before the image are good. Drop every
+    /// handle that was given out after it: serials are given again, so such a handle may name an object
+    /// that another part was given since, and no call can tell. The heap's kind and edition come from the
+    /// image too. From form 1 every quota has all permissions, and the heap is plain and of the first
+    /// edition.
     ///
     /// # Errors
     ///
@@ -297,11 +293,13 @@ impl<'a> Heap<'a> {
     /// assert_eq!(memory, [7; 128]);
     /// ```
     pub fn restore(bytes: &'a mut [u8], image: &[u8]) -> Result<Heap<'a>, ImageRefusal> {
-        let words = restored(image, bytes)?;
+        let mut words = Words::ZERO;
+        verdict(raw::image_read(image, bytes, &mut words))?;
         Ok(Heap { bytes, words })
     }
 
-    /// Takes this heap back to an image of a heap of the same length.
+    /// Takes this heap back to an image of a heap of the same length. What [`Heap::restore`] says of
+    /// handles that were given out after the image holds here too.
     ///
     /// # Errors
     ///
@@ -322,7 +320,6 @@ impl<'a> Heap<'a> {
     /// # Ok::<(), Box<dyn std::error::Error>>(())
     /// ```
     pub fn go_back(&mut self, image: &[u8]) -> Result<(), ImageRefusal> {
-        self.words = restored(image, self.bytes)?;
-        Ok(())
+        verdict(raw::image_restore(image, self.bytes, &mut self.words))
     }
 }

@@ -179,6 +179,10 @@ pub struct CompareReply {
 #[repr(C)]
 pub struct NextReply {
     /// As in [`CompareReply`].
+    pub refusal: u32,
+    /// As in [`CompareReply`].
+    pub which: u32,
+    /// As in [`CompareReply`].
     pub kind: u32,
     /// As in [`CompareReply`].
     pub place: usize,
@@ -232,7 +236,7 @@ pub struct AddReply {
     pub used: usize,
 }
 
-/// The reply of asking for the next entry of a store.
+/// The reply of asking for an entry of a store.
 #[repr(C)]
 pub struct EntryReply {
     /// The refusal's number.
@@ -245,7 +249,7 @@ pub struct EntryReply {
     pub name: u8,
     /// Its value's first byte in the store.
     pub start: usize,
-    /// The byte behind its value, where the next entry begins.
+    /// The byte behind its value.
     pub end: usize,
 }
 
@@ -271,7 +275,7 @@ lies!(BlockReply, 32: refusal at 0, found at 4, offset at 8, size at 16, serial 
 lies!(ImageReply, 16: refusal at 0, length at 8);
 lies!(ExamineReply, 16: refusal at 0, form at 4, heap_length at 8);
 lies!(CompareReply, 32: refusal at 0, which at 4, kind at 8, place at 16, length at 24);
-lies!(NextReply, 40: kind at 0, place at 8, length at 16, part at 24, at at 32);
+lies!(NextReply, 48: refusal at 0, which at 4, kind at 8, place at 16, length at 24, part at 32, at at 40);
 lies!(ImportReply, 136: grants at 0, refusal at 128, line at 132);
 lies!(ExportReply, 16: refusal at 0, length at 8);
 lies!(FindReply, 24: refusal at 0, store at 4, start at 8, end at 16);

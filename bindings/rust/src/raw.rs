@@ -161,6 +161,13 @@ extern "C" {
         length: usize,
         words: *mut Words,
     ) -> u32;
+    fn lokhazim_image_in_place_restore(
+        image: *const u8,
+        image_length: usize,
+        heap: *mut u8,
+        length: usize,
+        words: *mut Words,
+    ) -> u32;
     fn lokhazim_report_import(text: *const u8, length: usize) -> ImportReply;
     fn lokhazim_report_export(text: *mut u8, length: usize, grants: Grants) -> ExportReply;
     fn lokhazim_settings_find(
@@ -182,12 +189,11 @@ extern "C" {
         value: *const u8,
         value_length: usize,
     ) -> AddReply;
-    fn lokhazim_settings_next(
+    fn lokhazim_settings_entry(
         store: *const u8,
         length: usize,
         used: usize,
-        at: usize,
-        last: u16,
+        n: usize,
     ) -> EntryReply;
     fn lokhazim_queue_new(sender: u32, receiver: u32) -> Queue;
     fn lokhazim_queue_in_place_send(
@@ -291,6 +297,12 @@ pub fn image_read(image: &[u8], heap: &mut [u8], words: &mut Words) -> u32 {
     unsafe { lokhazim_image_in_place_read(at, length, heap.as_mut_ptr(), heap.len(), words) }
 }
 
+pub fn image_restore(image: &[u8], heap: &mut [u8], words: &mut Words) -> u32 {
+    let (at, length) = (image.as_ptr(), image.len());
+    // SAFETY: as above.
+    unsafe { lokhazim_image_in_place_restore(at, length, heap.as_mut_ptr(), heap.len(), words) }
+}
+
 pub fn report_import(text: &[u8]) -> ImportReply {
     // SAFETY: pointer and length are those of a slice that is borrowed for the call.
     unsafe { lokhazim_report_import(text.as_ptr(), text.len()) }
@@ -327,9 +339,9 @@ pub fn settings_add(
     unsafe { lokhazim_settings_add(at, length, used, name, version, from, count) }
 }
 
-pub fn settings_next(store: &[u8], used: usize, at: usize, last: u16) -> EntryReply {
+pub fn settings_entry(store: &[u8], used: usize, n: usize) -> EntryReply {
     // SAFETY: pointer and length are those of a slice that is borrowed for the call.
-    unsafe { lokhazim_settings_next(store.as_ptr(), store.len(), used, at, last) }
+    unsafe { lokhazim_settings_entry(store.as_ptr(), store.len(), used, n) }
 }
 
 pub fn queue_new(sender: u32, receiver: u32) -> Queue {

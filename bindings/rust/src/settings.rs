@@ -127,22 +127,23 @@ impl<'a> Store<'a> {
         Store { bytes, used }
     }
 
-    /// Lists the entries in their order. After an error there is nothing more.
+    /// Lists the entries in their order; of a malformed store the error and nothing else.
     ///
     /// ```
     /// use lokhazim::{Entry, SettingsRefusal, Store};
     ///
     /// let bytes = [1, 0, 7, 2, b'o', b'n', 2, 0, 7, 9];
-    /// let mut entries = Store::whole(&bytes).entries();
+    /// let mut entries = Store::new(&bytes, 6).entries();
     /// assert_eq!(entries.next(), Some(Ok(Entry { version: 1, name: 7, value: b"on" })));
+    /// assert_eq!(entries.next(), None);
+    /// let mut entries = Store::whole(&bytes).entries();
     /// assert_eq!(entries.next(), Some(Err(SettingsRefusal::Malformed)));
     /// assert_eq!(entries.next(), None);
     /// ```
     pub const fn entries(self) -> Entries<'a> {
         Entries {
             store: self,
-            at: 0,
-            last: 0,
+            n: 0,
             done: false,
         }
     }
@@ -225,8 +226,7 @@ pub struct Entry<'a> {
 #[derive(Clone, Debug)]
 pub struct Entries<'a> {
     store: Store<'a>,
-    at: usize,
-    last: u16,
+    n: usize,
     done: bool,
 }
 
@@ -238,12 +238,12 @@ impl<'a> Iterator for Entries<'a> {
             return None;
         }
         let Store { bytes, used } = self.store;
-        let reply = raw::settings_next(bytes, used, self.at, self.last);
+        let reply = raw::settings_entry(bytes, used, self.n);
         if reply.there == 0 {
             self.done = true;
             return verdict(reply.refusal).err().map(Err);
         }
-        (self.at, self.last) = (reply.end, reply.version);
+        self.n += 1;
         Some(Ok(Entry {
             version: reply.version,
             name: reply.name,

@@ -101,7 +101,7 @@ fn calls_in_place_are_those_by_value_from_c() {
 
 #[test]
 fn the_headers_need_no_c_library() {
-    let all = ["", "_image", "_queue", "_report", "_settings"];
+    let all = ["", "_image", "_queue", "_report", "_settings", "_stats"];
     read_headers(&all, &[]);
 }
 

@@ -169,6 +169,8 @@ impl Fields for CompareReply {
 
 impl Fields for NextReply {
     fn visit(&mut self, visitor: &mut Visitor) {
+        visitor.visit32(&mut self.refusal);
+        visitor.visit32(&mut self.which);
         visitor.visit32(&mut self.kind);
         visitor.visit_size(&mut self.place);
         visitor.visit_size(&mut self.length);

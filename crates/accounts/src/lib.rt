@@ -1,7 +1,7 @@
 // The accounts of a shared heap: quotas, the last serial and hold records, taken by value and given back by value (rules, section 3).
 ghost use Prim.Native.Nat.{_<_};
 ghost use mathlib.Core.Path.{_≡_};
-ghost use Rattle.accounts.specs.Accounts.{zero-hold, zero-accounts, begun, charged, refunded, used, is-for, dropped, opened};
+ghost use Rattle.accounts.specs.Accounts.{zero-hold, zero-accounts, begun, charged, refunded, used, dropped, opened};
 ghost use Rattle.accounts.specs.Accounts.{remaining, spent, charge, refund};
 ghost use Rattle.accounts.specs.Accounts.{with-permissions, bit-left, cleared};
 
@@ -146,19 +146,6 @@ impl Hold {
             return true;
         }
         self.count != 0
-    }
-
-    // Whether it is the quota's record for the object with this serial.
-    pub fn is_for(self, serial: u32, quota: u8) -> bool
-        ensures { λ r. ⌜ r ≡ is-for serial quota self ⌝ }
-    {
-        if self.serial != serial {
-            return false;
-        }
-        if self.quota != quota {
-            return false;
-        }
-        self.is_used()
     }
 
     // The record as it is, or zeros where it is one of this quota.

@@ -2,12 +2,11 @@
 use crate::Accounts;
 use crate::HOLDS;
 use crate::Hold;
-use crate::Place;
 use crate::QUOTAS;
 use crate::cleared;
 ghost use mathlib.Core.Path.{_≡_};
 ghost use Rattle.accounts.specs.Accounts.{left-permissions, clear-permissions, with-last-serial};
-ghost use Rattle.accounts.specs.Accounts.{find-hold, lowest-unused, hold-at, put-hold, drop-hold, drop-records, with-holds};
+ghost use Rattle.accounts.specs.Accounts.{hold-at, put-hold, drop-hold, drop-records, with-holds};
 
 impl Accounts {
     // What clearing permissions leaves to a quota (rule 15.4); 0 where there is no such quota.
@@ -40,40 +39,6 @@ impl Accounts {
     {
         self.last_serial = serial;
         self
-    }
-
-    // The place of the quota's record for a serial.
-    pub fn find_hold(self, serial: u32, quota: u8) -> Place
-        ensures { λ r. ⌜ r ≡ find-hold serial quota self ⌝ }
-    {
-        let holds = self.holds;
-        let mut at: usize = 0;
-        while at < HOLDS {
-            if holds[at].serial == serial {
-                let hold = holds[at];
-                if hold.is_for(serial, quota) {
-                    return Place::At(at);
-                }
-            }
-            at += 1;
-        }
-        Place::Nothing
-    }
-
-    // The place of the lowest unused record.
-    pub fn lowest_unused(self) -> Place
-        ensures { λ r. ⌜ r ≡ lowest-unused self ⌝ }
-    {
-        let holds = self.holds;
-        let mut low: usize = 0;
-        while low < HOLDS {
-            let hold = holds[low];
-            if !hold.is_used() {
-                return Place::At(low);
-            }
-            low += 1;
-        }
-        Place::Nothing
     }
 
     // The record at a place, of zeros where there is none.

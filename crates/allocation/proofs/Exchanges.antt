@@ -35,6 +35,7 @@ use Rattle.survey.specs.declared.Wanted.{Wanted}
 use Rattle.survey.specs.declared.Surveyed.{Surveyed}
 use Rattle.survey.specs.Survey.{verdict-of, place-of, block-at, handle-of, shares}
 use Rattle.survey.proofs.Blocks.{block-place}
+use Rattle.survey.proofs.Surveys.{place-any}
 use Rattle.survey.proofs.Told.{is-missing, is-found, is-sized, is-serial}
 use Rattle.allocation.specs.Ready.{Checked, Ready, Holding}
 use Rattle.allocation.specs.Releasing.{claim-dropped}
@@ -92,7 +93,7 @@ module _ {s : List ℕ} {k : Accounts} {w : Wanted} {r : Surveyed} (y : Exchange
     -- the quota's record
     holder-is : place-of (r .holder) ≡ find-hold (old .serial) q k
     holder-is =
-        y .survey .known (y .accepted) .holder (y .requested .checked .exists)
+        y .survey .known (y .accepted) .holder
         ∙ ap (λ (x : ℕ). find-hold x q k) (is-serial (y .survey) (y .accepted) e)
 
     module _ (long : h .length ≡ old .size - 8) where
@@ -165,7 +166,7 @@ module _ {s : List ℕ} {k : Accounts} {w : Wanted} {r : Surveyed} (y : Exchange
           droppable same = record {
             holding = subst (λ (z : ℕ). Holding (table z) t₂ (x .accounts) q (block-at (r .at) t₂) i) (sym same-edition)
                 (record { checked = checked-now; handle = h; named = found-now; place = place-now });
-            others = y .survey .known (y .accepted) .other
+            others = place-any (shares (w .serial) q) (k .holds) (r .other) (y .survey .known (y .accepted) .other)
                 ∙ ap (λ (z : ℕ). any (shares z q) (k .holds)) (is-serial (y .survey) (y .accepted) e)
                 ∙ sym same
                 ∙ ap (λ (z : ℕ). any (shares z q) (x .accounts .holds)) (sym serial-now);

@@ -25,6 +25,7 @@ use Rattle.results.specs.Results.{amount-outcome}
 use Rattle.survey.specs.declared.Wanted.{Wanted}
 use Rattle.survey.specs.declared.Surveyed.{Surveyed}
 use Rattle.survey.specs.Survey.{verdict-of, place-of, block-at, block-of, shares, Survey}
+use Rattle.survey.proofs.Surveys.{place-any}
 use Rattle.survey.proofs.Told.{is-missing, is-found, is-serial}
 use Rattle.allocation.specs.Ready.{Checked}
 use Rattle.allocation.specs.Releasing.{claim-dropped}
@@ -88,7 +89,7 @@ module _ (s : List ℕ) (k : Accounts) (q : ℕ) (h : Handle) (w : Wanted) (r : 
         named = is-found survey ok e
 
         holder-is : place-of (r .holder) ≡ find-hold (m .serial) q k
-        holder-is = survey .known ok .holder exists ∙ ap (λ (x : ℕ). find-hold x q k) (is-serial survey ok e)
+        holder-is = survey .known ok .holder ∙ ap (λ (x : ℕ). find-hold x q k) (is-serial survey ok e)
 
         pub released-unheld : place-of (r .holder) ≡ Nothing → (x : AmountResult) → x ≡ record { accounts = k; answer = NoAmount NotHeld }
             → amount-outcome s x ≡ release u s k q h
@@ -101,7 +102,8 @@ module _ (s : List ℕ) (k : Accounts) (q : ℕ) (h : Handle) (w : Wanted) (r : 
           pub released-droppable : Droppable s k q (block-at (r .at) s) i (ltb (r .other) HOLDS)
           released-droppable = record {
             holding = record { checked = checked; handle = h; named = named; place = place };
-            others = survey .known ok .other ∙ ap (λ (x : ℕ). any (shares x q) (k .holds)) (is-serial survey ok e);
+            others = place-any (shares (h .serial) q) (k .holds) (r .other) (survey .known ok .other)
+                ∙ ap (λ (x : ℕ). any (shares x q) (k .holds)) (is-serial survey ok e);
           }
 
           pub released-is : claim-dropped s k q (object-met (block-at (r .at) s)) ≡ release u s k q h

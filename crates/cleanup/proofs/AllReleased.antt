@@ -30,8 +30,8 @@ use Rattle.cleanup.specs.Releases.{Drop, cleaned, accepted-throughout, F
 use Rattle.cleanup.specs.FreeAll.{all-for, AsFreeAll, releases-of, AllReleased}
 use Rattle.cleanup.proofs.Answers.{permuted-sum}
 use Rattle.cleanup.proofs.Accepting.{Sound, after, Accepted}
-use Rattle.cleanup.proofs.Theorem.{any-order}
-use Rattle.cleanup.proofs.Drained.{ends, again, begun, exists, free-all-by-releases}
+use Rattle.cleanup.proofs.Permuted.{any-order-by}
+use Rattle.cleanup.proofs.Drained.{ends, again, begun, exists, freed-by}
 use Rattle.cleanup.proofs.Enough.{one, times, Enough, enough-accepted, enough-counts}
 
 -- n equal releases count n times or not at all
@@ -162,10 +162,10 @@ module _ (unit : ℕ → ℕ) (q : ℕ) (t : State) (g : Sound unit t) (there : 
       let z : count-of (h .serial) q hs ≡ 0 = rw (x .accounts) at (no-count (h .serial)) in
       omega (arith, c, z, ordered-member hs o h m u .1))))
 
--- of any state, in every order
-pub all-released : (unit : ℕ → ℕ) → AllReleased (release unit) (free-all unit)
+-- of any state, in every order, by one table of units
+pub all-released-by : (unit : ℕ → ℕ) → AllReleased (release unit) (free-all unit)
 unfolding objects-of
-all-released unit = record { always = every }
+all-released-by unit = record { always = every }
   where
     every : (q : ℕ) (s : List ℕ) (k : Accounts) → Fits s k → free-all unit s k q .values .refusal ≡ 0
         → (es : List Drop) → List·Permᴰ (releases-of q (k .holds) (objects-of s)) es
@@ -178,8 +178,8 @@ all-released unit = record { always = every }
         let same = again unit q s k fits e in
         let taken : accepted-throughout (cleaned (release unit) ds s k .answers) ≡ true = rw same at (all-accepted unit q t g there) in
         let none : any (record-of q) (cleaned (release unit) ds s k .accounts .holds) ≡ false = rw same at (no-record-left unit q t g there) in
-        let a = free-all-by-releases unit .always q ds s k fits e (all-the-quotas unit q t g there) taken none in
-        let b = any-order unit .always ds es p s k fits taken in (
+        let a = freed-by unit .always q ds s k fits e (all-the-quotas unit q t g there) taken none in
+        let b = any-order-by unit .always ds es p s k fits taken in (
           b .accepted,
           record { heap = b .heap ∙ a .heap; accounts = b .accounts ∙ a .accounts; amount = sym (permuted-sum (b .answers)) ∙ a .amount },
         )

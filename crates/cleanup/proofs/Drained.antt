@@ -242,6 +242,6 @@ module _ (unit : ℕ → ℕ) (q : ℕ) where
           amount = rw freed-all (rw again at z);
         }
 
--- for every table of units
-pub free-all-by-releases : (unit : ℕ → ℕ) → FreeAllByReleases (release unit) (free-all unit)
-free-all-by-releases unit = record { always = λ q ds s k fits e f a none. by-releases unit q s k fits e ds f a none }
+-- by one table of units, whichever
+pub freed-by : (unit : ℕ → ℕ) → FreeAllByReleases (release unit) (free-all unit)
+freed-by unit = record { always = λ q ds s k fits e f a none. by-releases unit q s k fits e ds f a none }

@@ -6,7 +6,8 @@ pub mod Finding
 pub mod Balance
 pub mod Exchange
 pub mod Accepting
-pub mod Theorem
+pub mod Permuted
 pub mod Drained
 pub mod Enough
 pub mod AllReleased
+pub mod Theorem

@@ -1,22 +1,24 @@
 -- Computed rows: two objects that two quotas hold, released in two orders. The heap is fresh again both times, and the answers come in another order,
 -- so the answers of two orders are not equal as lists. A list with a refused release goes on behind it. In a heap with quarantine the same lists leave two
--- blocks that wait side by side in front of a free one, whichever was released first.
+-- blocks that wait side by side in front of a free one, whichever was released first. A release and a free-all go by
+-- the table of their own accounts.
 -- Assumes nothing.
 use Prim.Native.Nat.{ℕ}
 use mathlib.Core.Path.{_≡_, refl}
 use mathlib.Core.List.{List, [], _∷_, map}
 use mathlib.Core.Bool.{true, false}
 use lib.ListN.{replicate}
-use Rattle.accounts.specs.Accounts.{with-last-serial}
+use Rattle.accounts.specs.Accounts.{with-last-serial, with-edition}
 use Rattle.layout.specs.Blocks.{Block, QUARANTINED, render}
 use Rattle.rounding.specs.Rounding.{unit}
-use Rattle.model.specs.Calls.{Outcome, allocate, claim, release, free-all}
+use Rattle.model.specs.Calls.{Outcome, allocate, claim}
 use Rattle.model.specs.Cases.{opened-heap}
 use Rattle.model.specs.Quarantine.{waiting-heap}
+use Rattle.model.specs.Units.{Placed, placed, gap, heap-with, accounts-with}
 use Rattle.model.specs.declared.Handle.{Handle}
 use Rattle.model.proofs.Computing.{computing}
-use Rattle.cleanup.specs.Releases.{Drop, Answered, Cleaned, cleaned, accepted-throughout}
-use Rattle.cleanup.specs.FreeAll.{all-for, sum-of, releases-of}
+use Rattle.cleanup.specs.Releases.{own-release, Drop, Answered, Cleaned, cleaned, accepted-throughout}
+use Rattle.cleanup.specs.FreeAll.{own-free-all, all-for, sum-of, releases-of}
 
 fresh-heap : Outcome
 fresh-heap = opened-heap 128 100 100
@@ -55,7 +57,7 @@ with-refusals : List Drop
 with-refusals = drop 1 first ∷ drop 0 first ∷ drop 0 first ∷ drop 0 first ∷ drop 1 second ∷ []
 
 after : List Drop → Cleaned
-after ds = cleaned (release unit) ds (held-heap .heap) (held-heap .accounts)
+after ds = cleaned own-release ds (held-heap .heap) (held-heap .accounts)
 
 amounts : List Drop → List ℕ
 amounts ds = map (λ (a : Answered). a .values .amount) (after ds .answers)
@@ -83,7 +85,7 @@ refusal-rows = (refl, refl, refl, refl)
 
 -- one quota's releases and its free-all
 freed-heap : Outcome
-freed-heap = free-all unit (held-heap .heap) (held-heap .accounts) 0
+freed-heap = own-free-all (held-heap .heap) (held-heap .accounts) 0
 
 second-left : List ℕ
 second-left =
@@ -103,7 +105,7 @@ held-waiting : Outcome
 held-waiting = held-in (waiting-heap 128)
 
 waits-after : List Drop → Cleaned
-waits-after ds = cleaned (release unit) ds (held-waiting .heap) (held-waiting .accounts)
+waits-after ds = cleaned own-release ds (held-waiting .heap) (held-waiting .accounts)
 
 waits-amounts : List Drop → List ℕ
 waits-amounts ds = map (λ (a : Answered). a .values .amount) (waits-after ds .answers)
@@ -123,7 +125,7 @@ waiting-rows = (refl, refl, refl, refl, refl, refl)
 
 -- and one quota's releases and its free-all
 freed-waiting : Outcome
-freed-waiting = free-all unit (held-waiting .heap) (held-waiting .accounts) 0
+freed-waiting = own-free-all (held-waiting .heap) (held-waiting .accounts) 0
 
 first-waits : List ℕ
 first-waits = render (block QUARANTINED 16 ∷ block 2 24 ∷ block 0 64 ∷ [])
@@ -132,3 +134,21 @@ free-waiting-rows : (freed-waiting .values .amount ≡ 56) × (sum-of (waits-aft
     × (freed-waiting .heap ≡ first-waits) × (waits-after of-quota-0 .heap ≡ first-waits)
 unfolding computing waiting-heap held-in held-waiting first second drop of-quota-0 waits-after block first-waits freed-waiting cleaned sum-of
 free-waiting-rows = (refl, refl, refl, refl)
+
+-- an object of 4,096 bytes at 8 and at 16, by the number of the edition in the accounts: edition 2 has no object of
+-- this length at 8, so its accounts don't go with that heap
+released-in : ℕ → Placed → Outcome
+released-in e (placed base length behind) =
+    let p = placed base length behind in
+    own-release (heap-with p) (with-edition e (accounts-with p)) 0 (record { base = base; length = length; serial = 1 })
+
+freed-in : ℕ → Placed → Outcome
+freed-in e p = own-free-all (heap-with p) (with-edition e (accounts-with p)) 0
+
+edition-rows : (released-in 0 (placed 8 4096 0) .values .amount ≡ 4104)
+    × (released-in 0 (placed 8 4096 0) .values .refusal ≡ 0)
+    × (released-in 1 (placed 8 4096 0) .values .refusal ≡ 2) × (released-in 1 (placed 16 4096 0) .values .amount ≡ 4104)
+    × (freed-in 0 (placed 8 4096 0) .values .amount ≡ 4104) × (freed-in 0 (placed 8 4096 0) .values .refusal ≡ 0)
+    × (freed-in 1 (placed 8 4096 0) .values .refusal ≡ 2) × (freed-in 1 (placed 16 4096 0) .values .amount ≡ 4104)
+unfolding computing gap heap-with accounts-with released-in freed-in
+edition-rows = (refl, refl, refl, refl, refl, refl, refl, refl)

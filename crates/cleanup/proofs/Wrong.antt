@@ -13,14 +13,17 @@ use Rattle.accounts.specs.declared.Accounts.{Accounts}
 use Rattle.accounts.specs.Accounts.{QUOTAS, zero-quota, zero-hold, remaining}
 use Rattle.rounding.specs.Rounding.{unit}
 use Rattle.model.specs.Lists.{all}
-use Rattle.model.specs.Calls.{Outcome, allocate, release, free-all}
+use Rattle.model.specs.Calls.{Outcome, allocate}
 use Rattle.model.specs.Cases.{opened-heap}
 use Rattle.model.specs.Quarantine.{waiting-heap}
 use Rattle.model.proofs.Bools.{and-left, and-right}
 use Rattle.model.proofs.Computing.{computing}
-use Rattle.cleanup.specs.Releases.{Run, Drop, cleaned, accepted-throughout, Fits, SameCleanup, AnyOrder}
-use Rattle.cleanup.specs.FreeAll.{all-for, sum-of, Freeing, AsFreeAll, FreeAllByReleases, releases-of, AllReleased}
-use Rattle.cleanup.specs.Wrong.{newest-first, remembers-the-last, close-gap, closes-gaps, tells-the-remainder, sweeps-first}
+use Rattle.cleanup.specs.Releases.{Run, own-release, Drop, cleaned, accepted-throughout, Fits}
+use Rattle.cleanup.specs.Releases.{SameCleanup, AnyOrder}
+use Rattle.cleanup.specs.FreeAll.{all-for, sum-of, Freeing, own-free-all, AsFreeAll, FreeAllByReleases}
+use Rattle.cleanup.specs.FreeAll.{releases-of, AllReleased}
+use Rattle.cleanup.specs.Wrong.{newest-first, remembers-the-last, close-gap, closes-gaps, tells-the-remainder}
+use Rattle.cleanup.specs.Wrong.{sweeps-first, changes-the-edition}
 use Rattle.cleanup.specs.Wrong.{keeps-the-heap, pays-nothing, answers-the-remainder}
 use Rattle.cleanup.proofs.Answers.{permuted-sum}
 
@@ -120,29 +123,49 @@ refuted-sweeps-first a =
     let e : _≡_ {A = ℕ} 255 0 = ap (λ (s : List ℕ). getD s 4 0) (said-in made-waiting fits-waiting sweeps-first a first second refl .heap) in
     omega arith
 
+-- an object of 4,096 bytes at 8, which edition 2 would not place there, and one of 8 bytes: released first, the short
+-- one leaves a heap that is not sound by edition 2
+made-long : Outcome
+made-long =
+    let a = opened-heap 4120 5000 0 in
+    let b = allocate unit (a .heap) (a .accounts) 0 4096 in
+    allocate unit (b .heap) (b .accounts) 0 8
+
+fits-long : Fits (made-long .heap) (made-long .accounts)
+unfolding computing opened-heap made-long
+fits-long = tested-fits (made-long .heap) (made-long .accounts) refl refl refl
+
+pub refuted-changes-the-edition : AnyOrder changes-the-edition → ⊥
+unfolding computing opened-heap made-long drop cleaned accepted-throughout changes-the-edition
+refuted-changes-the-edition a =
+    let e : _≡_ {A = Bool} false true =
+    said-in made-long fits-long changes-the-edition a (drop 8 4096 1) (drop 4112 8 2) refl .accepted in
+    false≢true e
+
 -- what is said of a free-all and of the four releases
-freed : (freeing : Freeing) → FreeAllByReleases (release unit) freeing → freeing (made .heap) (made .accounts) 0 .values .refusal ≡ 0
-    → AsFreeAll (release unit) freeing 0 (first ∷ second ∷ third ∷ fourth ∷ []) (made .heap) (made .accounts)
+freed : (freeing : Freeing) → FreeAllByReleases own-release freeing
+    → freeing (made .heap) (made .accounts) 0 .values .refusal ≡ 0
+    → AsFreeAll own-release freeing 0 (first ∷ second ∷ third ∷ fourth ∷ []) (made .heap) (made .accounts)
 unfolding computing opened-heap made-in made drop first second third fourth cleaned accepted-throughout all-for
 freed freeing always a = always .always 0 (first ∷ second ∷ third ∷ fourth ∷ []) (made .heap) (made .accounts) fits a refl refl refl
 
 -- the header of the first object is still there
-pub refuted-keeps-the-heap : FreeAllByReleases (release unit) keeps-the-heap → ⊥
+pub refuted-keeps-the-heap : FreeAllByReleases own-release keeps-the-heap → ⊥
 unfolding computing opened-heap made-in made drop first second third fourth cleaned keeps-the-heap
 refuted-keeps-the-heap a = let e : _≡_ {A = ℕ} 16 2 = ap (λ (s : List ℕ). getD s 0 0) (freed keeps-the-heap a refl .heap) in omega arith
 
 -- 928 remain
-pub refuted-pays-nothing : FreeAllByReleases (release unit) pays-nothing → ⊥
+pub refuted-pays-nothing : FreeAllByReleases own-release pays-nothing → ⊥
 unfolding computing opened-heap made-in made drop first second third fourth cleaned pays-nothing
 refuted-pays-nothing a = let e : _≡_ {A = ℕ} 1000 928 = ap (remaining 0) (freed pays-nothing a refl .accounts) in omega arith
 
 -- 72 bytes are given back
-pub refuted-answers-the-remainder : FreeAllByReleases (release unit) answers-the-remainder → ⊥
+pub refuted-answers-the-remainder : FreeAllByReleases own-release answers-the-remainder → ⊥
 unfolding computing opened-heap made-in made drop first second third fourth cleaned sum-of answers-the-remainder
 refuted-answers-the-remainder a = let e : _≡_ {A = ℕ} 72 1000 = freed answers-the-remainder a refl .amount in omega arith
 
 -- the first object can't be released before the others
-pub refuted-all-released : AllReleased newest-first (free-all unit) → ⊥
+pub refuted-all-released : AllReleased newest-first own-free-all → ⊥
 unfolding computing opened-heap made-in made drop first second third fourth cleaned accepted-throughout newest-first releases-of
 refuted-all-released a =
     let all = first ∷ second ∷ third ∷ fourth ∷ [] in

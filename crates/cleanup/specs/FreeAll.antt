@@ -8,10 +8,11 @@ use lib.Dec.{eqb}
 use Rattle.accounts.specs.declared.Hold.{Hold}
 use Rattle.accounts.specs.declared.Accounts.{Accounts}
 use Rattle.accounts.specs.Accounts.{record-of}
+use Rattle.rounding.specs.Rounding.{table}
 use Rattle.model.specs.Lists.{all, any, total}
 use Rattle.model.specs.Objects.{objects-of}
 use Rattle.model.specs.Holds.{count-of}
-use Rattle.model.specs.Calls.{Outcome}
+use Rattle.model.specs.Calls.{Outcome, free-all}
 use Rattle.model.specs.declared.Handle.{Handle}
 use Rattle.cleanup.specs.Releases.{Run, Drop, Answered, cleaned, accepted-throughout, Fits}
 
@@ -26,6 +27,13 @@ sum-of answers = total (λ a. a .values .amount) answers
 -- whatever performs a free-all on a heap and its accounts, for a quota
 abbrev pub Freeing : Type 0
 Freeing = List ℕ → Accounts → ℕ → Outcome
+
+-- rules 19.7 and 23.4: free-all by the table of the edition in the accounts, as releases go
+abbrev pub free-all-by : (ℕ → ℕ → ℕ) → Freeing
+free-all-by tables s k q = free-all (tables (k .edition)) s k q
+
+abbrev pub own-free-all : Freeing
+own-free-all = free-all-by table
 
 -- the list leaves what free-all leaves, and its answers add up to what free-all answers
 pub record AsFreeAll (run : Run) (freeing : Freeing) (q : ℕ) (ds : List Drop) (s : List ℕ) (k : Accounts) : Type 0 where

@@ -8,14 +8,23 @@ use lib.Dec.{eqb}
 use Rattle.accounts.specs.declared.Accounts.{Accounts}
 use Rattle.accounts.specs.Accounts.{QUOTAS, zero-quota}
 use Rattle.layout.specs.Bytes.{Octets}
+use Rattle.rounding.specs.Rounding.{table}
 use Rattle.model.specs.Lists.{all}
 use Rattle.model.specs.Answers.{Values}
-use Rattle.model.specs.Calls.{Outcome}
+use Rattle.model.specs.Calls.{Outcome, release}
 use Rattle.model.specs.declared.Handle.{Handle}
 
 -- whatever performs a release on a heap and its accounts, for a quota and with a handle
 abbrev pub Run : Type 0
 Run = List ℕ → Accounts → ℕ → Handle → Outcome
+
+-- rules 19.1 and 23.4: a release goes by the table of the edition in the accounts that it is made on. By any family of
+-- tables, one for each edition; and by the family of rule 23.3, as the function does
+abbrev pub release-by : (ℕ → ℕ → ℕ) → Run
+release-by tables s k q h = release (tables (k .edition)) s k q h
+
+abbrev pub own-release : Run
+own-release = release-by table
 
 -- one release of a list: who releases, and what
 pub record Drop : Type 0 where

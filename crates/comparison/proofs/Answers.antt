@@ -12,24 +12,33 @@ use lib.Dec.{eqb}
 use borrow.Author.Tests.{eqb-true, eqb-false, eq-eqb, ne-eqb}
 use Rattle.layout.specs.Bytes.{Octets}
 use Rattle.model.specs.Refusals.{first-refusal}
+use Rattle.framing.specs.Frames.{frames-for}
 use Rattle.framing.proofs.Padding.{length-padded}
 use Rattle.image_model.specs.declared.ImageRefusal.{ImageRefusal}
-use Rattle.image_model.specs.Stream.{image-of}
+use Rattle.image_model.specs.Stream.{image-of, image-length}
 use Rattle.image_model.specs.Reading.{form-of, size-in, heap-of, heap-in, accounts-in}
 use Rattle.image_model.specs.Answers.{image-refusal-number}
 use Rattle.image_model.specs.Images.{examine-lines, Accepts}
 use Rattle.image_model.proofs.Places.{same-number}
 use Rattle.image_model.proofs.Refusals.{examined-read}
 use Rattle.image_model.proofs.Read.{read-written}
+use Rattle.image_model.proofs.Written.{image-has-length}
 use Rattle.image_model.proofs.Answers.{image-refusal-at, image-refusal-is}
 use Rattle.comparison.specs.Differences.{state-in, differences}
-use Rattle.comparison.specs.Compare.{Compared, compared, line-29, line-27, pair-lines, unless-refused, nth-of, compare-second, compare-of}
+use Rattle.comparison.specs.Compare.{line-29, line-27, pair-lines, first-why, why-both, why-second, why-not}
+use Rattle.comparison.specs.Compare.{unless-refused, Compared, compared, nth-of, compare-of, Advanced, stepped}
+use Rattle.comparison.specs.Compare.{advanced}
 use Rattle.comparison.specs.Listing.{OneSize}
 use Rattle.comparison.specs.declared.Difference.{Difference}
 use Rattle.comparison.specs.declared.Which.{Which}
 use Rattle.comparison.specs.declared.Which.the-variants.{First, Second, Neither}
 use Rattle.comparison.specs.declared.CompareAnswer.{CompareAnswer}
 use Rattle.comparison.specs.declared.CompareAnswer.the-variants.{Differs, Nothing, Refused}
+use Rattle.comparison.specs.declared.Step.{Step}
+use Rattle.comparison.specs.declared.Step.the-variants.{Differs as StepDiffers, Nothing as NoStep}
+use Rattle.comparison.specs.declared.NextAnswer.{NextAnswer}
+use Rattle.comparison.specs.declared.NextAnswer.the-variants.{Differs as NextDiffers, Nothing as NoNext}
+use Rattle.comparison.specs.declared.NextAnswer.the-variants.{Refused as NextRefused}
 use Rattle.comparison.proofs.Differences.{differences-self, differences-empty}
 
 -- an image that is accepted alone
@@ -39,24 +48,25 @@ Accepted i = first-refusal (examine-lines i) ≡ 0
 module _ (i j : List ℕ) (n : ℕ) where
   -- a bad first image decides, whatever the second is
   pub first-refused : (r : ℕ) → first-refusal (examine-lines i) ≡ suc r → compare-of i j n ≡ record { refusal = suc r; which = First; found = none }
-  unfolding compare-of compare-second nth-of unless-refused
+  unfolding compare-of why-not why-second why-both first-why nth-of unless-refused
   first-refused r e = rw e
 
   pub second-refused : Accepted i → (r : ℕ) → first-refusal (examine-lines j) ≡ suc r
       → compare-of i j n ≡ record { refusal = suc r; which = Second; found = none }
-  unfolding compare-of compare-second nth-of unless-refused
+  unfolding compare-of why-not why-second why-both first-why nth-of unless-refused
   second-refused a r e = rw (a, e)
 
   module _ (a : Accepted i) (b : Accepted j) where
     -- then the forms
     pub forms-refused : form-of i .number ≢ form-of j .number → compare-of i j n ≡ record { refusal = 29; which = Neither; found = none }
-    unfolding compare-of compare-second nth-of unless-refused line-29 pair-lines first-refusal
+    unfolding compare-of why-not why-second why-both first-why nth-of unless-refused line-29 pair-lines first-refusal
     forms-refused d = let t = ne-eqb (form-of i .number) (form-of j .number) d in rw (a, b, t)
 
     module _ (form : form-of i .number ≡ form-of j .number) where
       -- then the heaps' lengths
       pub lengths-refused : size-in i ≢ size-in j → compare-of i j n ≡ record { refusal = 27; which = Neither; found = none }
-      unfolding compare-of compare-second nth-of unless-refused line-29 line-27 pair-lines first-refusal
+      unfolding compare-of why-not why-second why-both first-why nth-of unless-refused
+          line-29 line-27 pair-lines first-refusal
       lengths-refused d =
           let f = eq-eqb (form-of i .number) (form-of j .number) form in
           let t = ne-eqb (size-in i) (size-in j) d in
@@ -65,7 +75,8 @@ module _ (i j : List ℕ) (n : ℕ) where
       -- else the n-th is given, or none
       pub nth-given : size-in i ≡ size-in j
           → compare-of i j n ≡ record { refusal = 0; which = Neither; found = getElem? (differences (state-in i) (state-in j)) n }
-      unfolding compare-of compare-second nth-of unless-refused line-29 line-27 pair-lines first-refusal
+      unfolding compare-of why-not why-second why-both first-why nth-of unless-refused
+          line-29 line-27 pair-lines first-refusal
       nth-given e =
           let f = eq-eqb (form-of i .number) (form-of j .number) form in
           let t = eq-eqb (size-in i) (size-in j) e in
@@ -97,6 +108,33 @@ answer-back (Refused r w) = let q = image-refusal-is r in refused-back (image-re
 pub compared-injective : (a b : CompareAnswer) → compared a ≡ compared b → a ≡ b
 compared-injective a b e = sym (answer-back a) ∙ ap answer-of e ∙ answer-back b
 
+-- nor two answers of the next difference
+step-answer : Step → NextAnswer
+step-answer (StepDiffers d p) = NextDiffers d p
+step-answer NoStep = NoNext
+
+next-from : ℕ → Which → Step → NextAnswer
+next-from zero w s = step-answer s
+next-from (suc n) w s = NextRefused (image-refusal-at (suc n)) w
+
+abbrev next-answer-of : Advanced → NextAnswer
+next-answer-of c = next-from (c .refusal) (c .which) (c .step)
+
+next-refused-back : (n : ℕ) (r : ImageRefusal) (w : Which) → 1 ≤ n → image-refusal-at n ≡ r
+    → next-from n w NoStep ≡ NextRefused r w
+unfolding next-from
+next-refused-back zero r w l q = absurd (omega arith)
+next-refused-back (suc n) r w l q = ap (λ (t : ImageRefusal). NextRefused t w) q
+
+next-back : (a : NextAnswer) → next-answer-of (advanced a) ≡ a
+unfolding advanced stepped next-from step-answer
+next-back (NextDiffers d p) = refl
+next-back NoNext = refl
+next-back (NextRefused r w) = let q = image-refusal-is r in next-refused-back (image-refusal-number r) r w (q .1) (q .0)
+
+pub advanced-injective : (a b : NextAnswer) → advanced a ≡ advanced b → a ≡ b
+advanced-injective a b e = sym (next-back a) ∙ ap next-answer-of e ∙ next-back b
+
 -- an accepted image is the image of what it says
 pub heap-length : (i : List ℕ) → length (heap-in i) ≡ size-in i
 unfolding heap-in heap-of size-in
@@ -104,6 +142,16 @@ heap-length i = length-padded (size-in i) _
 
 says : (i : List ℕ) → Octets i → Accepted i → Accepts (form-of i) (heap-in i) (accounts-in i) × (image-of (form-of i) (heap-in i) (accounts-in i) ≡ i)
 says i o a = let w = read-written i (heap-in i) o (sym (examined-read i (heap-in i) (heap-length i)) ∙ a) in (w .0, w .1)
+
+-- so its heap is no longer than the image, and the time of comparing goes by the images' lengths
+pub heap-within : (i : List ℕ) → Octets i → Accepted i → size-in i ≤ length i
+unfolding image-length frames-for
+heap-within i o a =
+    let w = says i o a in
+    let l : length i ≡ image-length (form-of i) (size-in i) =
+    ap length (sym (w .1)) ∙ image-has-length (form-of i) (heap-in i) (accounts-in i) (w .0 .known) (w .0 .typed)
+    ∙ ap (image-length (form-of i)) (heap-length i) in
+    omega arith
 
 module _ (i j : List ℕ) (o : Octets i) (p : Octets j) (a : Accepted i) (b : Accepted j)
     (form : form-of i .number ≡ form-of j .number) (e : size-in i ≡ size-in j) where

@@ -24,7 +24,7 @@ use Rattle.comparison.specs.Finding.{same-byte, Reaches}
 use Rattle.comparison.specs.declared.Difference.{Difference}
 use Rattle.comparison.specs.declared.Difference.the-variants.{LastSerial, Kind, Edition, Quota as QuotaAt, Record as RecordAt, Bytes}
 use Rattle.comparison.specs.declared.Position.the-variants.{Kind as FromKind, Edition as FromEdition, Quota as FromQuota, Record as FromRecord, Byte}
-use Rattle.comparison.specs.declared.NextAnswer.the-variants.{Differs, Nothing}
+use Rattle.comparison.specs.declared.Step.the-variants.{Differs, Nothing}
 use Rattle.comparison.proofs.Runs.{equal, end, RunFrom, first-run, no-runs}
 use Rattle.comparison.proofs.Items.{from-found, from-end}
 use Rattle.comparison.proofs.Positions.{from-start}

@@ -10,3 +10,4 @@ pub mod Positions
 pub mod Answers
 pub mod Found
 pub mod Compared
+pub mod Walking

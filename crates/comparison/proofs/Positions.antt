@@ -21,7 +21,7 @@ use Rattle.comparison.specs.declared.Difference.{Difference}
 use Rattle.comparison.specs.declared.Difference.the-variants.{LastSerial, Kind, Edition, Quota as QuotaAt, Record as RecordAt}
 use Rattle.comparison.specs.declared.Position.{Position}
 use Rattle.comparison.specs.declared.Position.the-variants.{Start, Kind as FromKind, Edition as FromEdition, Quota, Record, Byte}
-use Rattle.comparison.specs.declared.NextAnswer.the-variants.{Differs, Nothing}
+use Rattle.comparison.specs.declared.Step.the-variants.{Differs, Nothing}
 use Rattle.comparison.proofs.Runs.{runs-go-on}
 use Rattle.comparison.proofs.Items.{items-go-on}
 

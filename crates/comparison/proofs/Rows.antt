@@ -14,12 +14,13 @@ use Rattle.framing.specs.Frames.{cut}
 use Rattle.image_model.specs.Stream.{form-1, form-2, stream, image-of}
 use Rattle.comparison.specs.Differences.{State, differences}
 use Rattle.comparison.specs.Positions.{next-of, asked}
-use Rattle.comparison.specs.Compare.{Compared, compare-of}
+use Rattle.comparison.specs.Compare.{Compared, compare-of, Advanced, advance-of, walked}
 use Rattle.comparison.specs.declared.Difference.{Difference}
 use Rattle.comparison.specs.declared.Difference.the-variants.{LastSerial, Kind, Edition, Quota as QuotaAt, Record as RecordAt, Bytes}
 use Rattle.comparison.specs.declared.Position.the-variants.{Start, Kind as FromKind, Edition as FromEdition}
 use Rattle.comparison.specs.declared.Position.the-variants.{Quota as FromQuota, Record as FromRecord, Byte as FromByte}
-use Rattle.comparison.specs.declared.NextAnswer.the-variants.{Differs, Nothing}
+use Rattle.comparison.specs.declared.Step.{Step}
+use Rattle.comparison.specs.declared.Step.the-variants.{Differs, Nothing}
 use Rattle.comparison.specs.declared.Which.{Which}
 use Rattle.comparison.specs.declared.Which.the-variants.{First, Second, Neither}
 use Rattle.comparison.proofs.Computing.{computing}
@@ -242,3 +243,42 @@ refused-rows : (compare-of [] second 0 ≡ refused 21 First)
     × (compare-of longer first 100 ≡ refused 27 Neither)
 unfolding small other first second longer wrong refused
 refused-rows = (refl, refl, refl, refl, refl, refl, refl, refl, refl, refl, refl, refl, refl, refl)
+
+-- the next difference of the same images: from each part on, none behind the last, and all of them one after the other
+step : Step → Advanced
+step s = record { refusal = 0; which = Neither; step = s }
+
+advance-rows : (advance-of first second Start ≡ step (Differs LastSerial FromKind))
+    × (advance-of first second FromKind ≡ step (Differs (QuotaAt 2) (FromQuota 3)))
+    × (advance-of first second (FromRecord 1) ≡ step (Differs (RecordAt 53) (FromRecord 54)))
+    × (advance-of first second (FromByte 31) ≡ step (Differs (Bytes 31 1) (FromByte 32)))
+    × (advance-of first second (FromByte 64) ≡ step Nothing)
+    × (advance-of first first Start ≡ step Nothing)
+    × (walked 3 Start first second ≡ LastSerial ∷ QuotaAt 2 ∷ RecordAt 0 ∷ [])
+unfolding small other first second step
+advance-rows = (refl, refl, refl, refl, refl, refl, refl)
+
+-- a frame that is all zero but a length of 4,294,967,295 bytes: no byte of such a heap is looked at
+endless : List ℕ
+endless = replicate 8 0 ++ (255 ∷ 255 ∷ 255 ∷ 255 ∷ replicate 500 0)
+
+-- a heap byte of the second image that was changed behind its check: the frame is wrong, and no difference
+flipped : List ℕ
+flipped = set second 1140 9
+
+not-advanced : ℕ → Which → Advanced
+not-advanced n w = record { refusal = n; which = w; step = Nothing }
+
+-- refused from every position, in the order of compare
+not-advanced-rows : (advance-of endless endless Start ≡ not-advanced 22 First)
+    × (advance-of endless endless (FromByte 0) ≡ not-advanced 22 First)
+    × (advance-of first flipped Start ≡ not-advanced 22 Second)
+    × (advance-of first flipped (FromByte 0) ≡ not-advanced 22 Second)
+    × (advance-of flipped first (FromQuota 0) ≡ not-advanced 22 First)
+    × (advance-of (wrong 16 85) [] (FromRecord 0) ≡ not-advanced 26 First)
+    × (advance-of longer [] FromEdition ≡ not-advanced 21 Second)
+    × (advance-of full longer Start ≡ not-advanced 29 Neither)
+    × (advance-of first longer FromKind ≡ not-advanced 27 Neither)
+    × (walked 3 Start first flipped ≡ [])
+unfolding small other first second longer wrong full endless flipped not-advanced
+not-advanced-rows = (refl, refl, refl, refl, refl, refl, refl, refl, refl, refl)

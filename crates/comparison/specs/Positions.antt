@@ -7,8 +7,8 @@ use Rattle.comparison.specs.declared.Difference.{Difference}
 use Rattle.comparison.specs.declared.Difference.the-variants.{LastSerial, Kind, Edition, Quota as QuotaAt, Record as RecordAt, Bytes}
 use Rattle.comparison.specs.declared.Position.{Position}
 use Rattle.comparison.specs.declared.Position.the-variants.{Start, Kind as FromKind, Edition as FromEdition, Quota, Record, Byte}
-use Rattle.comparison.specs.declared.NextAnswer.{NextAnswer}
-use Rattle.comparison.specs.declared.NextAnswer.the-variants.{Differs, Nothing}
+use Rattle.comparison.specs.declared.Step.{Step}
+use Rattle.comparison.specs.declared.Step.the-variants.{Differs, Nothing}
 
 -- the bytes from an offset on; the records from a place on, then all bytes; the quotas from a number on, then all records and bytes; the edition
 -- and the kind, then all behind it
@@ -46,15 +46,15 @@ behind (RecordAt p) = Record (p + 1)
 behind (Bytes at n) = Byte (at + n)
 
 -- the first of a list of differences, with the position behind it
-unfoldable pub first-of : List Difference → NextAnswer
+unfoldable pub first-of : List Difference → Step
 first-of [] = Nothing
 first-of (d ∷ ds) = Differs d (behind d)
 
-unfoldable pub next-of : Position → State → State → NextAnswer
+unfoldable pub next-of : Position → State → State → Step
 next-of p a b = first-of (differences-from p a b)
 
 -- what is made of an answer, nothing where there is no difference
-unfoldable pub with-answer : NextAnswer → (Difference → Position → List Difference) → List Difference
+unfoldable pub with-answer : Step → (Difference → Position → List Difference) → List Difference
 with-answer Nothing f = []
 with-answer (Differs d p) f = f d p
 

@@ -4,9 +4,10 @@ use image_model::ImageRefusal;
 mod comparing;
 mod finding;
 mod going;
+mod pairing;
 
 pub use comparing::compare;
-pub use going::next_difference;
+pub use comparing::next_difference;
 
 // One difference, named without its values: the last serial, the heap's kind, its edition, a quota by its number, a hold record by its place, a run of heap
 // bytes by its offset and length.
@@ -44,7 +45,20 @@ pub enum Position {
 }
 
 // The first difference from a position on, and the position behind it; or that there is none.
+pub enum Step {
+    Differs(Difference, Position),
+    Nothing,
+}
+
+// The same of two images; or why they are not compared.
 pub enum NextAnswer {
     Differs(Difference, Position),
     Nothing,
+    Refused(ImageRefusal, Which),
+}
+
+// Whether two images are compared; or why not, and which of them it is about.
+pub(crate) enum Pair {
+    Comparable,
+    Refused(ImageRefusal, Which),
 }

@@ -7,7 +7,7 @@ use Prim.Native.Nat.{ℕ}
 use Rattle.comparison.specs.declared.Difference.the-variants.{LastSerial, Kind, Edition, Quota as QuotaAt, Record as RecordAt, Bytes}
 use Rattle.comparison.specs.declared.Which.the-variants.{First, Second, Neither}
 use Rattle.comparison.specs.declared.Position.the-variants.{Start, Kind as FromKind, Edition as FromEdition, Quota, Record, Byte}
-use Rattle.comparison.specs.declared.NextAnswer.the-variants.{Differs, Nothing}
+use Rattle.comparison.specs.declared.Step.the-variants.{Differs, Nothing}
 use Rattle.comparison_api.specs.Replies.{compare-reply, position-of, next-reply}
 use Rattle.comparison_api.specs.declared.CompareReply.{CompareReply}
 use Rattle.comparison_api.specs.declared.NextReply.{NextReply}
@@ -39,11 +39,23 @@ unfolding position-of
 position-rows = (refl, refl, refl, refl, refl, refl, refl)
 
 next : ℕ → ℕ → ℕ → ℕ → ℕ → NextReply
-next k p n part at = record { kind = k; place = p; length = n; part = part; at = at }
+next k p n part at = record { refusal = 0; which = 0; kind = k; place = p; length = n; part = part; at = at }
 
-next-rows : map next-reply
+next-rows : map (λ s. next-reply (record { refusal = 0; which = Neither; step = s }))
     (Nothing ∷ Differs LastSerial FromKind ∷ Differs Kind FromEdition ∷ Differs Edition (Quota 0)
     ∷ Differs (QuotaAt 7) (Quota 8) ∷ Differs (RecordAt 3) (Record 4) ∷ Differs (Bytes 8 24) (Byte 32) ∷ [])
     ≡ next 0 0 0 0 0 ∷ next 1 0 0 4 0 ∷ next 5 0 0 5 0 ∷ next 6 0 0 1 0 ∷ next 2 7 0 1 8 ∷ next 3 3 0 2 4 ∷ next 4 8 24 3 32 ∷ []
 unfolding next
 next-rows = refl
+
+not-next : ℕ → ℕ → NextReply
+not-next r w = record { refusal = r; which = w; kind = 0; place = 0; length = 0; part = 0; at = 0 }
+
+not-next-rows : map next-reply
+    (record { refusal = 22; which = First; step = Nothing }
+    ∷ record { refusal = 26; which = Second; step = Nothing }
+    ∷ record { refusal = 29; which = Neither; step = Nothing }
+    ∷ [])
+    ≡ not-next 22 1 ∷ not-next 26 2 ∷ not-next 29 0 ∷ []
+unfolding not-next
+not-next-rows = refl

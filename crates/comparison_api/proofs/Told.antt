@@ -12,11 +12,11 @@ use Rattle.comparison.specs.declared.Which.{Which}
 use Rattle.comparison.specs.declared.Which.the-variants.{First, Second, Neither}
 use Rattle.comparison.specs.declared.Position.{Position}
 use Rattle.comparison.specs.declared.Position.the-variants.{Start, Kind as FromKind, Edition as FromEdition, Quota, Record, Byte}
-use Rattle.comparison.specs.declared.NextAnswer.{NextAnswer}
-use Rattle.comparison.specs.declared.NextAnswer.the-variants.{Differs, Nothing}
-use Rattle.comparison.specs.Compare.{Compared}
+use Rattle.comparison.specs.declared.Step.{Step}
+use Rattle.comparison.specs.declared.Step.the-variants.{Differs, Nothing}
+use Rattle.comparison.specs.Compare.{Compared, Advanced}
 use Rattle.comparison_api.specs.Replies.{which-number, kind-number, place-number, length-number, reply-with, compare-reply, position-of}
-use Rattle.comparison_api.specs.Replies.{part-number, place-in, next-reply}
+use Rattle.comparison_api.specs.Replies.{part-number, place-in, step-reply, next-reply}
 use Rattle.comparison_api.specs.declared.CompareReply.{CompareReply}
 use Rattle.comparison_api.specs.declared.NextReply.{NextReply}
 use Rattle.comparison_api.proofs.Rows
@@ -63,18 +63,27 @@ position-back (Quota q) = refl
 position-back (Record p) = refl
 position-back (Byte at) = refl
 
--- and no two answers of going on give the same reply
-answer-from : Option Difference → Position → NextAnswer
-answer-from none p = Nothing
-answer-from (some d) p = Differs d p
+-- and no two outcomes of the next difference give the same reply
+step-from : Option Difference → Position → Step
+step-from none p = Nothing
+step-from (some d) p = Differs d p
 
-abbrev next-from : NextReply → NextAnswer
-next-from r = answer-from (difference-from (r .kind) (r .place) (r .length)) (position-of (r .part) (r .at))
+abbrev advanced-from : NextReply → Advanced
+advanced-from r =
+    record {
+      refusal = r .refusal;
+      which = which-from (r .which);
+      step = step-from (difference-from (r .kind) (r .place) (r .length)) (position-of (r .part) (r .at));
+    }
 
-next-back : (a : NextAnswer) → next-from (next-reply a) ≡ a
-unfolding answer-from
-next-back (Differs d p) = λ i. answer-from (difference-back d i) (position-back p i)
-next-back Nothing = refl
+advanced-back : (n : ℕ) (w : Which) (s : Step)
+    → advanced-from (step-reply n (which-number w) s) ≡ record { refusal = n; which = w; step = s }
+unfolding step-from
+advanced-back n w (Differs d p) = λ i.
+    record { refusal = n; which = which-back w i; step = step-from (difference-back d i) (position-back p i) }
+advanced-back n w Nothing = λ i. record { refusal = n; which = which-back w i; step = Nothing }
 
-pub next-reply-injective : (a b : NextAnswer) → next-reply a ≡ next-reply b → a ≡ b
-next-reply-injective a b e = sym (next-back a) ∙ ap next-from e ∙ next-back b
+pub next-reply-injective : (a b : Advanced) → next-reply a ≡ next-reply b → a ≡ b
+next-reply-injective a b e =
+    sym (advanced-back (a .refusal) (a .which) (a .step)) ∙ ap advanced-from e
+    ∙ advanced-back (b .refusal) (b .which) (b .step)

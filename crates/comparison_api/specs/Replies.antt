@@ -9,9 +9,9 @@ use Rattle.comparison.specs.declared.Which.{Which}
 use Rattle.comparison.specs.declared.Which.the-variants.{First, Second, Neither}
 use Rattle.comparison.specs.declared.Position.{Position}
 use Rattle.comparison.specs.declared.Position.the-variants.{Start, Kind as FromKind, Edition as FromEdition, Quota, Record, Byte}
-use Rattle.comparison.specs.declared.NextAnswer.{NextAnswer}
-use Rattle.comparison.specs.declared.NextAnswer.the-variants.{Differs, Nothing}
-use Rattle.comparison.specs.Compare.{Compared}
+use Rattle.comparison.specs.declared.Step.{Step}
+use Rattle.comparison.specs.declared.Step.the-variants.{Differs, Nothing}
+use Rattle.comparison.specs.Compare.{Compared, Advanced}
 use Rattle.comparison_api.specs.declared.CompareReply.{CompareReply}
 use Rattle.comparison_api.specs.declared.NextReply.{NextReply}
 
@@ -76,7 +76,19 @@ place-in (Quota q) = q
 place-in (Record p) = p
 place-in (Byte at) = at
 
--- the reply of going on: the difference's numbers and those of the position behind it, zeros where there is none
-abbrev pub next-reply : NextAnswer → NextReply
-next-reply (Differs d p) = record { kind = kind-number d; place = place-number d; length = length-number d; part = part-number p; at = place-in p }
-next-reply Nothing = record { kind = 0; place = 0; length = 0; part = 0; at = 0 }
+-- the reply of the next difference: its numbers and those of the position behind it, zeros where there is none
+abbrev pub step-reply : ℕ → ℕ → Step → NextReply
+step-reply r w (Differs d p) =
+    record {
+      refusal = r;
+      which = w;
+      kind = kind-number d;
+      place = place-number d;
+      length = length-number d;
+      part = part-number p;
+      at = place-in p;
+    }
+step-reply r w Nothing = record { refusal = r; which = w; kind = 0; place = 0; length = 0; part = 0; at = 0 }
+
+abbrev pub next-reply : Advanced → NextReply
+next-reply c = step-reply (c .refusal) (which-number (c .which)) (c .step)

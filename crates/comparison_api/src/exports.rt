@@ -5,9 +5,7 @@ use crate::replies::position_of;
 use crate::replies::reply_of_compare;
 use crate::replies::reply_of_next;
 ghost use mathlib.Core.Path.{_≡_};
-ghost use Rattle.comparison.specs.Differences.{state-in};
-ghost use Rattle.comparison.specs.Positions.{next-of};
-ghost use Rattle.comparison.specs.Compare.{compare-of};
+ghost use Rattle.comparison.specs.Compare.{compare-of, advance-of};
 ghost use Rattle.comparison_api.specs.Replies.{compare-reply, position-of, next-reply};
 
 // The n-th difference, from 0, of two images, or why they are not compared.
@@ -18,7 +16,7 @@ pub extern "C" fn lokhazim_image_compare(first: &[u8], second: &[u8], n: usize) 
     reply_of_compare(comparison::compare(first, second, n))
 }
 
-// The first difference from a position on, and the position behind it. It refuses nothing: compare says whether the images can be compared.
+// The first difference from a position on, and the position behind it, or why the images are not compared.
 #[no_mangle]
 pub extern "C" fn lokhazim_image_compare_next(
     first: &[u8],
@@ -26,7 +24,7 @@ pub extern "C" fn lokhazim_image_compare_next(
     part: u32,
     at: usize,
 ) -> NextReply
-    ensures { λ r. ⌜ r ≡ next-reply (next-of (position-of part at) (state-in (now (first .entry))) (state-in (now (second .entry)))) ⌝ }
+    ensures { λ r. ⌜ r ≡ next-reply (advance-of (now (first .entry)) (now (second .entry)) (position-of part at)) ⌝ }
 {
     reply_of_next(comparison::next_difference(first, second, position_of(part, at)))
 }

@@ -18,10 +18,13 @@ pub struct CompareReply {
     pub length: usize,
 }
 
-// A difference and the position behind it: part is 0 for the start, 1 for a quota, 2 for a hold record and 3 for a heap byte, and at is which; it is 4 for
-// the heap's kind and 5 for its edition. All is 0 where there is no difference.
+// What the next difference gives: refusal and which as of compare; a difference, and the position behind it. Its part
+// is 0 for the start, 1 for a quota, 2 for a hold record and 3 for a heap byte, and at is which; it is 4 for the
+// heap's kind and 5 for its edition. What has no meaning is 0.
 #[repr(C)]
 pub struct NextReply {
+    pub refusal: u32,
+    pub which: u32,
     pub kind: u32,
     pub place: usize,
     pub length: usize,

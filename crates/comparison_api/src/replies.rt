@@ -7,7 +7,7 @@ use comparison::NextAnswer;
 use comparison::Position;
 use comparison::Which;
 ghost use mathlib.Core.Path.{_≡_};
-ghost use Rattle.comparison.specs.Compare.{compared};
+ghost use Rattle.comparison.specs.Compare.{compared, advanced};
 ghost use Rattle.comparison_api.specs.Replies.{which-number, kind-number, place-number, length-number, compare-reply, position-of, part-number};
 ghost use Rattle.comparison_api.specs.Replies.{place-in, next-reply};
 
@@ -140,12 +140,14 @@ fn place_in(from: Position) -> usize
     }
 }
 
-// The reply of going on.
+// The reply of the next difference.
 pub(crate) fn reply_of_next(answer: NextAnswer) -> NextReply
-    ensures { λ r. ⌜ r ≡ next-reply answer ⌝ }
+    ensures { λ r. ⌜ r ≡ next-reply (advanced answer) ⌝ }
 {
     match answer {
         NextAnswer::Differs(difference, behind) => NextReply {
+            refusal: 0,
+            which: 0,
             kind: kind_of(difference),
             place: place_of(difference),
             length: length_of(difference),
@@ -153,6 +155,17 @@ pub(crate) fn reply_of_next(answer: NextAnswer) -> NextReply
             at: place_in(behind),
         },
         NextAnswer::Nothing => NextReply {
+            refusal: 0,
+            which: 0,
+            kind: 0,
+            place: 0,
+            length: 0,
+            part: 0,
+            at: 0,
+        },
+        NextAnswer::Refused(refusal, which) => NextReply {
+            refusal: refusal.number(),
+            which: number_of(which),
             kind: 0,
             place: 0,
             length: 0,

@@ -1,4 +1,6 @@
-// Every call over the accounts where they lie, under one name.
+// Every call over the accounts where they lie, under one name, and `perform`, which makes any call of a history.
+mod performing;
+
 pub use allocation::allocate;
 pub use allocation::allocate_array;
 pub use allocation::reallocate;
@@ -8,6 +10,7 @@ pub use holding::clear_permissions;
 pub use holding::free_all;
 pub use holding::open;
 pub use holding::sweep;
+pub use performing::perform;
 pub use queries::can_claim;
 pub use queries::can_release;
 pub use queries::check;

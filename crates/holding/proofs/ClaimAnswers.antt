@@ -87,7 +87,7 @@ module _ {s : List ℕ} {k : Accounts} {q : ℕ} {h : Handle} {r : Surveyed} (g 
           holder-is : (p : Place) → place-of (r .holder) ≡ p → find-hold (m .serial) (q % 256) k ≡ p
           holder-is p f =
               ap (λ (x : ℕ). find-hold (m .serial) x k) (byte-quota q few)
-              ∙ ap (λ (x : ℕ). find-hold x q k) (sym (serial-is (r .found) refl)) ∙ sym (g .known ok .holder few) ∙ f
+              ∙ ap (λ (x : ℕ). find-hold x q k) (sym (serial-is (r .found) refl)) ∙ sym (g .known ok .holder) ∙ f
 
           pub claimed-again : (i : ℕ) → place-of (r .holder) ≡ At i → (a : AmountResult) → a ≡ claim-again i (m .size - 8) k → Claims a
           claimed-again i f a d =

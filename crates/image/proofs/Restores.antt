@@ -1,6 +1,7 @@
--- The reader: whether an image's heap is consistent, and what is left of reading once its shape is known.
+-- The reader: whether an image's heap is consistent, what is left of reading once its shape is known, and what a
+-- restore leaves.
 -- Assumes nothing.
-use mathlib.Core.Path.{_≡_, refl, ap, sym, _∙_}
+use mathlib.Core.Path.{_≡_, refl, ap, sym, _∙_, subst}
 use mathlib.Core.List.{List, [], _∷_, _++_}
 use mathlib.Core.Bool.{Bool, true, false, not}
 use Prim.Native.Nat.{ℕ, zero, suc, _≤_}
@@ -11,6 +12,7 @@ use borrow.Author.Tests.{eq-eqb, ne-eqb, leb-true}
 use Rattle.rounding.specs.Rounding.{table}
 use Rattle.accounts.specs.declared.Accounts.{Accounts}
 use Rattle.accounts.specs.Accounts.{zero-accounts}
+use Rattle.words.specs.Words.{Unpadded}
 use Rattle.model.specs.declared.Refusal.{Refusal}
 use Rattle.model.specs.declared.Verdict.{Verdict}
 use Rattle.model.specs.declared.Verdict.the-variants.{Accepted, Refused}
@@ -29,10 +31,12 @@ use Rattle.image_model.specs.declared.ImageRefusal.the-variants.{Room, Unsound}
 use Rattle.image_model.specs.declared.ReadAnswer.the-variants.{Restored, Refused as NotRestored}
 use Rattle.image_model.specs.Stream.{head-length}
 use Rattle.image_model.specs.Reading.{size-in, heap-of, heap-in}
-use Rattle.image_model.specs.Answers.{restored-to, image-refusal-number}
+use Rattle.image_model.specs.Answers.{Restored-to, restored-to, image-refusal-number}
 use Rattle.image_model.specs.Images.{own-sound, line-25, line-26, shape-lines, read-lines, unless-read, read-image}
+use Rattle.image_model.specs.Images.{kept-unless, restore-image}
 use Rattle.image_model.proofs.Answers.{image-refusal-is}
 use Rattle.image.specs.Parsing.{restore}
+use Rattle.image.specs.Restoring.{Left}
 use Rattle.image.proofs.Parses.{Found, shape-numbered}
 
 -- an allowed heap is consistent exactly if the check accepts it
@@ -97,3 +101,40 @@ unfolding restore read-image read-lines line-25 line-26 heap-in heap-of size-in
 read-restored i h f n k w =
     let g = first-passed (shape-lines i) (line-25 i h ∷ line-26 i ∷ []) (shape-numbered i) (w .lines) in
     rw (g, w .form, w .size, w .accounts)
+
+-- what a restore leaves where heap and accounts are in use, from what a read into other words leaves
+module _ (i h s : List ℕ) (k read : Accounts) where
+  -- accepted: the accounts read take the place of those before
+  pub restored-read : restored-to s read Restored ≡ read-image i h → restored-to s read Restored ≡ restore-image i h k
+  unfolding restored-to restore-image kept-unless
+  restored-read e = rw (sym e)
+
+  keeps : (n : ℕ) → 1 ≤ n → k ≡ kept-unless n k read
+  unfolding kept-unless
+  keeps zero l = absurd (omega arith)
+  keeps (suc n) l = refl
+
+  -- refused: the accounts from before stay
+  pub restored-kept : (r : ImageRefusal) → restored-to s read (NotRestored r) ≡ read-image i h
+      → restored-to s k (NotRestored r) ≡ restore-image i h k
+  unfolding restored-to restore-image
+  restored-kept r e =
+      let n = image-refusal-number r in
+      rw (sym e) (λ j. record { heap = s; accounts = keeps n (image-refusal-is r .1) j; refusal = n })
+
+  -- and the words, with and without padding
+  pub left-read : (w v : List ℕ) → restored-to s read Restored ≡ restore-image i h k → Unpadded v
+      → Left (restore-image i h k .refusal) w v
+  unfolding restored-to
+  left-read w v e u = subst (λ (n : ℕ). Left n w v) (ap (λ (r : Restored-to). r .refusal) e) u
+
+  pub left-kept : (w : List ℕ) (r : ImageRefusal) → restored-to s k (NotRestored r) ≡ restore-image i h k
+      → Left (restore-image i h k .refusal) w w
+  unfolding restored-to
+  left-kept w r e =
+      subst (λ (n : ℕ). Left n w w) (ap (λ (x : Restored-to). x .refusal) e)
+      (same (image-refusal-number r) (image-refusal-is r .1))
+    where
+      same : (n : ℕ) → 1 ≤ n → Left n w w
+      same zero l = absurd (omega arith)
+      same (suc n) l = refl

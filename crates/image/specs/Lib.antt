@@ -1,2 +1,3 @@
 -- The crate's definitions.
 pub mod Parsing
+pub mod Restoring

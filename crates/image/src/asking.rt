@@ -30,7 +30,8 @@ pub fn form_of(image: &[u8]) -> Form
     form
 }
 
-// The accounts that an image says, whatever its bytes are.
+// The accounts that an image says, whatever its bytes are: nothing is judged. `comparison` asks it of images that it
+// has examined; no header has it.
 pub fn accounts_in(image: &[u8]) -> Accounts
     ensures { λ r. ⌜ r ≡ accounts-in (now (image .entry)) ⌝ }
 {

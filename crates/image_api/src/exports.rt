@@ -11,8 +11,9 @@ use words::WORDS;
 ghost use mathlib.Core.Path.{_≡_};
 ghost use Rattle.words.specs.Words.{accounts-of, Unpadded};
 ghost use Rattle.image_model.specs.Stream.{form-1, form-2};
-ghost use Rattle.image_model.specs.Images.{write-image, read-image};
+ghost use Rattle.image_model.specs.Images.{write-image, read-image, restore-image};
 ghost use Rattle.image.specs.Parsing.{length-for};
+ghost use Rattle.image.specs.Restoring.{Left};
 ghost use Rattle.conversion.specs.Moves.{move-up, move-down};
 ghost use Rattle.image_api.specs.Replies.{image-reply, restore-reply, examine};
 
@@ -86,6 +87,20 @@ pub extern "C" fn lokhazim_image_in_place_read(
     ensures pads { λ _. ⌜ Unpadded (now (words .exit)) ⌝ }
 {
     number_of(image::in_place::read_image(image, heap, words))
+}
+
+// The same where heap and accounts are in use: where it is refused, every byte and every word stays as it is.
+#[no_mangle]
+pub extern "C" fn lokhazim_image_in_place_restore(
+    image: &[u8],
+    heap: &mut [u8],
+    words: &mut [u32; WORDS],
+) -> u32
+    ensures holds { λ r. ⌜ record { heap = now (heap .exit); accounts = accounts-of (now (words .exit)); refusal = r }
+        ≡ restore-image (now (image .entry)) (now (heap .entry)) (accounts-of (now (words .entry))) ⌝ }
+    ensures leaves { λ r. ⌜ Left r (now (words .entry)) (now (words .exit)) ⌝ }
+{
+    number_of(image::in_place::restore_image(image, heap, words))
 }
 
 // The image in form 2 of the state that an image of form 1 says, at the front of the lent bytes; the others stay.

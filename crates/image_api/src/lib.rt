@@ -7,6 +7,7 @@ mod replies;
 
 pub use exports::lokhazim_image_examine;
 pub use exports::lokhazim_image_in_place_read;
+pub use exports::lokhazim_image_in_place_restore;
 pub use exports::lokhazim_image_in_place_write;
 pub use exports::lokhazim_image_in_place_write_form_1;
 pub use exports::lokhazim_image_length;

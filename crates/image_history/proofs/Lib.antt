@@ -1,1 +1,5 @@
+pub mod Typing
 pub mod Restoring
+pub mod Elsewhere
+pub mod Wrong
+pub mod InPlace

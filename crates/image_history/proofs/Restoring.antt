@@ -3,31 +3,29 @@
 -- that of the image and of the events since. A refused read changes nothing, and the history goes on with the accounts from before.
 -- The reader gives back what the writer wrote, which is image_model's; a history with an image read is one without what came in between, which is ledger's.
 -- Assumes nothing.
-use mathlib.Core.Path.{_≡_, refl, ap, sym, _∙_, subst}
+use mathlib.Core.Path.{_≡_, refl, ap, sym, subst}
 use mathlib.Core.List.{List, [], _∷_, _++_}
 use Prim.Native.Nat.{ℕ, zero, suc}
-use lib.ListN.{length, take}
+use lib.ListN.{length}
 use Rattle.accounts.specs.declared.Accounts.{Accounts}
 use Rattle.rounding.specs.Rounding.{table, Units}
 use Rattle.layout.specs.Bytes.{Octets}
-use Rattle.ledger.specs.Ledger.{Ledger, Event, Saved, Restored, read-ledger, ledger-of}
+use Rattle.ledger.specs.Ledger.{Ledger, Event, Saved, Restored, read-ledger}
 use Rattle.ledger.specs.History.{Run, by-own, Restorable, Restoring, History}
 use Rattle.ledger.specs.Demand3.{Holds}
 use Rattle.ledger.proofs.Lengths.{saved-as-long}
-use Rattle.ledger.proofs.Rejoining.{saved-history, Same, history-restorable, rejoined-ledger, rejoined-holds}
+use Rattle.ledger.proofs.Rejoining.{saved-history, history-restorable, rejoined-ledger, rejoined-holds}
 use Rattle.image_model.specs.declared.Form.{Form}
-use Rattle.image_model.specs.Stream.{Typed}
 use Rattle.image_model.specs.Answers.{Restored-to}
-use Rattle.image_model.specs.Reading.{heap-in, accounts-in}
-use Rattle.image_model.specs.Images.{write-image, read-image}
-use Rattle.image_model.proofs.Places.{Known}
+use Rattle.image_model.specs.Stream.{form-2, image-of}
+use Rattle.image_model.specs.Images.{write-image, read-image, Accepts}
+use Rattle.image_model.proofs.Places.{Known, known-2, full-carries}
 use Rattle.image_model.proofs.Refusals.{refused-read, accepted-read}
 use Rattle.image_model.proofs.Read.{read-written}
+use Rattle.image_model.proofs.Written.{written-read}
 use Rattle.image_model.proofs.Trips.{write-then-read}
-
--- the bytes that the writer wrote
-abbrev pub written-image : Form → List ℕ → List ℕ → Accounts → List ℕ
-written-image f o s k = take (write-image f o s k .length) (write-image f o s k .image)
+use Rattle.image_history.specs.Restores.{written-image, Continues}
+use Rattle.image_history.proofs.Typing.{restorable-typed}
 
 module _ (i h : List ℕ) (octets : Octets i) (accepted : read-image i h .refusal ≡ 0) where
   -- what an image gives back may be restored
@@ -39,7 +37,9 @@ module _ (i h : List ℕ) (octets : Octets i) (accepted : read-image i h .refusa
         octets = a .octets;
         sound = a .sound;
         quotas = a .typed .quotas;
+        records = a .typed .holds;
         narrow = a .typed .grant;
+        counts = a .typed .count;
       })
 
   -- and is as long as the lent heap
@@ -56,6 +56,22 @@ module _ (i h : List ℕ) (octets : Octets i) (accepted : read-image i h .refusa
       → History table run begun (Restored (read-image i h .heap) (read-image i h .accounts) ∷ es) (read-image i h .heap) (read-image i h .accounts)
   restored-goes-on run begun es k past = (h, k, past, accepted-length, accepted-restorable, refl, refl)
 
+-- and what may be restored is what an image gives back, of form 2: a history begins with no other states
+pub restorable-given : (s : List ℕ) (k : Accounts) → Restorable (table (k .edition)) s k
+    → read-image (image-of form-2 s k) s ≡ record { heap = s; accounts = k; refusal = 0 }
+unfolding form-2
+restorable-given s k r =
+    let a : Accepts form-2 s k =
+    record {
+      known = known-2;
+      extent = r .extent;
+      octets = r .octets;
+      sound = r .sound;
+      typed = restorable-typed (table (k .edition)) s k r;
+      carried = full-carries form-2 k refl;
+    } in
+    written-read form-2 s k a s refl
+
 -- a refused read leaves the heap, so the history goes on with the accounts from before
 pub refused-keeps : (i s : List ℕ) → (read-image i s .refusal ≡ 0 → ⊥) → read-image i s .heap ≡ s
 refused-keeps i s f = go (read-image i s .refusal) refl
@@ -68,44 +84,23 @@ pub refused-goes-on : (tables : ℕ → ℕ → ℕ) (i s : List ℕ) (run : Run
     → History tables run begun es s k → History tables run begun es (read-image i s .heap) k
 refused-goes-on tables i s run begun es k f past = rw (refused-keeps i s f) past
 
--- an image was written of s and k, in a form that is known
-module _ (f : Form) (o s : List ℕ) (k : Accounts) (known : Known f) (typed : Typed k) (saved : write-image f o s k .refusal ≡ 0) (octets : Octets s) where
-  -- it says s and k
-  says : (heap-in (written-image f o s k) ≡ s) × (accounts-in (written-image f o s k) ≡ k)
-  says =
-      let r = write-then-read f o s k s saved known octets typed refl in
-      let a = accepted-read (written-image f o s k) s (ap (λ (x : Restored-to). x .refusal) r) in
-      let q = sym a ∙ r in
-      (ap (λ (x : Restored-to). x .heap) q, ap (λ (x : Restored-to). x .accounts) q)
-
-  -- so where it is read, it gives them back
-  pub saved-restored : (h : List ℕ) → read-image (written-image f o s k) h .refusal ≡ 0
-      → read-image (written-image f o s k) h ≡ record { heap = s; accounts = k; refusal = 0 }
-  saved-restored h e = accepted-read (written-image f o s k) h e ∙ (λ j. record { heap = says .0 j; accounts = says .1 j; refusal = 0 })
-
 -- a written image is an event of the history, and changes nothing
 pub saved-goes-on : (tables : ℕ → ℕ → ℕ) (run : Run) (begun : Ledger) (es : List Event) (s : List ℕ) (k : Accounts) → History tables run begun es s k
     → History tables run begun (Saved s k ∷ es) s k
 saved-goes-on tables run begun es s k past = (past, refl, refl)
 
--- what a read of an image leaves that was written in the history: the heap and the accounts written; a history with the restore in it; the image's own
--- history again; and a ledger that says what it said when the image was written
-pub record Continues (tables : ℕ → ℕ → ℕ) (begun : Ledger) (early mid : List Event) (s₁ : List ℕ) (k₁ : Accounts) (r : Restored-to) : Type 0 where
-  pub state : r ≡ record { heap = s₁; accounts = k₁; refusal = 0 }
-  pub goes-on : History tables (by-own tables) begun (Restored (r .heap) (r .accounts) ∷ (mid ++ (Saved s₁ k₁ ∷ early))) (r .heap) (r .accounts)
-  pub again : History tables (by-own tables) begun early (r .heap) (r .accounts)
-  pub ledger : Same (ledger-of begun (Restored (r .heap) (r .accounts) ∷ (mid ++ (Saved s₁ k₁ ∷ early)))) (ledger-of begun early)
-
 module _ (tables : ℕ → ℕ → ℕ) (units : (e : ℕ) → Units (tables e)) (begun : Ledger) (early mid : List Event) (s₁ : List ℕ) (k₁ : Accounts) where
   -- at any later point of the history the image is accepted
   pub restore-continues : (s : List ℕ) (k : Accounts) → History tables (by-own tables) begun (mid ++ (Saved s₁ k₁ ∷ early)) s k
-      → (f : Form) (o : List ℕ) → Known f → Typed k₁ → write-image f o s₁ k₁ .refusal ≡ 0
-      → Continues tables begun early mid s₁ k₁ (read-image (written-image f o s₁ k₁) s)
-  restore-continues s k past f o known typed saved =
+      → (f : Form) (o : List ℕ) → Known f → write-image f o s₁ k₁ .refusal ≡ 0
+      → Continues tables begun early s₁ k₁ mid (read-image (written-image f o s₁ k₁) s)
+  restore-continues s k past f o known saved =
       let own = saved-history tables (by-own tables) begun early s₁ k₁ mid s k past in
       let fit = history-restorable tables units begun early s₁ k₁ own in
+      let typed = restorable-typed (tables (k₁ .edition)) s₁ k₁ fit in
       let long = saved-as-long tables units begun early s₁ k₁ mid s k past in
-      subst (Continues tables begun early mid s₁ k₁) (sym (write-then-read f o s₁ k₁ s saved known (fit .octets) typed long))
+      subst (Continues tables begun early s₁ k₁ mid)
+      (sym (write-then-read f o s₁ k₁ s saved known (fit .octets) typed long))
       (record {
         state = refl;
         goes-on = (s, k, past, sym long, fit, refl, refl);

@@ -12,7 +12,7 @@ use Rattle.accounts.specs.Accounts.{QUOTAS, HOLDS, zero-quota, zero-hold, zero-
 use Rattle.framing.specs.Frames.{frame-of, cut-from, cut}
 use Rattle.image_model.specs.Stream.{form-1, form-2, stream, image-of, image-length, head-length}
 use Rattle.image_model.specs.Answers.{Imaged, Restored-to}
-use Rattle.image_model.specs.Images.{write-image, read-image}
+use Rattle.image_model.specs.Images.{write-image, read-image, restore-image}
 use Rattle.image_model.proofs.Computing.{computing}
 
 -- a fresh heap
@@ -130,6 +130,17 @@ read-rows : (read-image (image-of form-1 heap accounts) (lent 64) ≡ record { h
     × (read-image (image-of form-1 fresh fresh-accounts) (lent 64) ≡ record { heap = fresh; accounts = fresh-accounts; refusal = 0 })
 unfolding small lent
 read-rows = (refl, refl)
+
+-- restored where heap and accounts are in use: the image's, or those of before
+restore-rows : (restore-image (image-of form-1 heap accounts) fresh fresh-accounts
+    ≡ record { heap = heap; accounts = accounts; refusal = 0 })
+    × (restore-image (image-of form-1 fresh fresh-accounts) heap accounts
+    ≡ record { heap = fresh; accounts = fresh-accounts; refusal = 0 })
+    × (restore-image [] heap accounts ≡ record { heap = heap; accounts = accounts; refusal = 21 })
+    × (restore-image (image-of form-1 heap accounts) (lent 72) fresh-accounts
+    ≡ record { heap = lent 72; accounts = fresh-accounts; refusal = 25 })
+unfolding small lent
+restore-rows = (refl, refl, refl, refl)
 
 -- an image that is refused: the image, how many bytes of heap are lent, and the number
 pub data Refused : Type 0 where

@@ -1,4 +1,5 @@
--- Writing and reading images (rules 13.5 to 13.9): the lines of each, and what each leaves and answers.
+-- Writing, reading and restoring images (rules 13.5 to 13.9, 13.19): the lines of each, and what each leaves and
+-- answers.
 use Prim.Native.Nat.{ℕ, zero, suc, _/_, _%_}
 use mathlib.Core.Path.{_≡_}
 use mathlib.Core.List.{List, [], _∷_, _++_}
@@ -91,6 +92,17 @@ unfoldable pub read-image : List ℕ → List ℕ → Restored-to
 read-image i h =
     let done : Restored-to = record { heap = heap-in i; accounts = accounts-in i; refusal = 0 } in
     unless-read (first-refusal (read-lines i h)) h done
+
+-- rule 13.19: an image restored where a heap and accounts are in use: what it says, or both as they were where it is
+-- refused
+unfoldable pub kept-unless : ℕ → Accounts → Accounts → Accounts
+kept-unless zero k read = read
+kept-unless (suc n) k read = k
+
+unfoldable pub restore-image : List ℕ → List ℕ → Accounts → Restored-to
+restore-image i h k =
+    let r = read-image i h in
+    record { heap = r .heap; accounts = kept-unless (r .refusal) k (r .accounts); refusal = r .refusal }
 
 -- a heap and accounts whose image in form f can be written and read again
 pub record Accepts (f : Form) (s : List ℕ) (k : Accounts) : Type 0 where

@@ -1,5 +1,6 @@
 pub mod Recording
 pub mod Rows
+pub mod Short
 pub mod Wrong
 pub mod Agreement
 pub mod Matching
@@ -9,6 +10,7 @@ pub mod Waiting
 pub mod Writing
 pub mod LentParts
 pub mod Opening
+pub mod Counting
 pub mod Tracking
 pub mod Steps
 pub mod Fields

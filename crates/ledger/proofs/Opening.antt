@@ -182,6 +182,12 @@ pub opening-records : (t : Settings) (grants : List ℕ) (s : List ℕ) (k : Acc
 unfolding opened
 opening-records t grants s k o = rw (← opened-fresh t grants s k o .accounts) (length-replicate HOLDS zero-hold)
 
+-- none of which is used
+pub opening-unused : (t : Settings) (grants : List ℕ) (s : List ℕ) (k : Accounts) → Opened t grants s k
+    → k .holds ≡ replicate HOLDS zero-hold
+unfolding opened
+opening-unused t grants s k o = rw (← opened-fresh t grants s k o .accounts) refl
+
 -- every permission is set
 granted-permissions : (gs : List ℕ) → map (λ (x : Quota). x .permissions) (map granted gs) ≡ replicate (length gs) ALL-PERMISSIONS
 granted-permissions [] = refl

@@ -1,14 +1,15 @@
 -- The ledger of short lists of events, computed: what rules 9.2 to 9.5, 13.15 to 13.18, 15.9 and 22.10 to 22.13 make of them.
 -- Assumes nothing.
 use Prim.Native.Nat.{ℕ, _-_}
-use mathlib.Core.Path.{_≡_, refl}
-use mathlib.Core.List.{List, [], _∷_, map}
+use native.Mathlib.Omega.{arith}
+use mathlib.Core.Path.{_≡_, refl, ap}
+use mathlib.Core.List.{List, [], _∷_, map, List·Memᴰ·head, List·Memᴰ·not-nil}
 use mathlib.Core.Bool.{true, false}
-use lib.ListN.{replicate}
+use lib.ListN.{replicate, getD}
 use Rattle.rounding.specs.Rounding.{unit}
 use Rattle.accounts.specs.declared.settings.Settings.{Settings}
-use Rattle.accounts.specs.declared.settings.Kind.the-variants.{Quarantine}
-use Rattle.accounts.specs.declared.settings.Edition.the-variants.{First}
+use Rattle.accounts.specs.declared.settings.Kind.the-variants.{Plain, Quarantine}
+use Rattle.accounts.specs.declared.settings.Edition.the-variants.{First, Second}
 use Rattle.accounts.specs.Accounts.{QUOTAS, plain}
 use Rattle.model.specs.Objects.{objects-of}
 use Rattle.model.specs.Answers.{accepted, refused, given, amount-of}
@@ -19,6 +20,7 @@ use Rattle.model.specs.declared.Call.{Call}
 use Rattle.model.specs.declared.Call.the-variants.{Allocate, AllocateArray, Claim, Release, FreeAll, Sweep, Reallocate, Lend, ClearPermissions}
 use Rattle.model.proofs.Computing.{computing}
 use Rattle.ledger.specs.Ledger.{Entry, Span, Ledger, Event, Called, Wrote, Saved, Restored, empty, unrestored, ledger-of}
+use Rattle.ledger.specs.Same.{Same}
 use Rattle.ledger.specs.Demand3.{in-live-block, in-span, taken, spans-differ}
 use Rattle.ledger.proofs.Recording.{recording}
 
@@ -140,3 +142,27 @@ pub taken-rows : (map (λ i. taken i (parted .heap)) (0 ∷ 23 ∷ 24 ∷ 95 ∷
     × (spans-differ (span 24 48 ∷ span 0 24 ∷ span 24 48 ∷ []) ≡ false)
 unfolding computing recording in-live-block in-span taken spans-differ grants a after waiting span parted
 taken-rows = (refl, refl, refl, refl, refl)
+
+-- two ledgers that differ in one thing do not say the same (`Same`)
+pub coarse : Settings
+coarse = record { kind = Plain; edition = Second }
+
+pub same-rows : (Same (empty plain grants) (empty waiting grants) → ⊥)
+    × (Same (empty plain grants) (empty coarse grants) → ⊥)
+    × (Same (empty plain grants) (empty plain (replicate QUOTAS 5)) → ⊥)
+    × (Same (ledger-of (empty plain grants) made) (empty plain grants) → ⊥)
+    × (Same (empty plain grants) (ledger-of (empty plain grants) made) → ⊥)
+    × (Same (ledger-of (empty plain grants) made) (ledger-of (empty plain grants) claimed) → ⊥)
+    × (Same (ledger-of (empty waiting grants) left) (empty waiting grants) → ⊥)
+    × (Same (empty waiting grants) (ledger-of (empty waiting grants) left) → ⊥)
+unfolding recording waiting coarse grants a made claimed left
+same-rows = (
+  λ e. (let x : _≡_ {A = ℕ} 0 1 = e .kind in omega arith),
+  λ e. (let x : _≡_ {A = ℕ} 0 1 = e .edition in omega arith),
+  λ e. (let x : _≡_ {A = ℕ} 100 5 = ap (λ (gs : List ℕ). getD gs 0 0) (e .grants) in omega arith),
+  λ e. List·Memᴰ·not-nil (e .objects a .0 (List·Memᴰ·head refl)),
+  λ e. List·Memᴰ·not-nil (e .objects a .1 (List·Memᴰ·head refl)),
+  λ e. (let x : _≡_ {A = ℕ} 0 2 = e .holds _ _ (List·Memᴰ·head refl) (List·Memᴰ·head refl) refl 1 in omega arith),
+  λ e. List·Memᴰ·not-nil (e .quarantined _ .0 (List·Memᴰ·head refl)),
+  λ e. List·Memᴰ·not-nil (e .quarantined _ .1 (List·Memᴰ·head refl)),
+)

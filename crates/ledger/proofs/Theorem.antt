@@ -75,7 +75,7 @@ recorded-kept true c v l = accepted-kept c v l
 recorded-kept false c v l = (refl, refl, refl)
 
 -- so they are those of the beginning, where no image was read
-ledger-kept : (begun : Ledger) (es : List Event) → unrestored es ≡ true → Kept (ledger-of begun es) begun
+pub ledger-kept : (begun : Ledger) (es : List Event) → unrestored es ≡ true → Kept (ledger-of begun es) begun
 unfolding ledger-of record-event record-call unrestored
 ledger-kept begun [] u = (refl, refl, refl)
 ledger-kept begun (Called c v ∷ es) u =

@@ -7,7 +7,7 @@ use lib.ListN.{length, getD}
 use lib.Dec.{leb, ltb}
 use Rattle.accounts.specs.declared.Accounts.{Accounts}
 use Rattle.accounts.specs.declared.settings.Settings.{Settings}
-use Rattle.accounts.specs.Accounts.{QUOTAS, zero-quota}
+use Rattle.accounts.specs.Accounts.{QUOTAS, HOLDS, zero-quota, zero-hold}
 use Rattle.layout.specs.Bytes.{Octets}
 use Rattle.model.specs.Lists.{any}
 use Rattle.model.specs.Answers.{accepted}
@@ -34,13 +34,16 @@ pub record Opened (settings : Settings) (grants : List ℕ) (s : List ℕ) (k : 
   pub narrow : (q : ℕ) → getD grants q 0 < 2 ^ 32
   pub opens : open-heap settings before grants ≡ record { heap = s; accounts = k; values = accepted }
 
--- a heap and accounts that an image which is accepted may give back, whatever led to them
+-- a heap and accounts that an image which is accepted may give back, whatever led to them: a consistent state, with all
+-- quotas and records (rule 3.2), grants of 32 bits and counts of one byte, as every image has them
 pub record Restorable (unit : ℕ → ℕ) (s : List ℕ) (k : Accounts) : Type 0 where
   pub extent : allowed (length s) ≡ true
   pub octets : Octets s
   pub sound : is-sound unit s k ≡ true
   pub quotas : length (k .quotas) ≡ QUOTAS
+  pub records : length (k .holds) ≡ HOLDS
   pub narrow : (q : ℕ) → getD (k .quotas) q zero-quota .grant < 2 ^ 32
+  pub counts : (i : ℕ) → getD (k .holds) i zero-hold .count < 2 ^ 8
 
 -- how a history begins, and the ledger at its beginning: with an accepted opening and the empty ledger of its settings and grants, or with a state that was
 -- read and the ledger read off it
@@ -67,3 +70,15 @@ History tables run begun (Wrote ∷ es) s k = (s₀ : List ℕ) × History table
 History tables run begun (Saved s₀ k₀ ∷ es) s k = History tables run begun es s k × (s ≡ s₀) × (k ≡ k₀)
 History tables run begun (Restored s₁ k₁ ∷ es) s k =
     (s₀ : List ℕ) × (k₀ : Accounts) × History tables run begun es s₀ k₀ × (length s ≡ length s₀) × Restorable (tables (k .edition)) s k × (s ≡ s₁) × (k ≡ k₁)
+
+-- the events, the newest first, that lead from one heap and its accounts to another: a history without its beginning
+module _ (tables : ℕ → ℕ → ℕ) (run : Run) (s₁ : List ℕ) (k₁ : Accounts) where
+  abbrev pub Leads : List Event → List ℕ → Accounts → Type 0
+  Leads [] s k = (s ≡ s₁) × (k ≡ k₁)
+  Leads (Called c v ∷ es) s k =
+      (s₀ : List ℕ) × (k₀ : Accounts) × Leads es s₀ k₀ × (run c s₀ k₀ ≡ record { heap = s; accounts = k; values = v })
+  Leads (Wrote ∷ es) s k = (s₀ : List ℕ) × Leads es s₀ k × Written s₀ s
+  Leads (Saved s₀ k₀ ∷ es) s k = Leads es s k × (s ≡ s₀) × (k ≡ k₀)
+  Leads (Restored s₂ k₂ ∷ es) s k =
+      (s₀ : List ℕ) × (k₀ : Accounts) × Leads es s₀ k₀ × (length s ≡ length s₀) × Restorable (tables (k .edition)) s k
+      × (s ≡ s₂) × (k ≡ k₂)

@@ -34,7 +34,8 @@ pub record Span : Type 0 where
 unfoldable pub block-of : Handle → Span
 block-of o = record { from = o .base - 8; to = o .base + o .length }
 
--- rules 9.2 and 22.10: kind and grants of the opening, and the entries and the quarantined blocks, none to begin with
+-- rules 9.2 and 22.10: kind, edition and grants of the opening, and the entries and the quarantined blocks, none to
+-- begin with
 pub record Ledger : Type 0 where
   pub kind : ℕ
   pub edition : ℕ
@@ -120,8 +121,8 @@ spans-from at (b ∷ bs) =
 unfoldable pub quarantined-of : List ℕ → List Span
 quarantined-of s = spans-from 0 (blocks-of s)
 
--- rules 13.16 and 22.12, the ledger that is read off a state: an entry for each live object, with the counts of its records as holds; kind and grants of the
--- accounts; and the heap's quarantined blocks
+-- rules 13.16 and 22.12, the ledger that is read off a state: an entry for each live object, with the counts of its
+-- records as holds; kind, edition and grants of the accounts; and the heap's quarantined blocks
 unfoldable pub read-entry : List Hold → Handle → Entry
 read-entry hs o = record { object = o; holds = values-from (λ q. count-of (o .serial) q hs) 0 QUOTAS }
 

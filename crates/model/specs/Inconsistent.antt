@@ -76,6 +76,9 @@ broken-cuts =
     -- the last block ends past the heap, and before its end
     ∷ judged 2 (four (head 2 0 1) (head 2 2 0) (head 2 2 3) (head 3 2 0)) good-accounts
     ∷ judged 2 (four (head 2 0 1) (head 2 2 0) (head 2 2 3) (head 1 2 0)) good-accounts
+    -- bytes behind the last block: four, which no heap may have, and eight
+    ∷ judged 1 (good-heap ++ zeros 4) good-accounts
+    ∷ judged 2 (good-heap ++ zeros 8) good-accounts
     -- a live block of 8 bytes
     ∷ judged 2 (parts (head 1 0 1 ∷ head 7 1 0 ∷ zeros 48 ∷ [])) (accounts-of (quota 8 0 ∷ []) 1 (hold 1 0 1 ∷ []))
     -- two free blocks side by side, at the heap's beginning and at its end

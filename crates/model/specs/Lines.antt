@@ -29,12 +29,14 @@ not-opened n = (refused 1, replicate n 170, accounts-to HOLDS (replicate QUOTAS 
 abbrev pub is-opened : List ℕ → Values × List ℕ × Accounts
 is-opened bytes = (accepted, bytes, accounts-to HOLDS (quota 5 5 ∷ quota 4294967295 4294967295 ∷ []) 0 [])
 
+-- rule 2.1 on both sides: the bounds, and multiples of 1, 4 and 8
 abbrev pub heap-lengths : List ℕ
-heap-lengths = 0 ∷ 56 ∷ 64 ∷ 65 ∷ 32768 ∷ 32776 ∷ []
+heap-lengths = 0 ∷ 56 ∷ 64 ∷ 65 ∷ 68 ∷ 72 ∷ 32764 ∷ 32768 ∷ 32776 ∷ []
 
 unfoldable pub openings : List (Values × List ℕ × Accounts)
 openings =
     not-opened 0 ∷ not-opened 56 ∷ is-opened (parts (head 8 0 0 ∷ zeros 56 ∷ [])) ∷ not-opened 64
+    ∷ not-opened 64 ∷ is-opened (parts (head 9 0 0 ∷ zeros 56 ∷ [])) ∷ not-opened 64
     ∷ is-opened (parts ((0 ∷ 16 ∷ zeros 6) ∷ zeros 56 ∷ [])) ∷ not-opened 64 ∷ []
 
 -- every call, with a quota and a length that no call takes and a handle that names nothing

@@ -38,5 +38,5 @@ module _ {s : List ℕ} {k : Accounts} {w : Wanted} {r : Surveyed} (g : Survey s
       let serial : w .serial ≡ m .serial = is-serial g ok (t .0) ∙ ap (λ (x : Met). x .serial) (t .1) in
       ap (λ (q : ℕ). find-hold (m .serial) q k) (byte-quota (w .quota) few)
       ∙ ap (λ (n : ℕ). find-hold n (w .quota) k) (sym serial)
-      ∙ sym (g .known ok .holder few)
+      ∙ sym (g .known ok .holder)
       ∙ h

@@ -13,11 +13,13 @@ use lib.Seq.{take-suc-set, take-append-le}
 use lib.Dec.{ltb, eqb}
 use borrow.Author.Tests.{ltb-false, eqb-true, eqb-false, ne-eqb}
 use Rattle.accounts.specs.declared.Accounts.{Accounts}
+use Rattle.rounding.specs.Rounding.{table}
 use Rattle.model.specs.Answers.{zero-handle}
 use Rattle.model.specs.Refusals.{Line, first-refusal}
 use Rattle.model.specs.declared.Handle.{Handle}
 use Rattle.queue.specs.declared.Queue.{Queue}
-use Rattle.queue.specs.Queue.{PLACES, waiting, with-handle, without-oldest, line-53, line-51, send-lines, sent-unless, send, receive}
+use Rattle.queue.specs.Queue.{PLACES, waiting, with-handle, without-oldest, line-53, line-51, send-lines}
+use Rattle.queue.specs.Queue.{Sent, sent-unless, send, receive}
 use Rattle.queue.specs.Runs.{by-rules, QueueCall, Sends, Receives, Traffic, and-then, next, traffic, Fifo, FirstInFirstOut}
 use Rattle.queue.proofs.Sending.{receive-empty, receive-done}
 
@@ -91,32 +93,43 @@ record Kept (t : Traffic) : Type 0 where
 longer : (u : Queue) (h : Handle) → Sized u → u .count < PLACES → Sized (with-handle h u)
 longer u h z l = record { few = omega arith; long = simp length-set (z .long) }
 
-module _ (unit : ℕ → ℕ) where
-  sends-keep : (s : List ℕ) (k : Accounts) (h : Handle) (t : Traffic) → Kept t → Kept (next (by-rules unit) (Sends s k h) t)
+module _ (tables : ℕ → ℕ → ℕ) where
+  abbrev sent : List ℕ → Accounts → Handle → Traffic → Sent
+  sent s k h t = send (tables (k .edition)) s k (t .queue) h
+
+  sends-keep : (s : List ℕ) (k : Accounts) (h : Handle) (t : Traffic) → Kept t
+      → Kept (next (by-rules tables) (Sends s k h) t)
   unfolding next and-then
-  sends-keep s k h t z = go (send-way unit s k (t .queue) h)
+  sends-keep s k h t z = go (send-way (tables (k .edition)) s k (t .queue) h)
     where
-      go : Way (t .queue) h (send unit s k (t .queue) h .refusal) (send unit s k (t .queue) h .queue) → Kept (next (by-rules unit) (Sends s k h) t)
+      go : Way (t .queue) h (sent s k h t .refusal) (sent s k h t .queue)
+          → Kept (next (by-rules tables) (Sends s k h) t)
       go (inl (n, e, l)) =
           record {
             sized = rw e (longer (t .queue) h (z .sized) l);
             order = rw (n, e, waiting-more (t .queue) h (z .sized) l, z .order, append-assoc);
           }
-      go (inr (n, e)) = record { sized = rw e (z .sized); order = rw (ne-eqb (send unit s k (t .queue) h .refusal) 0 (λ x. omega arith), e) (z .order) }
+      go (inr (n, e)) =
+          record {
+            sized = rw e (z .sized);
+            order = rw (ne-eqb (sent s k h t .refusal) 0 (λ x. omega arith), e) (z .order);
+          }
 
-  receives-keep : (t : Traffic) → Kept t → Kept (next (by-rules unit) Receives t)
+  receives-keep : (t : Traffic) → Kept t → Kept (next (by-rules tables) Receives t)
   unfolding next and-then
   receives-keep t z = go (receive-way (t .queue) (z .sized))
     where
-      go : Gives (t .queue) (receive (t .queue) .refusal) (receive (t .queue) .handle) (receive (t .queue) .queue) → Kept (next (by-rules unit) Receives t)
+      go : Gives (t .queue) (receive (t .queue) .refusal) (receive (t .queue) .handle) (receive (t .queue) .queue)
+          → Kept (next (by-rules tables) Receives t)
       go (inl (n, e, l)) = record { sized = l; order = rw n (z .order ∙ rw (e, append-assoc)) }
       go (inr (n, e, l)) = record { sized = rw e (z .sized); order = rw (n, e) (z .order) }
 
-  traffic-kept : (u : Queue) → u .count ≡ 0 → length (u .handles) ≡ PLACES → (cs : List QueueCall) → Kept (traffic (by-rules unit) u cs)
+  traffic-kept : (u : Queue) → u .count ≡ 0 → length (u .handles) ≡ PLACES → (cs : List QueueCall)
+      → Kept (traffic (by-rules tables) u cs)
   unfolding traffic
   traffic-kept u c l [] = record { sized = record { few = omega arith; long = l }; order = sym (nothing u c) }
-  traffic-kept u c l (Sends s k h ∷ cs) = sends-keep s k h (traffic (by-rules unit) u cs) (traffic-kept u c l cs)
-  traffic-kept u c l (Receives ∷ cs) = receives-keep (traffic (by-rules unit) u cs) (traffic-kept u c l cs)
+  traffic-kept u c l (Sends s k h ∷ cs) = sends-keep s k h (traffic (by-rules tables) u cs) (traffic-kept u c l cs)
+  traffic-kept u c l (Receives ∷ cs) = receives-keep (traffic (by-rules tables) u cs) (traffic-kept u c l cs)
 
 -- a list is the same with others behind it only if there are none
 nothing-behind : (xs ys : List Handle) → xs ++ ys ≡ xs → ys ≡ []
@@ -143,11 +156,16 @@ module _ (t : Traffic) (z : Kept t) where
   other (inl (n, w, r)) f = n
   other (inr (n, r, w)) f = absurd (f n)
 
-  fifo : (unit : ℕ → ℕ) → Fifo (by-rules unit) t
-  fifo unit =
+  fifo : (tables : ℕ → ℕ → ℕ) → Fifo (by-rules tables) t
+  fifo tables =
       let w = receive-way (t .queue) (z .sized) in
       record { order = z .order; all-out = (there w, back w); next-out = out w; no-other = other w; sized = z .sized .few }
 
--- THE THEOREM, for every table of units
-pub first-in-first-out : (unit : ℕ → ℕ) → FirstInFirstOut (by-rules unit)
-first-in-first-out unit = record { always = λ u c l cs. fifo (traffic (by-rules unit) u cs) (traffic-kept unit u c l cs) unit }
+-- THE THEOREM, for every family of tables, one for each edition: the sends of a list may be made on heaps of either
+pub first-in-first-out-of : (tables : ℕ → ℕ → ℕ) → FirstInFirstOut (by-rules tables)
+first-in-first-out-of tables =
+    record { always = λ u c l cs. fifo (traffic (by-rules tables) u cs) (traffic-kept tables u c l cs) tables }
+
+-- and so of the send that the contracts name
+pub first-in-first-out : FirstInFirstOut (by-rules table)
+first-in-first-out = first-in-first-out-of table

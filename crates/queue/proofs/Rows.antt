@@ -6,18 +6,20 @@ use mathlib.Core.List.{List, [], _∷_, _++_, map}
 use mathlib.Core.Option.{none}
 use lib.ListN.{length, replicate}
 use Rattle.accounts.specs.declared.Hold.{Hold}
-use Rattle.accounts.specs.Accounts.{zero-hold}
+use Rattle.accounts.specs.Accounts.{zero-hold, with-edition}
 use Rattle.rounding.specs.Rounding.{unit, table}
 use Rattle.words.specs.Words.{table as each-place}
 use Rattle.model.specs.Answers.{zero-handle}
 use Rattle.model.specs.Calls.{Outcome, lend, release}
 use Rattle.model.specs.Marked.{handle}
 use Rattle.model.specs.Tables.{head, zeros, parts, quota, quota-with, hold, places, accounts-of, state}
+use Rattle.model.specs.Units.{Placed, placed, gap, heap-with, accounts-with}
 use Rattle.model.specs.declared.Handle.{Handle}
 use Rattle.model.specs.declared.Call.the-variants.{Claim, Release}
 use Rattle.model.specs.declared.Refusal.the-variants.{Inconsistent, NotPermitted}
 use Rattle.model.proofs.Computing.{computing}
 use Rattle.ledger.specs.Ledger.{Called}
+use Rattle.safety.specs.Stale.{lines-before-5}
 use Rattle.queue.specs.declared.Queue.{Queue}
 use Rattle.queue.specs.declared.QueueRefusal.the-variants.{Damaged, Full, Empty, Heap}
 use Rattle.queue.specs.Queue.{PLACES, empty-queue, waiting, with-handle, without-oldest, line-53, line-51, line-52, line-of, Sent, sent-unless}
@@ -26,6 +28,7 @@ use Rattle.queue.specs.Places.{QUEUE-WORDS, handles-of, queue-of}
 use Rattle.queue.specs.Results.{queue-refusal-number}
 use Rattle.queue.specs.Runs.{by-rules, QueueCall, Sends, Receives, and-then, next, traffic}
 use Rattle.queue.specs.Packets.{send-events}
+use Rattle.queue.specs.Stale.{stale-send-refusal}
 
 -- a heap of 64 bytes with the object (8, 16, 1); quota 0 holds it so often, quota 1 has this remainder and permissions, and quota 2 holds nothing
 pub one-object : ℕ → ℕ → ℕ → Outcome
@@ -115,6 +118,24 @@ table-rows : (refusals full-table (queue-with 0 9 0 ∷ queue-with 0 1 0 ∷ [])
 unfolding rows
 table-rows = (refl, refl)
 
+-- a handle with a serial that no object has: the send is refused as it is to be
+gone : Handle
+gone = handle 8 16 9
+
+told : Outcome → List Queue → List ℕ
+told t us = map (λ (u : Queue). stale-send-refusal u gone (t .accounts)) us
+
+-- with room, with room for one, to a quota that is none, full, damaged
+queues : List Queue
+queues = queue-with 0 1 0 ∷ queue-with 2 1 15 ∷ queue-with 0 32 0 ∷ queue-with 0 1 16 ∷ queue-with 0 1 17 ∷ []
+
+stale-rows : (told (one-object 1 100 7) queues ≡ 5 ∷ 5 ∷ 3 ∷ 51 ∷ 53 ∷ [])
+    × (told (one-object 1 100 5) queues ≡ 12 ∷ 12 ∷ 3 ∷ 51 ∷ 53 ∷ [])
+    × (refusals (one-object 1 100 7) queues gone ≡ 5 ∷ 5 ∷ 3 ∷ 51 ∷ 53 ∷ [])
+    × (refusals (one-object 1 100 5) queues gone ≡ 12 ∷ 12 ∷ 3 ∷ 51 ∷ 53 ∷ [])
+unfolding rows gone told queues lines-before-5 stale-send-refusal
+stale-rows = (refl, refl, refl, refl)
+
 -- receives: the oldest, the places behind it moved up; 53 before 52
 receive-rows : (receive (with-handle (handle 2 2 2) (with-handle (handle 1 1 1) (empty-queue 5 6)))
     ≡ record {
@@ -148,11 +169,27 @@ both =
     ∷ Sends (one-object 1 100 7 .heap) (one-object 1 100 7 .accounts) (handle 16 8 1)
     ∷ Sends (one-object 1 100 7 .heap) (one-object 1 100 7 .accounts) packet ∷ Receives ∷ []
 
-list-rows : (traffic (by-rules unit) (empty-queue 0 1) both .accepted ≡ packet ∷ handle 16 8 1 ∷ [])
-    × (traffic (by-rules unit) (empty-queue 0 1) both .given ≡ packet ∷ handle 16 8 1 ∷ [])
-    × (traffic (by-rules unit) (empty-queue 0 1) both .queue ≡ empty-queue 0 1)
+list-rows : (traffic (by-rules table) (empty-queue 0 1) both .accepted ≡ packet ∷ handle 16 8 1 ∷ [])
+    × (traffic (by-rules table) (empty-queue 0 1) both .given ≡ packet ∷ handle 16 8 1 ∷ [])
+    × (traffic (by-rules table) (empty-queue 0 1) both .queue ≡ empty-queue 0 1)
 unfolding rows both
 list-rows = (refl, refl, refl)
+
+-- sends on heaps of both editions, the newest first: an object of 4,096 bytes at 8 or at 16, sent by its quota to
+-- itself. Each goes by the table of its own accounts: edition 2 has no object of this length at 8, so the newest is
+-- refused
+sends-in : ℕ → Placed → QueueCall
+sends-in e (placed base length behind) =
+    let p = placed base length behind in
+    Sends (heap-with p) (with-edition e (accounts-with p)) (handle base length 1)
+
+either : List QueueCall
+either = sends-in 1 (placed 8 4096 0) ∷ sends-in 0 (placed 8 4096 0) ∷ sends-in 1 (placed 16 4096 0) ∷ []
+
+edition-rows : (traffic (by-rules table) (empty-queue 0 0) either .accepted ≡ handle 16 4096 1 ∷ handle 8 4096 1 ∷ [])
+    × (waiting (traffic (by-rules table) (empty-queue 0 0) either .queue) ≡ handle 16 4096 1 ∷ handle 8 4096 1 ∷ [])
+unfolding rows gap heap-with accounts-with sends-in either
+edition-rows = (refl, refl)
 
 number-rows : map queue-refusal-number (Full ∷ Empty ∷ Damaged ∷ Heap Inconsistent ∷ Heap NotPermitted ∷ []) ≡ 51 ∷ 52 ∷ 53 ∷ 2 ∷ 12 ∷ []
 number-rows = refl

@@ -5,3 +5,4 @@ pub mod Results
 pub mod Runs
 pub mod Packets
 pub mod Wrong
+pub mod Stale

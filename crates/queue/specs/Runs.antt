@@ -16,9 +16,9 @@ pub record Performer : Type 0 where
   pub sends : List ℕ → Accounts → Queue → Handle → Sent
   pub receives : Queue → Received
 
--- the queue of the rules, by the units of a table
-abbrev pub by-rules : (ℕ → ℕ) → Performer
-by-rules unit = record { sends = send unit; receives = receive }
+-- rules 21.8 and 23.4: the queue of the rules. Each send goes by the table of the edition in its own accounts
+abbrev pub by-rules : (ℕ → ℕ → ℕ) → Performer
+by-rules tables = record { sends = λ s k u h. send (tables (k .edition)) s k u h; receives = receive }
 
 -- a call on a queue
 pub data QueueCall : Type 0 where

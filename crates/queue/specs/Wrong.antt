@@ -3,7 +3,7 @@ use Prim.Native.Nat.{ℕ, _-_}
 use lib.ListN.{getD}
 use lib.Dec.{ltb}
 use mathlib.Core.Bool.{cond}
-use Rattle.rounding.specs.Rounding.{unit}
+use Rattle.rounding.specs.Rounding.{table}
 use Rattle.model.specs.Answers.{zero-handle}
 use Rattle.queue.specs.declared.Queue.{Queue}
 use Rattle.queue.specs.Queue.{Received, send, receive}
@@ -14,7 +14,7 @@ abbrev with-count : ℕ → Queue → Queue
 with-count n u = record { sender = u .sender; receiver = u .receiver; count = n; handles = u .handles }
 
 abbrev with-receive : (Queue → Received) → Performer
-with-receive f = record { sends = by-rules unit .sends; receives = f }
+with-receive f = record { sends = by-rules table .sends; receives = f }
 
 -- it gives the newest handle
 unfoldable pub newest-out : Performer
@@ -34,6 +34,9 @@ keeps-the-last = with-receive (λ u. cond (ltb (u .count) 2) (record { queue = u
 unfoldable pub loses : Performer
 loses =
     record {
-      sends = λ s k u h. (let r = send unit s k u h in record { heap = r .heap; accounts = r .accounts; queue = u; refusal = r .refusal });
+      sends =
+          λ s k u h.
+          (let r = send (table (k .edition)) s k u h in
+          record { heap = r .heap; accounts = r .accounts; queue = u; refusal = r .refusal });
       receives = receive;
     }

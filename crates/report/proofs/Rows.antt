@@ -5,8 +5,8 @@ use mathlib.Core.List.{List, [], _∷_, _++_, map}
 use Prim.Native.Nat.{ℕ, zero, suc}
 use lib.ListN.{length, set, take, replicate}
 use Rattle.report.specs.Words.{digit, value, digits, number, line-text}
-use Rattle.report.specs.Import.{report-refusal-number, line-of, import-of}
-use Rattle.report.specs.Export.{lines-text, export-of}
+use Rattle.report.specs.Import.{report-refusal-number, line-of, import-of, import-told}
+use Rattle.report.specs.Export.{lines-text, export-of, text-told}
 use Rattle.report.specs.declared.ReportRefusal.{ReportRefusal}
 use Rattle.report.specs.declared.ReportRefusal.the-variants.{Character, Reserved, TooMany, Room}
 use Rattle.report.specs.declared.Line.the-variants.{Grant, Bad}
@@ -128,3 +128,13 @@ export-rows : (export-of [] (replicate 32 0) ≡ record { text = []; answer = Re
     × (take 108 (lines-text (4294967295 ∷ replicate 31 4096)) ≡ replicate 8 102 ++ (tail ++ line))
 unfolding shown
 export-rows = (refl, refl, refl, refl, refl)
+
+-- answers in numbers: both cases of each, and every refusal
+told-rows : (import-told (good (7 ∷ [])) ≡ record { grants = 7 ∷ []; refusal = 0; line = 0 })
+    × (import-told (bad Reserved 2) ≡ record { grants = replicate 32 0; refusal = 32; line = 2 })
+    × (map (λ (r : ReportRefusal). import-told (bad r 1) .refusal) (Character ∷ Reserved ∷ TooMany ∷ Room ∷ [])
+    ≡ 31 ∷ 32 ∷ 33 ∷ 34 ∷ [])
+    × (text-told (1 ∷ []) (Exported 1728) ≡ record { text = 1 ∷ []; refusal = 0; length = 1728 })
+    × (text-told (1 ∷ []) (Refused Room) ≡ record { text = 1 ∷ []; refusal = 34; length = 0 })
+unfolding shown
+told-rows = (refl, refl, refl, refl, refl)

@@ -9,6 +9,7 @@ use Rattle.report.specs.declared.ReportRefusal.{ReportRefusal}
 use Rattle.report.specs.declared.ReportRefusal.the-variants.{Character, Reserved, TooMany, Room}
 use Rattle.report.specs.declared.Line.{Line}
 use Rattle.report.specs.declared.Line.the-variants.{Grant, Bad}
+use Rattle.report.specs.declared.ImportAnswer.{ImportAnswer}
 use Rattle.report.specs.declared.ImportAnswer.the-variants.{Accepted, Refused}
 use Rattle.report.specs.declared.Imported.{Imported}
 
@@ -57,3 +58,16 @@ imported (Wrong r n) = bad-at r n
 
 unfoldable pub import-of : List ℕ → Imported
 import-of t = imported (lines-from QUOTAS 1 t)
+
+-- the same in numbers: the refusal's and the bad line's, 0 where there is none
+pub record ImportTold : Type 0 where
+  pub grants : List ℕ
+  pub refusal : ℕ
+  pub line : ℕ
+
+unfoldable pub grants-told : List ℕ → ImportAnswer → ImportTold
+grants-told gs Accepted = record { grants = gs; refusal = 0; line = 0 }
+grants-told gs (Refused r n) = record { grants = gs; refusal = report-refusal-number r; line = n }
+
+abbrev pub import-told : Imported → ImportTold
+import-told x = grants-told (x .grants) (x .answer)

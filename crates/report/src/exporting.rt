@@ -9,7 +9,7 @@ ghost use mathlib.Core.Path.{_≡_};
 ghost use Prim.Native.Nat.{_≤_};
 ghost use lib.ListN.{length};
 ghost use Rattle.layout.specs.Bytes.{overwrite};
-ghost use Rattle.report.specs.Export.{lines-text, export-of};
+ghost use Rattle.report.specs.Export.{lines-text, export-of, text-told, export-told};
 
 // The lines of all grants, written at the front of a text that has room for them.
 fn put_lines(text: &mut [u8], grants: [u32; QUOTAS])
@@ -25,7 +25,7 @@ fn put_lines(text: &mut [u8], grants: [u32; QUOTAS])
 
 // The grants as a line each, written at the front of a lent text; bytes behind them stay. Without room nothing is written.
 pub fn export_grants(text: &mut [u8], grants: [u32; QUOTAS]) -> ExportAnswer
-    ensures { λ r. ⌜ record { text = now (text .exit); answer = r } ≡ export-of (now (text .entry)) grants ⌝ }
+    ensures { λ r. ⌜ text-told (now (text .exit)) r ≡ export-told (export-of (now (text .entry)) grants) ⌝ }
 {
     if text.len() < REPORT_LENGTH {
         return ExportAnswer::Refused(ReportRefusal::Room);

@@ -7,7 +7,7 @@ use crate::ReportRefusal;
 use crate::lines::read_line;
 use accounts::QUOTAS;
 ghost use mathlib.Core.Path.{_≡_};
-ghost use Rattle.report.specs.Import.{bad-at, import-of};
+ghost use Rattle.report.specs.Import.{bad-at, import-of, import-told};
 
 // No grants, and the bad line.
 fn refused(refusal: ReportRefusal, line: u32) -> Imported
@@ -21,7 +21,7 @@ fn refused(refusal: ReportRefusal, line: u32) -> Imported
 
 // The grants of a text's lines, missing ones 0; or why its first bad line is bad, and that line's number.
 pub fn import_grants(text: &[u8]) -> Imported
-    ensures { λ r. ⌜ r ≡ import-of (now (text .entry)) ⌝ }
+    ensures { λ r. ⌜ import-told r ≡ import-told (import-of (now (text .entry))) ⌝ }
 {
     let mut grants = [0u32; QUOTAS];
     let mut i: usize = 0;

@@ -29,12 +29,11 @@ use Rattle.model.proofs.Bools.{and-left, and-right}
 use Rattle.model.proofs.Lists.{all-member}
 use Rattle.model.proofs.Blocks.{apart-head}
 use Rattle.model.proofs.Consistent.{Tests, tests-exactly, consistent-cut, consistent-apart}
-use Rattle.model.proofs.StepFrame.{step-keeps}
 use Rattle.invariant.proofs.Heaps.{heap-again, render-total}
 use Rattle.ledger.specs.Ledger.{Ledger, Event, Called, Wrote, Saved, Restored, spans-from, quarantined-of, empty, unrestored, ledger-of}
 use Rattle.ledger.specs.History.{Begins, Opening, Restoring, History, by-own}
 use Rattle.ledger.proofs.Agreement.{Agrees}
-use Rattle.ledger.proofs.Opening.{opening-records}
+use Rattle.ledger.proofs.Counting.{history-records}
 use Rattle.ledger.proofs.Theorem.{history-agrees, demand-3-of}
 use Rattle.safety.specs.Images.{AtLastImage}
 use Rattle.safety.specs.Left.{clean-block, clean, is-zero, blank}
@@ -162,24 +161,6 @@ module _ (tables : ℕ → ℕ → ℕ) (begun : Ledger) where
   none-read (Saved s₀ k₀ ∷ es) s k h p = none-read es s k (h .0) p
   none-read (Restored s₁ k₁ ∷ es) s k h p = absurd p
 
-  -- there are as many records as at the beginning
-  abbrev Records : List ℕ → Accounts → Type 0
-  Records s k = length (k .holds) ≡ HOLDS
-
-  begun-records : (s : List ℕ) (k : Accounts) (h : Begins tables begun s k) → AtLastImage tables (by-own tables) begun Records [] s k h → Records s k
-  begun-records s k (Opening g given e o) p = opening-records g given s k o
-  begun-records s k (Restoring e r) p = p
-
-  records-stay : (es : List Event) (s : List ℕ) (k : Accounts) (h : History tables (by-own tables) begun es s k)
-      → AtLastImage tables (by-own tables) begun Records es s k h → Records s k
-  records-stay [] s k h p = begun-records s k h p
-  records-stay (Called c v ∷ es) s k h p =
-      sym (ap (λ (t : Outcome). length (t .accounts .holds)) (h .3)) ∙ step-keeps (tables (h .1 .edition)) c (h .0) (h .1) .places
-      ∙ records-stay es (h .0) (h .1) (h .2) p
-  records-stay (Wrote ∷ es) s k h p = records-stay es (h .0) k (h .1) p
-  records-stay (Saved s₀ k₀ ∷ es) s k h p = records-stay es s k (h .0) p
-  records-stay (Restored s₁ k₁ ∷ es) s k h p = p
-
 -- a blank heap that agrees with an empty ledger, and its records
 module _ (l : Ledger) (s : List ℕ) (k : Accounts) (a : Agrees l s k) (none : NobodyHolds l) (b : blank s ≡ true) (rs : length (k .holds) ≡ HOLDS) where
   tests : Tests (blocks-of s) k
@@ -251,13 +232,11 @@ module _ (l : Ledger) (s : List ℕ) (k : Accounts) (a : Agrees l s k) (none : N
 -- THE THEOREM
 module _ (tables : ℕ → ℕ → ℕ) (units : (e : ℕ) → Units (tables e)) where
   restored-returned : (begun : Ledger) (es : List Event) (s : List ℕ) (k : Accounts) (h : History tables (by-own tables) begun es s k)
-      → AtLastImage tables (by-own tables) begun (λ s k. (blank s ≡ true) × (length (k .holds) ≡ HOLDS)) es s k h → NobodyHolds (ledger-of begun es)
+      → AtLastImage tables (by-own tables) begun (λ s k. blank s ≡ true) es s k h → NobodyHolds (ledger-of begun es)
       → (g : Settings) → kind-number (g .kind) ≡ k .kind → edition-number (g .edition) ≡ k .edition → AsOpened g (grants k) s k
   restored-returned begun es s k h p none =
-      let W : List ℕ → Accounts → Type 0 = λ s k. (blank s ≡ true) × (length (k .holds) ≡ HOLDS) in
       as-opened (ledger-of begun es) s k (history-agrees tables units begun es s k h) none
-      (nothing-left-of tables units .always begun es s k h (images tables begun W (λ s k. blank s ≡ true) (λ s k w. w .0) es s k h p))
-      (records-stay tables begun es s k h (images tables begun W (λ s k. length (k .holds) ≡ HOLDS) (λ s k w. w .1) es s k h p))
+      (nothing-left-of tables units .always begun es s k h p) (history-records tables begun es s k h)
 
   opened-returned : (g : Settings) (given : List ℕ) (es : List Event) (s : List ℕ) (k : Accounts) (h : History tables (by-own tables) (empty g given) es s k)
       → AtLastImage tables (by-own tables) (empty g given) (λ s k. ⊥) es s k h → NobodyHolds (ledger-of (empty g given) es) → AsOpened g given s k

@@ -3,10 +3,10 @@ use Prim.Native.Nat.{ℕ}
 use mathlib.Core.Path.{_≡_}
 use mathlib.Core.List.{List, [], map}
 use mathlib.Core.Bool.{true}
-use lib.ListN.{length, replicate}
+use lib.ListN.{replicate}
 use Rattle.accounts.specs.declared.Accounts.{Accounts}
 use Rattle.accounts.specs.declared.settings.Settings.{Settings}
-use Rattle.accounts.specs.Accounts.{QUOTAS, HOLDS, ALL-PERMISSIONS, kind-number, edition-number, grants, permissions}
+use Rattle.accounts.specs.Accounts.{QUOTAS, ALL-PERMISSIONS, kind-number, edition-number, grants, permissions}
 use Rattle.accounts.specs.Accounts.{with-permissions, with-quotas, with-last-serial}
 use Rattle.model.specs.Calls.{open-heap}
 use Rattle.ledger.specs.Ledger.{Ledger, Event, empty, ledger-of}
@@ -33,7 +33,7 @@ pub record AllReturned (tables : ℕ → ℕ → ℕ) (run : Run) : Type 0 where
   -- from an opening on, without an image: with its settings and its grants
   pub opened : (g : Settings) (given : List ℕ) (es : List Event) (s : List ℕ) (k : Accounts) (h : History tables run (empty g given) es s k)
       → AtLastImage tables run (empty g given) (λ s k. ⊥) es s k h → NobodyHolds (ledger-of (empty g given) es) → AsOpened g given s k
-  -- from an image on that is blank and has all its records: with the settings and the grants of the accounts
+  -- from an image on that is blank: with the settings and the grants of the accounts
   pub restored : (begun : Ledger) (es : List Event) (s : List ℕ) (k : Accounts) (h : History tables run begun es s k)
-      → AtLastImage tables run begun (λ s k. (blank s ≡ true) × (length (k .holds) ≡ HOLDS)) es s k h → NobodyHolds (ledger-of begun es)
+      → AtLastImage tables run begun (λ s k. blank s ≡ true) es s k h → NobodyHolds (ledger-of begun es)
       → (g : Settings) → kind-number (g .kind) ≡ k .kind → edition-number (g .edition) ≡ k .edition → AsOpened g (grants k) s k

@@ -9,3 +9,5 @@ pub mod Puts
 pub mod Added
 pub mod Answers
 pub mod Exact
+pub mod Told
+pub mod Nth

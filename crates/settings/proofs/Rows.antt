@@ -2,18 +2,20 @@
 -- Assumes nothing.
 use mathlib.Core.Path.{_≡_, refl}
 use mathlib.Core.List.{List, [], _∷_, _++_, map}
-use mathlib.Core.Option.{none, some}
+use mathlib.Core.Option.{Option, none, some}
 use Prim.Native.Nat.{ℕ}
 use lib.ListN.{length, take, replicate}
 use Rattle.settings.specs.declared.Span.{Span}
 use Rattle.settings.specs.declared.Entry.{Entry}
+use Rattle.settings.specs.declared.SettingsRefusal.{SettingsRefusal}
 use Rattle.settings.specs.declared.SettingsRefusal.the-variants.{Malformed, Missing, ValueLength, VersionFalls, Full}
 use Rattle.settings.specs.declared.Place.the-variants.{Board, Default, Refused}
-use Rattle.settings.specs.declared.NextEntry.the-variants.{There, End, Malformed as NoEntry}
+use Rattle.settings.specs.declared.NthEntry.{NthEntry}
+use Rattle.settings.specs.declared.NthEntry.the-variants.{There, End, Malformed as NoEntry}
 use Rattle.settings.specs.declared.AddAnswer.the-variants.{Added, Refused as NotAdded}
-use Rattle.settings.specs.Entries.{stored, next-entry, asked}
-use Rattle.settings.specs.Find.{settings-refusal-number, find, refusal-of, bytes-of}
-use Rattle.settings.specs.Add.{Stored, entry-bytes, add-of}
+use Rattle.settings.specs.Entries.{stored, EntryTold, entry-told, nth-of}
+use Rattle.settings.specs.Find.{settings-refusal-number, find, located, refusal-of, bytes-of}
+use Rattle.settings.specs.Add.{Stored, entry-bytes, add-of, added-to}
 use Rattle.settings.proofs.Computing.{computing}
 
 entry : ℕ → ℕ → ℕ → ℕ → Entry
@@ -140,18 +142,32 @@ refused-rows : (add-of 7 0 (replicate 65 1) small 5 .answer ≡ NotAdded Malform
 unfolding shown
 refused-rows = (refl, refl, refl, refl, refl, refl, refl, refl, refl, refl, refl, refl)
 
--- one entry after the other: each, the end, a place behind the end, an entry that is cut, one whose version falls, more used bytes than there are
-next-rows : (next-entry 0 0 four 20 ≡ There (entry 1 5 4 5))
-    × (next-entry 1 5 four 20 ≡ There (entry 3 5 9 11))
-    × (next-entry 3 16 four 20 ≡ There (entry 3 5 20 20))
-    × (next-entry 3 20 four 20 ≡ End)
-    × (next-entry 3 21 four 20 ≡ End)
-    × (next-entry 0 0 [] 0 ≡ End)
-    × (next-entry 1 5 four 10 ≡ NoEntry)
-    × (next-entry 4 5 four 20 ≡ NoEntry)
-    × (next-entry 3 20 four 21 ≡ NoEntry)
-    × (asked 5 0 0 four 20 ≡ stored four 20)
-    × (asked 4 0 0 four 20 ≡ none)
-    × (asked 9 0 0 four 19 ≡ none)
+-- an entry by its number: each, the end, none in an empty store, in one cut anywhere, and where more bytes are used
+-- than there are
+told : ℕ → Option Entry → EntryTold
+told r e = record { refusal = r; found = e }
+
+nth-rows : (nth-of 0 (stored four 20) ≡ told 0 (some (entry 1 5 4 5)))
+    × (nth-of 1 (stored four 20) ≡ told 0 (some (entry 3 5 9 11)))
+    × (nth-of 3 (stored four 20) ≡ told 0 (some (entry 3 5 20 20)))
+    × (nth-of 4 (stored four 20) ≡ told 0 none)
+    × (nth-of 9 (stored four 20) ≡ told 0 none)
+    × (nth-of 0 (stored [] 0) ≡ told 0 none)
+    × (nth-of 0 (stored four 10) ≡ told 41 none)
+    × (nth-of 0 (stored four 21) ≡ told 41 none)
+    × (nth-of 9 (stored small 5) ≡ told 41 none)
+    × (map (λ (a : NthEntry). entry-told a .refusal) (There (entry 1 5 4 5) ∷ End ∷ NoEntry ∷ []) ≡ 0 ∷ 0 ∷ 41 ∷ [])
+unfolding shown told
+nth-rows = (refl, refl, refl, refl, refl, refl, refl, refl, refl, refl)
+
+-- an answer's numbers: the store, the span, and each refusal
+located-rows : (located (Board (span 4 9)) ≡ record { refusal = 0; store = 1; start = 4; end = 9 })
+    × (located (Default (span 8 8)) ≡ record { refusal = 0; store = 2; start = 8; end = 8 })
+    × (map (λ (r : SettingsRefusal). located (Refused r) .refusal)
+    (Malformed ∷ Missing ∷ ValueLength ∷ VersionFalls ∷ Full ∷ [])
+    ≡ 41 ∷ 42 ∷ 43 ∷ 44 ∷ 45 ∷ [])
+    × (located (Refused Missing) ≡ record { refusal = 42; store = 0; start = 0; end = 0 })
+    × (added-to small (Added 6) ≡ record { store = small; refusal = 0; used = 6 })
+    × (added-to small (NotAdded Full) ≡ record { store = small; refusal = 45; used = 0 })
 unfolding shown
-next-rows = (refl, refl, refl, refl, refl, refl, refl, refl, refl, refl, refl, refl)
+located-rows = (refl, refl, refl, refl, refl, refl)

@@ -12,6 +12,7 @@ use Rattle.settings.specs.declared.SettingsRefusal.the-variants.{Malform
 use Rattle.settings.specs.declared.AddAnswer.{AddAnswer}
 use Rattle.settings.specs.declared.AddAnswer.the-variants.{Added, Refused}
 use Rattle.settings.specs.Entries.{newest, stored}
+use Rattle.settings.specs.Find.{settings-refusal-number}
 
 -- the bytes of an entry (rule 20.2)
 unfoldable pub entry-bytes : ℕ → ℕ → List ℕ → List ℕ
@@ -28,6 +29,19 @@ refused s r = record { store = s; answer = Refused r }
 -- rule 20.8: the entry stands behind the used bytes
 abbrev pub added : ℕ → ℕ → List ℕ → List ℕ → ℕ → Stored
 added name version value s used = record { store = overwrite used (entry-bytes version name value) s; answer = Added (used + (4 + length value)) }
+
+-- the same in numbers: the refusal's, 0 where there is none, and the new used length, 0 where it is refused
+pub record AddedTo : Type 0 where
+  pub store : List ℕ
+  pub refusal : ℕ
+  pub used : ℕ
+
+unfoldable pub added-to : List ℕ → AddAnswer → AddedTo
+added-to s (Added n) = record { store = s; refusal = 0; used = n }
+added-to s (Refused r) = record { store = s; refusal = settings-refusal-number r; used = 0 }
+
+abbrev pub add-told : Stored → AddedTo
+add-told w = added-to (w .store) (w .answer)
 
 -- rule 20.7: 41, 43, 44 and 45 in this order
 unfoldable pub add-behind : ℕ → ℕ → List ℕ → List ℕ → ℕ → Option (List Entry) → Stored

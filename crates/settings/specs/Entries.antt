@@ -3,15 +3,15 @@ use Prim.Native.Nat.{ℕ, zero, suc, _+_, _*_}
 use mathlib.Core.List.{List, [], _∷_}
 use mathlib.Core.Bool.{Bool, cond, _&&_}
 use mathlib.Core.Option.{Option, none, some}
-use lib.ListN.{length, take, getD}
-use lib.Dec.{leb}
+use lib.ListN.{length, take, getD, getElem?}
+use lib.Dec.{leb, eqb}
 use Rattle.settings.specs.declared.Entry.{Entry}
 use Rattle.settings.specs.declared.Read.{Read}
 use Rattle.settings.specs.declared.Read.the-variants.{Whole, Bad}
 use Rattle.settings.specs.declared.Last.{Last}
 use Rattle.settings.specs.declared.Last.the-variants.{Version, Malformed as LastMalformed}
-use Rattle.settings.specs.declared.NextEntry.{NextEntry}
-use Rattle.settings.specs.declared.NextEntry.the-variants.{There, End, Malformed}
+use Rattle.settings.specs.declared.NthEntry.{NthEntry}
+use Rattle.settings.specs.declared.NthEntry.the-variants.{There, End, Malformed}
 
 -- rule 20.2, an entry: its version (2 bytes, the lower first), its name (1), its value's length (1), its value
 abbrev pub entry-at : ℕ → List ℕ → Entry
@@ -61,18 +61,21 @@ unfoldable pub last-of : Option (List Entry) → Last
 last-of none = LastMalformed
 last-of (some es) = Version (newest 0 es)
 
--- rule 20.10: what stands at a place of a store's used bytes, behind an entry of version `last`
-unfoldable pub next-entry : ℕ → ℕ → List ℕ → ℕ → NextEntry
-next-entry last at s used =
-    let u = take used s in
-    cond (leb used (length s)) (cond (leb used at) End (cond (entry-fits last at u) (There (entry-at at u)) Malformed)) Malformed
+-- rule 20.10: what is told of an entry that is asked for by its number: 41 where the store is malformed; else the
+-- entry, if there are so many
+pub record EntryTold : Type 0 where
+  pub refusal : ℕ
+  pub found : Option Entry
 
--- the list of those who ask for one entry after the other, so many times; none where one is malformed or more are left
-unfoldable pub with-next : NextEntry → (ℕ → ℕ → Option (List Entry)) → Option (List Entry)
-with-next (There e) rest = in-front e (rest (e .version) (e .end))
-with-next End rest = some []
-with-next Malformed rest = none
+unfoldable pub entry-told : NthEntry → EntryTold
+entry-told (There e) = record { refusal = 0; found = some e }
+entry-told End = record { refusal = 0; found = none }
+entry-told Malformed = record { refusal = 41; found = none }
 
-unfoldable pub asked : ℕ → ℕ → ℕ → List ℕ → ℕ → Option (List Entry)
-asked zero last at s used = none
-asked (suc n) last at s used = with-next (next-entry last at s used) (λ v to. asked n v to s used)
+unfoldable pub nth-of : ℕ → Option (List Entry) → EntryTold
+nth-of n none = record { refusal = 41; found = none }
+nth-of n (some es) = record { refusal = 0; found = getElem? es n }
+
+-- an entry where its number is the one asked for, else what was found before
+unfoldable pub picked : ℕ → NthEntry → ℕ → Entry → NthEntry
+picked n before number e = cond (eqb number n) (There e) before

@@ -59,6 +59,19 @@ chosen (Done Nothing) (Done Nothing) = Refused Missing
 unfoldable pub find : ℕ → ℕ → List ℕ → ℕ → List ℕ → ℕ → Place
 find name version b bu d du = chosen (found-in name version (stored b bu)) (found-in name version (stored d du))
 
+-- rules 20.5 and 20.6, in numbers: the refusal's, 0 where there is none; the store, 1 the board's and 2 the defaults;
+-- the value's start and end. What has no meaning is 0
+pub record Located : Type 0 where
+  pub refusal : ℕ
+  pub store : ℕ
+  pub start : ℕ
+  pub end : ℕ
+
+unfoldable pub located : Place → Located
+located (Board x) = record { refusal = 0; store = 1; start = x .start; end = x .end }
+located (Default x) = record { refusal = 0; store = 2; start = x .start; end = x .end }
+located (Refused r) = record { refusal = settings-refusal-number r; store = 0; start = 0; end = 0 }
+
 -- what a place means: the refusal's number, the bytes, and in which of the two buffers they lie, from where
 unfoldable pub refusal-of : Place → ℕ
 refusal-of (Board x) = 0

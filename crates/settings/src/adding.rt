@@ -9,7 +9,7 @@ ghost use mathlib.Core.Path.{_≡_};
 ghost use Prim.Native.Nat.{_+_, _≤_};
 ghost use lib.ListN.{length};
 ghost use Rattle.layout.specs.Bytes.{overwrite};
-ghost use Rattle.settings.specs.Add.{entry-bytes, add-of};
+ghost use Rattle.settings.specs.Add.{entry-bytes, add-of, added-to, add-told};
 
 // The bytes of a value, copied to a place.
 fn put_value(store: &mut [u8], at: usize, value: &[u8])
@@ -36,7 +36,8 @@ fn put_entry(store: &mut [u8], at: usize, name: u8, version: u16, value: &[u8])
 
 // An entry behind the used bytes of a store, and its new used length; bytes behind the entry stay. A refusal writes nothing.
 pub fn add(store: &mut [u8], used: usize, name: u8, version: u16, value: &[u8]) -> AddAnswer
-    ensures { λ r. ⌜ record { store = now (store .exit); answer = r } ≡ add-of name version (now (value .entry)) (now (store .entry)) used ⌝ }
+    ensures { λ r. ⌜ added-to (now (store .exit)) r
+        ≡ add-told (add-of name version (now (value .entry)) (now (store .entry)) used) ⌝ }
 {
     let Last::Version(last) = last_version(store, used) else {
         return AddAnswer::Refused(SettingsRefusal::Malformed);

@@ -3,12 +3,13 @@ use crate::ENTRY_FRONT;
 use crate::Entry;
 use crate::GREATEST_VALUE;
 use crate::Last;
-use crate::NextEntry;
+use crate::NthEntry;
 use crate::Read;
 ghost use mathlib.Core.Path.{_≡_};
 ghost use Prim.Native.Nat.{_+_, _≤_, _<_};
 ghost use lib.ListN.{length};
-ghost use Rattle.settings.specs.Entries.{entry-at, read-entry, entries, stored, last-of, next-entry};
+ghost use Rattle.settings.specs.Entries.{entry-at, read-entry, entries, stored, last-of, entry-told, nth-of};
+ghost use Rattle.settings.specs.Entries.{picked};
 
 // A byte as a wider number.
 fn wide(byte: u8) -> u16
@@ -90,19 +91,42 @@ pub(crate) fn last_version(store: &[u8], used: usize) -> Last
     last_in(&store[..used])
 }
 
-// The entry at a place of a store's used bytes, behind one of version `last`. From place 0 and version 0 on, each entry's end and version lead to
-// the next.
-pub fn next_entry(store: &[u8], used: usize, at: usize, last: u16) -> NextEntry
-    ensures { λ r. ⌜ r ≡ next-entry last at (now (store .entry)) used ⌝ }
+// The entry where it is the n-th, else what was found before.
+fn picked(before: NthEntry, entry: Entry, number: usize, n: usize) -> NthEntry
+    ensures { λ r. ⌜ r ≡ picked n before number entry ⌝ }
+{
+    if number != n {
+        return before;
+    }
+    NthEntry::There(entry)
+}
+
+// The n-th of these entries, from 0.
+fn nth_in(store: &[u8], n: usize) -> NthEntry
+    ensures { λ r. ⌜ entry-told r ≡ nth-of n (entries (now (store .entry))) ⌝ }
+{
+    let mut found = NthEntry::End;
+    let mut number: usize = 0;
+    let mut last: u16 = 0;
+    let mut at: usize = 0;
+    while at < store.len() {
+        let Read::Whole(entry) = read_entry(store, at, last) else {
+            return NthEntry::Malformed;
+        };
+        found = picked(found, entry, number, n);
+        number += 1;
+        last = entry.version;
+        at = entry.end;
+    }
+    found
+}
+
+// The n-th entry, from 0, of a store; the whole store is read.
+pub fn nth_entry(store: &[u8], used: usize, n: usize) -> NthEntry
+    ensures { λ r. ⌜ entry-told r ≡ nth-of n (stored (now (store .entry)) used) ⌝ }
 {
     if store.len() < used {
-        return NextEntry::Malformed;
+        return NthEntry::Malformed;
     }
-    if used <= at {
-        return NextEntry::End;
-    }
-    let Read::Whole(entry) = read_entry(&store[..used], at, last) else {
-        return NextEntry::Malformed;
-    };
-    NextEntry::There(entry)
+    nth_in(&store[..used], n)
 }

@@ -9,7 +9,7 @@ use crate::Span;
 use crate::entries::read_entry;
 ghost use mathlib.Core.Path.{_≡_};
 ghost use Rattle.settings.specs.Entries.{entries, stored};
-ghost use Rattle.settings.specs.Find.{later, found-in, chosen, find, refusal-of, bytes-of, lies-at};
+ghost use Rattle.settings.specs.Find.{later, found-in, chosen, find, located, refusal-of, bytes-of, lies-at};
 
 // Where the entry's value lies if it answers, else what was found before.
 fn later(before: Found, entry: Entry, name: u8, version: u16) -> Found
@@ -83,7 +83,8 @@ pub fn find(
     name: u8,
     version: u16,
 ) -> Place
-    ensures { λ r. ⌜ r ≡ find name version (now (board .entry)) «board_used» (now (defaults .entry)) «defaults_used» ⌝ }
+    ensures { λ r. ⌜ located r
+        ≡ located (find name version (now (board .entry)) «board_used» (now (defaults .entry)) «defaults_used») ⌝ }
 {
     let own = find_used(board, board_used, name, version);
     let other = find_used(defaults, defaults_used, name, version);

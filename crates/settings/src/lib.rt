@@ -8,7 +8,7 @@ mod entries;
 mod finding;
 
 pub use adding::add;
-pub use entries::next_entry;
+pub use entries::nth_entry;
 pub use finding::find;
 pub use finding::lookup;
 
@@ -71,8 +71,8 @@ pub enum Place {
     Refused(SettingsRefusal),
 }
 
-// The entry at a place of a store; or that none is left, or that none stands there.
-pub enum NextEntry {
+// An entry of a store by its number; or that there are not so many, or that the store is malformed.
+pub enum NthEntry {
     There(Entry),
     End,
     Malformed,

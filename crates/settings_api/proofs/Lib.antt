@@ -1,2 +1,3 @@
--- Computed rows.
+-- Computed rows, and laws of replies.
 pub mod Rows
+pub mod Told

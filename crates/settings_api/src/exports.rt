@@ -3,12 +3,12 @@ use crate::AddReply;
 use crate::EntryReply;
 use crate::FindReply;
 use crate::replies::reply_of_add;
+use crate::replies::reply_of_entry;
 use crate::replies::reply_of_find;
-use crate::replies::reply_of_next;
 ghost use mathlib.Core.Path.{_≡_};
-ghost use Rattle.settings.specs.Entries.{next-entry};
-ghost use Rattle.settings.specs.Find.{find};
-ghost use Rattle.settings.specs.Add.{add-of};
+ghost use Rattle.settings.specs.Entries.{stored, nth-of};
+ghost use Rattle.settings.specs.Find.{find, located};
+ghost use Rattle.settings.specs.Add.{add-of, add-told};
 ghost use Rattle.settings_api.specs.Replies.{find-reply, add-reply, entry-reply};
 
 // Where the value of a name at a version lies: in the board's store, else in the defaults.
@@ -21,7 +21,9 @@ pub extern "C" fn lokhazim_settings_find(
     name: u8,
     version: u16,
 ) -> FindReply
-    ensures { λ r. ⌜ r ≡ find-reply (find name version (now (board .entry)) «board_used» (now (defaults .entry)) «defaults_used») ⌝ }
+    ensures { λ r. ⌜ r
+        ≡ find-reply
+        (located (find name version (now (board .entry)) «board_used» (now (defaults .entry)) «defaults_used»)) ⌝ }
 {
     reply_of_find(settings::find(board, board_used, defaults, defaults_used, name, version))
 }
@@ -35,21 +37,17 @@ pub extern "C" fn lokhazim_settings_add(
     version: u16,
     value: &[u8],
 ) -> AddReply
-    ensures answers { λ r. ⌜ r ≡ add-reply (add-of name version (now (value .entry)) (now (store .entry)) used .answer) ⌝ }
+    ensures answers { λ r. ⌜ r
+        ≡ add-reply (add-told (add-of name version (now (value .entry)) (now (store .entry)) used)) ⌝ }
     ensures writes { λ _. ⌜ now (store .exit) ≡ add-of name version (now (value .entry)) (now (store .entry)) used .store ⌝ }
 {
     reply_of_add(settings::add(store, used, name, version, value))
 }
 
-// The entry at a place of a store, behind one of version `last`. From place 0 and version 0 on, each entry's end and version lead to the next.
+// The n-th entry, from 0, of a store.
 #[no_mangle]
-pub extern "C" fn lokhazim_settings_next(
-    store: &[u8],
-    used: usize,
-    at: usize,
-    last: u16,
-) -> EntryReply
-    ensures { λ r. ⌜ r ≡ entry-reply (next-entry last at (now (store .entry)) used) ⌝ }
+pub extern "C" fn lokhazim_settings_entry(store: &[u8], used: usize, n: usize) -> EntryReply
+    ensures { λ r. ⌜ r ≡ entry-reply (nth-of n (stored (now (store .entry)) used)) ⌝ }
 {
-    reply_of_next(settings::next_entry(store, used, at, last))
+    reply_of_entry(settings::nth_entry(store, used, n))
 }

@@ -4,8 +4,8 @@ mod exports;
 mod replies;
 
 pub use exports::lokhazim_settings_add;
+pub use exports::lokhazim_settings_entry;
 pub use exports::lokhazim_settings_find;
-pub use exports::lokhazim_settings_next;
 
 // What find gives: the store in which the value lies, 1 for the board's and 2 for the defaults, and the value's start and end in it.
 #[repr(C)]
@@ -23,7 +23,7 @@ pub struct AddReply {
     pub used: usize,
 }
 
-// What next gives: whether there is an entry, 1 or 0, its version and name, and its value's start and end.
+// What an entry gives: whether there is one, 1 or 0, its version and name, and its value's start and end.
 #[repr(C)]
 pub struct EntryReply {
     pub refusal: u32,

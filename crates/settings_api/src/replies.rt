@@ -3,14 +3,19 @@ use crate::AddReply;
 use crate::EntryReply;
 use crate::FindReply;
 use settings::AddAnswer;
-use settings::NextEntry;
+use settings::NthEntry;
 use settings::Place;
+ghost use Prim.Native.Nat.{ℕ};
 ghost use mathlib.Core.Path.{_≡_};
+ghost use mathlib.Core.List.{List};
+ghost use Rattle.settings.specs.Entries.{entry-told};
+ghost use Rattle.settings.specs.Find.{located};
+ghost use Rattle.settings.specs.Add.{added-to};
 ghost use Rattle.settings_api.specs.Replies.{find-reply, add-reply, entry-reply};
 
 // The reply of find.
 pub(crate) fn reply_of_find(place: Place) -> FindReply
-    ensures { λ r. ⌜ r ≡ find-reply place ⌝ }
+    ensures { λ r. ⌜ r ≡ find-reply (located place) ⌝ }
 {
     match place {
         Place::Board(span) => FindReply {
@@ -36,7 +41,7 @@ pub(crate) fn reply_of_find(place: Place) -> FindReply
 
 // The reply of add.
 pub(crate) fn reply_of_add(answer: AddAnswer) -> AddReply
-    ensures { λ r. ⌜ r ≡ add-reply answer ⌝ }
+    ensures { λ r. ⌜ ((s : List ℕ) → r ≡ add-reply (added-to s answer)) ⌝ }
 {
     match answer {
         AddAnswer::Added(used) => AddReply {
@@ -50,12 +55,12 @@ pub(crate) fn reply_of_add(answer: AddAnswer) -> AddReply
     }
 }
 
-// The reply of next.
-pub(crate) fn reply_of_next(answer: NextEntry) -> EntryReply
-    ensures { λ r. ⌜ r ≡ entry-reply answer ⌝ }
+// The reply of an entry.
+pub(crate) fn reply_of_entry(answer: NthEntry) -> EntryReply
+    ensures { λ r. ⌜ r ≡ entry-reply (entry-told answer) ⌝ }
 {
     match answer {
-        NextEntry::There(entry) => EntryReply {
+        NthEntry::There(entry) => EntryReply {
             refusal: 0,
             there: 1,
             version: entry.version,
@@ -63,7 +68,7 @@ pub(crate) fn reply_of_next(answer: NextEntry) -> EntryReply
             start: entry.start,
             end: entry.end,
         },
-        NextEntry::End => EntryReply {
+        NthEntry::End => EntryReply {
             refusal: 0,
             there: 0,
             version: 0,
@@ -71,7 +76,7 @@ pub(crate) fn reply_of_next(answer: NextEntry) -> EntryReply
             start: 0,
             end: 0,
         },
-        NextEntry::Malformed => EntryReply {
+        NthEntry::Malformed => EntryReply {
             refusal: 41,
             there: 0,
             version: 0,

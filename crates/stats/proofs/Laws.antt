@@ -6,9 +6,11 @@ use native.Mathlib.Omega.{arith}
 use mathlib.Core.Path.{_≡_, refl, ap, sym, _∙_}
 use mathlib.Core.List.{List}
 use mathlib.Core.Bool.{true}
+use mathlib.Core.Logic.{_⊎_}
 use mathlib.Core.Option.{some}
 use lib.Dec.{ltb}
 use lib.ListN.{length}
+use borrow.Author.Tests.{lt-ltb}
 use Rattle.accounts.specs.declared.Hold.{Hold}
 use Rattle.accounts.specs.declared.Accounts.{Accounts}
 use Rattle.rounding.specs.Rounding.{table, object-length, alignment}
@@ -34,7 +36,7 @@ use Rattle.stats.specs.declared.QuotaFigures.{QuotaFigures}
 use Rattle.stats.specs.Stats.{most, part-of, largest-free, fragmented, largest, no-figures, unless-refused, no-quota-figures, quota-unless-refused}
 use Rattle.stats.specs.Tallies.{room-in, most-units, reach, tally-of}
 use Rattle.stats.proofs.Rooms.{rooms-inside, room-exactly}
-use Rattle.stats.proofs.Units.{Told, some-unit, rows}
+use Rattle.stats.proofs.Units.{Told, some-unit, rows, units-told, unit-128}
 use Rattle.stats.proofs.Lengths as lengths
 use Rattle.stats.proofs.Parts.{free-part, largest-part, parts-total, most-total}
 
@@ -54,6 +56,11 @@ quota-refused n f r e = let m = number-some r in rw (e, m .1)
 pub quota-accepted : (n : ℕ) (f : QuotaFigures) → n ≡ 0 → f ≡ quota-unless-refused n f
 unfolding quota-unless-refused
 quota-accepted n f e = rw e
+
+-- rule 25.7: a request's unit is one of which there is a figure, or 128
+pub other-units : (e n : ℕ) → Told (alignment (table e) n) ⊎ (alignment (table e) n ≡ 128)
+unfolding alignment
+other-units e n = units-told e (object-length (table e) n)
 
 module _ (s : List ℕ) (k : Accounts) (ok : consistent s k ≡ true) where
   pub cut : parse s ≡ some (blocks-of s)
@@ -103,3 +110,15 @@ module _ (s : List ℕ) (k : Accounts) (ok : consistent s k ≡ true) where
         ap (λ t. 11 when t)
         (lengths.space-exactly (table e) (table-is e) (most-units e) (rows e) s told (most (room-in a) (met s)) (omega (arith, few)) (omega (arith, few))
         based n l q)
+
+  -- and one in the unit 128 is as long as the greatest heap and always refused
+  pub space-refused : length s ≤ greatest-heap → (e n : ℕ) → 0 < n → alignment (table e) n ≡ 128
+      → line-11 (table e) s n ≡ (11 when true)
+  unfolding line-11 base-for alignment
+  space-refused short e n l q =
+      let x = object-length (table e) n in
+      let long = unit-128 e x q (table-is e .stable n) in
+      let few : most (room-in 128) (met s) ≤ length s - 8 =
+      rw (sym whole) (rooms-inside s (blocks-of s) cut 128 (omega arith)) in
+      let none = room-exactly s (blocks-of s) cut (consistent-apart s k ok) 128 x (omega arith) (omega arith) in
+      ap (λ t. 11 when t) (rw q (none ∙ lt-ltb (most (room-in 128) (met s)) x (omega arith)))

@@ -4,7 +4,7 @@ use Prim.Native.Nat.{ℕ, zero, suc, _+_, _*_, _-_, _/_, _%_, _≤_, _<_}
 use native.Mathlib.Omega.{arith}
 use mathlib.Core.Path.{_≡_, refl, ap, sym, _∙_}
 use mathlib.Core.Logic.{_⊎_, inl, inr}
-use Rattle.rounding.specs.Rounding.{unit, unit-2, table}
+use Rattle.rounding.specs.Rounding.{unit, unit-2, table, object-length}
 use Rattle.rounding.proofs.Rounding.{by-row}
 use Rattle.rounding.proofs.Editions.{by-row-2}
 use Rattle.stats.specs.Tallies.{most-units}
@@ -145,3 +145,24 @@ rounds u8 k = omega arith
 rounds u16 k = omega arith
 rounds u32 k = omega arith
 rounds u64 k = omega arith
+
+-- a unit is one of those, or 128, which edition 2 alone has
+pub units-told : (e n : ℕ) → Told (table e n) ⊎ (table e n ≡ 128)
+unfolding table
+units-told zero n = by-row (λ v. Told v ⊎ (v ≡ 128)) n (λ _. inl u8) (λ _ _. inl u16) (λ _ _. inl u32) (λ _. inl u64)
+units-told (suc e) n =
+    by-row-2 (λ v. Told v ⊎ (v ≡ 128)) n (λ _. inl u8) (λ _ _. inl u16) (λ _ _. inl u32) (λ _ _. inl u64)
+    (λ _. inr refl)
+
+-- a length with the unit 128 that is rounded is as long as the greatest heap
+pub unit-128 : (e n : ℕ) → table e n ≡ 128 → object-length (table e) n ≡ n → 32768 ≤ n
+unfolding table object-length
+unit-128 zero n =
+    by-row (λ v. v ≡ 128 → (n + (v - 1)) / v * v ≡ n → 32768 ≤ n) n
+    (λ _ z s. absurd (omega arith)) (λ _ _ z s. absurd (omega arith)) (λ _ _ z s. absurd (omega arith))
+    (λ _ z s. absurd (omega arith))
+unit-128 (suc e) n =
+    by-row-2 (λ v. v ≡ 128 → (n + (v - 1)) / v * v ≡ n → 32768 ≤ n) n
+    (λ _ z s. absurd (omega arith)) (λ _ _ z s. absurd (omega arith)) (λ _ _ z s. absurd (omega arith))
+    (λ _ _ z s. absurd (omega arith))
+    (λ l z s. omega arith)

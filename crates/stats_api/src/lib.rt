@@ -2,12 +2,10 @@
 // length are those of a heap that is its own, and the other pointer that of its accounts.
 use stats::Figures;
 use stats::QuotaFigures;
-use survey::Holdings;
 use words::WORDS;
 ghost use mathlib.Core.Path.{_≡_};
 ghost use Rattle.rounding.specs.Rounding.{table};
-ghost use Rattle.words.specs.Words.{edition-of, holds-of, accounts-of};
-ghost use Rattle.survey.specs.Shares.{holdings};
+ghost use Rattle.words.specs.Words.{edition-of, accounts-of};
 ghost use Rattle.stats.specs.Stats.{stats, quota-stats};
 
 // The figures of a heap.
@@ -28,13 +26,4 @@ pub extern "C" fn lokhazim_quota_stats(
     ensures { λ r. ⌜ r ≡ quota-stats (table (edition-of (now (words .entry)))) (now (heap .entry)) (accounts-of (now (words .entry))) quota ⌝ }
 {
     stats::quota_stats(heap, words, quota)
-}
-
-// What a quota holds, by the records alone. With this second caller the pass over the records is compiled as a function of its own, whose tables are not on the
-// stack while `lokhazim_quota_stats` has the heap checked.
-#[no_mangle]
-pub extern "C" fn lokhazim_quota_holdings(words: &[u32; WORDS], quota: u32) -> Holdings
-    ensures { λ r. ⌜ r ≡ holdings quota (holds-of (now (words .entry))) ⌝ }
-{
-    survey::held_by(words, quota)
 }

@@ -70,6 +70,11 @@ pub room-same : (a n : ℕ) (h : Header) {x at : ℕ} → x ≡ at
 unfolding has-room
 room-same a n h e = ap (λ (y : ℕ). has-room a n (headed y h)) e
 
+-- a block that is not free has none
+pub full : (a n at : ℕ) (h : Header) → (h .serial ≡ 0 → ⊥) → has-room a n (headed at h) ≡ false
+unfolding has-room
+full a n at h e = rw (ne-eqb (h .serial) 0 e)
+
 pub seeking-start : (a n : ℕ) (s : List ℕ) → Seeking a n s 0 (length s) n
 seeking-start a n s = record { on = λ l. (refl, searched (search-start (has-room a n) s)); found = λ l. absurd (omega arith) }
 

@@ -20,7 +20,7 @@ use Rattle.layout.specs.Blocks.{greatest-heap}
 use Rattle.model.specs.Lists.{any, first}
 use Rattle.model.specs.Consistent.{allowed}
 use Rattle.model.proofs.Bools.{and-left, and-right}
-use Rattle.model.specs.Answers.{verdict-values}
+use Rattle.model.specs.Answers.{Values, verdict-values}
 use Rattle.model.specs.Calls.{check}
 use Rattle.model.specs.declared.Refusal.the-variants.{HeapLength, Inconsistent}
 use Rattle.model.specs.declared.Verdict.the-variants.{Accepted, Refused}
@@ -31,25 +31,39 @@ use Rattle.lookup.proofs.Fits.{fit-zero, fit-first}
 use Rattle.audit.proofs.Cases.{by-test, by-eq}
 use Rattle.survey.specs.declared.Wanted.{Wanted}
 use Rattle.survey.specs.declared.Surveyed.{Surveyed}
-use Rattle.survey.specs.Survey.{verdict-of, place-of, fit-place, Survey}
+use Rattle.survey.specs.Survey.{verdict-of, place-of, fit-place, refused-survey, Survey}
 use Rattle.survey.specs.Route.{Seeking}
 use Rattle.survey.proofs.Routes.{seeking-end}
 
+-- the number of a survey that refuses
+numbered : {r : Surveyed} (n : ℕ) → r ≡ refused-survey n → r .refusal ≡ n
+numbered n e = ap (λ (x : Surveyed). x .refusal) e
+
 module _ {s : List ℕ} {k : Accounts} {w : Wanted} (r : Surveyed) where
-  pub refused-length : r .refusal ≡ 1 → verdict-values (Refused HeapLength) ≡ check (table (k .edition)) s k .values → Survey s k w r
-  unfolding verdict-of
+  pub refused-length : r ≡ refused-survey 1
+      → verdict-values (Refused HeapLength) ≡ check (table (k .edition)) s k .values → Survey s k w r
+  unfolding verdict-of verdict-values
   refused-length e t =
       record {
-        told = ap (λ (n : ℕ). verdict-values (verdict-of n)) e ∙ t;
-        known = λ f. (let v : Refused HeapLength ≡ Accepted = ap verdict-of (sym e) ∙ f in let z : _≡_ {A = ℕ} 0 1 = cc in absurd (omega arith));
+        number = numbered 1 e ∙ ap (λ (v : Values). v .refusal) t;
+        refused = λ z. e ∙ ap refused-survey (sym (numbered 1 e));
+        told = ap (λ (n : ℕ). verdict-values (verdict-of n)) (numbered 1 e) ∙ t;
+        known = λ f.
+            (let v : Refused HeapLength ≡ Accepted = ap verdict-of (sym (numbered 1 e)) ∙ f in
+            let z : _≡_ {A = ℕ} 0 1 = cc in absurd (omega arith));
       }
 
-  pub refused-state : r .refusal ≡ 2 → verdict-values (Refused Inconsistent) ≡ check (table (k .edition)) s k .values → Survey s k w r
-  unfolding verdict-of
+  pub refused-state : r ≡ refused-survey 2
+      → verdict-values (Refused Inconsistent) ≡ check (table (k .edition)) s k .values → Survey s k w r
+  unfolding verdict-of verdict-values
   refused-state e t =
       record {
-        told = ap (λ (n : ℕ). verdict-values (verdict-of n)) e ∙ t;
-        known = λ f. (let v : Refused Inconsistent ≡ Accepted = ap verdict-of (sym e) ∙ f in let z : _≡_ {A = ℕ} 0 1 = cc in absurd (omega arith));
+        number = numbered 2 e ∙ ap (λ (v : Values). v .refusal) t;
+        refused = λ z. e ∙ ap refused-survey (sym (numbered 2 e));
+        told = ap (λ (n : ℕ). verdict-values (verdict-of n)) (numbered 2 e) ∙ t;
+        known = λ f.
+            (let v : Refused Inconsistent ≡ Accepted = ap verdict-of (sym (numbered 2 e)) ∙ f in
+            let z : _≡_ {A = ℕ} 0 1 = cc in absurd (omega arith));
       }
 
 -- the lengths that a heap may have

@@ -11,7 +11,7 @@ use lib.Dec.{eqb, leb}
 use lib.ListN.{length}
 use Rattle.accounts.specs.declared.Accounts.{Accounts}
 use Rattle.accounts.specs.declared.Place.the-variants.{At, Nothing}
-use Rattle.accounts.specs.Accounts.{QUOTAS, HOLDS, find-hold, lowest-unused}
+use Rattle.accounts.specs.Accounts.{HOLDS, find-hold, lowest-unused}
 use Rattle.lookup.specs.declared.Met.{Met}
 use Rattle.lookup.specs.declared.Lookup.the-variants.{Found, Missing}
 use Rattle.lookup.specs.declared.Fit.the-variants.{At as Fits, Nowhere}
@@ -81,12 +81,11 @@ module _ {s : List ℕ} {k : Accounts} {w : Wanted} {r : Surveyed} (g : Survey s
     pub is-serial : w .serial ≡ block-at (r .at) s .serial
     is-serial = named-serial (handle-of w) s (block-at (r .at) s) is-found
 
-    module _ (few : w .quota < QUOTAS) where
-      holder-is : place-of (r .holder) ≡ find-hold (block-at (r .at) s .serial) (w .quota) k
-      holder-is = g .known ok .holder few ∙ ap (λ (x : ℕ). find-hold x (w .quota) k) is-serial
+    holder-is : place-of (r .holder) ≡ find-hold (block-at (r .at) s .serial) (w .quota) k
+    holder-is = g .known ok .holder ∙ ap (λ (x : ℕ). find-hold x (w .quota) k) is-serial
 
-      pub is-holder : r .holder < HOLDS → find-hold (block-at (r .at) s .serial) (w .quota) k ≡ At (r .holder)
-      is-holder l = sym holder-is ∙ place-at (r .holder) l
+    pub is-holder : r .holder < HOLDS → find-hold (block-at (r .at) s .serial) (w .quota) k ≡ At (r .holder)
+    is-holder l = sym holder-is ∙ place-at (r .holder) l
 
-      pub no-holder : HOLDS ≤ r .holder → find-hold (block-at (r .at) s .serial) (w .quota) k ≡ Nothing
-      no-holder l = sym holder-is ∙ place-nothing (r .holder) l
+    pub no-holder : HOLDS ≤ r .holder → find-hold (block-at (r .at) s .serial) (w .quota) k ≡ Nothing
+    no-holder l = sym holder-is ∙ place-nothing (r .holder) l

@@ -1,8 +1,8 @@
 -- What the survey gives, by the definitions of `model`, `accounts` and `lookup`.
-use Prim.Native.Nat.{ℕ, _<_}
+use Prim.Native.Nat.{ℕ}
 use mathlib.Core.Path.{_≡_}
 use mathlib.Core.List.{List}
-use mathlib.Core.Bool.{Bool, true, not, cond, _&&_}
+use mathlib.Core.Bool.{Bool, true, false, not, cond, _&&_}
 use mathlib.Core.Option.{Option, none, some}
 use lib.Dec.{eqb, ltb}
 use lib.ListN.{length}
@@ -11,9 +11,8 @@ use Rattle.accounts.specs.declared.Accounts.{Accounts}
 use Rattle.accounts.specs.declared.Hold.{Hold}
 use Rattle.accounts.specs.declared.Place.{Place}
 use Rattle.accounts.specs.declared.Place.the-variants.{At, Nothing}
-use Rattle.accounts.specs.Accounts.{QUOTAS, HOLDS, find-hold, lowest-unused}
+use Rattle.accounts.specs.Accounts.{HOLDS, first-from, find-hold, lowest-unused}
 use Rattle.layout.specs.Blocks.{header-at}
-use Rattle.model.specs.Lists.{any}
 use Rattle.model.specs.Answers.{verdict-values}
 use Rattle.model.specs.Consistent.{is-of}
 use Rattle.model.specs.Calls.{check}
@@ -56,15 +55,24 @@ fit-place fit s = cond (ltb fit (length s)) (some (block-at fit s)) none
 unfoldable pub shares : ℕ → ℕ → Hold → Bool
 shares serial q h = is-of serial h && not (eqb (h .quota) q)
 
--- what is known where the verdict accepts
+-- rule 8.35: the survey where the verdict refuses has its number alone; whatever was asked for, nothing is found
+abbrev pub refused-survey : ℕ → Surveyed
+refused-survey n =
+    record { refusal = n; low = HOLDS; fit = 0; found = false; at = 0; size = 0; holder = HOLDS; other = HOLDS }
+
+-- what is known where the verdict accepts. Left free are `at` and `size` where no object is found, and which number of
+-- HOLDS or more (`low`, `holder`, `other`) or of the heap's length or more (`fit`) stands for none.
 pub record Known (s : List ℕ) (k : Accounts) (w : Wanted) (r : Surveyed) : Type 0 where
   pub block : block-of (r .found) (r .at) s ≡ find-object (handle-of w) s
   pub size : r .found ≡ true → r .size ≡ block-at (r .at) s .size
-  pub holder : w .quota < QUOTAS → place-of (r .holder) ≡ find-hold (w .serial) (w .quota) k
+  pub holder : place-of (r .holder) ≡ find-hold (w .serial) (w .quota) k
   pub low : place-of (r .low) ≡ lowest-unused k
-  pub other : ltb (r .other) HOLDS ≡ any (shares (w .serial) (w .quota)) (k .holds)
+  pub other : place-of (r .other) ≡ first-from (shares (w .serial) (w .quota)) 0 (k .holds)
   pub fit : fitted (w .unit) (fit-place (r .fit) s) ≡ find-fit (w .unit) (w .need) s
 
+-- the survey: its number is that of the check (rule 8.35), and where that refuses, all of it is settled
 pub record Survey (s : List ℕ) (k : Accounts) (w : Wanted) (r : Surveyed) : Type 0 where
+  pub number : r .refusal ≡ check (table (k .edition)) s k .values .refusal
+  pub refused : (r .refusal ≡ 0 → ⊥) → r ≡ refused-survey (r .refusal)
   pub told : verdict-values (verdict-of (r .refusal)) ≡ check (table (k .edition)) s k .values
   pub known : verdict-of (r .refusal) ≡ Accepted → Known s k w r

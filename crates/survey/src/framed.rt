@@ -1,5 +1,7 @@
 // The verdict on a heap that lies in the frames of an image: the survey's index, and a walk that reads the headers out of the stream.
 use crate::END;
+use crate::HEAP_LENGTH;
+use crate::INCONSISTENT;
 use crate::LINKS;
 use crate::SLOTS;
 use crate::indexing::index;
@@ -84,6 +86,7 @@ fn walk_frames(
             serial,
             bytes,
             end,
+            0,
         ) {
             return false;
         }
@@ -102,11 +105,11 @@ pub fn check_in_frames(image: &[u8], from: u16, size: usize, words: &[u32; WORDS
         (accounts-of (now (words .entry))) .values ⌝ }
 {
     if !model::is_allowed(size) {
-        return verdict(1);
+        return verdict(HEAP_LENGTH);
     }
     let numbers = numbers_in(words);
     if !numbers.fine {
-        return verdict(2);
+        return verdict(INCONSISTENT);
     }
     let end = END as u16;
     let mut links = [end; LINKS];
@@ -115,10 +118,10 @@ pub fn check_in_frames(image: &[u8], from: u16, size: usize, words: &[u32; WORDS
     let top = used_top(words);
     let tally = index(words, &mut links, &mut heads, top);
     if !tally.fine {
-        return verdict(2);
+        return verdict(INCONSISTENT);
     }
     if !owing(words, &mut owed) {
-        return verdict(2);
+        return verdict(INCONSISTENT);
     }
     let mut left = tally.used;
     if !walk_frames(
@@ -134,7 +137,7 @@ pub fn check_in_frames(image: &[u8], from: u16, size: usize, words: &[u32; WORDS
         numbers.edition,
         numbers.last,
     ) {
-        return verdict(2);
+        return verdict(INCONSISTENT);
     }
     verdict(0)
 }

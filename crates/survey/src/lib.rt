@@ -60,6 +60,11 @@ const LINKS: usize = 2 * HOLDS;
 // The number of an empty slot or link. It is no record's place, and both of its bytes are the same, so that the compiler fills a table by memset.
 const END: usize = HOLDS + HOLDS / 256;
 
+// The numbers of the two refusals that a survey gives (rule 7.1).
+const HEAP_LENGTH: u32 = 1;
+
+const INCONSISTENT: u32 = 2;
+
 // Added to a slot's number when the record has others below it.
 const FORKED: usize = 2 * HOLDS;
 
@@ -76,8 +81,9 @@ pub struct Wanted {
     pub need: usize,
 }
 
-// What a survey gives: the refusal's number, 0 where there is none; the place of the lowest unused record; the place of the first free block with room; whether
-// the handle names an object, the place of its block and the block's size; the places of the quota's record for it and of another quota's. A record's place is
+// What a survey gives: the refusal's number, and where that is not 0 nothing else (`refused`). Else the place of the
+// lowest unused record; the place of the first free block with room; whether the handle names an object, the place of
+// its block and the block's size; the places of the quota's record for it and of another quota's. A record's place is
 // HOLDS or more, and a block's the heap's length or more, where there is none.
 pub struct Surveyed {
     pub refusal: u32,
@@ -159,11 +165,11 @@ pub fn survey(heap: &[u8], words: &[u32; WORDS], wanted: Wanted) -> Surveyed
     ensures { λ r. ⌜ Survey (now (heap .entry)) (accounts-of (now (words .entry))) wanted r ⌝ }
 {
     if !model::is_allowed(heap.len()) {
-        return refused(1);
+        return refused(HEAP_LENGTH);
     }
     let numbers = numbers_in(words);
     if !numbers.fine {
-        return refused(2);
+        return refused(INCONSISTENT);
     }
     let end = END as u16;
     let mut links = [end; LINKS];
@@ -172,10 +178,10 @@ pub fn survey(heap: &[u8], words: &[u32; WORDS], wanted: Wanted) -> Surveyed
     let top = used_top(words);
     let tally = index(words, &mut links, &mut heads, top);
     if !tally.fine {
-        return refused(2);
+        return refused(INCONSISTENT);
     }
     if !owing(words, &mut owed) {
-        return refused(2);
+        return refused(INCONSISTENT);
     }
     let holder = on_path(words, &links, &heads, wanted.serial, wanted.quota, true);
     let other = on_path(words, &links, &heads, wanted.serial, wanted.quota, false);
@@ -198,10 +204,10 @@ pub fn survey(heap: &[u8], words: &[u32; WORDS], wanted: Wanted) -> Surveyed
         need,
     );
     if !course.fine {
-        return refused(2);
+        return refused(INCONSISTENT);
     }
     if !is_settled(&owed, left) {
-        return refused(2);
+        return refused(INCONSISTENT);
     }
     let size = 8 * course.half_back;
     let at = course.half_at - size;

@@ -4,9 +4,9 @@ use crate::reading::remainder_in;
 use crate::reading::spare_in;
 use accounts::ALL_PERMISSIONS;
 use accounts::QUOTAS;
-use std::num::wrapping_sub_u32;
 use words::WORDS;
 ghost use mathlib.Core.Path.{_≡_};
+ghost use Prim.Native.Nat.{_-_};
 ghost use mathlib.Core.Bool.{cond, _&&_};
 ghost use lib.Dec.{eqb, ltb};
 ghost use lib.ListN.{length};
@@ -25,6 +25,16 @@ fn short_at(short: u32, grant: u32, remainder: u32) -> u32
     short
 }
 
+// What a quota owes, its grant without its remainder; 0 where the remainder is above the grant, compared before anything is subtracted.
+fn due_of(grant: u32, remainder: u32) -> u32
+    ensures { λ r. ⌜ r ≡ grant - remainder ⌝ }
+{
+    if grant < remainder {
+        return 0;
+    }
+    grant - remainder
+}
+
 // What each quota owes; false where a remainder is above its grant, or a number is no quota's permissions (rule 15.2). No quota ends the loop, which is so the
 // faster.
 pub(crate) fn owing(words: &[u32; WORDS], owed: &mut [usize; QUOTAS]) -> bool
@@ -38,7 +48,7 @@ pub(crate) fn owing(words: &[u32; WORDS], owed: &mut [usize; QUOTAS]) -> bool
         let grant = grant_in(words, i);
         let remainder = remainder_in(words, i);
         let spare = spare_in(words, i);
-        let due = wrapping_sub_u32(grant, remainder);
+        let due = due_of(grant, remainder);
         short = short_at(short, grant, remainder);
         bits = bits | spare;
         owed[i] = due as usize;

@@ -28,10 +28,10 @@ fn pay(owed: &mut [usize; QUOTAS], quota: usize, charge: usize) -> bool
     ensures { λ r. ⌜ Charged charge quota (now (owed .entry)) r (now (owed .exit)) ⌝ }
 {
     let due = owed[quota];
-    owed[quota] = wrapping_sub_usize(due, charge);
     if due < charge {
         return false;
     }
+    owed[quota] = due - charge;
     true
 }
 

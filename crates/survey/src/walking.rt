@@ -85,8 +85,9 @@ fn failed() -> Walked
     }
 }
 
-// A block of the walk, behind one with the serial `before`: a live one closes its records and is paid for. False where the block is not as it must be, not of
-// the heap's kind, or its object does not fit its unit.
+// A block of the walk, behind one with the serial `before`: a live one closes its records and is paid for. False where
+// the block is not as it must be, not of the heap's kind, or its object does not fit its unit. The block ends where
+// `after` of `whole` bytes are left; that place is worked out for long objects only, which keeps a register free.
 pub(crate) fn visit(
     words: &[u32; WORDS],
     links: &mut [u16; LINKS],
@@ -99,11 +100,13 @@ pub(crate) fn visit(
     before: u32,
     serial: u32,
     size: usize,
-    end: usize,
+    whole: usize,
+    after: usize,
 ) -> bool
-    requires { ⌜ Ready (now words) (now heads) (now links) (now owed) (now left) × (last ≤ greatest-serial) × (size % 8 ≡ 0) × (end % 8 ≡ 0) × (size ≤ end)
-        × (size < 2 ^ 32) ⌝ }
-    ensures { λ r. ⌜ Visited (table edition) kind last serial size end before (now (words .entry)) (now (heads .entry)) (now (links .entry)) (now (owed .entry))
+    requires { ⌜ Ready (now words) (now heads) (now links) (now owed) (now left) × (last ≤ greatest-serial)
+        × (size % 8 ≡ 0) × ((whole - after) % 8 ≡ 0) × (size ≤ whole - after) × (size < 2 ^ 32) × (after ≤ whole) ⌝ }
+    ensures { λ r. ⌜ Visited (table edition) kind last serial size (whole - after) before
+        (now (words .entry)) (now (heads .entry)) (now (links .entry)) (now (owed .entry))
         r (now (heads .exit)) (now (links .exit)) (now (owed .exit)) (now (left .exit)) ⌝ }
 {
     if serial == 0 {
@@ -115,7 +118,7 @@ pub(crate) fn visit(
     if last < serial {
         return is_waiting(kind, serial, size);
     }
-    if !is_fitting(edition, size, end) {
+    if !is_fitting(edition, size, whole - after) {
         return false;
     }
     settle(words, links, heads, owed, left, serial, size)
@@ -193,7 +196,6 @@ pub(crate) fn walk(
         }
         let serial = header.serial;
         let after = &rest[size..];
-        let end = heap.len() - after.len();
         if !visit(
             words,
             links,
@@ -206,16 +208,24 @@ pub(crate) fn walk(
             before,
             serial,
             size,
-            end,
+            heap.len(),
+            after.len(),
         ) {
             return failed();
         }
-        let room = is_roomy(serial, size, end, unit, need);
-        fit = chosen(room, end - size, fit);
-        need = chosen(room, TAKEN, need);
-        before = serial;
-        back = header.size;
-        rest = after;
+        if serial != 0 {
+            before = serial;
+            back = header.size;
+            rest = after;
+        } else {
+            let end = heap.len() - after.len();
+            let room = is_roomy(serial, size, end, unit, need);
+            fit = chosen(room, end - size, fit);
+            need = chosen(room, TAKEN, need);
+            before = serial;
+            back = header.size;
+            rest = after;
+        }
     }
     Walked {
         fine: true,

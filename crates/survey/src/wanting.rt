@@ -9,6 +9,7 @@ ghost use mathlib.Core.Bool.{cond};
 ghost use lib.Dec.{eqb};
 ghost use Rattle.lookup.specs.Walk.{holds-named};
 ghost use Rattle.survey.specs.Route.{edge-of};
+ghost use Rattle.survey.specs.Survey.{refused-survey};
 
 // The bytes that are left where a block may start whose object has a base; 8, which is the end, where no object has it.
 pub(crate) fn edge_of(base: u32, len: usize) -> usize
@@ -85,9 +86,9 @@ pub(crate) fn is_named(
     from + length as usize <= at + size
 }
 
-// A survey that refuses.
+// A survey that refuses: whatever was asked for, nothing is found.
 pub(crate) fn refused(refusal: u32) -> Surveyed
-    ensures { λ r. ⌜ r .refusal ≡ refusal ⌝ }
+    ensures { λ r. ⌜ r ≡ refused-survey refusal ⌝ }
 {
     Surveyed {
         refusal: refusal,

@@ -49,8 +49,7 @@ pub const KINDS: usize = 3 * QUOTAS + 2 * HOLDS + 1;
 // The number of words. The contract tells what an array's type does: the proof of a function that is lent an array does not know its length, nor that each word
 // has 32 bits. A call is compiled to nothing.
 pub fn count(words: [u32; WORDS]) -> usize
-    ensures long { λ r. ⌜ length words ≡ WORDS ⌝ }
-    ensures narrow { λ r. ⌜ Narrow words ⌝ }
+    ensures { λ r. ⌜ (length words ≡ WORDS) × Narrow words × (r ≡ WORDS) ⌝ }
 {
     WORDS
 }

@@ -46,12 +46,28 @@ impl Pair {
         )))
     }
 
-    /// Says what is wrong with the refusal of the proved code, for some numbers asked.
+    /// Says what is wrong with the refusal of the proved code, for some numbers and positions asked.
     fn refused_alike(&mut self, a: &[u8], b: &[u8], refused: (u32, u32)) -> Option<String> {
         self.tally.count_image("compared", refused.0);
         let asked = [0, 1, usize::MAX].map(|n| proved::compare(a, b, n));
-        let wrong = asked.into_iter().find(|answer| *answer != Err(refused))?;
-        Some(format!("proved {wrong:?}, reference refusal {refused:?}"))
+        if let Some(wrong) = asked.into_iter().find(|answer| *answer != Err(refused)) {
+            return Some(format!("proved {wrong:?}, reference refusal {refused:?}"));
+        }
+        let positions = [
+            (0, 0),
+            (1, 31),
+            (2, 0),
+            (3, 0),
+            (3, usize::MAX),
+            (4, 0),
+            (5, 7),
+            (6, 1),
+        ];
+        let next = positions.map(|from| proved::next_difference(a, b, from));
+        let wrong = next.into_iter().find(|answer| *answer != Err(refused))?;
+        Some(format!(
+            "next: proved {wrong:?}, reference refusal {refused:?}"
+        ))
     }
 
     /// Says what is wrong with the differences that the proved code lists.
@@ -70,10 +86,10 @@ impl Pair {
             }
         }
         let listed = proved::all_differences(a, b);
-        (listed != all).then(|| {
+        (listed.as_deref() != Ok(all)).then(|| {
             format!(
-                "one after the other {} differences are listed, and the reference has {}",
-                listed.len(),
+                "one after the other {:?} differences are listed, and the reference has {}",
+                listed.map(|listed| listed.len()),
                 all.len()
             )
         })

@@ -94,6 +94,8 @@ impl Pair {
         self.judge("read", (image, lent), &found, &expected, guards)?;
         let (found, guards) = self.read_in_place(image, lent);
         self.judge("read in place", (image, lent), &found, &expected, guards)?;
+        let (restored, guards) = self.restored_in_place(image, lent);
+        self.judge("restore", (image, lent), &restored, &expected, guards)?;
         self.tally.count_image("read", refusal);
         let (heap, accounts) = (found.heap, found.accounts);
         Ok((refusal, State { heap, accounts }))
@@ -121,12 +123,7 @@ impl Pair {
     /// Reads an image into words that hold anything, as above; their padding is to be zero then.
     fn read_in_place(&self, image: &[u8], lent: &[u8]) -> (Done, bool) {
         let (mut lent_image, mut heap) = (self.lend(image), self.lend(lent));
-        let mut words = self.lend_words(&State {
-            heap: Vec::new(),
-            accounts: Accounts::default(),
-        });
-        let mut any = Seed::of_case(image.len() as u64, lent.len() as u64);
-        words.part().fill_with(|| any.word());
+        let mut words = self.lend_any_words(image, lent);
         let refusal = proved::read_in_place(lent_image.part(), heap.part(), words.part());
         let found = Done {
             refusal,
@@ -137,6 +134,39 @@ impl Pair {
         };
         let guards = lent_image.guards_hold() && heap.guards_hold() && words.guards_hold();
         (found, guards && is_plain(words.part()))
+    }
+
+    /// Restores an image over words that hold anything, as above. Where it is refused, every word has to
+    /// stay; the accounts are told as zero then, as of a read.
+    fn restored_in_place(&self, image: &[u8], lent: &[u8]) -> (Done, bool) {
+        let (mut lent_image, mut heap) = (self.lend(image), self.lend(lent));
+        let mut words = self.lend_any_words(image, lent);
+        let before = *words.part();
+        let refusal = proved::restore_in_place(lent_image.part(), heap.part(), words.part());
+        let (accounts, as_told) = match refusal {
+            0 => (accounts_of(words.part()), is_plain(words.part())),
+            _ => (Accounts::default(), *words.part() == before),
+        };
+        let found = Done {
+            refusal,
+            length: 0,
+            accounts,
+            image: lent_image.part().to_vec(),
+            heap: heap.part().to_vec(),
+        };
+        let guards = lent_image.guards_hold() && heap.guards_hold() && words.guards_hold();
+        (found, guards && as_told)
+    }
+
+    /// Lends words that hold anything, padding too.
+    fn lend_any_words(&self, image: &[u8], lent: &[u8]) -> Words {
+        let mut words = self.lend_words(&State {
+            heap: Vec::new(),
+            accounts: Accounts::default(),
+        });
+        let mut any = Seed::of_case(image.len() as u64, lent.len() as u64);
+        words.part().fill_with(|| any.word());
+        words
     }
 
     /// Lends the accounts of a state as words.

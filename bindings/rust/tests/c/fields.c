@@ -156,6 +156,8 @@ static void visit_compare_reply(struct lokhazim_compare_reply *it)
 
 static void visit_next_reply(struct lokhazim_next_reply *it)
 {
+    visit32(&it->refusal);
+    visit32(&it->which);
     visit32(&it->kind);
     visit_size(&it->place);
     visit_size(&it->length);

@@ -61,7 +61,39 @@ static void compare(void)
     next = lokhazim_image_compare_next(image, length, changed, length, next.part, next.at);
     CHECK(next.kind == LOKHAZIM_BYTES_DIFFER && next.place == 8 && next.length == 1);
     next = lokhazim_image_compare_next(image, length, changed, length, next.part, next.at);
-    CHECK(next.kind == LOKHAZIM_NO_DIFFERENCE);
+    CHECK(next.refusal == 0 && next.kind == LOKHAZIM_NO_DIFFERENCE);
+}
+
+/* The next difference of images that are not compared: from every part on what compare refuses, and at once. */
+static void compare_refused(const uint8_t *first, size_t first_length, const uint8_t *second, size_t second_length, uint32_t which)
+{
+    const struct lokhazim_compare_reply reply = lokhazim_image_compare(first, first_length, second, second_length, 0);
+    CHECK(reply.refusal != 0 && reply.which == which);
+    for (uint32_t part = 0; part < 7; part++) {
+        const struct lokhazim_next_reply next =
+            lokhazim_image_compare_next(first, first_length, second, second_length, part, 0);
+        CHECK(next.refusal == reply.refusal && next.which == which && next.kind == LOKHAZIM_NO_DIFFERENCE);
+        CHECK(next.place == 0 && next.length == 0 && next.part == 0 && next.at == 0);
+    }
+}
+
+/* An image that states a heap of 4,294,967,295 bytes, a heap byte changed behind its check, no bytes, and another length. */
+static void not_compared(void)
+{
+    static uint8_t endless[512];
+    const size_t length = LOKHAZIM_IMAGE_MAX;
+    memset(endless + 8, 0xFF, 4);
+    compare_refused(endless, sizeof endless, endless, sizeof endless, 1);
+    compare_refused(image, length, endless, sizeof endless, 2);
+    memcpy(changed, image, length);
+    changed[length - 600] ^= 1;
+    compare_refused(image, length, changed, length, 2);
+    compare_refused(changed, length, image, length, 1);
+    compare_refused(image, length, image, 0, 2);
+    CHECK(lokhazim_heap_open(heap, 64, &accounts, (struct lokhazim_grants){ { 0 } }, LOKHAZIM_PLAIN, LOKHAZIM_EDITION_1)
+          == LOKHAZIM_ACCEPTED);
+    CHECK(lokhazim_heap_save(heap, 64, &accounts, changed, sizeof changed, NULL) == LOKHAZIM_IMAGE_ACCEPTED);
+    compare_refused(image, length, changed, lokhazim_image_length(64), 0);
 }
 
 /* Writes form 1, which has to give a refusal, whether there is room or not, and to leave the bytes alone. */
@@ -157,7 +189,7 @@ static void marked(uint8_t kind, uint8_t edition)
     uint32_t differences[3] = { LOKHAZIM_NO_DIFFERENCE, LOKHAZIM_NO_DIFFERENCE, LOKHAZIM_NO_DIFFERENCE };
     size_t count = 0;
     struct lokhazim_accounts back;
-    struct lokhazim_next_reply next = { 0, 0, 0, 0, 0 };
+    struct lokhazim_next_reply next = { 0, 0, 0, 0, 0, 0, 0 };
     memset(&back, 0, sizeof back);
     fill_form_1();
     CHECK(lokhazim_heap_save(heap, sizeof heap, &accounts, image, sizeof image, NULL) == LOKHAZIM_IMAGE_ACCEPTED);
@@ -224,6 +256,7 @@ int main(void)
     CHECK(other[0] == 9 && other[sizeof other - 1] == 9 && same(&accounts, &back));
     resume(length);
     compare();
+    not_compared();
     form_1();
     moves();
     marked(LOKHAZIM_QUARANTINE, LOKHAZIM_EDITION_1);

@@ -54,16 +54,17 @@ static void refuse(void)
     size_t length = 99;
     uint8_t before[sizeof board];
     memcpy(before, board, sizeof board);
-    CHECK(get(8, 0xFFFF, &value, &length) == LOKHAZIM_SETTINGS_MISSING);
+    CHECK(get(8, 0xFFFF, &value, &length) == LOKHAZIM_SETTINGS_MISSING && value == NULL && length == 0);
+    value = defaults;
+    length = 99;
     CHECK(put(7, 0, long_value, 65) == LOKHAZIM_SETTINGS_VALUE_LENGTH);
     CHECK(put(7, 0xFFFE, long_value, 64) == LOKHAZIM_SETTINGS_VERSION_FALLS);
     used = 9;
-    CHECK(get(7, 1, &value, &length) == LOKHAZIM_SETTINGS_MALFORMED);
+    CHECK(get(7, 1, &value, &length) == LOKHAZIM_SETTINGS_MALFORMED && value == NULL && length == 0);
     CHECK(put(7, 0, long_value, 65) == LOKHAZIM_SETTINGS_MALFORMED && used == 9);
     used = sizeof board + 1;
     CHECK(put(7, 0, long_value, 65) == LOKHAZIM_SETTINGS_MALFORMED);
     used = 10;
-    CHECK(value == defaults && length == 99);
     CHECK(memcmp(before, board, sizeof board) == 0);
     CHECK(put(7, 0xFFFF, long_value, LOKHAZIM_SETTINGS_VALUE_MAX) == LOKHAZIM_SETTINGS_ACCEPTED && used == 78);
     CHECK(put(7, 0xFFFF, "", 0) == LOKHAZIM_SETTINGS_FULL && used == 78);
@@ -76,18 +77,22 @@ static void list(void)
     size_t at = 0, count = 0;
     uint16_t last = 0;
     for (;;) {
-        const struct lokhazim_entry_reply entry = lokhazim_settings_next(board, sizeof board, used, at, last);
+        const struct lokhazim_entry_reply entry = lokhazim_settings_entry(board, sizeof board, used, count);
         CHECK(entry.refusal == LOKHAZIM_SETTINGS_ACCEPTED);
         if (!entry.there) {
             break;
         }
-        CHECK(entry.name == names[count] && entry.start == at + LOKHAZIM_SETTINGS_FRONT);
+        CHECK(entry.name == names[count] && entry.start == at + LOKHAZIM_SETTINGS_FRONT && last <= entry.version);
         count++;
         at = entry.end;
         last = entry.version;
     }
     CHECK(count == 3 && at == used && last == 0xFFFF);
-    CHECK(lokhazim_settings_next(board, sizeof board, used - 1, 10, last).refusal == LOKHAZIM_SETTINGS_MALFORMED);
+    CHECK(!lokhazim_settings_entry(board, sizeof board, used, SIZE_MAX).there);
+    for (size_t n = 0; n < 4; n++) {
+        const struct lokhazim_entry_reply entry = lokhazim_settings_entry(board, sizeof board, used - 1, n);
+        CHECK(entry.refusal == LOKHAZIM_SETTINGS_MALFORMED && !entry.there && entry.start == 0 && entry.end == 0);
+    }
 }
 
 int main(void)

@@ -59,13 +59,18 @@ pub fn compile(source: &str, level: &str) -> PathBuf {
     let program = Path::new(env!("CARGO_TARGET_TMPDIR"))
         .join(name)
         .with_extension(&level[1..]);
-    let mut words: Vec<OsString> = FLAGS.map(OsString::from).to_vec();
-    words.extend([level.into(), "-I".into(), repository("include").into()]);
-    words.push(path.into());
-    words.extend(LIBRARIES.map(|name| library(name).into()));
-    words.extend(["-o".into(), program.clone().into()]);
-    cc(&format!("{source} at {level}"), &words);
+    compile_over(source, &[level], &repository("include"), &program);
     program
+}
+
+/// Compiles a C program of the repository with some flags, over the headers of a folder.
+pub fn compile_over(source: &str, flags: &[&str], headers: &Path, program: &Path) {
+    let mut words: Vec<OsString> = FLAGS.map(OsString::from).to_vec();
+    words.extend(flags.iter().map(OsString::from));
+    words.extend(["-I".into(), headers.into(), repository(source).into()]);
+    words.extend(LIBRARIES.map(|name| library(name).into()));
+    words.extend(["-o".into(), program.into()]);
+    cc(&format!("{source} with {flags:?}"), &words);
 }
 
 /// Has the compiler read headers, named by what follows `lokhazim`, with its own headers alone, as for

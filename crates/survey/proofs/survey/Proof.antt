@@ -8,7 +8,7 @@ use Prim.Native.Nat.{ℕ, _-_, _*_, _≤_}
 use native.Mathlib.Omega.{arith}
 use borrow.Author.Needs.{needs}
 use borrow.Author.Tests.{not-true, not-false}
-use mathlib.Core.Path.{_≡_, refl, sym, subst, _∙_}
+use mathlib.Core.Path.{_≡_, refl, ap, sym, subst, _∙_}
 use mathlib.Core.Bool.{Bool, true, false, cond, _&&_}
 use mathlib.Core.List.{List}
 use lib.Dec.{eqb}
@@ -18,7 +18,7 @@ use Rattle.rounding.specs.Rounding.{table}
 use Rattle.layout.specs.Blocks.{greatest-heap, cut}
 use Rattle.model.specs.declared.Refusal.the-variants.{Inconsistent}
 use Rattle.model.specs.declared.Verdict.the-variants.{Accepted, Refused}
-use Rattle.model.specs.Answers.{verdict-values}
+use Rattle.model.specs.Answers.{Values, verdict-values}
 use Rattle.model.specs.Consistent.{allowed, in-range}
 use Rattle.model.specs.Calls.{check as check-of}
 use Rattle.audit.specs.Audit.{all-zero}
@@ -34,7 +34,7 @@ use Rattle.survey.specs.declared.Wanted.{Wanted}
 use Rattle.survey.specs.Survey.{verdict-of, handle-of, shares, Known}
 use Rattle.survey.specs.Route.{Halved}
 use Rattle.survey.proofs.Naming.{named-half, half-bounds}
-use Rattle.survey.proofs.Surveys.{refused-length, refused-state, allowed-range, place-any, fit-known}
+use Rattle.survey.proofs.Surveys.{refused-length, refused-state, allowed-range, fit-known}
 use Rattle.survey.proofs.survey.Statement.{statement}
 use Rattle.survey.proofs.survey.Tie as tie
 
@@ -326,21 +326,23 @@ knows c =
     record {
       block = n .0;
       size = n .1;
-      holder = λ l. p .before .before .before .on-path .ensures;
+      holder = p .before .before .before .on-path .ensures;
       low = entered (owed (at w)) .lowest;
-      other = place-any (shares (q .serial) (q .quota)) (holds-of (words (ranging w))) (p .on-path2 .result) (p .on-path2 .ensures);
+      other = p .on-path2 .ensures;
       fit = fit-known (q .unit) (q .need) (heap e) (u .before .unit-of .ensures .2) (u .need-of .ensures) (w .walk-parts .ensures .1 (passes e) .0)
           (walked w true (passes e) .1)
           (c .before .fit-of .ensures);
     }
 
 returns-7 : tie.Need-returns-7
-unfolding verdict-of
+unfolding verdict-of verdict-values
 returns-7 c =
     let e = c .before .before .before .before in
-    let p = e .before in
+    let t = verdict (walk e) true (sym (decided (e .before) ∙ not-false _ (e .if6 .left))) in
     record {
-      told = verdict (walk e) true (sym (decided p ∙ not-false _ (e .if6 .left)));
+      number = ap (λ (v : Values). v .refusal) t;
+      refused = λ z. absurd (z refl);
+      told = t;
       known = λ f. knows c;
     }
 

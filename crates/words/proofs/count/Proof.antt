@@ -2,6 +2,7 @@
 -- Assumes nothing.
 use Prim.Native.Nat.{ℕ, zero, suc, _<_, _^_}
 use native.Mathlib.Omega.{arith}
+use mathlib.Core.Path.{refl}
 use mathlib.Core.List.{List, [], _∷_}
 use lib.ListN.{getD}
 use mir.Val.{Val}
@@ -19,7 +20,7 @@ fits (w ∷ ws) (u ∷ us) s zero = omega (arith, s .0 .1)
 fits (w ∷ ws) (u ∷ us) s (suc i) = fits ws us (s .1) i
 
 returns : tie.Need-returns
-returns c = (c .good .0 .1 .0 .1, fits (c .args .words) (c .good .0 .0) (c .good .0 .1 .1))
+returns c = (c .good .0 .1 .0 .1, fits (c .args .words) (c .good .0 .0) (c .good .0 .1 .1), refl)
 
 pub count-spec : {M : Type 1} → statement M
 count-spec = tie.close (tie.spec returns)

@@ -33,6 +33,8 @@ struct CompareReply {
 /// What asking for the next difference gives back: the difference, and the position behind it.
 #[repr(C)]
 struct NextReply {
+    refusal: u32,
+    which: u32,
     kind: u32,
     place: usize,
     length: usize,
@@ -111,6 +113,13 @@ extern "C" {
         heap_length: usize,
         words: *mut u32,
     ) -> u32;
+    fn lokhazim_image_in_place_restore(
+        image: *const u8,
+        image_length: usize,
+        heap: *mut u8,
+        heap_length: usize,
+        words: *mut u32,
+    ) -> u32;
 }
 
 /// Gives the length of the image of a heap of this length, 0 for a length that is not allowed.
@@ -167,18 +176,29 @@ pub fn write_in_place(
     written(write, image, heap, words.as_mut_ptr())
 }
 
+/// A function that reads an image into words where they lie.
+type Read = unsafe extern "C" fn(*const u8, usize, *mut u8, usize, *mut u32) -> u32;
+
+/// Reads an image by a function of the proved code and gives the refusal.
+fn taken(read: Read, image: &mut [u8], heap: &mut [u8], words: &mut [u32; WORDS]) -> u32 {
+    let (from, count, to, length) = (
+        image.as_mut_ptr(),
+        image.len(),
+        heap.as_mut_ptr(),
+        heap.len(),
+    );
+    // Safety: as above.
+    unsafe { read(from, count, to, length, words.as_mut_ptr()) }
+}
+
 /// Reads an image into the accounts where they lie, and gives the refusal.
 pub fn read_in_place(image: &mut [u8], heap: &mut [u8], words: &mut [u32; WORDS]) -> u32 {
-    // Safety: as above.
-    unsafe {
-        lokhazim_image_in_place_read(
-            image.as_mut_ptr(),
-            image.len(),
-            heap.as_mut_ptr(),
-            heap.len(),
-            words.as_mut_ptr(),
-        )
-    }
+    taken(lokhazim_image_in_place_read, image, heap, words)
+}
+
+/// Restores an image where heap and accounts are in use, and gives the refusal.
+pub fn restore_in_place(image: &mut [u8], heap: &mut [u8], words: &mut [u32; WORDS]) -> u32 {
+    taken(lokhazim_image_in_place_restore, image, heap, words)
 }
 
 /// Reads an image by the proved code and gives the refusal and the accounts.
@@ -241,26 +261,36 @@ pub fn compare(first: &[u8], second: &[u8], n: usize) -> Result<Option<Differenc
     Ok(difference(reply.kind, reply.place, reply.length))
 }
 
-/// Asks the proved code for all differences of two images, each from where the last one was found.
-pub fn all_differences(first: &[u8], second: &[u8]) -> Vec<Difference> {
-    let (mut part, mut at) = (0, 0);
-    let mut all = Vec::new();
-    loop {
-        // Safety: as above.
-        let reply = unsafe {
-            lokhazim_image_compare_next(
-                first.as_ptr(),
-                first.len(),
-                second.as_ptr(),
-                second.len(),
-                part,
-                at,
-            )
-        };
-        let Some(found) = difference(reply.kind, reply.place, reply.length) else {
-            return all;
-        };
-        all.push(found);
-        (part, at) = (reply.part, reply.at);
+/// A position by its numbers: the part and the place in it.
+pub type Position = (u32, usize);
+
+/// Asks the proved code for the first difference of two images from a position on, and the position
+/// behind it, by refusal and the image it is about.
+pub fn next_difference(
+    first: &[u8],
+    second: &[u8],
+    (part, at): Position,
+) -> Result<Option<(Difference, Position)>, (u32, u32)> {
+    let (a, b) = (first.as_ptr(), second.as_ptr());
+    // Safety: as above.
+    let reply = unsafe { lokhazim_image_compare_next(a, first.len(), b, second.len(), part, at) };
+    let behind = (reply.part, reply.at);
+    let found = difference(reply.kind, reply.place, reply.length);
+    if reply.refusal != 0 {
+        assert_eq!((found, behind), (None, (0, 0)));
+        return Err((reply.refusal, reply.which));
     }
+    assert_eq!(reply.which, 0);
+    Ok(found.map(|found| (found, behind)))
+}
+
+/// Asks the proved code for all differences of two images, each from where the last one was found.
+pub fn all_differences(first: &[u8], second: &[u8]) -> Result<Vec<Difference>, (u32, u32)> {
+    let mut from = (0, 0);
+    let mut all = Vec::new();
+    while let Some((found, behind)) = next_difference(first, second, from)? {
+        all.push(found);
+        from = behind;
+    }
+    Ok(all)
 }

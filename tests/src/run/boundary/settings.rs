@@ -24,7 +24,7 @@ struct AddReply {
     used: usize,
 }
 
-/// What the next entry gives back.
+/// What an entry gives back.
 #[repr(C)]
 #[derive(Clone, Copy, Debug, PartialEq, Eq)]
 pub struct EntryReply {
@@ -62,12 +62,11 @@ extern "C" {
         value: *const u8,
         value_length: usize,
     ) -> AddReply;
-    fn lokhazim_settings_next(
+    fn lokhazim_settings_entry(
         store: *const u8,
         length: usize,
         used: usize,
-        at: usize,
-        last: u16,
+        n: usize,
     ) -> EntryReply;
 }
 
@@ -99,9 +98,9 @@ pub fn add(bytes: &mut [u8], used: usize, name: u8, version: u16, value: &[u8]) 
     (reply.refusal, reply.used)
 }
 
-/// The entry at a place by the proved code.
-pub fn next(store: Store<'_>, at: usize, last: u16) -> EntryReply {
+/// The n-th entry by the proved code.
+pub fn entry(store: Store<'_>, n: usize) -> EntryReply {
     let bytes = store.bytes;
     // Safety: as above.
-    unsafe { lokhazim_settings_next(bytes.as_ptr(), bytes.len(), store.used, at, last) }
+    unsafe { lokhazim_settings_entry(bytes.as_ptr(), bytes.len(), store.used, n) }
 }

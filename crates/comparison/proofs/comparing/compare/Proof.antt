@@ -1,52 +1,47 @@
--- The first image's refusal comes before all (`Compared`).
+-- Two images that are not compared, and the difference of two that are (`Compared`).
 -- Assumes nothing.
-use mathlib.Core.Path.{ap, _∙_}
+use mathlib.Core.Path.{ap, sym, _∙_}
 use borrow.Author.Needs.{needs}
-use Rattle.image_model.specs.declared.Form.{Form}
-use Rattle.comparison.proofs.Compared.{examined-image, examined-number, first-bad, first-good}
+use Rattle.comparison.specs.Compare.{paired}
+use Rattle.comparison.proofs.Compared.{compared-nth, compared-refused}
 use Rattle.comparison.proofs.comparing.compare.Statement.{statement}
 use Rattle.comparison.proofs.comparing.compare.Tie as tie
 
-examine-requires : tie.Need-examine-requires
-examine-requires c κs = search needs
+pair-of-requires : tie.Need-pair-of-requires
+pair-of-requires c κs = search needs
 
-enum-known-shape : tie.Need-enum-known-shape
-enum-known-shape c = search needs
+enum-told : tie.Need-enum-told
+enum-told c = search needs
 
-with-second-requires : tie.Need-with-second-requires
-with-second-requires c κs =
-    let s = c .before in
-    let p = s .before .before in
-    let a = p .before .before .before .args in
-    let e = examined-image (a .first .now) (p .examine .result) (p .examine .ensures) _ (s .shape .given .0 .1 .0) (s .shape .given .1) in
-    (ap (λ (f : Form). f .number) (e .1), e .2)
+nth-difference-requires : tie.Need-nth-difference-requires
+nth-difference-requires c κs = search needs
 
-enum-known-shape-2 : tie.Need-enum-known-shape-2
-enum-known-shape-2 c = search needs
+enum-known-refusal : tie.Need-enum-known-refusal
+enum-known-refusal c = search needs
 
 returns : tie.Need-returns
 returns c =
-    let s = c .before .before in
+    let s = c .before in
     let p = s .before .before in
     let a = p .before .before .before .args in
-    let e = examined-image (a .first .now) (p .examine .result) (p .examine .ensures) _ (s .shape .given .0 .1 .0) (s .shape .given .1) in
-    c .with-second .ensures ∙ first-good (a .first .now) (a .second .now) (a .n) (e .0)
+    let e = sym (ap paired (s .enum-told .given .1)) ∙ p .pair-of .ensures in
+    c .nth-difference .ensures ∙ compared-nth (a .first .now) (a .second .now) e (a .n)
 
 returns-2 : tie.Need-returns-2
 returns-2 c =
     let s = c .before in
     let p = s .before .before in
     let a = p .before .before .before .args in
-    first-bad (a .first .now) (a .second .now) (a .n) (s .shape2 .given .0 .0)
-    (examined-number (a .first .now) (p .examine .result) (p .examine .ensures) (s .shape2 .given .0 .0) (s .shape2 .given .1))
+    let e = sym (ap paired (s .refusal .given .1)) ∙ p .pair-of .ensures in
+    compared-refused (a .first .now) (a .second .now) (s .refusal .given .0 .0) (s .refusal .given .0 .1 .0) e (a .n)
 
 pub compare-spec : {M : Type 1} → statement M
 compare-spec =
     tie.close
     (tie.spec
-    examine-requires
-    enum-known-shape
-    with-second-requires
-    enum-known-shape-2
+    pair-of-requires
+    enum-told
+    nth-difference-requires
+    enum-known-refusal
     returns
     returns-2)

@@ -22,8 +22,8 @@ loop-holds : tie.Need-loop-holds Inv-loop μ-loop
 unfolding differences-from
 loop-holds c = refl
 
-next-difference-requires : tie.Need-next-difference-requires Inv-loop μ-loop
-next-difference-requires c κs = search needs
+step-from-requires : tie.Need-step-from-requires Inv-loop μ-loop
+step-from-requires c κs = search needs
 
 enum-known-difference : tie.Need-enum-known-difference Inv-loop μ-loop
 enum-known-difference c = search needs
@@ -39,7 +39,7 @@ returns c =
     none-given (a .first .now) (a .second .now) (a .n)
     (sym (l .loop .inv)
     ∙ next-nothing (state-in (a .first .now)) (state-in (a .second .now)) (l .loop .from)
-    (sym (d .next-difference .ensures) ∙ c .enum-told .given .1) (l .loop .left))
+    (sym (d .step-from .ensures) ∙ c .enum-told .given .1) (l .loop .left))
 
 returns-2 : tie.Need-returns-2 Inv-loop μ-loop
 returns-2 c =
@@ -52,7 +52,8 @@ returns-2 c =
     one-given (a .first .now) (a .second .now) (a .n) (g .difference .given .0 .0)
     (sym (l .loop .inv)
     ∙ ap (getElem? (differences-from (l .loop .from) s t)) (c .if1 .taken)
-    ∙ next-first s t (l .loop .from) (g .difference .given .0 .1 .0) (g .difference .given .0 .0) (sym (d .next-difference .ensures) ∙ g .difference .given .1))
+    ∙ next-first s t (l .loop .from) (g .difference .given .0 .1 .0) (g .difference .given .0 .0)
+    (sym (d .step-from .ensures) ∙ g .difference .given .1))
 
 sub-left : tie.Need-sub-left Inv-loop μ-loop
 sub-left c = search needs
@@ -70,7 +71,7 @@ loop-again c =
     let t = state-in (a .second .now) in
     sym
     (next-later s t (l .loop .from) (g .difference .given .0 .1 .0) (g .difference .given .0 .0)
-    (sym (d .next-difference .ensures) ∙ g .difference .given .1) (l .loop .left)
+    (sym (d .step-from .ensures) ∙ g .difference .given .1) (l .loop .left)
     (c .if1 .left))
     ∙ l .loop .inv
 
@@ -81,7 +82,7 @@ nth-difference-spec =
     Inv-loop
     μ-loop
     loop-holds
-    next-difference-requires
+    step-from-requires
     enum-known-difference
     enum-told
     returns

@@ -2,8 +2,7 @@
 -- Assumes nothing.
 use mathlib.Core.Path.{ap, _∙_}
 use borrow.Author.Needs.{needs}
-use Rattle.comparison.specs.Differences.{state-in}
-use Rattle.comparison.specs.Positions.{next-of}
+use Rattle.comparison.specs.Compare.{advance-of}
 use Rattle.comparison.specs.declared.Position.{Position}
 use Rattle.comparison_api.specs.Replies.{next-reply}
 use Rattle.comparison_api.proofs.exports.lokhazim_image_compare_next.Statement.{statement}
@@ -23,9 +22,10 @@ returns c =
     let d = c .before in
     let p = d .before in
     let a = p .before .before .before .args in
-    let s = state-in (a .first .now) in
-    let t = state-in (a .second .now) in
-    c .reply-of-next .ensures ∙ ap next-reply (d .next-difference .ensures ∙ ap (λ (x : Position). next-of x s t) (p .position-of .ensures))
+    c .reply-of-next .ensures
+    ∙ ap next-reply
+    (d .next-difference .ensures
+    ∙ ap (λ (x : Position). advance-of (a .first .now) (a .second .now) x) (p .position-of .ensures))
 
 pub lokhazim-image-compare-next-spec : {M : Type 1} → statement M
 lokhazim-image-compare-next-spec =

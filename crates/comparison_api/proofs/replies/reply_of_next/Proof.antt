@@ -2,6 +2,8 @@
 -- Assumes nothing.
 use mathlib.Core.Path.{ap, sym, _∙_}
 use borrow.Author.Needs.{needs}
+use Rattle.comparison.specs.declared.NextAnswer.{NextAnswer}
+use Rattle.comparison.specs.Compare.{stepped, advanced}
 use Rattle.comparison_api.specs.Replies.{next-reply}
 use Rattle.comparison_api.proofs.replies.reply_of_next.Statement.{statement}
 use Rattle.comparison_api.proofs.replies.reply_of_next.Tie as tie
@@ -27,7 +29,17 @@ place-in-requires c κs = search needs
 enum-told : tie.Need-enum-told
 enum-told c = search needs
 
+enum-known-answer-2 : tie.Need-enum-known-answer-2
+enum-known-answer-2 c = search needs
+
+number-requires : tie.Need-number-requires
+number-requires c κs = search needs
+
+number-of-requires : tie.Need-number-of-requires
+number-of-requires c κs = search needs
+
 returns : tie.Need-returns
+unfolding advanced stepped
 returns c =
     let q = c .before in
     let n = q .before in
@@ -35,16 +47,35 @@ returns c =
     let k = p .before in
     (λ i.
     record {
+      refusal = 0;
+      which = 0;
       kind = k .kind-of .ensures i;
       place = p .place-of .ensures i;
       length = n .length-of .ensures i;
       part = q .part-of .ensures i;
       at = c .place-in .ensures i;
     })
-    ∙ ap next-reply (sym (k .before .before .answer .given .1))
+    ∙ ap (λ (x : NextAnswer). next-reply (advanced x)) (sym (k .before .before .answer .given .1))
 
 returns-2 : tie.Need-returns-2
-returns-2 c = ap next-reply (sym (c .enum-told .given .1))
+unfolding advanced stepped
+returns-2 c = ap (λ (x : NextAnswer). next-reply (advanced x)) (sym (c .enum-told .given .1))
+
+returns-3 : tie.Need-returns-3
+unfolding advanced
+returns-3 c =
+    let n = c .before in
+    (λ i.
+    record {
+      refusal = n .number .ensures i;
+      which = c .number-of .ensures i;
+      kind = 0;
+      place = 0;
+      length = 0;
+      part = 0;
+      at = 0;
+    })
+    ∙ ap (λ (x : NextAnswer). next-reply (advanced x)) (sym (n .before .before .answer2 .given .1))
 
 pub reply-of-next-spec : {M : Type 1} → statement M
 reply-of-next-spec =
@@ -57,5 +88,9 @@ reply-of-next-spec =
     part-of-requires
     place-in-requires
     enum-told
+    enum-known-answer-2
+    number-requires
+    number-of-requires
     returns
-    returns-2)
+    returns-2
+    returns-3)

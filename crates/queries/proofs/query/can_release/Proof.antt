@@ -101,7 +101,7 @@ returns-4 c =
     let found = not-false _ (c .before .before .if2 .left) in
     refused-is _ s k _ NotHeld (by-record u s k (a .quota) (a .handle) e
     (block-at (c .before .before .before .before .before .before .before .before .survey .result .at) s) (is-found g ok found)
-    (no-holder g ok found (e .exists) (c .if3 .taken)))
+    (no-holder g ok found (c .if3 .taken)))
 
 returns-5 : tie.Need-returns-5
 unfolding can-release verdict-values
@@ -121,7 +121,7 @@ returns-5 c =
     let found = not-false _ (c .before .before .if2 .left) in
     let i = c .before .before .before .before .before .before .before .before .survey .result .holder in
     let at : find-hold ((block-at (c .before .before .before .before .before .before .before .before .survey .result .at) s) .serial) (a .quota) k ≡ At i =
-    is-holder g ok found (e .exists) (omega (arith, c .if3 .left)) in
+    is-holder g ok found (omega (arith, c .if3 .left)) in
     accepted-is _ s k _ (release-passes u s k (verdict-of (c .before .before .before .before .before .before .before .before .survey .result .refusal))
     (g .told) ok (a .handle) (block-at (c .before .before .before .before .before .before .before .before .survey .result .at) s) (is-found g ok found)
     (a .quota) (e .exists) i (rw (byte-quota (a .quota) (e .exists)) at))

@@ -1,6 +1,8 @@
 -- Without room nothing is written (`export-room`), else all lines are (`export-put`).
 -- Assumes nothing.
 use native.Mathlib.Omega.{arith}
+use mathlib.Core.Path.{ap}
+use Rattle.report.specs.Export.{export-told}
 use Rattle.report.proofs.Exports.{export-room, export-put}
 use borrow.Author.Needs.{needs}
 use Rattle.report.proofs.exporting.export_grants.Statement.{statement}
@@ -9,7 +11,7 @@ use Rattle.report.proofs.exporting.export_grants.Tie as tie
 returns : tie.Need-returns
 returns c =
     let a = c .before .before .args in
-    export-room (a .text .now) (a .grants) (omega arith)
+    ap export-told (export-room (a .text .now) (a .grants) (omega arith))
 
 put-lines-requires : tie.Need-put-lines-requires
 put-lines-requires c κs = search needs
@@ -23,7 +25,9 @@ returns-2 c =
     let e = p .before .before in
     let s = e .before .before in
     let a = s .args in
-    export-put (a .text .now) (a .grants) (omega arith) (s .good .1 .0 .1 .0 .1) (p .put-lines .last .0) (p .put-lines .ensures)
+    ap export-told
+    (export-put (a .text .now) (a .grants) (omega arith) (s .good .1 .0 .1 .0 .1) (p .put-lines .last .0)
+    (p .put-lines .ensures))
 
 pub export-grants-spec : {M : Type 1} → statement M
 export-grants-spec = tie.close (tie.spec returns put-lines-requires same-length returns-2)

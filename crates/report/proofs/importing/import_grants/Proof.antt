@@ -2,9 +2,10 @@
 -- many (`import-over`). The measure is how many quotas have no line yet.
 -- Assumes nothing.
 use native.Mathlib.Omega.{arith}
-use mathlib.Core.Path.{sym, _∙_}
+use mathlib.Core.Path.{ap, sym, _∙_}
 use Prim.Native.Nat.{_-_, _≤_}
 use Rattle.accounts.specs.Accounts.{QUOTAS}
+use Rattle.report.specs.Import.{import-told}
 use Rattle.report.proofs.Imports.{Importing, import-start, import-more, import-bad, import-over, import-end}
 use borrow.Author.Needs.{needs}
 use Rattle.report.proofs.importing.import_grants.Statement.{statement}
@@ -34,8 +35,10 @@ refused-requires c κs = search needs
 returns : tie.Need-returns Inv-loop μ-loop
 returns c =
     let l = c .before .before .before in
-    c .refused .ensures ∙ import-over (l .before .before .args .text .now) (l .loop .grants) (l .loop .i) (l .loop .inv .1)
-    (c .before .before .loop-test .taken) (omega arith)
+    ap import-told
+    (c .refused .ensures
+    ∙ import-over (l .before .before .args .text .now) (l .loop .grants) (l .loop .i) (l .loop .inv .1)
+    (c .before .before .loop-test .taken) (omega arith))
 
 mul-read-line : tie.Need-mul-read-line Inv-loop μ-loop
 mul-read-line c = search needs
@@ -63,8 +66,11 @@ returns-2 c =
     let m = c .before .before in
     let r = m .before .before in
     let l = r .before .before .before in
-    c .refused2 .ensures ∙ import-bad (l .before .before .args .text .now) (l .loop .grants) (l .loop .i) (l .loop .inv .1)
-    (r .before .before .loop-test .taken) (m .line2 .given .0 .0) (r .before .if1 .left) (sym (m .line2 .given .1) ∙ r .read-line .ensures)
+    ap import-told
+    (c .refused2 .ensures
+    ∙ import-bad (l .before .before .args .text .now) (l .loop .grants) (l .loop .i) (l .loop .inv .1)
+    (r .before .before .loop-test .taken) (m .line2 .given .0 .0) (r .before .if1 .left)
+    (sym (m .line2 .given .1) ∙ r .read-line .ensures))
 
 add-i : tie.Need-add-i Inv-loop μ-loop
 add-i c = search needs
@@ -85,7 +91,9 @@ loop-again c =
 returns-3 : tie.Need-returns-3 Inv-loop μ-loop
 returns-3 c =
     let l = c .before in
-    import-end (l .before .before .args .text .now) (l .loop .grants) (l .loop .i) (l .loop .inv .1) (c .loop-test .left)
+    ap import-told
+    (import-end (l .before .before .args .text .now) (l .loop .grants) (l .loop .i) (l .loop .inv .1)
+    (c .loop-test .left))
 
 pub import-grants-spec : {M : Type 1} → statement M
 import-grants-spec =

@@ -1,7 +1,9 @@
 -- The reply, with the text at exit, is that of what export leaves and answers.
 -- Assumes nothing.
 use mathlib.Core.Path.{ap, _∙_}
-use Rattle.report_api.specs.Replies.{export-told}
+use Rattle.report.specs.Export.{Written}
+use Rattle.report.proofs.Answers.{export-told-injective}
+use Rattle.report_api.specs.Replies.{export-reply}
 use borrow.Author.Needs.{needs}
 use Rattle.report_api.proofs.exports.lokhazim_report_export.Statement.{statement}
 use Rattle.report_api.proofs.exports.lokhazim_report_export.Tie as tie
@@ -18,7 +20,10 @@ same-length c = search needs
 returns : tie.Need-returns
 returns c =
     let w = c .before .before .before in
-    (λ i. record { text = w .export-grants .last .0; reply = c .reply-of-export .ensures i }) ∙ ap export-told (w .export-grants .ensures)
+    let e = w .export-grants .ensures in
+    let q = export-told-injective
+    (record { text = w .export-grants .last .0; answer = w .export-grants .result }) _ e in
+    (c .reply-of-export .ensures (w .export-grants .last .0) ∙ ap export-reply e, ap (λ (x : Written). x .text) q)
 
 pub lokhazim-report-export-spec : {M : Type 1} → statement M
 lokhazim-report-export-spec =

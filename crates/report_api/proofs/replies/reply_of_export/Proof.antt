@@ -1,6 +1,8 @@
 -- The numbers of the answer's case.
 -- Assumes nothing.
 use mathlib.Core.Path.{ap, sym, _∙_}
+use Rattle.report.specs.declared.ExportAnswer.{ExportAnswer}
+use Rattle.report.specs.Export.{text-told}
 use Rattle.report_api.specs.Replies.{export-reply}
 use borrow.Author.Needs.{needs}
 use Rattle.report_api.proofs.replies.reply_of_export.Statement.{statement}
@@ -16,10 +18,14 @@ number-requires : tie.Need-number-requires
 number-requires c κs = search needs
 
 returns : tie.Need-returns
-returns c = ap export-reply (sym (c .before .answer .given .1))
+unfolding text-told
+returns c = λ t. ap (λ (a : ExportAnswer). export-reply (text-told t a)) (sym (c .before .answer .given .1))
 
 returns-2 : tie.Need-returns-2
-returns-2 c = (λ i. record { refusal = c .number .ensures i; length = 0 }) ∙ ap export-reply (sym (c .before .before .answer2 .given .1))
+unfolding text-told
+returns-2 c = λ t.
+    (λ i. record { refusal = c .number .ensures i; length = 0 })
+    ∙ ap (λ (a : ExportAnswer). export-reply (text-told t a)) (sym (c .before .before .answer2 .given .1))
 
 pub reply-of-export-spec : {M : Type 1} → statement M
 reply-of-export-spec =

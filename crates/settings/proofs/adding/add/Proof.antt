@@ -1,7 +1,7 @@
 -- The four refusals in their order, and the entry written where none of them holds.
 -- Assumes nothing.
 use native.Mathlib.Omega.{arith}
-use mathlib.Core.Path.{_≡_, sym, _∙_}
+use mathlib.Core.Path.{_≡_, ap, sym, _∙_}
 use mathlib.Core.List.{List}
 use mathlib.Core.Option.{some}
 use Prim.Native.Nat.{_+_}
@@ -10,6 +10,7 @@ use borrow.Author.Needs.{needs}
 use Rattle.settings.specs.declared.Entry.{Entry}
 use Rattle.settings.specs.declared.AddAnswer.the-variants.{Added}
 use Rattle.settings.specs.Entries.{newest, stored}
+use Rattle.settings.specs.Add.{added-to, add-told}
 use Rattle.settings.proofs.Values.{stored-is}
 use Rattle.settings.proofs.Puts.{last-known, last-unknown, add-malformed, add-long, add-falls, add-full, add-done}
 use Rattle.settings.proofs.adding.add.Statement.{statement}
@@ -31,8 +32,9 @@ returns : tie.Need-returns
 returns c =
     let l = c .before .before in
     let a = l .before .before .before .before .args in
-    add-malformed (a .name) (a .version) (a .value .now) (a .store .now) (a .used)
-    (last-unknown (stored (a .store .now) (a .used)) (sym (c .enum-told .given .1) ∙ l .last-version .ensures))
+    ap add-told
+    (add-malformed (a .name) (a .version) (a .value .now) (a .store .now) (a .used)
+    (last-unknown (stored (a .store .now) (a .used)) (sym (c .enum-told .given .1) ∙ l .last-version .ensures)))
 
 -- the entries of a store whose last version was found
 known : (c : tie.After-last)
@@ -51,7 +53,8 @@ returns-2 c =
     let l = c .before .before in
     let a = l .before .before .before .before .before .before .args in
     let k = known l in
-    add-long (a .name) (a .version) (a .value .now) (a .store .now) (a .used) (k .0) (k .1 .0) (omega arith)
+    ap add-told
+    (add-long (a .name) (a .version) (a .value .now) (a .store .now) (a .used) (k .0) (k .1 .0) (omega arith))
 
 same-length-3 : tie.Need-same-length-3
 same-length-3 c = search needs
@@ -62,7 +65,9 @@ returns-3 c =
     let a = l .before .before .before .before .before .before .args in
     let k = known l in
     let n = k .1 .1 in
-    add-falls (a .name) (a .version) (a .value .now) (a .store .now) (a .used) (k .0) (k .1 .0) (omega arith) (omega arith)
+    ap add-told
+    (add-falls (a .name) (a .version) (a .value .now) (a .store .now) (a .used) (k .0) (k .1 .0) (omega arith)
+    (omega arith))
 
 sub-if3 : tie.Need-sub-if3
 sub-if3 c =
@@ -83,7 +88,9 @@ returns-4 c =
     let a = l .before .before .before .before .before .before .args in
     let k = known l in
     let n = k .1 .1 in
-    add-full (a .name) (a .version) (a .value .now) (a .store .now) (a .used) (k .0) (k .1 .0) (omega arith) (omega arith) (omega arith)
+    ap add-told
+    (add-full (a .name) (a .version) (a .value .now) (a .store .now) (a .used) (k .0) (k .1 .0) (omega arith)
+    (omega arith) (omega arith))
 
 put-entry-requires : tie.Need-put-entry-requires
 put-entry-requires c κs = search needs
@@ -105,8 +112,10 @@ returns-5 c =
     let k = known l in
     let n = k .1 .1 in
     let e : a .used + 4 + length (a .value .now) ≡ a .used + (4 + length (a .value .now)) = omega arith in
-    (λ i. record { store = p .put-entry .ensures i; answer = Added (e i) })
-    ∙ add-done (a .name) (a .version) (a .value .now) (a .store .now) (a .used) (k .0) (k .1 .0) (omega arith) (omega arith) (omega arith)
+    (λ i. added-to (p .put-entry .ensures i) (Added (e i)))
+    ∙ ap add-told
+    (add-done (a .name) (a .version) (a .value .now) (a .store .now) (a .used) (k .0) (k .1 .0) (omega arith)
+    (omega arith) (omega arith))
 
 pub add-spec : {M : Type 1} → statement M
 add-spec =

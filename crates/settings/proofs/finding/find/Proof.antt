@@ -1,8 +1,8 @@
 -- Both stores are asked, and one of their answers is chosen.
 -- Assumes nothing.
-use mathlib.Core.Path.{_∙_}
+use mathlib.Core.Path.{ap, _∙_}
 use borrow.Author.Needs.{needs}
-use Rattle.settings.specs.Find.{find, chosen}
+use Rattle.settings.specs.Find.{find, chosen, located}
 use Rattle.settings.proofs.finding.find.Statement.{statement}
 use Rattle.settings.proofs.finding.find.Tie as tie
 
@@ -20,7 +20,7 @@ unfolding find
 returns c =
     let x = c .before .before .find-used in
     let y = c .before .find-used2 in
-    c .chosen .ensures ∙ (λ i. chosen (x .ensures i) (y .ensures i))
+    ap located (c .chosen .ensures ∙ (λ i. chosen (x .ensures i) (y .ensures i)))
 
 pub find-spec : {M : Type 1} → statement M
 find-spec = tie.close (tie.spec find-used-requires find-used-requires-2 chosen-requires returns)

@@ -7,6 +7,7 @@ use borrow.Author.Needs.{needs}
 use lib.ListN.{length}
 use Rattle.settings.specs.Find.{Inside, refusal-of, part, bytes-of, lies-at}
 use Rattle.settings.proofs.Values.{find-inside}
+use Rattle.settings.proofs.Told.{located-injective}
 use Rattle.settings.specs.declared.Place.{Place}
 use Rattle.settings.proofs.finding.lookup.Statement.{statement}
 use Rattle.settings.proofs.finding.lookup.Tie as tie
@@ -22,14 +23,14 @@ board-in : (c : tie.After-span) → Inside (length (c .before .before .before .b
 board-in c =
     let f = c .before .before in
     let a = f .before .before .before .args in
-    rw (sym (f .find .ensures) ∙ c .span .given .1) at
+    rw (sym (located-injective _ _ (f .find .ensures)) ∙ c .span .given .1) at
     (find-inside (a .name) (a .version) (a .board .now) (a .board-used) (a .defaults .now) (a .defaults-used))
 
 default-in : (c : tie.After-span2) → Inside (length (c .before .before .before .before .before .args .defaults .now)) (c .span2 .given .0 .0)
 default-in c =
     let f = c .before .before in
     let a = f .before .before .before .args in
-    rw (sym (f .find .ensures) ∙ c .span2 .given .1) at
+    rw (sym (located-injective _ _ (f .find .ensures)) ∙ c .span2 .given .1) at
     (find-inside (a .name) (a .version) (a .board .now) (a .board-used) (a .defaults .now) (a .defaults-used))
 
 sub-result : tie.Need-sub-result
@@ -72,7 +73,8 @@ returns : tie.Need-returns
 unfolding part bytes-of lies-at refusal-of
 returns c =
     let a = c .before .before .before .before .before .before .before .args in
-    let e = sym (c .before .before .span .given .1) ∙ c .before .before .before .before .find .ensures in (
+    let e = sym (c .before .before .span .given .1)
+    ∙ located-injective _ _ (c .before .before .before .before .find .ensures) in (
       ap (λ (p : Place). bytes-of p (a .board .now) (a .defaults .now)) e,
       (
         (λ i. (a .board .ptr .0, add-comm (c .before .before .span .given .0 .0 .start) (a .board .ptr .1) i))
@@ -85,7 +87,8 @@ returns-2 : tie.Need-returns-2
 unfolding part bytes-of lies-at refusal-of
 returns-2 c =
     let a = c .before .before .before .before .before .before .before .args in
-    let e = sym (c .before .before .span2 .given .1) ∙ c .before .before .before .before .find .ensures in (
+    let e = sym (c .before .before .span2 .given .1)
+    ∙ located-injective _ _ (c .before .before .before .before .find .ensures) in (
       ap (λ (p : Place). bytes-of p (a .board .now) (a .defaults .now)) e,
       (
         (λ i. (a .defaults .ptr .0, add-comm (c .before .before .span2 .given .0 .0 .start) (a .defaults .ptr .1) i))
@@ -98,7 +101,8 @@ returns-3 : tie.Need-returns-3
 unfolding part bytes-of lies-at refusal-of
 returns-3 c =
     let a = c .before .before .before .before .before .before .before .before .args in
-    let e = sym (c .before .before .before .why .given .1) ∙ c .before .before .before .before .before .find .ensures in (
+    let e = sym (c .before .before .before .why .given .1)
+    ∙ located-injective _ _ (c .before .before .before .before .before .find .ensures) in (
       ap (λ (p : Place). bytes-of p (a .board .now) (a .defaults .now)) e,
       (
         (λ i. (a .board .ptr .0, zero-add (a .board .ptr .1) i))

@@ -1,7 +1,7 @@
 -- The reply is of the answer, and the store is what adding leaves.
 -- Assumes nothing.
 use mathlib.Core.Path.{ap, _∙_}
-use Rattle.settings.specs.Add.{Stored}
+use Rattle.settings.proofs.Told.{added-to-injective}
 use Rattle.settings_api.specs.Replies.{add-reply}
 use borrow.Author.Needs.{needs}
 use Rattle.settings_api.proofs.exports.lokhazim_settings_add.Statement.{statement}
@@ -18,8 +18,9 @@ same-length c = search needs
 
 returns : tie.Need-returns
 returns c =
-    let e = c .before .before .before .add .ensures in
-    (c .reply-of-add .ensures ∙ ap (λ (o : Stored). add-reply (o .answer)) e, ap (λ (o : Stored). o .store) e)
+    let w = c .before .before .before in
+    let e = w .add .ensures in
+    (c .reply-of-add .ensures (w .add .last .0) ∙ ap add-reply e, added-to-injective _ _ _ _ e .0)
 
 pub lokhazim-settings-add-spec : {M : Type 1} → statement M
 lokhazim-settings-add-spec =

@@ -1,6 +1,8 @@
 -- The numbers of the answer's case.
 -- Assumes nothing.
 use mathlib.Core.Path.{ap, sym, _∙_}
+use Rattle.settings.specs.declared.AddAnswer.{AddAnswer}
+use Rattle.settings.specs.Add.{added-to}
 use Rattle.settings_api.specs.Replies.{add-reply}
 use borrow.Author.Needs.{needs}
 use Rattle.settings_api.proofs.replies.reply_of_add.Statement.{statement}
@@ -16,10 +18,14 @@ number-requires : tie.Need-number-requires
 number-requires c κs = search needs
 
 returns : tie.Need-returns
-returns c = ap add-reply (sym (c .before .answer .given .1))
+unfolding added-to
+returns c = λ s. ap (λ (a : AddAnswer). add-reply (added-to s a)) (sym (c .before .answer .given .1))
 
 returns-2 : tie.Need-returns-2
-returns-2 c = (λ i. record { refusal = c .number .ensures i; used = 0 }) ∙ ap add-reply (sym (c .before .before .answer2 .given .1))
+unfolding added-to
+returns-2 c = λ s.
+    (λ i. record { refusal = c .number .ensures i; used = 0 })
+    ∙ ap (λ (a : AddAnswer). add-reply (added-to s a)) (sym (c .before .before .answer2 .given .1))
 
 pub reply-of-add-spec : {M : Type 1} → statement M
 reply-of-add-spec =

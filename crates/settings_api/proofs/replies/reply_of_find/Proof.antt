@@ -1,6 +1,8 @@
 -- The numbers of the answer's case.
 -- Assumes nothing.
 use mathlib.Core.Path.{ap, sym, _∙_}
+use Rattle.settings.specs.declared.Place.{Place}
+use Rattle.settings.specs.Find.{located}
 use Rattle.settings_api.specs.Replies.{find-reply}
 use borrow.Author.Needs.{needs}
 use Rattle.settings_api.proofs.replies.reply_of_find.Statement.{statement}
@@ -19,13 +21,18 @@ number-requires : tie.Need-number-requires
 number-requires c κs = search needs
 
 returns : tie.Need-returns
-returns c = ap find-reply (sym (c .before .place .given .1))
+unfolding located
+returns c = ap (λ (p : Place). find-reply (located p)) (sym (c .before .place .given .1))
 
 returns-2 : tie.Need-returns-2
-returns-2 c = ap find-reply (sym (c .before .place2 .given .1))
+unfolding located
+returns-2 c = ap (λ (p : Place). find-reply (located p)) (sym (c .before .place2 .given .1))
 
 returns-3 : tie.Need-returns-3
-returns-3 c = (λ i. record { refusal = c .number .ensures i; store = 0; start = 0; end = 0 }) ∙ ap find-reply (sym (c .before .before .place3 .given .1))
+unfolding located
+returns-3 c =
+    (λ i. record { refusal = c .number .ensures i; store = 0; start = 0; end = 0 })
+    ∙ ap (λ (p : Place). find-reply (located p)) (sym (c .before .before .place3 .given .1))
 
 pub reply-of-find-spec : {M : Type 1} → statement M
 reply-of-find-spec =

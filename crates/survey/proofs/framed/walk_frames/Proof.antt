@@ -135,6 +135,7 @@ visit-requires c κs =
       omega (arith, even h),
       omega arith,
       omega (arith, h .header-in .ensures .1),
+      omega arith,
     )
 
 -- the visit: what was known before it, and its answer, with the block's end as the place where the rest behind it begins
@@ -156,8 +157,10 @@ after c = drop (end c) (heap (start (header c)))
 beyond : (c : tie.After-visit Inv-loop μ-loop) → after c ≡ drop (8 * header c .header-in .result .size) (rest (header c))
 beyond c = sym (drop-drop (8 * header c .header-in .result .size) (turn (header c) .before .loop .at) (heap (start (header c))))
 
-ended : (c : tie.After-visit Inv-loop μ-loop) → end c ≡ length (heap (start (header c))) - length (after c)
-ended c = sym (rest-place (heap (start (header c))) (end c) (omega (arith, within c, long (start (header c)))))
+ended : (c : tie.After-visit Inv-loop μ-loop) → end c - 0 ≡ length (heap (start (header c))) - length (after c)
+ended c =
+    omega arith
+    ∙ sym (rest-place (heap (start (header c))) (end c) (omega (arith, within c, long (start (header c)))))
 
 same-back : (c : tie.After-visit Inv-loop μ-loop) → header c .header-in .result .back ≡ turn (header c) .before .loop .back
 same-back c = omega (arith, c .before .before .before .before .before .if2 .left)
@@ -172,7 +175,7 @@ Answers c n t =
     (v .1 .1 .0) (v .1 .0) (v .1 .1 .1 .0) (v .1 .1 .1 .1 .0)
 
 visited : (c : tie.After-visit Inv-loop μ-loop) (t : Bool) → c .visit .result ≡ t → Answers c (length (heap (start (header c))) - length (after c)) t
-visited c t e = subst (λ (n : ℕ). Answers c n t) (ended c) (subst (Answers c (end c)) e (c .visit .ensures))
+visited c t e = subst (λ (n : ℕ). Answers c n t) (ended c) (subst (Answers c (end c - 0)) e (c .visit .ensures))
 
 returns-3 : tie.Need-returns-3 Inv-loop μ-loop
 unfolding judged

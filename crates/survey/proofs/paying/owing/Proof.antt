@@ -1,6 +1,5 @@
--- `survey::paying::owing` meets its contract. The loop's invariant is `Tallied`: what was met tells whether the quotas before place i are valid, and what each
--- of
--- them owes stands at its place. The measure is what is left of the table.
+-- `survey::paying::owing` meets its contract. The loop's invariant is `Tallied`: what was met tells whether the quotas
+-- before place i are valid, and what each of them owes stands at its place. The measure is what is left of the table.
 -- Assumes nothing.
 use Prim.Native.Nat.{ℕ, _-_, _%_, _≤_}
 use native.Mathlib.Omega.{arith}
@@ -37,8 +36,8 @@ remainder-in-requires c κs = search needs
 spare-in-requires : tie.Need-spare-in-requires Inv-loop μ-loop
 spare-in-requires c κs = search needs
 
-wrapping-sub-u32-requires : tie.Need-wrapping-sub-u32-requires Inv-loop μ-loop
-wrapping-sub-u32-requires c κs = search needs
+due-of-requires : tie.Need-due-of-requires Inv-loop μ-loop
+due-of-requires c κs = search needs
 
 short-at-requires : tie.Need-short-at-requires Inv-loop μ-loop
 short-at-requires c κs = search needs
@@ -80,7 +79,7 @@ loop-again c =
     tallied-more (l .loop .inv) (quotas-long ws) (t .loop-test .taken)
     (c .short-at .ensures ∙ (λ j. cond (ltb (grant j) (remainder j)) 1 (l .loop .short)))
     (or-mod (l .loop .bits) (p .spare-in .result) 8 ∙ ap (bitOr (l .loop .bits % 256)) permissions)
-    (λ h. omega (arith, w .wrapping-sub-u32 .ensures, grant, remainder, h))
+    (λ h. omega (arith, w .due-of .ensures, grant, remainder))
 
 returns : tie.Need-returns Inv-loop μ-loop
 returns c =
@@ -113,7 +112,7 @@ owing-spec =
     grant-in-requires
     remainder-in-requires
     spare-in-requires
-    wrapping-sub-u32-requires
+    due-of-requires
     short-at-requires
     cast-owed
     mul-owed

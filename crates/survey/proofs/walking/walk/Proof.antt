@@ -1,6 +1,6 @@
--- `survey::walking::walk` meets its contract. The loop's invariant is `Walking`: the audit of the blocks from the start on is that of the blocks in the rest,
--- with
--- what is left of keys and debts. The measure is the length of the rest: a block that was visited has a size.
+-- `survey::walking::walk` meets its contract. The loop's invariant is `Walking`: the audit of the blocks from the start
+-- on is that of the blocks in the rest, with what is left of keys and debts. The measure is the length of the rest: a
+-- block that was visited has a size.
 -- Assumes nothing.
 use Prim.Native.Nat.{ℕ, _+_, _*_, _-_, _<_, _≤_}
 use native.Mathlib.Omega.{arith}
@@ -16,12 +16,13 @@ use Rattle.rounding.specs.Rounding.{table}
 use Rattle.layout.specs.Blocks.{header-at, cut}
 use Rattle.audit.specs.Audit.{behind, audit-parsed}
 use Rattle.audit.specs.Fitting.{fitting}
+use Rattle.lookup.specs.Walk.{headed, has-room}
 use Rattle.survey.specs.Index.{keys-left}
 use Rattle.survey.specs.Contracts.{Visited, Stage, judged, Walked-to}
 use Rattle.survey.proofs.Walks.{Walking, walking-start, walking-long, walking-back, walking-fails, walking-on, walking-judged, suffix-start, suffix-on}
 use Rattle.survey.proofs.Walks.{walked-far, one-fails}
-use Rattle.survey.specs.Route.{Reaches, Passed}
-use Rattle.survey.proofs.Routes.{room-same, passed-start, passed-on}
+use Rattle.survey.specs.Route.{TAKEN, Reaches, Passed}
+use Rattle.survey.proofs.Routes.{room-same, full, passed-start, passed-on}
 use Rattle.survey.proofs.walking.walk.Statement.{statement}
 use Rattle.survey.proofs.walking.walk.Tie as tie
 
@@ -134,9 +135,6 @@ part-after-start c = search needs
 part-after-end : tie.Need-part-after-end Inv-loop μ-loop
 part-after-end c = search needs
 
-sub-end : tie.Need-sub-end Inv-loop μ-loop
-sub-end c = let l = c .before .before .before .before .before .before .before .loop .inv .0 .inside in search needs
-
 visit-requires : tie.Need-visit-requires Inv-loop μ-loop
 visit-requires c κs =
     let f = c .before .before .before .before .before .before .before in
@@ -148,6 +146,7 @@ visit-requires c κs =
       omega (arith, l .even, l .inside, f .if1 .left),
       omega (arith, l .inside, f .if1 .left),
       omega (arith, h .header-at .ensures .1),
+      omega (arith, l .inside),
     )
 
 -- the visit: what was known before it, and its answer
@@ -212,21 +211,99 @@ ends c =
     let h = header v in
     omega (arith, ap length (beyond v) ∙ length-drop (8 * h .header-at .result .size) (bytes h), turn h .before .loop .inv .0 .inside, fits v .if1 .left)
 
+-- the rest behind it is a part of the heap, and shorter than the rest before it
+part : (c : tie.Else3 Inv-loop μ-loop) → length (after (passed c)) ≤ length (start (header (passed c)) .args .heap .now)
+part c =
+    let v = passed c in
+    let h = header v in
+    omega (
+      arith,
+      ap length (beyond v) ∙ length-drop (8 * h .header-at .result .size) (bytes h),
+      turn h .before .loop .inv .0 .inside,
+    )
+
+shorter : (c : tie.Else3 Inv-loop μ-loop) → length (after (passed c)) < length (bytes (header (passed c)))
+shorter c =
+    let v = passed c in
+    let w = answer c in
+    omega (
+      arith,
+      ap length (beyond v) ∙ length-drop (8 * header v .header-at .result .size) (bytes (header v)),
+      w .0,
+      some-rest (header v),
+      fits v .if1 .left,
+    )
+
+-- the loop's invariant behind a block, by whether it has room
+abbrev Again : tie.Else3 Inv-loop μ-loop → ℕ → ℕ → Type 0
+Again c fit need =
+    let v = passed c in
+    let h = header v in
+    let a = start h .args in
+    let l = v .visit .last in
+    let n = h .header-at .result in
+    Walking (table (a .edition)) (a .kind) (a .last) (a .heap .now) (a .words .now)
+    (Whole (a .heap .now) (a .last) (a .at) (a .units) (a .serial-before)
+    (keys-left (a .words .now) (a .heads .now) (a .links .now)) (a .owed .now))
+    (fitting (table (a .edition)) (a .kind) (a .at) (cut (a .units) (drop (a .at) (a .heap .now))))
+    (l .1 .1 .0) (l .1 .0) (l .1 .1 .1 .0) (l .1 .1 .1 .1 .0)
+    (n .serial) (n .size) (after v)
+    × (after v ≡ drop (length (a .heap .now) - length (after v)) (a .heap .now))
+    × (Reaches (a .heap .now) (a .at)
+    → Passed (a .heap .now) (a .edge) (a .unit) (a .at) (a .fit-before) (a .need-before)
+    (length (a .heap .now) - length (after v)) (n .size) (n .serial) fit need)
+
+again : (c : tie.Else3 Inv-loop μ-loop) (room : Bool) {fit need : ℕ}
+    → let h = header (passed c) in let l = turn h .before .loop in let n = h .header-at .result in
+    room ≡ has-room (start h .args .unit) (l .need)
+    (headed (length (start h .args .heap .now) - length (bytes h)) n)
+    → fit ≡ cond room (length (start h .args .heap .now) - length (bytes h)) (l .fit)
+    → need ≡ cond room TAKEN (l .need) → Again c fit need
+again e room x y z =
+    let v = passed e in
+    let h = header v in
+    let a = start h .args in
+    let l = turn h .before .loop in (
+      walking-on (l .inv .0) (read h) (some-rest h) (fits v .if1 .left) (beyond v) (answer e) (same-back v),
+      suffix-on (a .heap .now) (l .inv .0 .inside) (l .inv .1) (fits v .if1 .left) (beyond v),
+      λ r.
+          passed-on (a .heap .now) (bytes h) (l .inv .0 .inside) (l .inv .1) (read h) (omega (arith, answer e .0))
+          (fits v .if1 .left)
+          (start h .pre .2) (l .inv .2 r) (turn h .loop-test .taken) (h .header-at .ensures .1) (beyond v)
+          x y z,
+    )
+
+-- a live block has no room
+loop-less : tie.Need-loop-less Inv-loop μ-loop
+loop-less c = shorter (c .before)
+
+loop-again : tie.Need-loop-again Inv-loop μ-loop
+loop-again c =
+    let h = header (passed (c .before)) in
+    again (c .before) false
+    (sym (full (start h .args .unit) (turn h .before .loop .need)
+    (length (start h .args .heap .now) - length (bytes h)) (h .header-at .result) (c .if4 .taken)))
+    refl refl
+
+-- a free one may have
+sub-end : tie.Need-sub-end Inv-loop μ-loop
+sub-end c = part (c .before)
+
 is-roomy-requires : tie.Need-is-roomy-requires Inv-loop μ-loop
 is-roomy-requires c κs =
-    let v = passed c in
+    let v = passed (c .before) in
     let h = header v in
     let p = start h .pre in (
       p .2,
       p .3,
-      answer c .0,
+      answer (c .before) .0,
       omega (arith, ap length (beyond v) ∙ length-drop (8 * h .header-at .result .size) (bytes h), turn h .before .loop .inv .0 .inside, fits v .if1 .left),
       omega (arith, h .header-at .ensures .1),
     )
 
 sub-chosen : tie.Need-sub-chosen Inv-loop μ-loop
 sub-chosen c =
-    let v = passed (c .before) in
+    let v = passed (c .before .before) in
     let h = header v in
     omega (arith, ap length (beyond v) ∙ length-drop (8 * h .header-at .result .size) (bytes h), turn h .before .loop .inv .0 .inside, fits v .if1 .left)
 
@@ -236,34 +313,21 @@ chosen-requires c κs = search needs
 chosen-requires-2 : tie.Need-chosen-requires-2 Inv-loop μ-loop
 chosen-requires-2 c κs = search needs
 
-loop-less : tie.Need-loop-less Inv-loop μ-loop
-loop-less c =
-    let e = c .before .before .before in
-    let v = passed e in
-    let w = answer e in
-    omega (arith, ap length (beyond v) ∙ length-drop (8 * header v .header-at .result .size) (bytes (header v)), w .0, some-rest (header v), fits v .if1 .left)
+loop-less-2 : tie.Need-loop-less-2 Inv-loop μ-loop
+loop-less-2 c = shorter (c .before .before .before .before)
 
-loop-again : tie.Need-loop-again Inv-loop μ-loop
-loop-again c =
+loop-again-2 : tie.Need-loop-again-2 Inv-loop μ-loop
+loop-again-2 c =
     let i = c .before .before in
-    let e = i .before in
-    let v = passed e in
-    let h = header v in
-    let a = start h .args in
+    let e = i .before .before in
+    let h = header (passed e) in
     let l = turn h .before .loop in
-    let n = h .header-at .result in (
-      walking-on (l .inv .0) (read h) (some-rest h) (fits v .if1 .left) (beyond v) (answer e) (same-back v),
-      suffix-on (a .heap .now) (l .inv .0 .inside) (l .inv .1) (fits v .if1 .left) (beyond v),
-      λ r.
-          passed-on (a .heap .now) (bytes h) (l .inv .0 .inside) (l .inv .1) (read h) (omega (arith, answer e .0)) (fits v .if1 .left)
-          (start h .pre .2) (l .inv .2 r) (turn h .loop-test .taken) (h .header-at .ensures .1) (beyond v)
-          (i .is-roomy .ensures ∙ room-same (a .unit) (l .need) n (ends e))
-          (c .before .chosen .ensures ∙ ap (λ (x : ℕ). cond (i .is-roomy .result) x (l .fit)) (ends e))
-          (c .chosen2 .ensures),
-    )
+    again e (i .is-roomy .result)
+    (i .is-roomy .ensures ∙ room-same (start h .args .unit) (l .need) (h .header-at .result) (ends e))
+    (c .before .chosen .ensures ∙ ap (λ (x : ℕ). cond (i .is-roomy .result) x (l .fit)) (ends e)) (c .chosen2 .ensures)
 
-sub-t42 : tie.Need-sub-t42 Inv-loop μ-loop
-sub-t42 c = c .before .loop .inv .0 .inside
+sub-t44 : tie.Need-sub-t44 Inv-loop μ-loop
+sub-t44 c = c .before .loop .inv .0 .inside
 
 returns-4 : tie.Need-returns-4 Inv-loop μ-loop
 unfolding judged
@@ -290,15 +354,17 @@ walk-spec =
     sub-after
     part-after-start
     part-after-end
-    sub-end
     visit-requires
     failed-requires-3
     returns-3
+    loop-less
+    loop-again
+    sub-end
     is-roomy-requires
     sub-chosen
     chosen-requires
     chosen-requires-2
-    loop-less
-    loop-again
-    sub-t42
+    loop-less-2
+    loop-again-2
+    sub-t44
     returns-4)

@@ -1,0 +1,34 @@
+-- The number makes, with the heap and the words at exit, what the answer makes.
+-- Assumes nothing.
+use Prim.Native.Nat.{ℕ}
+use mathlib.Core.Path.{ap, sym, _∙_, subst}
+use borrow.Author.Needs.{needs}
+use Rattle.words.specs.Words.{accounts-of}
+use Rattle.image_model.specs.Answers.{Restored-to}
+use Rattle.image.specs.Restoring.{Left}
+use Rattle.image_api.proofs.exports.lokhazim_image_in_place_restore.Statement.{statement}
+use Rattle.image_api.proofs.exports.lokhazim_image_in_place_restore.Tie as tie
+
+restore-image-requires : tie.Need-restore-image-requires
+restore-image-requires c κs = search needs
+
+number-of-requires : tie.Need-number-of-requires
+number-of-requires c κs = search needs
+
+same-length : tie.Need-same-length
+same-length c = search needs
+
+returns : tie.Need-returns
+returns c =
+    let w = c .before .before .before in
+    let l = w .restore-image .last in
+    let a = w .before .before .before .before .before .args in
+    let e = c .number-of .ensures (l .1 .0) (accounts-of (l .1 .1 .0)) ∙ w .restore-image .ensures .0 in (
+      e,
+      subst (λ (n : ℕ). Left n (a .words .now) (l .1 .1 .0)) (sym (ap (λ (r : Restored-to). r .refusal) e))
+          (w .restore-image .ensures .1),
+    )
+
+pub lokhazim-image-in-place-restore-spec : {M : Type 1} → statement M
+lokhazim-image-in-place-restore-spec =
+    tie.close (tie.spec restore-image-requires number-of-requires same-length returns)

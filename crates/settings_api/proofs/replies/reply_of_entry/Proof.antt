@@ -1,0 +1,34 @@
+-- The numbers of the answer's case.
+-- Assumes nothing.
+use mathlib.Core.Path.{ap, sym}
+use Rattle.settings.specs.declared.NthEntry.{NthEntry}
+use Rattle.settings.specs.Entries.{entry-told}
+use Rattle.settings_api.specs.Replies.{entry-reply}
+use borrow.Author.Needs.{needs}
+use Rattle.settings_api.proofs.replies.reply_of_entry.Statement.{statement}
+use Rattle.settings_api.proofs.replies.reply_of_entry.Tie as tie
+
+enum-known-answer : tie.Need-enum-known-answer
+enum-known-answer c = search needs
+
+enum-told : tie.Need-enum-told
+enum-told c = search needs
+
+enum-told-2 : tie.Need-enum-told-2
+enum-told-2 c = search needs
+
+returns : tie.Need-returns
+unfolding entry-told
+returns c = ap (λ (a : NthEntry). entry-reply (entry-told a)) (sym (c .before .answer .given .1))
+
+returns-2 : tie.Need-returns-2
+unfolding entry-told
+returns-2 c = ap (λ (a : NthEntry). entry-reply (entry-told a)) (sym (c .enum-told .given .1))
+
+returns-3 : tie.Need-returns-3
+unfolding entry-told
+returns-3 c = ap (λ (a : NthEntry). entry-reply (entry-told a)) (sym (c .enum-told2 .given .1))
+
+pub reply-of-entry-spec : {M : Type 1} → statement M
+reply-of-entry-spec =
+    tie.close (tie.spec enum-known-answer enum-told enum-told-2 returns returns-2 returns-3)

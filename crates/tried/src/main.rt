@@ -1,0 +1,31 @@
+// Calls every function that no other Rattle code calls, the exported ones and a few beside, accepted and refused, and
+// compares what each leaves with what is expected: every byte of a heap and of a buffer, every word of accounts. It
+// prints a line for each function.
+mod answers;
+mod calls;
+mod comparing;
+mod exports;
+mod images;
+mod lending;
+mod moving;
+mod opening;
+mod queues;
+mod replaying;
+mod reports;
+mod starting;
+mod statistics;
+mod telling;
+mod writing;
+
+fn main() {
+    calls::all();
+    opening::all();
+    writing::all();
+    lending::all();
+    images::all();
+    moving::all();
+    queues::all();
+    reports::all();
+    statistics::all();
+    replaying::all();
+}
