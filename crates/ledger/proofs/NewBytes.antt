@@ -41,34 +41,34 @@ use Rattle.invariant.proofs.Requested.{still-releasable}
 use Rattle.ledger.proofs.Steps.{good, room, fresh-serial}
 use Rattle.ledger.proofs.Bytes.{allocated-live, released-leaves, new-good, allocate-bytes, old, new, made-good, old-here}
 
-module _ (unit : ℕ → ℕ) (units : Units unit) (l : Ledger) (s : List ℕ) (k : Accounts) (a : Agrees l s k) (q n : ℕ) (p : Allocatable unit s k q n)
-  where
-    o : Handle
-    o = new-object unit s k n
+module _ (unit : ℕ → ℕ) (units : Units unit) (l : Ledger) (s : List ℕ) (k : Accounts) (a : Agrees l s k) (q n : ℕ)
+    (p : Allocatable unit s k q n) where
+  o : Handle
+  o = new-object unit s k n
 
-    t : State
-    t = allocated q o (state-of s k)
+  t : State
+  t = allocated q o (state-of s k)
 
-    -- the one live block with the new serial
-    new-block-is : (b : Block) → live b ≡ true → List·Memᴰ b (t .blocks) → o .serial ≡ b .serial → b .body ≡ replicate (object-length unit n) 0
-    unfolding t o new-object
-    new-block-is b alive m e =
-        ⊎-elim (λ x. ap (λ (y : Block). y .body) x)
-        (λ x.
-        (let w = object-of (blocks-of s) b alive x in absurd (fresh-serial unit units l s k a q n p (w .object) (w .member) (w .serial ∙ sym e))))
-        (allocated-live q (new-object unit s k n) (state-of s k) (good l s k a) (room unit units l s k a q n p) b alive m)
+  -- the one live block with the new serial
+  new-block-is : (b : Block) → live b ≡ true → List·Memᴰ b (t .blocks) → o .serial ≡ b .serial → b .body ≡ replicate (object-length unit n) 0
+  unfolding t o new-object
+  new-block-is b alive m e =
+      ⊎-elim (λ x. ap (λ (y : Block). y .body) x)
+      (λ x.
+      (let w = object-of (blocks-of s) b alive x in absurd (fresh-serial unit units l s k a q n p (w .object) (w .member) (w .serial ∙ sym e))))
+      (allocated-live q (new-object unit s k n) (state-of s k) (good l s k a) (room unit units l s k a q n p) b alive m)
 
-    new-there : List·Memᴰ o (objects (t .blocks))
-    unfolding t o
-    new-there = added-new (new-object unit s k n) (objects (blocks-of s)) _
-        (allocated-objects q (new-object unit s k n) (state-of s k) (good l s k a) (room unit units l s k a q n p))
+  new-there : List·Memᴰ o (objects (t .blocks))
+  unfolding t o
+  new-there = added-new (new-object unit s k n) (objects (blocks-of s)) _
+      (allocated-objects q (new-object unit s k n) (state-of s k) (good l s k a) (room unit units l s k a q n p))
 
-    live-there : List·Memᴰ o (objects-of (render (t .blocks)))
-    unfolding t o
-    live-there = rw (good-heap t (new-good unit units l s k a q n p) .objects) new-there
+  live-there : List·Memᴰ o (objects-of (render (t .blocks)))
+  unfolding t o
+  live-there = rw (good-heap t (new-good unit units l s k a q n p) .objects) new-there
 
-    zero-bytes : contents o (render (t .blocks)) ≡ replicate (object-length unit n) 0
-    zero-bytes = let b = block-of (t .blocks) o new-there in b .bytes ∙ new-block-is (b .block) (b .alive) (b .member) (b .serial)
+  zero-bytes : contents o (render (t .blocks)) ≡ replicate (object-length unit n) 0
+  zero-bytes = let b = block-of (t .blocks) o new-there in b .bytes ∙ new-block-is (b .block) (b .alive) (b .member) (b .serial)
 
 -- zeros with some taken off are zeros
 drop-same : (x m n : ℕ) → drop m (replicate n x) ≡ replicate (n - m) x

@@ -248,52 +248,52 @@ carved-old c =
     rw (c .split) (render-append 0 (c .front) (c .block ∷ c .back) ∙ ap (λ (l : List ℕ). render-from 0 (c .front) ++ l)
     (render-cons (back-after 0 (c .front)) (c .block) (c .back)))
 
-module _ {base n serial : ℕ} {bs cs : List Block} (c : Carved base n serial 0 bs cs) (whole : Whole bs) (aligned : base % 8 ≡ 0) (even : n % 8 ≡ 0)
-  where
-    -- the bytes of the blocks with the new object are those of the old blocks after the writes
-    pub carve-writes : render cs
-        ≡ carve-bytes (total size (c .front)) (total size (c .front) + size (c .block)) base n (back-after 0 (c .front)) serial (render bs)
-    unfolding render
-    carve-writes =
-        let at = total size (c .front) in
-        let u = back-after 0 (c .front) in
-        let start : 0 + at ≡ at = zero-add at in
-        let now = rw start at (c .now) in
-        let w = cut-written base n serial at u (c .block) (rw start at (place-whole c refl whole aligned even)) (block-whole c refl whole aligned even)
-        aligned even
-        (rw start at (c .low)) (rw start at (c .high)) (render-from 0 (c .front)) (c .back) (length-render 0 (c .front) ∙ total-is (c .front)) in
-        rw now (render-append 0 (c .front) (cut-block base n serial at (c .block) ++ c .back))
-        ∙ sym (ap (carve-bytes at (at + size (c .block)) base n u serial) (carved-old c) ∙ w)
+module _ {base n serial : ℕ} {bs cs : List Block} (c : Carved base n serial 0 bs cs) (whole : Whole bs) (aligned : base % 8 ≡ 0)
+    (even : n % 8 ≡ 0) where
+  -- the bytes of the blocks with the new object are those of the old blocks after the writes
+  pub carve-writes : render cs
+      ≡ carve-bytes (total size (c .front)) (total size (c .front) + size (c .block)) base n (back-after 0 (c .front)) serial (render bs)
+  unfolding render
+  carve-writes =
+      let at = total size (c .front) in
+      let u = back-after 0 (c .front) in
+      let start : 0 + at ≡ at = zero-add at in
+      let now = rw start at (c .now) in
+      let w = cut-written base n serial at u (c .block) (rw start at (place-whole c refl whole aligned even)) (block-whole c refl whole aligned even)
+      aligned even
+      (rw start at (c .low)) (rw start at (c .high)) (render-from 0 (c .front)) (c .back) (length-render 0 (c .front) ∙ total-is (c .front)) in
+      rw now (render-append 0 (c .front) (cut-block base n serial at (c .block) ++ c .back))
+      ∙ sym (ap (carve-bytes at (at + size (c .block)) base n u serial) (carved-old c) ∙ w)
 
-    -- every byte that carving does not touch stays
-    pub carve-frame : Same (carve-touches (total size (c .front)) (total size (c .front) + size (c .block)) base n) (render cs) (render bs)
-    unfolding carve-bytes
-    carve-frame =
-        let at = total size (c .front) in
-        let end = at + size (c .block) in
-        let u = back-after 0 (c .front) in
-        let front = base - 8 - at in
-        let behind = end - (base + n) in
-        let own = (n + 8) / 8 in
-        let s₁ = write-rest at front u (render bs) in
-        let s₂ = write-object base n (units-after u front) serial s₁ in
-        let s₃ = write-rest (base + n) behind own s₂ in
-        let low : at + 8 ≤ base = omega (arith, c .low) in
-        let high : base + n ≤ end = omega (arith, c .high) in
-        let whole′ : end % 8 ≡ 0 = omega (arith, place-whole c refl whole aligned even, block-whole c refl whole aligned even) in
-        let front-stays : Same (within at (at + 2)) s₁ (render bs) =
-        rw (carved-old c)
-        (front-same at front u (c .block) (render-from 0 (c .front)) (c .block .body ++ render-from (units (c .block)) (c .back))
-        (free-serial (c .block) (c .free))
-        (length-render 0 (c .front) ∙ total-is (c .front))) in
-        rw carve-writes
-        (same-then (same-wider (λ i l e. untouched at end base n i e .2) (next-same end (units-after own behind) s₃))
-        (same-then
-        (rest-same (base + n) behind own s₂
-        (λ p i e. within-moved (base - 8) (min (base + n + 8) end) i (base + n) (base + n + 8) i (omega arith) (omega arith)
-        (untouched at end base n i e .1)))
-        (same-then
-        (same-wider (λ i l e. within-moved (base - 8) (min (base + n + 8) end) i (base - 8) (base + n) i (omega arith) (omega arith)
-        (untouched at end base n i e .1))
-        (object-same base n (units-after u front) serial s₁ (omega arith)))
-        (same-wider (λ i l e. untouched at end base n i e .0) front-stays))))
+  -- every byte that carving does not touch stays
+  pub carve-frame : Same (carve-touches (total size (c .front)) (total size (c .front) + size (c .block)) base n) (render cs) (render bs)
+  unfolding carve-bytes
+  carve-frame =
+      let at = total size (c .front) in
+      let end = at + size (c .block) in
+      let u = back-after 0 (c .front) in
+      let front = base - 8 - at in
+      let behind = end - (base + n) in
+      let own = (n + 8) / 8 in
+      let s₁ = write-rest at front u (render bs) in
+      let s₂ = write-object base n (units-after u front) serial s₁ in
+      let s₃ = write-rest (base + n) behind own s₂ in
+      let low : at + 8 ≤ base = omega (arith, c .low) in
+      let high : base + n ≤ end = omega (arith, c .high) in
+      let whole′ : end % 8 ≡ 0 = omega (arith, place-whole c refl whole aligned even, block-whole c refl whole aligned even) in
+      let front-stays : Same (within at (at + 2)) s₁ (render bs) =
+      rw (carved-old c)
+      (front-same at front u (c .block) (render-from 0 (c .front)) (c .block .body ++ render-from (units (c .block)) (c .back))
+      (free-serial (c .block) (c .free))
+      (length-render 0 (c .front) ∙ total-is (c .front))) in
+      rw carve-writes
+      (same-then (same-wider (λ i l e. untouched at end base n i e .2) (next-same end (units-after own behind) s₃))
+      (same-then
+      (rest-same (base + n) behind own s₂
+      (λ p i e. within-moved (base - 8) (min (base + n + 8) end) i (base + n) (base + n + 8) i (omega arith) (omega arith)
+      (untouched at end base n i e .1)))
+      (same-then
+      (same-wider (λ i l e. within-moved (base - 8) (min (base + n + 8) end) i (base - 8) (base + n) i (omega arith) (omega arith)
+      (untouched at end base n i e .1))
+      (object-same base n (units-after u front) serial s₁ (omega arith)))
+      (same-wider (λ i l e. untouched at end base n i e .0) front-stays))))
