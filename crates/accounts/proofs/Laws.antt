@@ -1,5 +1,4 @@
 -- Laws of the accounting state: the search for a hold record, what charging and refunding do, and what storing a record does.
--- Assumes nothing.
 use Prim.Native.Nat.{ℕ, zero, suc, _+_, _-_, _^_, _≤_, _<_}
 use native.Mathlib.Nat.{add-zero}
 use native.Mathlib.Omega.{arith}
@@ -17,8 +16,10 @@ use Rattle.accounts.specs.declared.Hold.{Hold}
 use Rattle.accounts.specs.declared.Accounts.{Accounts}
 use Rattle.accounts.specs.declared.settings.Settings.{Settings}
 use Rattle.accounts.specs.declared.Place.the-variants.{At, Nothing}
-use Rattle.accounts.specs.Accounts.{QUOTAS, HOLDS, zero-quota, zero-hold, zero-accounts, with-remainder, with-quotas, with-holds, with-last-serial, grants, granted, opened}
-use Rattle.accounts.specs.Accounts.{quota-at, remaining, spent, set-remaining, less-paid, paid-back, charged, refunded, charge, refund, used, is-for, first-from, hold-at, put-hold}
+use Rattle.accounts.specs.Accounts.{QUOTAS, HOLDS, zero-quota, zero-hold, zero-accounts, with-remainder, with-quotas, with-holds}
+use Rattle.accounts.specs.Accounts.{with-last-serial, grants, granted, opened}
+use Rattle.accounts.specs.Accounts.{quota-at, remaining, spent, set-remaining, less-paid, paid-back, charged, refunded, charge, refund, used}
+use Rattle.accounts.specs.Accounts.{is-for, first-from, hold-at, put-hold}
 use Rattle.accounts.proofs.Rows
 
 -- the first record that passes a test stands at place i
@@ -73,7 +74,12 @@ module _ (p : Hold → Bool) where
   first-later n [] i f = absurd (omega (arith, f .within))
   first-later n (h ∷ hs) zero f = let here : n ≡ n + 0 = omega arith in rw (f .passes) (ap At here)
   first-later n (h ∷ hs) (suc i) f =
-      let later : First p hs i = record { within = omega (arith, f .within); passes = f .passes; earlier = λ j l. f .earlier (suc j) (omega arith) } in
+      let later : First p hs i = record {
+        within = omega (arith, f .within);
+        passes = f .passes;
+        earlier =
+            λ j l. f .earlier (suc j) (omega arith);
+      } in
       let there : suc n + i ≡ n + suc i = omega arith in
       rw (f .earlier 0 (omega arith)) (first-later (suc n) hs i later ∙ ap At there)
 
@@ -141,7 +147,16 @@ module _ (q : ℕ) (k : Accounts) where
 
   pub kept : Kept q k k
   kept =
-      record { same-holds = refl; same-last = refl; same-grants = refl; same-count = refl; same-others = λ o d. refl; same-kind = refl; same-edition = refl }
+      record {
+        same-holds = refl;
+        same-last = refl;
+        same-grants = refl;
+        same-count = refl;
+        same-others = λ o d. refl;
+        same-kind =
+            refl;
+        same-edition = refl;
+      }
 
   pub set-kept : (n : ℕ) → Kept q k (set-remaining q n k)
   unfolding remaining set-remaining
@@ -197,11 +212,13 @@ module _ (q n : ℕ) (k : Accounts) where
   -- neither changes anything but what remains of that quota
   pub charge-kept : Kept q k (charge q n k)
   unfolding charge
-  charge-kept = either (Kept q k) (ltb q QUOTAS) (set-remaining q (less-paid n (remaining q k)) k) k (set-kept q k (less-paid n (remaining q k))) (kept q k)
+  charge-kept = either (Kept q k) (ltb q QUOTAS) (set-remaining q (less-paid n (remaining q k)) k) k (set-kept q k (less-paid n (remaining q k)))
+      (kept q k)
 
   pub refund-kept : Kept q k (refund q n k)
   unfolding refund
-  refund-kept = either (Kept q k) (ltb q QUOTAS) (set-remaining q (paid-back n (remaining q k)) k) k (set-kept q k (paid-back n (remaining q k))) (kept q k)
+  refund-kept = either (Kept q k) (ltb q QUOTAS) (set-remaining q (paid-back n (remaining q k)) k) k (set-kept q k (paid-back n (remaining q k)))
+      (kept q k)
 
 -- a refund of nothing
 pub refund-nothing : (q : ℕ) (k : Accounts) → refund q 0 k ≡ k
@@ -249,7 +266,8 @@ unfolding opened
 sized-opened g gs e = record { quotas-long = length-map gs granted ∙ e; holds-long = length-replicate HOLDS zero-hold }
 
 -- the places before i of a table hold what f gives for those of another: one more of them, and all
-module _ {A B : Type 0} (f : A → B) (d : A) (e : B) (same : f d ≡ e) (xs : List A) (ys : List B) (i : ℕ) (done : (j : ℕ) → j < i → getD ys j e ≡ f (getD xs j d)) where
+module _ {A B : Type 0} (f : A → B) (d : A) (e : B) (same : f d ≡ e) (xs : List A) (ys : List B) (i : ℕ)
+    (done : (j : ℕ) → j < i → getD ys j e ≡ f (getD xs j d)) where
   pub mapped-more : i < length ys → (y : B) → y ≡ f (getD xs i d) → (j : ℕ) → j < i + 1 → getD (set ys i y) j e ≡ f (getD xs j d)
   mapped-more h y q =
       below-more (λ (j : ℕ). getD (set ys i y) j e ≡ f (getD xs j d)) i
@@ -285,7 +303,8 @@ module _ (i : ℕ) (h : Hold) (k : Accounts) where
 
 -- paying changes neither records nor the last serial, so these can be set before or behind it
 module _ (i : ℕ) (h : Hold) (serial : ℕ) (q : ℕ) (k : Accounts) where
-  moved : (t : Bool) (m : ℕ) → cond t (set-remaining q m (put-hold i h (with-last-serial serial k))) (put-hold i h (with-last-serial serial k)) ≡ with-last-serial serial (put-hold i h (cond t (set-remaining q m k) k))
+  moved : (t : Bool) (m : ℕ) → cond t (set-remaining q m (put-hold i h (with-last-serial serial k))) (put-hold i h (with-last-serial serial k))
+      ≡ with-last-serial serial (put-hold i h (cond t (set-remaining q m k) k))
   unfolding set-remaining put-hold
   moved true m = refl
   moved false m = refl

@@ -1,5 +1,4 @@
 -- Clearing permissions: each bit of what is left is that of the permissions where the number's bit is not set, else 0.
--- Assumes nothing.
 use Prim.Native.Nat.{ℕ, _+_, _*_, _/_, _%_, _≤_, _<_}
 use native.Mathlib.Omega.{arith}
 use mathlib.Core.Path.{_≡_, ap, _∙_}

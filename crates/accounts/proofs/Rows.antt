@@ -1,5 +1,4 @@
 -- Small cases of the definitions, computed: both sides of what a charge and a refund allow, and the places that a search finds.
--- Assumes nothing.
 use Prim.Native.Nat.{_+_, _-_}
 use mathlib.Core.Path.{_≡_, refl}
 use mathlib.Core.Bool.{true, false}

@@ -1,5 +1,4 @@
 -- The three ends of a release: one hold of several, the last one of a quota, and the last one of all.
--- Assumes nothing.
 use Prim.Native.Nat.{ℕ, _+_, _-_, _≤_, _<_}
 use mathlib.Core.Path.{_≡_, ap, sym, _∙_}
 use mathlib.Core.List.{List}

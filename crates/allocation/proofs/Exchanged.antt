@@ -1,5 +1,4 @@
 -- The old object's block once the new object is made: the walk still finds it where it stood.
--- Assumes nothing.
 use Prim.Native.Nat.{ℕ, _+_}
 use native.Mathlib.Omega.{arith}
 use mathlib.Core.Path.{_≡_, refl, ap, sym, _∙_}

@@ -1,5 +1,4 @@
 -- What reallocate knows of the old object: by its survey, and once a new object was granted and bytes were copied.
--- Assumes nothing.
 use Prim.Native.Nat.{ℕ, _+_, _-_, _≤_, min}
 use mathlib.Core.Path.{_≡_, refl, ap, sym, subst, _∙_}
 use mathlib.Core.List.{List}

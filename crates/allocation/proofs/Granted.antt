@@ -1,7 +1,6 @@
 -- The lines of allocate one after the other, each with the outcome where it refuses, and the outcome where none does.
 -- A search that finds an unused record says that not all are used. The change of the first unused record is a change at its place, and paying
 -- changes no record.
--- Assumes nothing.
 use mathlib.Core.Path.{_≡_, ap, sym, _∙_}
 use Prim.Native.Nat.{ℕ, _+_, _/_, _%_, _≤_, _<_}
 use native.Mathlib.Omega.{arith}

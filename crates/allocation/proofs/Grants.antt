@@ -1,6 +1,5 @@
 -- What allocate asks the survey for, and where what it found leads: each way to the end of a grant is the definition's, of every request that is rounded to
 -- the object's size and aligned by its unit.
--- Assumes nothing.
 use Prim.Native.Nat.{ℕ, _+_, _≤_, _<_}
 use mathlib.Core.Path.{_≡_, ap, sym, subst, _∙_}
 use mathlib.Core.List.{List}

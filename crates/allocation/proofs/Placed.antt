@@ -1,6 +1,5 @@
 -- A new object at the base that the walk found: the writes for it make the bytes of the definition's blocks, and they lie in the block that was met.
 -- Every block in front of that one ends before the object, so the definition cuts that block too.
--- Assumes nothing.
 use mathlib.Core.Path.{_≡_, refl, ap, sym, _∙_}
 use Prim.Native.Nat.{ℕ, _+_, _%_, _≤_}
 use native.Mathlib.Nat.{add-zero}

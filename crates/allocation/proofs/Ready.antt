@@ -1,5 +1,4 @@
 -- The lines that a checked or ready request has passed: none of the first three, or five, holds of it, so the others decide.
--- Assumes nothing.
 use Prim.Native.Nat.{ℕ, _<_}
 use native.Mathlib.Omega.{arith}
 use mathlib.Core.Path.{_≡_, _∙_}

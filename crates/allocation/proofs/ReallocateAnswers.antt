@@ -1,5 +1,4 @@
 -- Reallocate's refusals as results: the number of the first line that holds, from what the check, the lookup and the search for the record found.
--- Assumes nothing.
 use Prim.Native.Nat.{ℕ, _/_, _%_, _≤_}
 use native.Mathlib.Omega.{arith}
 use mathlib.Core.Path.{_≡_, refl, ap, sym, _∙_}

@@ -1,7 +1,6 @@
 -- Reallocate is allocate, a copy and a release: behind lines 5 and 6 its lines are allocate's, so what allocate refuses it refuses; and where allocate
 -- grants an object, the heap with the old object's bytes copied is that of a good state. There the old handle still names its object, and the
 -- quota still has its record, so that release is accepted and gives what the definition says.
--- Assumes nothing.
 use Prim.Native.Nat.{ℕ, suc, min}
 use mathlib.Core.Path.{_≡_, refl, ap, sym, _∙_}
 use mathlib.Core.List.{List, [], _∷_, List·Memᴰ}

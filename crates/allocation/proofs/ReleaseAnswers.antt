@@ -1,6 +1,5 @@
 -- Release's refusals as results: the number of the first line that holds, from what the check, the lookup and the search for the record found; and past
 -- all lines what one hold less leaves.
--- Assumes nothing.
 use Prim.Native.Nat.{ℕ, _≤_}
 use mathlib.Core.Path.{_≡_, refl, ap, sym, _∙_}
 use mathlib.Core.List.{List, [], _∷_}

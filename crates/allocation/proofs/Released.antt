@@ -2,7 +2,6 @@
 -- Only the record at the place that was found changes. While its count is above 1 it stays a record of the same object, so every object is still
 -- held. The last hold makes it zero, so every other object is still held, and the object is held exactly if some other record is for it. If none
 -- is, its block alone is vacated, since no other live block has its serial.
--- Assumes nothing.
 use Prim.Native.Nat.{ℕ, zero, suc, _+_, _-_, _≤_, _<_}
 use native.Mathlib.Omega.{arith}
 use mathlib.Core.Path.{_≡_, refl, ap, sym, _∙_}

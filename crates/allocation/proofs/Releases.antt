@@ -1,5 +1,4 @@
 -- Release by its survey: each line that refuses, and past all of them the quota's record and whether another quota has one.
--- Assumes nothing.
 use Prim.Native.Nat.{ℕ, _≤_, _<_}
 use native.Mathlib.Omega.{arith}
 use mathlib.Core.Path.{_≡_, refl, ap, sym, subst, _∙_}

@@ -1,5 +1,4 @@
 -- Whether a quota's record for an object is the only one: the object is held without it exactly where another quota has a record.
--- Assumes nothing.
 use Prim.Native.Nat.{ℕ, suc, _<_}
 use mathlib.Core.Path.{_≡_, refl, ap, sym, _∙_}
 use mathlib.Core.List.{List, [], _∷_}

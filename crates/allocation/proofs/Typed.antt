@@ -1,6 +1,5 @@
 -- What the types of the accounts say of them, by value and as words: so many quotas, and every grant fits 32 bits.
 -- The type of an array says of each element what the element's type says, so it goes along the list.
--- Assumes nothing.
 use Prim.Native.Nat.{ℕ, zero, suc, _*_, _<_, _^_}
 use native.Mathlib.Omega.{arith}
 use mathlib.Core.Path.{_≡_, refl, subst}

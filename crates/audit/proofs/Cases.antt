@@ -1,5 +1,4 @@
 -- Cases of a test and of two numbers, and tests that say the same: each by the values of the test.
--- Assumes nothing.
 use Prim.Native.Nat.{ℕ}
 use mathlib.Core.Path.{_≡_, refl, sym}
 use mathlib.Core.Bool.{Bool, true, false}

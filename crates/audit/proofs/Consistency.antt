@@ -3,7 +3,6 @@
 -- objects, records and debts hold of what is left (`audit-exactly`): a free block changes nothing but what the next one stands behind; a live block
 -- is the first object of `Agreement`. At the start the keys are all records' and a quota owes grant less remainder, so these tests are
 -- `consistent-blocks`, together with what the tables alone must be: well-formed records, and no remainder above its grant.
--- Assumes nothing.
 use Prim.Native.Nat.{ℕ, _+_}
 use mathlib.Core.Path.{_≡_, refl, ap, sym, _∙_}
 use mathlib.Core.Bool.{Bool, true, false, not, cond, _&&_, true≢false, false≢true}

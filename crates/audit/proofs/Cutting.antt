@@ -1,6 +1,5 @@
 -- The blocks of the audit, one after the other: what a free block and a live block do to the definition's tests on the cut and to its objects, and when
 -- the audit's step passes.
--- Assumes nothing.
 use Prim.Native.Nat.{ℕ, _+_}
 use mathlib.Core.Path.{_≡_, refl, sym, _∙_}
 use mathlib.Core.Bool.{Bool, true, false, not, cond, _&&_, false≢true, and-assoc, and-false}

@@ -1,5 +1,4 @@
 -- Objects in their units, of any table: block by block, a block in front adding its own test; and the tests of one object by its block's size and end.
--- Assumes nothing.
 use Prim.Native.Nat.{ℕ, _+_, _*_, _-_, _/_, _%_, _≤_}
 use native.Mathlib.Nat.{div-add-mod', add-mul-mod-self-right}
 use native.Mathlib.Omega.{arith}

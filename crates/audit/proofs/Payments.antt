@@ -1,6 +1,5 @@
 -- The payment for one object, over records: it succeeds exactly if no quota has two records of the serial and each quota that has one owes the
 -- charge at least; and then each of these owes so much less. By induction on the records.
--- Assumes nothing.
 use Prim.Native.Nat.{ℕ, _+_, _-_, _<_, _≤_}
 use mathlib.Core.Path.{_≡_, refl, ap, sym, subst, _∙_}
 use mathlib.Core.Bool.{Bool, true, false, not, cond, _&&_, _||_, true≢false, false≢true}

@@ -1,6 +1,5 @@
 -- The key of a well-formed record tells its serial and its quota: the quota is below QUOTAS, so the key divided by QUOTAS is the serial and the
 -- rest is the quota; an unused record is all zero, and so is its key.
--- Assumes nothing.
 use Prim.Native.Nat.{ℕ, _+_, _-_, _*_, _/_, _%_, _^_, _<_, _≤_}
 use mathlib.Core.Path.{_≡_, refl}
 use mathlib.Core.Bool.{Bool, true, false, not, _&&_, _||_}

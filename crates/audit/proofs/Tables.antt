@@ -1,6 +1,5 @@
 -- A loop over a table: a test of all elements holds where it holds at each place, and fails where it fails at one; and what the quotas owe,
 -- place by place.
--- Assumes nothing.
 use Prim.Native.Nat.{ℕ, suc, _+_, _<_, _≤_}
 use mathlib.Core.Path.{_≡_, refl, sym, _∙_}
 use mathlib.Core.Bool.{Bool, true, false, _&&_, true≢false, and-assoc, and-true}

@@ -1,6 +1,5 @@
 -- A reply's numbers say everything: the outcome that a reply makes gives heap and reply back, so no two make the same one. Of a block's reply the
 -- values give it back because it is exact. And the check's outcome is its values, since it changes nothing.
--- Assumes nothing.
 use Prim.Native.Nat.{ℕ}
 use mathlib.Core.Path.{_≡_, refl, ap, sym, subst⁻¹, _∙_}
 use mathlib.Core.List.{List}

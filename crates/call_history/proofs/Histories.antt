@@ -1,6 +1,5 @@
 -- Every list of calls that the functions make is a history, so demand 3 holds of it, at every split of its events: by
 -- value, and in place, where words hold the accounts.
--- Assumes nothing.
 use Prim.Native.Nat.{ℕ}
 use mathlib.Core.Path.{_≡_, refl, sym, subst}
 use mathlib.Core.List.{List, [], _∷_, _++_}

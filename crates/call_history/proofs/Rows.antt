@@ -1,6 +1,5 @@
 -- Computed rows: lists of calls that the functions make. A plain heap with an allocation and two releases; and a heap
 -- of edition 2, whose table gives an object of 4,096 bytes the base 16.
--- Assumes nothing.
 use Prim.Native.Nat.{ℕ, _-_}
 use mathlib.Core.Path.{refl}
 use mathlib.Core.List.{List, [], _∷_}

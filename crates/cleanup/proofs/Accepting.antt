@@ -1,5 +1,4 @@
 -- A list of releases on a good state: the first one and the others behind it, accepted exactly where each is possible in turn.
--- Assumes nothing.
 use mathlib.Core.Path.{_≡_, ap, subst}
 use Prim.Native.Nat.{ℕ}
 use mathlib.Core.List.{List, _∷_}

@@ -1,6 +1,5 @@
 -- All releases of a quota, of each object as many as it has holds on it, are accepted in every order and leave what free-all leaves.
 -- Of each object the list has as many releases as the quota has holds, so they are enough and no count of the quota is left; and a used record has a count.
--- Assumes nothing.
 use mathlib.Core.Path.{_≡_, refl, ap, sym, subst, _∙_}
 use Prim.Native.Nat.{ℕ, zero, suc, _+_, _-_, _≤_, _<_}
 use native.Mathlib.Nat.{zero-add}

@@ -1,6 +1,5 @@
 -- A good state is known by its blocks, its records, its last serial, its kind, and its quotas but for what remains of them.
 -- What remains of a quota is its grant less its charges, and the charges follow from records and objects. So no sum of refunds has to be compared.
--- Assumes nothing.
 use mathlib.Core.Path.{_≡_, refl, ap, sym, _∙_}
 use Prim.Native.Nat.{ℕ, _<_}
 use native.Mathlib.Omega.{arith}

@@ -1,7 +1,6 @@
 -- A quota that releases until it holds nothing leaves what free-all leaves.
 -- Whichever of its records a release is about, dropping all of them afterwards comes to the same; with none left there is nothing to drop. Blocks that are
 -- settled in steps are settled once. Both states are good, so the same remains of each quota; and each answer is what its release adds to the remainder.
--- Assumes nothing.
 use mathlib.Core.Path.{_≡_, refl, ap, sym, subst, _∙_}
 use Prim.Native.Nat.{ℕ, zero, suc, _+_, _-_, _<_}
 use native.Mathlib.Omega.{arith}

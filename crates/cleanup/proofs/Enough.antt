@@ -1,6 +1,5 @@
 -- A list of releases, each with the handle of an object, is accepted throughout if no quota releases an object more often than it holds it.
 -- Each release lowers one count by one, and as long as the list has one for an object, a count for it is left and the object is there.
--- Assumes nothing.
 use mathlib.Core.Path.{_≡_, refl, ap, _∙_}
 use Prim.Native.Nat.{ℕ, _-_, _≤_, _<_}
 use native.Mathlib.Omega.{arith}

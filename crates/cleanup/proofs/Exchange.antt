@@ -2,7 +2,6 @@
 -- A release makes records, objects and holders fewer and changes no other record, so the second was possible before the first; and the first is
 -- possible after the second, because that is of another record or leaves this one a hold. The records come out the same, and blocks that are settled
 -- in steps are settled once. Grants stay, so what remains of each quota, which is its grant less its charges, comes out the same too.
--- Assumes nothing.
 use mathlib.Core.Path.{_≡_, refl, ap, sym, _∙_}
 use Prim.Native.Nat.{ℕ}
 use mathlib.Core.List.{List, _∷_, List·Permᴰ, List·Permᴰ·swap, Permᴰ·refl}

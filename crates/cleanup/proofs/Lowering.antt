@@ -1,7 +1,6 @@
 -- One hold less, of two records in either order: the records come out the same.
 -- No record passes two different tests for a serial and quota, before it is changed or after, so each of the two changes leaves what the other is about.
 -- A used record with one hold less is one that was used, with the same serial and quota.
--- Assumes nothing.
 use mathlib.Core.Path.{_≡_, refl, ap, sym, _∙_}
 use Prim.Native.Nat.{ℕ, zero, suc, _-_}
 use native.Mathlib.Omega.{arith}

@@ -1,7 +1,6 @@
 -- Clean-up in any order, by one table of units: the inner law of the theorem.
 -- A permutation is made of exchanges of neighbours. Two releases that are neighbours may be exchanged, so each such step keeps acceptance, heap bytes and
 -- accounts, and exchanges two answers at most. An accepted first release shows that the state is good, and each release keeps it so.
--- Assumes nothing.
 use mathlib.Core.Path.{_≡_, refl, ap, sym, subst, _∙_}
 use Prim.Native.Nat.{ℕ}
 use mathlib.Core.List.{List, [], _∷_, List·Permᴰ, List·Permᴰ·nil, List·Permᴰ·cons, List·Permᴰ·swap, List·Permᴰ·trans, Permᴰ·refl, Perm·nil-eq, cons≢nil}

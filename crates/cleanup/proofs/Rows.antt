@@ -2,7 +2,6 @@
 -- so the answers of two orders are not equal as lists. A list with a refused release goes on behind it. In a heap with quarantine the same lists leave two
 -- blocks that wait side by side in front of a free one, whichever was released first. A release and a free-all go by
 -- the table of their own accounts.
--- Assumes nothing.
 use Prim.Native.Nat.{ℕ}
 use mathlib.Core.Path.{_≡_, refl}
 use mathlib.Core.List.{List, [], _∷_, map}

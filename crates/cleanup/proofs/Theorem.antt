@@ -1,7 +1,6 @@
 -- Clean-up in any order: the theorems, of releases and free-alls that each go by the table of the accounts that they
 -- are made on, as the functions do. A release keeps the edition, so a list of them goes by one table throughout, of
 -- which the inner laws speak.
--- Assumes nothing.
 use mathlib.Core.Path.{_≡_, refl, ap, _∙_}
 use Prim.Native.Nat.{ℕ}
 use mathlib.Core.List.{List, [], _∷_}

@@ -1,5 +1,4 @@
 -- Neither statement holds of the wrong heaps: each is refuted by a short list of releases that is computed.
--- Assumes nothing.
 use Prim.Native.Nat.{ℕ, zero, suc, _^_}
 use native.Mathlib.Omega.{arith}
 use mathlib.Core.Path.{_≡_, refl, ap}

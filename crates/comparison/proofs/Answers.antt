@@ -1,5 +1,4 @@
 -- Comparing two images: the cases of the answer, that the answers are told apart, and that nothing differs exactly between equal images.
--- Assumes nothing.
 use mathlib.Core.Path.{_≡_, refl, ap, sym, _∙_}
 use mathlib.Core.List.{List, [], _∷_}
 use mathlib.Core.Bool.{Bool, true, false}

@@ -1,5 +1,4 @@
 -- What compare and the next difference answer, from what examining both images says and from the list of differences.
--- Assumes nothing.
 use mathlib.Core.Path.{_≡_, refl, ap, sym, _∙_}
 use mathlib.Core.List.{List}
 use mathlib.Core.Option.{none, some}

@@ -1,7 +1,6 @@
 -- The list of differences: what is in it differs and what differs is in it, it is in order and has nothing twice, and there is nothing in it if and only if
 -- the states are equal.
 -- Each part is judged by its own laws; a difference tells by its part where in the list it can be.
--- Assumes nothing.
 use mathlib.Core.Path.{_≡_, refl, ap}
 use mathlib.Core.List.{List, [], _∷_, _++_, map, List·Memᴰ, List·Memᴰ·head, List·Memᴰ·not-nil, List·Memᴰ·append-cases, Memᴰ·append-left, Memᴰ·append-right}
 use mathlib.Core.Bool.{Bool, true, false, cond}

@@ -1,5 +1,4 @@
 -- What the searches find, put together as the first difference from a position on.
--- Assumes nothing.
 use mathlib.Core.Path.{_≡_, refl, ap, sym, _∙_}
 use mathlib.Core.List.{List, [], _∷_, _++_}
 use mathlib.Core.Bool.{Bool, Bool·beq, true, false, not, true≢false}

@@ -1,6 +1,5 @@
 -- Numbered items that are not the same: which are listed, in which order, and the list from a number on.
 -- Each law is an induction on the items, or on how many are left.
--- Assumes nothing.
 use mathlib.Core.Path.{_≡_, refl, ap, sym, _∙_}
 use mathlib.Core.List.{List, [], _∷_, List·Memᴰ, List·Memᴰ·head, List·Memᴰ·tail, List·Memᴰ·not-nil, List·Memᴰ·cases-cons}
 use mathlib.Core.Bool.{Bool, true, false, cond, true≢false}

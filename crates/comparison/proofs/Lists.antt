@@ -1,5 +1,4 @@
 -- Lists of differences: members and the n-th, and what it says that each comes before all behind it. Each law is an induction on the list.
--- Assumes nothing.
 use mathlib.Core.Path.{_≡_, ap, sym}
 use mathlib.Core.List.{List, [], _∷_, _++_, map, List·Memᴰ, List·Memᴰ·head, List·Memᴰ·tail, List·Memᴰ·not-nil, List·Memᴰ·cases-cons}
 use mathlib.Core.Logic.{_⊎_, inl, ⊎-elim}

@@ -1,6 +1,5 @@
 -- Runs and single bytes: each listed run is a longest one, every longest run is listed, every byte that differs is in one, and between two runs there
 -- is a byte.
--- Assumes nothing.
 use mathlib.Core.Path.{_≡_, refl, sym, _∙_}
 use mathlib.Core.List.{List, [], _∷_, map, List·Memᴰ, List·Memᴰ·head, List·Memᴰ·tail, Memᴰ·cast}
 use mathlib.Core.Bool.{Bool, true, false, true≢false}

@@ -1,6 +1,5 @@
 -- Going on from position to position gives the list of differences, in order: what is listed from the position behind a difference is what stands
 -- behind it in the list. Shown of each part, then of the parts one behind the other.
--- Assumes nothing.
 use mathlib.Core.Path.{_≡_, refl, ap, sym, _∙_}
 use mathlib.Core.List.{List, [], _∷_, _++_, map}
 use mathlib.Core.Bool.{Bool, true, false, cond}

@@ -1,5 +1,4 @@
 -- The definitions computed: every kind of difference alone and all together, positions in each part, and two images with each refusal.
--- Assumes nothing.
 use mathlib.Core.Path.{_≡_, refl}
 use mathlib.Core.List.{List, [], _∷_, _++_}
 use mathlib.Core.Option.{Option, none, some}

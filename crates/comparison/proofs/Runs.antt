@@ -1,6 +1,5 @@
 -- The runs of bytes that differ, told by tests of single bytes: from an offset on, bytes that are equal, a run of bytes that differ, then an equal
 -- byte or the end, and so on. There is one list of runs with that property, and `runs` gives it.
--- Assumes nothing.
 use mathlib.Core.Path.{_≡_, refl, sym, _∙_}
 use mathlib.Core.List.{List, [], _∷_}
 use mathlib.Core.Bool.{Bool, true, false, cond, true≢false}

@@ -1,6 +1,5 @@
 -- Asked for the next difference, two images are refused as compare refuses them. Asked from the start, each time from
 -- the position behind the answer before, they give compare's list.
--- Assumes nothing.
 use mathlib.Core.Path.{_≡_, refl, ap, _∙_}
 use mathlib.Core.List.{List, [], _∷_}
 use Prim.Native.Nat.{ℕ, zero, suc, _≤_, _<_}

@@ -1,6 +1,5 @@
 -- A reply's numbers say everything: what an answer was can be read from them, so no two answers give the same reply; and a position's numbers are
 -- read as that position.
--- Assumes nothing.
 use Prim.Native.Nat.{ℕ}
 use mathlib.Core.Path.{_≡_, refl, ap, sym, _∙_}
 use mathlib.Core.List.{[], _∷_}

@@ -1,7 +1,6 @@
 -- When a move is accepted (rules 17.2, 17.6, 17.7): exactly if the reader accepts the image, it is of the form to move from, the other form carries the
 -- accounts read and there is room. Of an image that the reader accepts, a move is what the writer of the other form makes of the state read; so going up
 -- asks for nothing but room, and 28 is given down wherever form 1's writer gives it, and nowhere else.
--- Assumes nothing.
 use mathlib.Core.Path.{_≡_, refl, ap, sym, _∙_}
 use mathlib.Core.List.{List}
 use mathlib.Core.Bool.{true, false, not}

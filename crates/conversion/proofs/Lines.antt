@@ -1,6 +1,5 @@
 -- The refusals of a move (rule 17.2): the number answered is that of the first line that holds, the lines stand in the rule's order, and a refusal
 -- leaves the lent bytes as they were.
--- Assumes nothing.
 use mathlib.Core.Path.{_≡_, refl, sym, _∙_}
 use mathlib.Core.List.{List, [], _∷_, _++_, map}
 use mathlib.Core.Bool.{true, false}

@@ -1,5 +1,4 @@
 -- Moves computed at a small heap: what is written either way, and each refusal on both sides of its line.
--- Assumes nothing.
 use mathlib.Core.Path.{_≡_, refl}
 use mathlib.Core.List.{List, [], _∷_, _++_, map}
 use Prim.Native.Nat.{ℕ, _-_}

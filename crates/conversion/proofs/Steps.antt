@@ -1,6 +1,5 @@
 -- A move in the steps of its code is the move: 23 for the other form, the refusals of the image's own bytes, and the writer on the state read, whose 2
 -- is 26 here.
--- Assumes nothing.
 use mathlib.Core.Path.{_≡_, refl, ap, sym, _∙_}
 use mathlib.Core.List.{List, [], _∷_}
 use mathlib.Core.Bool.{Bool, true, false, not}

@@ -1,6 +1,5 @@
 -- A move keeps the state: read from what was moved it is the state read from the image, in the other form (rule 17.5); and moving back gives the very
 -- bytes of the image (rule 17.8). Both follow from the round trips of writing and reading.
--- Assumes nothing.
 use mathlib.Core.Path.{_≡_, refl, ap, sym, _∙_}
 use mathlib.Core.List.{List, _++_}
 use Prim.Native.Nat.{ℕ, _≤_}

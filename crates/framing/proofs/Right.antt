@@ -1,5 +1,4 @@
 -- What the numbers of a frame say, and of the frames behind it.
--- Assumes nothing.
 use mathlib.Core.Path.{_≡_, sym, _∙_}
 use mathlib.Core.List.{List}
 use mathlib.Core.Bool.{Bool, true, false, _&&_}

@@ -1,5 +1,4 @@
 -- Writing frames: without room nothing is written, with room all of them are.
--- Assumes nothing.
 use mathlib.Core.Path.{_≡_, sym}
 use mathlib.Core.List.{List, _++_}
 use mathlib.Core.Bool.{true}

@@ -1,5 +1,4 @@
 -- The definitions computed at small inputs, among them a stream that ends with a frame and one that does not.
--- Assumes nothing.
 use mathlib.Core.Path.{_≡_, refl}
 use mathlib.Core.List.{List, [], _∷_, _++_}
 use mathlib.Core.Bool.{true, false}

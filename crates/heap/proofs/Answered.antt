@@ -1,5 +1,4 @@
 -- A result is what its call performs: its answer is the one with the values of the outcome, since the values of an answer give it back.
--- Assumes nothing.
 use Prim.Native.Nat.{ℕ}
 use mathlib.Core.Path.{_≡_, ap, sym, _∙_}
 use mathlib.Core.List.{List}

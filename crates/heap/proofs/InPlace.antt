@@ -1,5 +1,4 @@
 -- What a call in place leaves and answers is what it performs: the values of an answer give it back.
--- Assumes nothing.
 use Prim.Native.Nat.{ℕ}
 use mathlib.Core.Path.{_≡_, ap, sym, _∙_}
 use mathlib.Core.List.{List}

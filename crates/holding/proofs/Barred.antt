@@ -1,5 +1,4 @@
 -- The clearing of permissions by its lines: the check decides first, then the quota's number, and else the accounts are the definition's.
--- Assumes nothing.
 use Prim.Native.Nat.{ℕ, _≤_, _<_}
 use mathlib.Core.Path.{_≡_, ap, _∙_}
 use mathlib.Core.List.{List, [], _∷_}

@@ -1,5 +1,4 @@
 -- A claim by the survey is that of rules 8.13 to 8.15: its lines decide in their order, and then the place of the quota's record picks the way of the claim.
--- Assumes nothing.
 use Prim.Native.Nat.{ℕ, _-_, _/_, _%_, _≤_, _<_}
 use mathlib.Core.Path.{_≡_, refl, ap, sym, _∙_}
 use mathlib.Core.Bool.{Bool, true, false}

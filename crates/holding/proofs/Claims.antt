@@ -1,6 +1,5 @@
 -- A claim by the places of the records is that of rules 8.13 to 8.15: where the quota has a record for the object, its count decides and is raised at
 -- its place; where it has none, its remainder and then the unused records decide, and the lowest unused place takes the new record.
--- Assumes nothing.
 use Prim.Native.Nat.{ℕ, _+_, _/_, _%_, _≤_, _<_}
 use mathlib.Core.Path.{_≡_, refl, ap, sym, _∙_}
 use mathlib.Core.List.{List, [], _∷_}

@@ -1,5 +1,4 @@
 -- What open writes is one free block of zeros, and its outcome is the definition's, refused or accepted.
--- Assumes nothing.
 use mathlib.Core.Path.{_≡_, refl, ap, sym, _∙_}
 use Prim.Native.Nat.{ℕ, _+_, _-_, _/_, _%_, _≤_}
 use native.Mathlib.Omega.{arith}

@@ -1,7 +1,6 @@
 -- The walk that frees the blocks that are not kept, over plain lists. What starts at its place is the first block that is left. A block that remains is
 -- settled already, so it joins those in front. Another one is freed in place, which leaves what settling gives (`freed-settles`), and the free block
 -- that it becomes, with a free one behind it, joins those in front. At the end no block is left, so all blocks are settled.
--- Assumes nothing.
 use Prim.Native.Nat.{ℕ, _+_, _*_, _≤_, _<_}
 use native.Mathlib.Omega.{arith}
 use mathlib.Core.Path.{_≡_, refl, ap, sym, _∙_}

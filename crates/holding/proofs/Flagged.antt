@@ -1,6 +1,5 @@
 -- The flags of the live blocks. No later flag changes the place of an earlier one, so the place of each live block has its flag, where there are flags enough.
 -- There are, in a consistent state: serials differ and each has a record of its own, so there are no more live blocks than records.
--- Assumes nothing.
 use Prim.Native.Nat.{ℕ, _+_, _≤_, _<_}
 use native.Mathlib.Omega.{arith}
 use mathlib.Core.Path.{_≡_, refl, ap, sym, _∙_}

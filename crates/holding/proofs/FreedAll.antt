@@ -1,6 +1,5 @@
 -- Free-all among records, blocks and accounts. The refund changes no record, so the records that are left are those of the definition, and the flags are
 -- asked for them. The heap is that of its blocks, so the walk may start on it, and leaves the settled blocks. What is given back is what the quota had spent.
--- Assumes nothing.
 use Prim.Native.Nat.{ℕ, _/_, _%_, _≤_, _<_}
 use native.Mathlib.Omega.{arith}
 use mathlib.Core.Path.{_≡_, ap, sym, subst, _∙_}

@@ -1,5 +1,4 @@
 -- The sweep among blocks: the heap of a consistent state is that of its blocks, so the walk may start on it, and what it leaves and gives is the definition's.
--- Assumes nothing.
 use Prim.Native.Nat.{ℕ}
 use native.Mathlib.Omega.{arith}
 use mathlib.Core.Path.{_≡_, ap, sym, _∙_}

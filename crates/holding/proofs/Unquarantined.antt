@@ -2,7 +2,6 @@
 -- one is unquarantined in place, which leaves what the sweep gives (`unquarantined-sweeps`), and the free block that it becomes, with a free one behind it,
 -- joins
 -- those in front; the free one behind it counts for nothing in the sum. At the end no block is left, so all blocks are swept.
--- Assumes nothing.
 use Prim.Native.Nat.{ℕ, _+_, _*_, _≤_, _<_}
 use native.Mathlib.Omega.{arith}
 use mathlib.Core.Path.{_≡_, refl, ap, sym, _∙_}

@@ -1,5 +1,4 @@
 -- Numbers of a stream, byte by byte, and parts of a part.
--- Assumes nothing.
 use mathlib.Core.Path.{_≡_, ap, sym, _∙_}
 use mathlib.Core.List.{List, [], _∷_}
 use mathlib.Core.Bool.{Bool, true, false, cond}

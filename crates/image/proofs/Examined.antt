@@ -1,5 +1,4 @@
 -- What an image says with no heap lent: the form that it is read as, and its parts where the state has to be consistent too.
--- Assumes nothing.
 use mathlib.Core.Path.{_≡_, ap, sym, _∙_}
 use mathlib.Core.List.{List, [], _∷_}
 use mathlib.Core.Bool.{Bool, true, false}

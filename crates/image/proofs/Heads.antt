@@ -1,5 +1,4 @@
 -- Parts that are written side by side make an entry, a record or the whole head.
--- Assumes nothing.
 use mathlib.Core.Path.{_≡_, refl, ap, sym, _∙_}
 use mathlib.Core.List.{List, _++_, append-assoc, append-nil}
 use mathlib.Core.Bool.{Bool, true, false, cond}

@@ -1,5 +1,4 @@
 -- What an image says by its own bytes: the contents test by test, the lines, and the parts that are found.
--- Assumes nothing.
 use mathlib.Core.Path.{_≡_, refl, ap, sym, _∙_}
 use mathlib.Core.List.{List}
 use mathlib.Core.Bool.{Bool, true, false, _&&_}

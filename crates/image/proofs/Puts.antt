@@ -1,5 +1,4 @@
 -- The writer: what the frames answer is what writing answers, before and behind the check.
--- Assumes nothing.
 use mathlib.Core.Path.{_≡_, refl, ap, sym, _∙_}
 use mathlib.Core.List.{List, _∷_, _++_}
 use mathlib.Core.Bool.{Bool, true, false}

@@ -1,6 +1,5 @@
 -- The reader: whether an image's heap is consistent, what is left of reading once its shape is known, and what a
 -- restore leaves.
--- Assumes nothing.
 use mathlib.Core.Path.{_≡_, refl, ap, sym, _∙_, subst}
 use mathlib.Core.List.{List, [], _∷_, _++_}
 use mathlib.Core.Bool.{Bool, true, false, not}

@@ -1,5 +1,4 @@
 -- Bytes that are all zero, or permissions: as a number; and a test of items one by one.
--- Assumes nothing.
 use mathlib.Core.Path.{_≡_, refl, sym, _∙_}
 use mathlib.Core.List.{List, [], _∷_}
 use mathlib.Core.Bool.{Bool, true, false, _&&_}

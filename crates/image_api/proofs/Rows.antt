@@ -1,5 +1,4 @@
 -- The numbers of an image's own bytes, computed.
--- Assumes nothing.
 use mathlib.Core.Path.{_≡_, refl}
 use Rattle.image_api.specs.Replies.{numbers-unless}
 

@@ -1,5 +1,4 @@
 -- A reply's numbers say everything: what a reply makes gives it back, so no two make the same.
--- Assumes nothing.
 use Prim.Native.Nat.{ℕ, zero, suc, _≤_}
 use native.Mathlib.Omega.{arith}
 use mathlib.Core.Path.{_≡_, refl}

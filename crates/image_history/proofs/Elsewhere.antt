@@ -1,7 +1,6 @@
 -- An image that is read on any board: on the one that wrote it, on one that has started anew, on another, whatever
 -- went before there. The reader gives back what was written, and a history led to that; what leads on from it joins
 -- that history, which is ledger's. Nothing is asked of the accounts: along a history they are as their type has them.
--- Assumes nothing.
 use mathlib.Core.Path.{_≡_, refl, sym, subst}
 use mathlib.Core.List.{List}
 use Prim.Native.Nat.{ℕ}

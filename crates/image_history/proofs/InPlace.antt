@@ -1,6 +1,5 @@
 -- A restore where a heap and its accounts are in use (rule 13.19). A refused one leaves both, so the history goes on
 -- with the same events; an accepted one is the event of a history.
--- Assumes nothing.
 use mathlib.Core.Path.{_≡_, refl, ap, sym}
 use mathlib.Core.List.{List, _∷_}
 use Prim.Native.Nat.{ℕ, zero, suc}

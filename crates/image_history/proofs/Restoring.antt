@@ -2,7 +2,6 @@
 -- no history led to is a beginning. An image that was written in the history and is read gives back the heap and the accounts written, so the history is
 -- that of the image and of the events since. A refused read changes nothing, and the history goes on with the accounts from before.
 -- The reader gives back what the writer wrote, which is image_model's; a history with an image read is one without what came in between, which is ledger's.
--- Assumes nothing.
 use mathlib.Core.Path.{_≡_, refl, ap, sym, subst}
 use mathlib.Core.List.{List, [], _∷_, _++_}
 use Prim.Native.Nat.{ℕ, zero, suc}

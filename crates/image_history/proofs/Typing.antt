@@ -1,6 +1,5 @@
 -- Accounts that an image gives back are as their type has them: what `Typed` asks beside all quotas and records,
 -- grants of 32 bits and counts of one byte, rules 5.1 to 5.11 say of a consistent state.
--- Assumes nothing.
 use mathlib.Core.Path.{_≡_, refl, ap}
 use mathlib.Core.List.{List, [], _∷_, map, List·Memᴰ}
 use mathlib.Core.Bool.{Bool, true, false, _&&_}

@@ -1,6 +1,5 @@
 -- `ReadAnywhere` does not hold of the wrong readers. Each reads an image of a heap with one object; that the right
 -- reader gives it back is `read-anywhere`, and what the wrong one makes of that is computed.
--- Assumes nothing.
 use Prim.Native.Nat.{ℕ}
 use native.Mathlib.Omega.{arith}
 use mathlib.Core.Path.{_≡_, refl, subst}

@@ -1,6 +1,5 @@
 -- A stream whose bytes are right is the stream of the heap and the accounts that it says.
 -- The parts are put back from the last to the first: each, with what stands behind it, is what stands at its place.
--- Assumes nothing.
 use mathlib.Core.Path.{_≡_, refl}
 use mathlib.Core.List.{List, _++_, append-assoc}
 use mathlib.Core.Bool.{Bool, true, false}

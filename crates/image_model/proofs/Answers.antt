@@ -1,6 +1,5 @@
 -- What the contracts map answers through tells every two answers apart: an image refusal has a number of its own, and of an answer the number
 -- and the value give it back.
--- Assumes nothing.
 use mathlib.Core.Path.{_≡_, refl, ap, sym, _∙_}
 use mathlib.Core.List.{List, [], _∷_, map}
 use mathlib.Core.Bool.{true, false, cond}

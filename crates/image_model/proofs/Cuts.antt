@@ -1,5 +1,4 @@
 -- What cutting into frames says of whole streams: a stream and its padded copy are cut alike, and frames carry bytes, 504 each.
--- Assumes nothing.
 use mathlib.Core.Path.{_≡_, refl, ap, _∙_}
 use mathlib.Core.List.{List, [], _∷_, _++_}
 use Prim.Native.Nat.{ℕ, zero, suc, _+_, _*_, _-_, _/_, _≤_}

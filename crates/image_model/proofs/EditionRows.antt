@@ -1,6 +1,5 @@
 -- The definitions computed at heaps of edition 2, in both forms: what is written and read, the refusals on both sides of their lines, and objects that fit
 -- their unit by one edition and not by the other.
--- Assumes nothing.
 use mathlib.Core.Path.{_≡_, refl}
 use mathlib.Core.List.{List, [], _∷_, _++_, map}
 use Prim.Native.Nat.{ℕ, _+_, _-_}

@@ -1,5 +1,4 @@
 -- An entry and a record: their lengths, and that each is had back from its bytes, and the bytes from it.
--- Assumes nothing.
 use mathlib.Core.Path.{_≡_, refl, ap, sym, _∙_}
 use mathlib.Core.List.{List, _++_}
 use mathlib.Core.Bool.{true, false, _||_}

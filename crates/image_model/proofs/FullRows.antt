@@ -1,6 +1,5 @@
 -- The definitions computed at a small heap, in form 2: the head in full and each frame's check, what is written and read, and each refusal of the reader
 -- on both sides of its line. Form 1 is `Rows`.
--- Assumes nothing.
 use mathlib.Core.Path.{_≡_, refl}
 use mathlib.Core.List.{List, [], _∷_, _++_, map}
 use Prim.Native.Nat.{ℕ, zero, suc, _+_, _*_, _-_}

@@ -1,6 +1,5 @@
 -- A stream that was written, read: each part of the head is found at its place, and the accounts and the heap are had back.
 -- The places follow one another: what stands behind one part is where the next begins.
--- Assumes nothing.
 use mathlib.Core.Path.{_≡_, refl, ap, _∙_}
 use mathlib.Core.List.{List, _++_, append-assoc}
 use mathlib.Core.Bool.{true, _||_}

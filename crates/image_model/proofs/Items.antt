@@ -1,6 +1,5 @@
 -- Items of one width: their lengths, that what was written is read again, and that what is right is written again.
 -- Each law is an induction over the items.
--- Assumes nothing.
 use mathlib.Core.Path.{_≡_, refl, ap, sym}
 use mathlib.Core.List.{List, [], _∷_, _++_, append-assoc}
 use mathlib.Core.Bool.{Bool, true}

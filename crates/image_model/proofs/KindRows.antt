@@ -1,5 +1,4 @@
 -- The definitions computed at heaps of the second kind, in both forms: what is written and read, and the refusals on both sides of their lines.
--- Assumes nothing.
 use mathlib.Core.Path.{_≡_, refl}
 use mathlib.Core.List.{List, [], _∷_, _++_, map}
 use Prim.Native.Nat.{ℕ, _-_}

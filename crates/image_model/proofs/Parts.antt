@@ -1,5 +1,4 @@
 -- Parts of a list one behind the other: each is found at its place, and parts that stand at their places make the list.
--- Assumes nothing.
 use mathlib.Core.Path.{_≡_, ap, sym, _∙_}
 use mathlib.Core.List.{List, _++_}
 use Prim.Native.Nat.{ℕ, _+_, _<_, _≤_, _^_}

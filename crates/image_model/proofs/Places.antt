@@ -1,6 +1,5 @@
 -- What is true of each form: of its numbers, and of the four places in which forms differ. A later form adds its case here and in the
 -- definitions of `Stream`; every law above this file speaks of any form that has a number.
--- Assumes nothing.
 use mathlib.Core.Path.{_≡_, refl, ap, sym, _∙_}
 use mathlib.Core.List.{List, [], _∷_, _++_, append-nil}
 use mathlib.Core.Bool.{Bool, true, false, cond, not, _&&_, _||_, true≢false}

@@ -1,6 +1,5 @@
 -- What was read is written: an image that the reader accepts is the very image that the writer makes of the heap and the accounts given back.
 -- That none of the reader's lines holds says what the image's parts are; cutting them again gives the image.
--- Assumes nothing.
 use mathlib.Core.Path.{_≡_, refl, ap, sym, _∙_}
 use mathlib.Core.List.{List, _++_}
 use mathlib.Core.Bool.{true, false, not, _||_, true≢false}

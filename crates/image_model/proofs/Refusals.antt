@@ -1,7 +1,6 @@
 -- The refusals of the writer and the reader: the number answered is that of the first line that holds, the lines stand in the papers' order,
 -- and a refusal leaves what was lent as it was and hands back accounts of zeros.
 -- The search over lines is model's; what is shown here is that both outcomes follow it.
--- Assumes nothing.
 use mathlib.Core.Path.{_≡_, refl, sym, _∙_}
 use mathlib.Core.List.{List, [], _∷_, _++_, map}
 use mathlib.Core.Bool.{true, false}

@@ -1,6 +1,5 @@
 -- The definitions computed at small heaps, in form 1: two images in full, and each refusal of the writer and the reader on both sides of its line.
 -- Form 2 is `FullRows`, heaps of the second kind are `KindRows`, and those of edition 2 `EditionRows`.
--- Assumes nothing.
 use mathlib.Core.Path.{_≡_, refl}
 use mathlib.Core.List.{List, [], _∷_, _++_, map}
 use Prim.Native.Nat.{ℕ, _-_}

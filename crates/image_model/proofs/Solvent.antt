@@ -1,5 +1,4 @@
 -- What a sound state says of each quota: it has no more left than was granted (rule 5.8), and its permissions are such (rule 15.2).
--- Assumes nothing.
 use mathlib.Core.Path.{_≡_}
 use mathlib.Core.List.{List, [], _∷_, map}
 use mathlib.Core.Bool.{Bool, true}

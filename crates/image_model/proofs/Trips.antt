@@ -1,6 +1,5 @@
 -- Both round trips, in what the writer and the reader leave and answer: the reader accepts exactly what the writer writes, and gives back what
 -- was written; and what it accepted is written again, byte for byte.
--- Assumes nothing.
 use mathlib.Core.Path.{_≡_, refl, ap, sym, _∙_}
 use mathlib.Core.List.{List, _++_, append-nil}
 use mathlib.Core.Bool.{true, false, not}

@@ -1,6 +1,5 @@
 -- What was written is read: no line of the reader holds of an image that the writer made of consistent accounts, and it gives back the heap and
 -- the accounts that were written.
--- Assumes nothing.
 use mathlib.Core.Path.{_≡_, ap, _∙_}
 use mathlib.Core.List.{List, _++_}
 use mathlib.Core.Bool.{true, false, _&&_}

@@ -1,7 +1,6 @@
 -- Allocating keeps a state good: a new object is carved out, its quota pays for it, and a record holds it once.
 -- The new serial is above every live one, so no record has it: no count for it was above 0. The new object alone pays more, and that is what
 -- the quota was charged.
--- Assumes nothing.
 use Prim.Native.Nat.{ℕ, zero, suc, _+_, _%_, _≤_, _<_, _^_}
 use native.Mathlib.Omega.{arith}
 use mathlib.Core.Path.{_≡_, refl, ap, sym}
@@ -45,11 +44,13 @@ pub record Room (q : ℕ) (o : Handle) (t : State) : Type 0 where
   pub fits : suitable (total size (t .blocks)) (t .blocks) (o .length) (o .base) ≡ true
 
 -- what each quota pays where one object is added that only one quota has a count for
-owed-added : (hs hs′ : List Hold) (q : ℕ) (o : Handle) (os os′ : List Handle) → Added o os os′ → ((p : Handle) → List·Memᴰ p os → p .serial ≡ o .serial → ⊥)
+owed-added : (hs hs′ : List Hold) (q : ℕ) (o : Handle) (os os′ : List Handle) → Added o os os′
+    → ((p : Handle) → List·Memᴰ p os → p .serial ≡ o .serial → ⊥)
     → ((j : ℕ) → count-of (o .serial) j hs ≡ 0) → ((u j : ℕ) → count-of u j hs′ ≡ cond (eqb (o .serial) u && eqb q j) 1 (count-of u j hs))
     → (j : ℕ) → owed hs′ j os′ ≡ owed hs j os + cond (eqb q j) (charge-of (o .length)) 0
 owed-added hs hs′ q o os os′ a fresh none c j =
-    let others = total-members (due hs′ j) (due hs j) os (λ p m. ap (λ (n : ℕ). cost n p) (rw (ne-eqb (o .serial) (p .serial) (λ e. fresh p m (sym e))) at (c (p .serial) j))) in
+    let others = total-members (due hs′ j) (due hs j) os (λ p m. ap (λ (n : ℕ). cost n p)
+    (rw (ne-eqb (o .serial) (p .serial) (λ e. fresh p m (sym e))) at (c (p .serial) j))) in
     let own : count-of (o .serial) j hs′ ≡ cond (eqb q j) 1 0 = rw (eq-eqb (o .serial) (o .serial) refl, none j) at (c (o .serial) j) in
     let pays : due hs′ j o ≡ cond (eqb q j) (charge-of (o .length)) 0 = rw own (go (eqb q j)) in
     omega (arith, total-added (due hs′ j) o os os′ a)
@@ -85,7 +86,8 @@ module _ (q : ℕ) (o : Handle) (t : State) (g : Good t) (r : Room q o t) where
   first = fails _ (λ e. omega (arith, allocated-fresh q, record-counted (t .accounts .holds) (good-recorded t g .ordered) (o .serial) q .0 e))
 
   -- the quota's count for it is 1, and every other count the same
-  pub allocated-counts : (u j : ℕ) → count-of u j (allocated q o t .accounts .holds) ≡ cond (eqb (o .serial) u && eqb q j) 1 (count-of u j (t .accounts .holds))
+  pub allocated-counts : (u j : ℕ) → count-of u j (allocated q o t .accounts .holds)
+      ≡ cond (eqb (o .serial) u && eqb q j) 1 (count-of u j (t .accounts .holds))
   unfolding allocated
   allocated-counts u j = take-count (t .accounts .holds) (good-recorded t g .ordered) (o .serial) q (r .unused) first (r .exists) u j
 
@@ -119,7 +121,8 @@ module _ (q : ℕ) (o : Handle) (t : State) (g : Good t) (r : Room q o t) where
 
   -- each quota's remainder and charges make up its grant
   allocated-balance : (j : ℕ) → j < QUOTAS
-      → quota-at j (allocated q o t .accounts) .grant ≡ quota-at j (allocated q o t .accounts) .remainder + owed (allocated q o t .accounts .holds) j (objects (allocated q o t .blocks))
+      → quota-at j (allocated q o t .accounts) .grant ≡ quota-at j (allocated q o t .accounts) .remainder + owed (allocated q o t .accounts .holds) j
+      (objects (allocated q o t .blocks))
   unfolding allocated
   allocated-balance j l =
       let k = t .accounts in
@@ -129,7 +132,8 @@ module _ (q : ℕ) (o : Handle) (t : State) (g : Good t) (r : Room q o t) where
         same-grant q k (charge q n k) (charge-kept q n k) j,
         charged q n k (good-limits t g) (r .exists) (r .paid) j,
         good-recorded t g .balance j l,
-        owed-added (k .holds) (allocated q o t .accounts .holds) q o (objects (t .blocks)) (objects (allocated q o t .blocks)) allocated-objects unseen allocated-fresh allocated-counts j,
+        owed-added (k .holds) (allocated q o t .accounts .holds) q o (objects (t .blocks)) (objects (allocated q o t .blocks)) allocated-objects
+            unseen allocated-fresh allocated-counts j,
       )
 
   -- so objects and accounts fit together

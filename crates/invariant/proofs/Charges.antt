@@ -2,7 +2,6 @@
 -- A quota has a record for an object exactly if its count is above 0, so it pays the charges of those objects. A sum over objects with differing
 -- serials is at most the sum over any list that has them all: take each of them out of that list, one after the other. So two such lists with the
 -- same members have the same sum. The other laws are by induction on the list.
--- Assumes nothing.
 use mathlib.Core.Path.{_≡_, refl, ap, sym, _∙_}
 use Prim.Native.Nat.{ℕ, _+_, _≤_}
 use native.Mathlib.Omega.{arith}
@@ -39,7 +38,8 @@ same-test false true e = e .1 refl
 same-test false false e = refl
 
 -- what a quota pays is the charges of the objects that it has a count for
-pub charges-counted : (hs : List Hold) → Ordered hs → (q : ℕ) (os : List Handle) → charges hs q os ≡ total (λ o. cost (count-of (o .serial) q hs) o) os
+pub charges-counted : (hs : List Hold) → Ordered hs → (q : ℕ) (os : List Handle) → charges hs q os
+    ≡ total (λ o. cost (count-of (o .serial) q hs) o) os
 unfolding charges charged-for
 charges-counted hs r q os =
     total-members (charged-for hs q) (λ o. cost (count-of (o .serial) q hs) o) os (λ o m. rw (same o))
@@ -75,7 +75,8 @@ taken-out o (p ∷ ps) m = go (List·Memᴰ·cases-cons m) (taken-out o ps)
         )
 
 -- a list that has all of these members has at least their sum
-pub total-within : (f : Handle → ℕ) (os ps : List Handle) → serials-differ os ≡ true → ((o : Handle) → List·Memᴰ o os → List·Memᴰ o ps) → total f os ≤ total f ps
+pub total-within : (f : Handle → ℕ) (os ps : List Handle) → serials-differ os ≡ true → ((o : Handle) → List·Memᴰ o os → List·Memᴰ o ps)
+    → total f os ≤ total f ps
 unfolding total
 total-within f [] ps d m = omega arith
 total-within f (o ∷ os) ps d m =
@@ -91,7 +92,8 @@ total-within f (o ∷ os) ps d m =
         go (inr k) = k
 
 -- sums over the same members are the same
-pub total-same : (f : Handle → ℕ) (os ps : List Handle) → serials-differ os ≡ true → serials-differ ps ≡ true → ((o : Handle) → List·Memᴰ o os ↔ List·Memᴰ o ps) → total f os ≡ total f ps
+pub total-same : (f : Handle → ℕ) (os ps : List Handle) → serials-differ os ≡ true → serials-differ ps ≡ true
+    → ((o : Handle) → List·Memᴰ o os ↔ List·Memᴰ o ps) → total f os ≡ total f ps
 total-same f os ps d e m = omega (arith, total-within f os ps d (λ o. m o .0), total-within f ps os e (λ o. m o .1))
 
 -- one member pays more
@@ -104,13 +106,15 @@ total-more f g (p ∷ os) o d df m e k =
   where
     go : (o ≡ p) ⊎ List·Memᴰ o os → (List·Memᴰ o os → total g os ≡ total f os + d) → total g (p ∷ os) ≡ total f (p ∷ os) + d
     go (inl q) ih =
-        let rest : total g os ≡ total f os = total-members g f os (λ x l. k x (List·Memᴰ·tail l) (λ s. (differ-cons p os .0 df .0) x l (s ∙ ap (λ (y : Handle). y .serial) q))) in
+        let rest : total g os ≡ total f os = total-members g f os (λ x l. k x (List·Memᴰ·tail l)
+        (λ s. (differ-cons p os .0 df .0) x l (s ∙ ap (λ (y : Handle). y .serial) q))) in
         let here : g p ≡ f p + d = rw q at e in
         omega arith
     go (inr n) ih = omega (arith, ih n, k p (List·Memᴰ·head refl) (λ s. (differ-cons p os .0 df .0) o n (sym s)))
 
 -- objects that pay nothing may go
-pub total-kept : (f : Handle → ℕ) (p : Handle → Bool) (os : List Handle) → ((o : Handle) → List·Memᴰ o os → p o ≡ false → f o ≡ 0) → total f (keep p os) ≡ total f os
+pub total-kept : (f : Handle → ℕ) (p : Handle → Bool) (os : List Handle) → ((o : Handle) → List·Memᴰ o os → p o ≡ false → f o ≡ 0)
+    → total f (keep p os) ≡ total f os
 unfolding total keep
 total-kept f p [] z = refl
 total-kept f p (o ∷ os) z = go (p o) refl (total-kept f p os (λ x m. z x (List·Memᴰ·tail m)))

@@ -1,6 +1,5 @@
 -- Claiming keeps a state good: a quota's count for an object that is there is raised by one, from none if the quota pays.
 -- A first claim makes the object cost the quota its charge, which is what the quota is charged; a further one costs nothing.
--- Assumes nothing.
 use Prim.Native.Nat.{ℕ, _+_, _≤_, _<_}
 use native.Mathlib.Omega.{arith}
 use mathlib.Core.Path.{_≡_, refl}
@@ -38,10 +37,18 @@ module _ (q : ℕ) (o : Handle) (t : State) (g : Good t) (there : List·Memᴰ o
       good-state (record { blocks = t .blocks; accounts = with-holds hs r }) (good-laid t g)
       (raised-recorded q o os os k (with-holds hs r) b c ordered there (λ p m. m) (λ p m. inr m) (λ p m. rw (e .same-last) (b .given p m))
       (λ j l.
-      omega (arith, same-grant q k r e j, paid j, b .balance j l, owed-moved (k .holds) hs q o os d (good-laid t g .differ) there (raised-elsewhere (o .serial) q (k .holds) hs c) more j)))
+      omega (
+        arith,
+        same-grant q k r e j,
+        paid j,
+        b .balance j l,
+        owed-moved (k .holds) hs q o os d (good-laid t g .differ) there
+            (raised-elsewhere (o .serial) q (k .holds) hs c) more j,
+      )))
       (same-limits q k r e hs (good-limits t g))
 
-  module _ (exists : q < QUOTAS) (pays : claims-first (t .accounts) q o ≡ true → charge-of (o .length) ≤ remaining q (t .accounts)) (room : claims-first (t .accounts) q o ≡ true → all used (t .accounts .holds) ≡ false) where
+  module _ (exists : q < QUOTAS) (pays : claims-first (t .accounts) q o ≡ true → charge-of (o .length) ≤ remaining q (t .accounts))
+      (room : claims-first (t .accounts) q o ≡ true → all used (t .accounts .holds) ≡ false) where
     -- the records are in order
     ordered : Ordered (t .accounts .holds)
     ordered = good-recorded t g .ordered
@@ -61,12 +68,18 @@ module _ (q : ℕ) (o : Handle) (t : State) (g : Good t) (there : List·Memᴰ o
       first-raised = raised-first (o .serial) q _ _ none (take-count (t .accounts .holds) ordered (o .serial) q (room first) unclaimed exists)
 
       -- the quota pays the charge
-      first-good : Good (record { blocks = t .blocks; accounts = with-holds (take-record (o .serial) q (t .accounts .holds)) (charge q (charge-of (o .length)) (t .accounts)) })
+      first-good : Good (record {
+        blocks = t .blocks;
+        accounts = with-holds (take-record (o .serial) q (t .accounts .holds))
+            (charge q (charge-of (o .length)) (t .accounts));
+      })
       first-good =
           let k = t .accounts in
           let n = charge-of (o .length) in
-          raised-good (take-record (o .serial) q (k .holds)) (charge q n k) n first-raised (take-ordered (k .holds) ordered (o .serial) q (room first) unclaimed exists)
-          (charge-kept q n k) (rw (raised-here (o .serial) q (k .holds) _ first-raised, none) (omega arith)) (charged q n k (good-limits t g) exists (pays first))
+          raised-good (take-record (o .serial) q (k .holds)) (charge q n k) n first-raised
+          (take-ordered (k .holds) ordered (o .serial) q (room first) unclaimed exists)
+          (charge-kept q n k) (rw (raised-here (o .serial) q (k .holds) _ first-raised, none) (omega arith))
+          (charged q n k (good-limits t g) exists (pays first))
 
     -- a further one: the quota has a record
     module _ (again : claims-first (t .accounts) q o ≡ false) where
@@ -84,7 +97,8 @@ module _ (q : ℕ) (o : Handle) (t : State) (g : Good t) (there : List·Memᴰ o
           let k = t .accounts in
           let some = record-counted (k .holds) ordered (o .serial) q .0 claimed-already in
           raised-good (raise-count (o .serial) q (k .holds)) k 0 again-raised (raise-ordered (k .holds) ordered (o .serial) q claimed-already)
-          (kept q k) (omega (arith, cost-some _ o some, cost-some _ o (raised-stays (o .serial) q (k .holds) _ again-raised (o .serial) q some))) (λ j. nothing (eqb q j) (quota-at j k .remainder))
+          (kept q k) (omega (arith, cost-some _ o some, cost-some _ o (raised-stays (o .serial) q (k .holds) _ again-raised (o .serial) q some)))
+          (λ j. nothing (eqb q j) (quota-at j k .remainder))
         where
           nothing : (x : Bool) (n : ℕ) → n + cond x 0 0 ≡ n
           nothing true n = omega arith
@@ -100,10 +114,12 @@ module _ (q : ℕ) (o : Handle) (t : State) (g : Good t) (there : List·Memᴰ o
         go false e = rw e (again-good e)
 
     -- and the quota's count for the object is one more
-    pub claimed-counts : (u j : ℕ) → count-of u j (claimed q o (t .accounts) .holds) ≡ cond (eqb (o .serial) u && eqb q j) (count-of u j (t .accounts .holds) + 1) (count-of u j (t .accounts .holds))
+    pub claimed-counts : (u j : ℕ) → count-of u j (claimed q o (t .accounts) .holds)
+        ≡ cond (eqb (o .serial) u && eqb q j) (count-of u j (t .accounts .holds) + 1) (count-of u j (t .accounts .holds))
     unfolding claimed
     claimed-counts u j = go (claims-first (t .accounts) q o) refl
       where
-        go : (x : Bool) → claims-first (t .accounts) q o ≡ x → count-of u j (claimed q o (t .accounts) .holds) ≡ cond (eqb (o .serial) u && eqb q j) (count-of u j (t .accounts .holds) + 1) (count-of u j (t .accounts .holds))
+        go : (x : Bool) → claims-first (t .accounts) q o ≡ x → count-of u j (claimed q o (t .accounts) .holds)
+            ≡ cond (eqb (o .serial) u && eqb q j) (count-of u j (t .accounts .holds) + 1) (count-of u j (t .accounts .holds))
         go true e = rw e (first-raised e u j)
         go false e = rw e (again-raised e u j)

@@ -1,5 +1,4 @@
 -- Copying keeps a state good: one object's bytes change, and no block's serial or size, so objects and accounts fit together as before.
--- Assumes nothing.
 use mathlib.Core.Path.{_≡_}
 use Rattle.model.specs.Objects.{objects}
 use Rattle.model.specs.Space.{body-of}

@@ -3,7 +3,6 @@
 -- replaces one record and leaves the others: a sum over records loses what the old one added and gains what the new one adds. Applied to a sum of
 -- ones that says that records still differ, and applied to the sum of the counts it says what each count becomes.
 -- Dropping replaces each record by itself, so it takes the same part of every sum.
--- Assumes nothing.
 use mathlib.Core.Path.{_≡_, refl, ap, sym, _∙_}
 use Prim.Native.Nat.{ℕ, _+_, _-_, _≤_, _<_}
 use native.Mathlib.Omega.{arith}
@@ -23,7 +22,8 @@ use Rattle.model.proofs.Lists.{all-member, member-any, first-some, first-found,
 use Rattle.model.proofs.Consistent.{is-for-exactly, held-exactly}
 use Rattle.model.proofs.Lookup.{same-record}
 use Rattle.invariant.proofs.Good.{proper, Ordered}
-use Rattle.invariant.proofs.Sums.{Changed, changed, changed-member, changed-total, changed-all, for-same, weight, weight-same, weight-unused, zero-weight, sum-of, times, sum-none, differ-times, times-differ, count-sum}
+use Rattle.invariant.proofs.Sums.{Changed, changed, changed-member, changed-total, changed-all, for-same, weight, weight-same, weight-unused}
+use Rattle.invariant.proofs.Sums.{zero-weight, sum-of, times, sum-none, differ-times, times-differ, count-sum}
 
 -- a record with a count is used
 pub counted-used : (h : Hold) → 0 < h .count → used h ≡ true
@@ -34,7 +34,11 @@ counted-used h p = rw (ne-eqb (h .count) 0 (λ e. omega arith), and-false)
 pub proper-exactly : (h : Hold) → (proper h ≡ true) ↔ (used h ≡ true → (h .quota < QUOTAS) × (0 < h .count))
 unfolding proper
 proper-exactly h = (
-  λ e u. (let t = implies (used h) _ e u in (ltb-true (h .quota) QUOTAS (and-left _ _ t), leb-true 1 (h .count) (and-right (ltb (h .quota) QUOTAS) _ t))),
+  λ e u. (let t = implies (used h) _ e u in (
+    ltb-true (h .quota) QUOTAS (and-left _ _ t),
+    leb-true 1 (h .count)
+        (and-right (ltb (h .quota) QUOTAS) _ t),
+  )),
   λ f. implied (used h) _ (λ u. and-both _ _ (lt-ltb (h .quota) QUOTAS (f u .0)) (le-leb 1 (h .count) (f u .1))),
 )
 
@@ -65,7 +69,8 @@ unrecorded hs serial q e = count-found serial q hs none (first-none (is-for seri
 pub count-member : (hs : List Hold) → Ordered hs → (h : Hold) → List·Memᴰ h hs → used h ≡ true → count-of (h .serial) (h .quota) hs ≡ h .count
 unfolding has-record
 count-member hs r h m u =
-    let x = found-record hs (h .serial) (h .quota) (member-any (is-for (h .serial) (h .quota)) hs h m (is-for-exactly (h .serial) (h .quota) h .1 (u, refl, refl))) in
+    let x = found-record hs (h .serial) (h .quota) (member-any (is-for (h .serial) (h .quota)) hs h m
+    (is-for-exactly (h .serial) (h .quota) h .1 (u, refl, refl))) in
     let e = is-for-exactly (h .serial) (h .quota) (x .0) .0 (x .2) in
     x .3 ∙ ap (λ (g : Hold). g .count) (same-record hs (r .differ) (x .0) h (x .1) m (e .0) u (e .1) (e .2))
 
@@ -78,7 +83,8 @@ counted-record hs serial q p = go (has-record hs q serial) refl
     go false e = absurd (omega (arith, unrecorded hs serial q e))
 
 -- a count above 0 is that of a record
-pub member-count : (hs : List Hold) (serial q : ℕ) → 0 < count-of serial q hs → List·Memᴰ (record { serial = serial; quota = q; count = count-of serial q hs }) hs
+pub member-count : (hs : List Hold) (serial q : ℕ) → 0 < count-of serial q hs
+    → List·Memᴰ (record { serial = serial; quota = q; count = count-of serial q hs }) hs
 member-count hs serial q p =
     let x = found-record hs serial q (counted-record hs serial q p) in
     let e = is-for-exactly serial q (x .0) .0 (x .2) in
@@ -139,7 +145,8 @@ module _ (p : Hold → Bool) (f : Hold → Hold) (hs : List Hold) (r : Ordered h
   -- a count loses the old one and gains the new one
   changed-count : Ordered (change-first p f hs) → (t j : ℕ)
       → count-of t j (change-first p f hs) + weight (λ h. h .count) t j (c .one) ≡ count-of t j hs + weight (λ h. h .count) t j (f (c .one))
-  changed-count s t j = rw (count-sum hs (r .differ) t j, count-sum (change-first p f hs) (s .differ) t j) (changed-total p f hs c (weight (λ h. h .count) t j))
+  changed-count s t j = rw (count-sum hs (r .differ) t j, count-sum (change-first p f hs) (s .differ) t j)
+      (changed-total p f hs c (weight (λ h. h .count) t j))
 
 -- where not all are used, one is unused
 some-unused : (hs : List Hold) → all used hs ≡ false → any unused hs ≡ true
@@ -223,7 +230,8 @@ module _ (hs : List Hold) (r : Ordered hs) (serial q : ℕ) where
     take-count t j = go (eqb serial t && eqb q j) refl (changed-count unused (λ h. first-hold serial q) hs r taken take-ordered t j)
       where
         go : (b : Bool) → (eqb serial t && eqb q j) ≡ b
-            → count-of t j (take-record serial q hs) + weight (λ h. h .count) t j (taken .one) ≡ count-of t j hs + weight (λ h. h .count) t j (first-hold serial q)
+            → count-of t j (take-record serial q hs) + weight (λ h. h .count) t j (taken .one)
+            ≡ count-of t j hs + weight (λ h. h .count) t j (first-hold serial q)
             → count-of t j (take-record serial q hs) ≡ cond (eqb serial t && eqb q j) 1 (count-of t j hs)
         go true b e =
             rw b
@@ -254,7 +262,8 @@ module _ (hs : List Hold) (r : Ordered hs) (serial q : ℕ) where
     follows-count : (t j : ℕ) → count-of t j (change-first (is-for serial q) f hs) + cond (eqb serial t && eqb q j) (c .one .count) 0
         ≡ count-of t j hs + cond (eqb serial t && eqb q j) (f (c .one) .count) 0
     follows-count t j =
-        rw (← follows-weight t j, ← weight-same (λ h. h .count) serial q t j (c .one) (c .passes)) (changed-count (is-for serial q) f hs r c follows-ordered t j)
+        rw (← follows-weight t j, ← weight-same (λ h. h .count) serial q t j (c .one) (c .passes))
+        (changed-count (is-for serial q) f hs r c follows-ordered t j)
 
   -- one hold more, and one less
   module _ (there : has-record hs q serial ≡ true) where
@@ -286,7 +295,8 @@ module _ (hs : List Hold) (r : Ordered hs) (serial q : ℕ) where
     raise-counted t j = go (eqb serial t && eqb q j) (follows-count one-more (found one-more) raised t j)
       where
         go : (b : Bool)
-            → count-of t j (raise-count serial q hs) + cond b (found one-more .one .count) 0 ≡ count-of t j hs + cond b (found one-more .one .count + 1) 0
+            → count-of t j (raise-count serial q hs) + cond b (found one-more .one .count) 0
+            ≡ count-of t j hs + cond b (found one-more .one .count + 1) 0
             → count-of t j (raise-count serial q hs) ≡ cond b (count-of t j hs + 1) (count-of t j hs)
         go true e = omega arith
         go false e = omega arith
@@ -302,7 +312,8 @@ module _ (hs : List Hold) (r : Ordered hs) (serial q : ℕ) where
     lower-counted t j = go (eqb serial t && eqb q j) (follows-count less-one (found less-one) (lower-found .0) t j)
       where
         go : (b : Bool)
-            → count-of t j (lower-count serial q hs) + cond b (found less-one .one .count) 0 ≡ count-of t j hs + cond b (less-one (found less-one .one) .count) 0
+            → count-of t j (lower-count serial q hs) + cond b (found less-one .one .count) 0
+            ≡ count-of t j hs + cond b (less-one (found less-one .one) .count) 0
             → count-of t j (lower-count serial q hs) ≡ cond b (count-of t j hs - 1) (count-of t j hs)
         go true e = omega (arith, lower-found .1)
         go false e = omega arith
@@ -319,7 +330,8 @@ module _ (q : ℕ) where
       go true true x y = rw (x, y) (zero-weight v t j)
       go true false x y =
           rw (x, y)
-          (zero-weight v t j ∙ sym (not-for (λ e. eqb-false q j y (sym (eqb-true (h .quota) q (and-right (used h) _ x)) ∙ is-for-exactly t j h .0 e .2))))
+          (zero-weight v t j ∙ sym (not-for (λ e. eqb-false q j y (sym (eqb-true (h .quota) q (and-right (used h) _ x))
+          ∙ is-for-exactly t j h .0 e .2))))
       go false true x y =
           rw (x, y)
           (not-for (λ e.
@@ -362,4 +374,5 @@ drop-ordered hs r q =
 
 -- each of its counts becomes 0, every other stays
 pub drop-count : (hs : List Hold) → Ordered hs → (q t j : ℕ) → count-of t j (drop-records q hs) ≡ cond (eqb q j) 0 (count-of t j hs)
-drop-count hs r q t j = rw (count-sum hs (r .differ) t j, count-sum (drop-records q hs) (drop-ordered hs r q .differ) t j) (dropped-sum q (λ h. h .count) t j hs)
+drop-count hs r q t j = rw (count-sum hs (r .differ) t j, count-sum (drop-records q hs) (drop-ordered hs r q .differ) t j)
+    (dropped-sum q (λ h. h .count) t j hs)

@@ -1,5 +1,4 @@
 -- A good state: blocks and accounts of which a consistent heap is written; and records that are in order.
--- Assumes nothing.
 use Prim.Native.Nat.{ℕ, _<_, _^_}
 use mathlib.Core.Path.{_≡_}
 use mathlib.Core.List.{List}

@@ -1,7 +1,6 @@
 -- A good state is written as a consistent heap, and a consistent heap is read as a good state.
 -- The blocks of a good state can be written, so they are read again as they were written, and the tests of the heap are those of the blocks.
 -- Of a consistent heap, the blocks that were read can be written, and writing them gives the heap again.
--- Assumes nothing.
 use Prim.Native.Nat.{ℕ, _<_, _^_}
 use mathlib.Core.Path.{_≡_, refl, ap, sym, _∙_}
 use mathlib.Core.List.{List}

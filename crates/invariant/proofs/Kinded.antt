@@ -1,6 +1,5 @@
 -- Quarantined blocks stand in heaps of the second kind only, and the last serial and the kind stay in range (rules 22.2, 22.4 and 22.9): no change of a state
 -- that a call makes breaks this.
--- Assumes nothing.
 use Prim.Native.Nat.{ℕ, _<_}
 use mathlib.Core.Path.{_≡_, refl, _∙_}
 use mathlib.Core.Bool.{Bool, true, false, cond}

@@ -1,7 +1,6 @@
 -- The blocks of a good state by themselves: whole sizes, bytes and serials that can be written, an allowed length, well cut, and
 -- serials that differ. Carving, settling and copying keep all of that.
 -- Sizes are multiples of 8 and add up to at most 32,768, so each fits two bytes as a number of units. New bytes are zeros or parts of old bytes.
--- Assumes nothing.
 use Prim.Native.Nat.{ℕ, zero, suc, _+_, _-_, _%_, _^_, _≤_, _<_}
 use native.Mathlib.Omega.{arith}
 use mathlib.Core.Path.{_≡_, refl, sym, subst}
@@ -91,7 +90,8 @@ unfolding allowed
 allowed-most H e = leb-true H 32768 (and-right (leb 64 H) _ (and-right (eqb (H % 8) 0) _ e))
 
 -- an object of zeros is cut out of a block
-carved-stored : (base n serial at : ℕ) (bs cs : List Block) → Carved base n serial at bs cs → all storable bs ≡ true → serial < 2 ^ 32 → all storable cs ≡ true
+carved-stored : (base n serial at : ℕ) (bs cs : List Block) → Carved base n serial at bs cs → all storable bs ≡ true → serial < 2 ^ 32
+    → all storable cs ≡ true
 carved-stored base n serial at bs cs c s narrow =
     let b = c .block in
     let m : List·Memᴰ b bs = subst (λ (l : List Block). List·Memᴰ b l) (sym (c .split)) (Memᴰ·append-right (c .front) (List·Memᴰ·head refl)) in
@@ -132,8 +132,11 @@ unfolding settle reclaim vacate
 settle-stored kind hs bs s =
     join-all storable
     (λ b c p q.
-    storable-exactly (joined b c) .1
-    (lit< tt, octets-append (b .body) (replicate 8 0 ++ c .body) (storable-exactly b .0 p .1) (octets-append (replicate 8 0) (c .body) (zeros-octets 8) (storable-exactly c .0 q .1))))
+    storable-exactly (joined b c) .1 (
+      lit< tt,
+      octets-append (b .body) (replicate 8 0 ++ c .body) (storable-exactly b .0 p .1)
+          (octets-append (replicate 8 0) (c .body) (zeros-octets 8) (storable-exactly c .0 q .1)),
+    ))
     _ (vacated-all kind storable (λ b l e. storable-exactly _ .1 (vacant-narrow kind, zeros-octets (length (b .body)))) hs bs s)
 
 -- so a heap can still be written of the blocks
@@ -180,12 +183,15 @@ vacant-kind zero l body = refl
 vacant-kind (suc zero) l body = refl
 vacant-kind (suc (suc n)) l body = absurd (omega arith)
 
-pub settle-kinds : (kind : ℕ) → kind < 2 → (hs : List Hold) (bs : List Block) → all (in-kind kind) bs ≡ true → all (in-kind kind) (settle kind hs bs) ≡ true
+pub settle-kinds : (kind : ℕ) → kind < 2 → (hs : List Hold) (bs : List Block) → all (in-kind kind) bs ≡ true → all (in-kind kind) (settle kind hs bs)
+    ≡ true
 unfolding settle reclaim vacate in-kind
 settle-kinds kind l hs bs a =
-    join-all (in-kind kind) (λ b c p q. refl) _ (vacated-all kind (in-kind kind) (λ b v e. vacant-kind kind l (replicate (length (b .body)) 0)) hs bs a)
+    join-all (in-kind kind) (λ b c p q. refl) _ (vacated-all kind (in-kind kind) (λ b v e. vacant-kind kind l (replicate (length (b .body)) 0)) hs bs
+    a)
 
-pub carve-kinds : {base n serial at : ℕ} {bs cs : List Block} (c : Carved base n serial at bs cs) (kind : ℕ) → serial < QUARANTINED → all (in-kind kind) bs
+pub carve-kinds : {base n serial at : ℕ} {bs cs : List Block} (c : Carved base n serial at bs cs) (kind : ℕ) → serial < QUARANTINED
+    → all (in-kind kind) bs
     ≡ true → all (in-kind kind) cs ≡ true
 unfolding in-kind
 carve-kinds {base} {n} {serial} c kind l a =
@@ -205,7 +211,8 @@ put serial new b =
 
 module _ (serial : ℕ) (new : List ℕ) where
   -- it is the block with new bytes, or the block itself
-  put-elim : (P : Block → Type 0) (b : Block) → (b .serial ≡ serial → P (record { serial = serial; body = take (length (b .body)) new ++ drop (length new) (b .body) }))
+  put-elim : (P : Block → Type 0) (b : Block) → (b .serial ≡ serial → P
+      (record { serial = serial; body = take (length (b .body)) new ++ drop (length new) (b .body) }))
       → P b → P (put serial new b)
   unfolding put
   put-elim P b f g = go (eqb (b .serial) serial) refl
@@ -270,7 +277,11 @@ module _ (serial : ℕ) (new : List ℕ) where
       let r = storable-exactly b .0 (and-left (storable b) _ s) in
       and-both (storable (put serial new b)) _
       (put-elim (λ c. storable c ≡ true) b
-      (λ e. storable-exactly _ .1 (rw e at (r .0), octets-append (take (length (b .body)) new) (drop (length new) (b .body)) (octets-take (length (b .body)) new o) (octets-drop (length new) (b .body) (r .1)))) (and-left (storable b) _ s))
+      (λ e. storable-exactly _ .1 (
+        rw e at (r .0),
+        octets-append (take (length (b .body)) new) (drop (length new) (b .body))
+            (octets-take (length (b .body)) new o) (octets-drop (length new) (b .body) (r .1)),
+      )) (and-left (storable b) _ s))
       (copy-stored o bs (and-right (storable b) _ s))
 
   -- serials stay, and so the kind

@@ -1,8 +1,8 @@
 -- The members of a list of objects when one is added and when only some are kept, and that the serials still differ then.
 -- Each goes along the list: a member is the first object or one of the others.
--- Assumes nothing.
 use mathlib.Core.Path.{_≡_, refl, sym, _∙_}
-use mathlib.Core.List.{List, [], _∷_, _++_, List·Memᴰ, List·Memᴰ·head, List·Memᴰ·tail, List·Memᴰ·not-nil, List·Memᴰ·cases-cons, List·Memᴰ·append-cases, Memᴰ·append-left, Memᴰ·append-right}
+use mathlib.Core.List.{List, [], _∷_, _++_, List·Memᴰ, List·Memᴰ·head, List·Memᴰ·tail, List·Memᴰ·not-nil, List·Memᴰ·cases-cons}
+use mathlib.Core.List.{List·Memᴰ·append-cases, Memᴰ·append-left, Memᴰ·append-right}
 use mathlib.Core.Bool.{Bool, true, false, not, false≢true}
 use mathlib.Core.Logic.{_⊎_, inl, inr, _↔_}
 use borrow.Author.Tests.{not-true, eqb-true, eq-eqb}
@@ -55,11 +55,13 @@ module _ {A : Type 0} (p : A → Bool) where
       later : List·Memᴰ x (keep p ys) ↔ (List·Memᴰ x ys × (p x ≡ true)) → List·Memᴰ x (keep p ys) → List·Memᴰ x (y ∷ ys) × (p x ≡ true)
       later ih m = let r = ih .0 m in (List·Memᴰ·tail (r .0), r .1)
 
-      first : p y ≡ true → List·Memᴰ x (keep p ys) ↔ (List·Memᴰ x ys × (p x ≡ true)) → (x ≡ y) ⊎ List·Memᴰ x (keep p ys) → List·Memᴰ x (y ∷ ys) × (p x ≡ true)
+      first : p y ≡ true → List·Memᴰ x (keep p ys) ↔ (List·Memᴰ x ys × (p x ≡ true)) → (x ≡ y) ⊎ List·Memᴰ x (keep p ys) → List·Memᴰ x (y ∷ ys)
+          × (p x ≡ true)
       first t ih (inl e) = (List·Memᴰ·head e, rw e t)
       first t ih (inr m) = later ih m
 
-      back : p y ≡ true → List·Memᴰ x (keep p ys) ↔ (List·Memᴰ x ys × (p x ≡ true)) → p x ≡ true → (x ≡ y) ⊎ List·Memᴰ x ys → List·Memᴰ x (y ∷ keep p ys)
+      back : p y ≡ true → List·Memᴰ x (keep p ys) ↔ (List·Memᴰ x ys × (p x ≡ true)) → p x ≡ true → (x ≡ y) ⊎ List·Memᴰ x ys
+          → List·Memᴰ x (y ∷ keep p ys)
       back t ih u (inl e) = List·Memᴰ·head e
       back t ih u (inr m) = List·Memᴰ·tail (ih .1 (m, u))
 
@@ -67,12 +69,14 @@ module _ {A : Type 0} (p : A → Bool) where
       left t ih u (inl e) = absurd (false≢true (sym t ∙ rw e at u))
       left t ih u (inr m) = ih .1 (m, u)
 
-      go : (t : Bool) → p y ≡ t → List·Memᴰ x (keep p ys) ↔ (List·Memᴰ x ys × (p x ≡ true)) → List·Memᴰ x (keep p (y ∷ ys)) ↔ (List·Memᴰ x (y ∷ ys) × (p x ≡ true))
+      go : (t : Bool) → p y ≡ t → List·Memᴰ x (keep p ys) ↔ (List·Memᴰ x ys × (p x ≡ true)) → List·Memᴰ x (keep p (y ∷ ys))
+          ↔ (List·Memᴰ x (y ∷ ys) × (p x ≡ true))
       go true t ih = rw t (λ m. first t ih (List·Memᴰ·cases-cons m), λ r. back t ih (r .1) (List·Memᴰ·cases-cons (r .0)))
       go false t ih = rw t (later ih, λ r. left t ih (r .1) (List·Memᴰ·cases-cons (r .0)))
 
 -- serials differ exactly if the first object's is none of the others' and these differ
-pub differ-cons : (o : Handle) (os : List Handle) → (serials-differ (o ∷ os) ≡ true) ↔ (((p : Handle) → List·Memᴰ p os → p .serial ≡ o .serial → ⊥) × (serials-differ os ≡ true))
+pub differ-cons : (o : Handle) (os : List Handle) → (serials-differ (o ∷ os) ≡ true)
+    ↔ (((p : Handle) → List·Memᴰ p os → p .serial ≡ o .serial → ⊥) × (serials-differ os ≡ true))
 unfolding serials-differ
 differ-cons o os =
     let none = none-exactly (has-serial (o .serial)) os in (
@@ -89,12 +93,14 @@ unfolding keep
 differ-kept p [] d = d
 differ-kept p (o ∷ os) d = let r = differ-cons o os .0 d in go (p o) refl (r .0) (differ-kept p os (r .1))
   where
-    go : (t : Bool) → p o ≡ t → ((x : Handle) → List·Memᴰ x os → x .serial ≡ o .serial → ⊥) → serials-differ (keep p os) ≡ true → serials-differ (keep p (o ∷ os)) ≡ true
+    go : (t : Bool) → p o ≡ t → ((x : Handle) → List·Memᴰ x os → x .serial ≡ o .serial → ⊥) → serials-differ (keep p os) ≡ true
+        → serials-differ (keep p (o ∷ os)) ≡ true
     go true t f ih = rw t (differ-cons o (keep p os) .1 (λ x m. f x (keep-exactly p os x .0 m .0), ih))
     go false t f ih = rw t ih
 
 -- and so do the serials where one is put in whose serial none had
-differ-put : (o : Handle) (xs ys : List Handle) → ((p : Handle) → List·Memᴰ p (xs ++ ys) → p .serial ≡ o .serial → ⊥) → serials-differ (xs ++ ys) ≡ true
+differ-put : (o : Handle) (xs ys : List Handle) → ((p : Handle) → List·Memᴰ p (xs ++ ys) → p .serial ≡ o .serial → ⊥) → serials-differ (xs ++ ys)
+    ≡ true
     → serials-differ (xs ++ (o ∷ ys)) ≡ true
 differ-put o [] ys f d = differ-cons o ys .1 (f, d)
 differ-put o (x ∷ xs) ys f d =
@@ -106,6 +112,7 @@ differ-put o (x ∷ xs) ys f d =
     go p e g (inr m) = g m e
 
 -- so an added object with a new serial leaves them different
-pub differ-added : (o : Handle) (os os′ : List Handle) → Added o os os′ → ((p : Handle) → List·Memᴰ p os → p .serial ≡ o .serial → ⊥) → serials-differ os ≡ true
+pub differ-added : (o : Handle) (os os′ : List Handle) → Added o os os′ → ((p : Handle) → List·Memᴰ p os → p .serial ≡ o .serial → ⊥)
+    → serials-differ os ≡ true
     → serials-differ os′ ≡ true
 differ-added o os os′ a f d = rw (a .now) (differ-put o (a .front) (a .back) (λ p m. f p (rw (a .old) m)) (rw (a .old) at d))

@@ -1,7 +1,6 @@
 -- Objects and accounts that fit together still do when a count is raised, and when only the objects with a count are kept.
 -- A raised count leaves every count above 0 that was, and makes one more so, of an object that is there. When counts fall, the objects that are
 -- kept are those with a count above 0, and the others pay nothing. What a quota pays and what remains of it is the payment's concern.
--- Assumes nothing.
 use Prim.Native.Nat.{ℕ, zero, suc, _+_, _≤_, _<_}
 use native.Mathlib.Omega.{arith}
 use mathlib.Core.Path.{_≡_, refl, sym, _∙_}
@@ -31,7 +30,8 @@ Raised serial q hs hs′ = (u j : ℕ) → count-of u j hs′ ≡ cond (eqb seri
 
 module _ (serial q : ℕ) (hs hs′ : List Hold) where
   -- a count of 1 is one more than none
-  pub raised-first : count-of serial q hs ≡ 0 → ((u j : ℕ) → count-of u j hs′ ≡ cond (eqb serial u && eqb q j) 1 (count-of u j hs)) → Raised serial q hs hs′
+  pub raised-first : count-of serial q hs ≡ 0 → ((u j : ℕ) → count-of u j hs′ ≡ cond (eqb serial u && eqb q j) 1 (count-of u j hs))
+      → Raised serial q hs hs′
   raised-first z c u j = c u j ∙ go (eqb serial u) (eqb q j) refl refl
     where
       go : (x y : Bool) → eqb serial u ≡ x → eqb q j ≡ y → cond (x && y) 1 (count-of u j hs) ≡ cond (x && y) (count-of u j hs + 1) (count-of u j hs)
@@ -66,8 +66,10 @@ module _ (serial q : ℕ) (hs hs′ : List Hold) where
 
 -- a count is raised of an object that is among the objects, old or new
 module _ (q : ℕ) (o : Handle) (os os′ : List Handle) (k k′ : Accounts) (b : Recorded os k) (c : Raised (o .serial) q (k .holds) (k′ .holds)) where
-  pub raised-recorded : Ordered (k′ .holds) → List·Memᴰ o os′ → ((p : Handle) → List·Memᴰ p os → List·Memᴰ p os′) → ((p : Handle) → List·Memᴰ p os′ → (p ≡ o) ⊎ List·Memᴰ p os)
-      → ((p : Handle) → List·Memᴰ p os′ → p .serial ≤ k′ .«last_serial») → ((j : ℕ) → j < QUOTAS → quota-at j k′ .grant ≡ quota-at j k′ .remainder + owed (k′ .holds) j os′)
+  pub raised-recorded : Ordered (k′ .holds) → List·Memᴰ o os′ → ((p : Handle) → List·Memᴰ p os → List·Memᴰ p os′)
+      → ((p : Handle) → List·Memᴰ p os′ → (p ≡ o) ⊎ List·Memᴰ p os)
+      → ((p : Handle) → List·Memᴰ p os′ → p .serial ≤ k′ .«last_serial»)
+      → ((j : ℕ) → j < QUOTAS → quota-at j k′ .grant ≡ quota-at j k′ .remainder + owed (k′ .holds) j os′)
       → Recorded os′ k′
   raised-recorded r there old cases given balance =
       record {
@@ -78,7 +80,8 @@ module _ (q : ℕ) (o : Handle) (os os′ : List Handle) (k k′ : Accounts) (b 
         balance = balance;
       }
     where
-      live : (u : ℕ) {P : Type 0} → (u ≡ o .serial) ⊎ P → (P → (p : Handle) × List·Memᴰ p os × (p .serial ≡ u)) → (p : Handle) × List·Memᴰ p os′ × (p .serial ≡ u)
+      live : (u : ℕ) {P : Type 0} → (u ≡ o .serial) ⊎ P → (P → (p : Handle) × List·Memᴰ p os × (p .serial ≡ u)) → (p : Handle) × List·Memᴰ p os′
+          × (p .serial ≡ u)
       live u (inl e) f = (o, there, sym e)
       live u (inr p) f = let r = f p in (r .0, old (r .0) (r .1), r .2)
 
@@ -105,7 +108,8 @@ Fewer hs′ hs = (u j : ℕ) → 0 < count-of u j hs′ → 0 < count-of u j hs
 -- counts fall, and the objects that are still held are kept
 module _ (os : List Handle) (k k′ : Accounts) (b : Recorded os k) (r : Ordered (k′ .holds)) where
   pub kept-recorded : Fewer (k′ .holds) (k .holds) → k′ .«last_serial» ≡ k .«last_serial»
-      → ((j : ℕ) → j < QUOTAS → quota-at j k′ .grant ≡ quota-at j k′ .remainder + owed (k′ .holds) j os) → Recorded (keep (object-held (k′ .holds)) os) k′
+      → ((j : ℕ) → j < QUOTAS → quota-at j k′ .grant ≡ quota-at j k′ .remainder + owed (k′ .holds) j os)
+      → Recorded (keep (object-held (k′ .holds)) os) k′
   kept-recorded fewer last balance =
       let kept = keep-exactly (object-held (k′ .holds)) os in
       record {

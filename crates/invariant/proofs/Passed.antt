@@ -1,5 +1,4 @@
 -- What an accepted call's lines have shown: each line of its list does not hold.
--- Assumes nothing.
 use Prim.Native.Nat.{ℕ, _+_, _≤_, _<_, _^_}
 use native.Mathlib.Omega.{arith}
 use mathlib.Core.Path.{_≡_, refl}

@@ -1,6 +1,5 @@
 -- What a payment does to objects and accounts that fit together: one quota pays for one more object or one less, and no other quota pays.
 -- A payment takes from the remainder what it adds to the charges, or the other way round, so the two still make up the grant.
--- Assumes nothing.
 use Prim.Native.Nat.{ℕ, _+_, _-_, _≤_, _<_, _^_}
 use native.Mathlib.Omega.{arith}
 use mathlib.Core.Path.{_≡_, refl, ap, sym, _∙_}
@@ -83,7 +82,8 @@ other-quota : (serial q u j : ℕ) → eqb q j ≡ false → (eqb serial u && eq
 other-quota serial q u j e = and-no (eqb serial u) (eqb q j) e
 
 -- where one object costs one quota d more, that quota pays d more and no other does
-pub owed-moved : (hs hs′ : List Hold) (q : ℕ) (o : Handle) (os : List Handle) (d : ℕ) → serials-differ os ≡ true → List·Memᴰ o os → Elsewhere (o .serial) q hs hs′
+pub owed-moved : (hs hs′ : List Hold) (q : ℕ) (o : Handle) (os : List Handle) (d : ℕ) → serials-differ os ≡ true → List·Memᴰ o os
+    → Elsewhere (o .serial) q hs hs′
     → due hs′ q o ≡ due hs q o + d → (j : ℕ) → owed hs′ j os ≡ owed hs j os + cond (eqb q j) d 0
 owed-moved hs hs′ q o os d df m only e j = go (eqb q j) refl
   where

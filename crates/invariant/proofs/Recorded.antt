@@ -2,7 +2,6 @@
 -- it has all three.
 -- By counts the tests of records say: a count above 0 is of a live serial, every live serial has one, and what a quota pays is the charges of
 -- the objects it has a count for. A record is valid exactly if it is proper and its serial is live.
--- Assumes nothing.
 use Prim.Native.Nat.{ℕ, _+_, _≤_, _<_, _^_}
 use native.Mathlib.Omega.{arith}
 use mathlib.Core.Path.{_≡_, refl}
@@ -91,8 +90,10 @@ module _ (t : State) (g : Good t) where
         given = given-exactly (k .«last_serial») os .0 (g .tests .given);
         ordered = r;
         live = good-live;
-        counted = λ o m. held-counted (k .holds) r (o .serial) .0 (all-member (λ (o : Handle). held (k .holds) (o .serial)) os (g .tests .recorded) o m);
-        balance = λ q l. rw (← charges-counted (k .holds) r q os) (balance-exactly os (k .holds) (k .quotas) .0 (g .tests .balance) q (rw (g .quotas) l));
+        counted = λ o m. held-counted (k .holds) r (o .serial) .0 (all-member (λ (o : Handle). held (k .holds) (o .serial)) os (g .tests .recorded) o
+            m);
+        balance = λ q l. rw (← charges-counted (k .holds) r q os) (balance-exactly os (k .holds) (k .quotas) .0 (g .tests .balance) q
+            (rw (g .quotas) l));
       }
 
 -- a proper record whose serial is live is valid
@@ -121,8 +122,10 @@ good-state t l b m =
             given = given-exactly (k .«last_serial») os .1 (b .given);
             valid = valid-exactly os (k .holds) .1 (recorded-valid os k b);
             unique = b .ordered .differ;
-            recorded = member-all (λ (o : Handle). held (k .holds) (o .serial)) os (λ o i. held-counted (k .holds) (b .ordered) (o .serial) .1 (b .counted o i));
-            balance = balance-exactly os (k .holds) (k .quotas) .1 (λ q h. rw (charges-counted (k .holds) (b .ordered) q os) (b .balance q (rw (m .quotas) at h)));
+            recorded = member-all (λ (o : Handle). held (k .holds) (o .serial)) os
+                (λ o i. held-counted (k .holds) (b .ordered) (o .serial) .1 (b .counted o i));
+            balance = balance-exactly os (k .holds) (k .quotas) .1 (λ q h. rw (charges-counted (k .holds) (b .ordered) q os)
+                (b .balance q (rw (m .quotas) at h)));
           };
       quotas = m .quotas;
       narrow = m .narrow;

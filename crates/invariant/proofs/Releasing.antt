@@ -1,6 +1,5 @@
 -- A release is accepted exactly where it is possible, and then leaves what its definition says.
 -- Each of its lines says one thing of the state: the heap's length, soundness, the quota's number, the object that the handle names, its record.
--- Assumes nothing.
 use mathlib.Core.Path.{_≡_, ap, _∙_}
 use Prim.Native.Nat.{ℕ, _<_, _^_}
 use mathlib.Core.List.{List, List·Memᴰ}

@@ -1,7 +1,6 @@
 -- A request for a new object that has passed its lines, in a good state: the object has room and a serial that no other has. Once it is made and has
 -- reallocate's bytes, the old object is still there, and the quota still has its record for it.
 -- The base that was found is a multiple of the alignment and so of 8, and it suits. Making an object keeps every other object and every other count.
--- Assumes nothing.
 use Prim.Native.Nat.{ℕ, _%_}
 use native.Mathlib.Nat.{mod-mod-of-dvd, dvd-of-mod-eq-zero}
 use native.Mathlib.Omega.{arith}
@@ -35,10 +34,12 @@ use Rattle.invariant.proofs.Passed.{Allocatable}
 pub eights : (b a : ℕ) → a % 8 ≡ 0 → b % a ≡ 0 → b % 8 ≡ 0
 eights b a e f = sym (mod-mod-of-dvd 8 b (dvd-of-mod-eq-zero 8 e)) ∙ ap (λ (x : ℕ). x % 8) f
 
-module _ (unit : ℕ → ℕ) (units : Units unit) (s : List ℕ) (k : Accounts) (g : Good (state-of s k)) (again : render (blocks-of s) ≡ s) (q n : ℕ) (p : Allocatable unit s k q n) where
+module _ (unit : ℕ → ℕ) (units : Units unit) (s : List ℕ) (k : Accounts) (g : Good (state-of s k)) (again : render (blocks-of s) ≡ s) (q n : ℕ)
+    (p : Allocatable unit s k q n) where
   base-lowest : Lowest (length s) (blocks-of s) (alignment unit n) (object-length unit n) (p .base)
   unfolding base-for
-  base-lowest = lowest-some (length s) (blocks-of s) (alignment unit n) (object-length unit n) (R.alignment-positive unit units n) (p .base) (p .based)
+  base-lowest = lowest-some (length s) (blocks-of s) (alignment unit n) (object-length unit n) (R.alignment-positive unit units n) (p .base)
+      (p .based)
 
   -- the new object may be made
   pub requested-room : Room q (new-object unit s k n) (state-of s k)
@@ -64,25 +65,30 @@ module _ (unit : ℕ → ℕ) (units : Units unit) (s : List ℕ) (k : Accounts)
   requested-fresh x m e = let f = given-exactly (k .«last_serial») (objects (blocks-of s)) .0 (g .tests .given) x m in omega arith
 
 -- a new object's base and length are multiples of its unit, since a rounded length rounds to itself
-pub new-in-units : (unit : ℕ → ℕ) (units : Units unit) (s : List ℕ) (k : Accounts) (q n : ℕ) → Allocatable unit s k q n → in-units unit (new-object unit s k n) ≡ true
+pub new-in-units : (unit : ℕ → ℕ) (units : Units unit) (s : List ℕ) (k : Accounts) (q n : ℕ) → Allocatable unit s k q n
+    → in-units unit (new-object unit s k n) ≡ true
 unfolding in-units new-object or-else alignment base-for
 new-in-units unit units s k q n p =
     let w = lowest-some (length s) (blocks-of s) (alignment unit n) (object-length unit n) (R.alignment-positive unit units n) (p .base) (p .based) in
     rw (p .based) (and-both _ _ (eq-eqb _ 0 (R.rounded unit units n .aligned)) (eq-eqb _ 0 (w .multiple)))
 
 -- a record for an object stays when another object is made
-still-held : (q : ℕ) (old new : Handle) (t : State) (g : Good t) (r : Room q new t) → (old .serial ≡ new .serial → ⊥) → has-record (t .accounts .holds) q (old .serial) ≡ true
+still-held : (q : ℕ) (old new : Handle) (t : State) (g : Good t) (r : Room q new t) → (old .serial ≡ new .serial → ⊥)
+    → has-record (t .accounts .holds) q (old .serial) ≡ true
     → has-record (allocated q new t .accounts .holds) q (old .serial) ≡ true
 still-held q old new t g r ne held =
     let c = record-counted (t .accounts .holds) (good-ordered t g) (old .serial) q .0 held in
     let e = allocated-counts q new t g r (old .serial) q in
     let z : eqb (new .serial) (old .serial) ≡ false = ne-eqb (new .serial) (old .serial) (λ p. ne (sym p)) in
-    record-counted (allocated q new t .accounts .holds) (good-ordered (allocated q new t) (allocated-good q new t g r)) (old .serial) q .1 (rw e (rw z c))
+    record-counted (allocated q new t .accounts .holds) (good-ordered (allocated q new t) (allocated-good q new t g r)) (old .serial) q .1
+    (rw e (rw z c))
 
 -- the old object is there and held once the new one is made and has its bytes
-pub still-releasable : (t : State) (g : Good t) (q : ℕ) (old new : Handle) (r : Room q new t) → (old .serial ≡ new .serial → ⊥) → List·Memᴰ old (objects (t .blocks))
+pub still-releasable : (t : State) (g : Good t) (q : ℕ) (old new : Handle) (r : Room q new t) → (old .serial ≡ new .serial → ⊥)
+    → List·Memᴰ old (objects (t .blocks))
     → has-record (t .accounts .holds) q (old .serial) ≡ true
-    → List·Memᴰ old (objects (copied old new (allocated q new t) .blocks)) × (has-record (copied old new (allocated q new t) .accounts .holds) q (old .serial) ≡ true)
+    → List·Memᴰ old (objects (copied old new (allocated q new t) .blocks))
+    × (has-record (copied old new (allocated q new t) .accounts .holds) q (old .serial) ≡ true)
 unfolding copied
 still-releasable t g q old new r ne there held =
     let t₁ = allocated q new t in

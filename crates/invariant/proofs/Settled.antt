@@ -1,6 +1,5 @@
 -- Releasing and freeing keep a state good: counts fall, the objects that no record holds leave, and what they cost is given back.
 -- What is given back is what the quota paid for them. With the remainder it is at most the grant, so it fits 32 bits and is paid in full.
--- Assumes nothing.
 use Prim.Native.Nat.{ℕ, _+_, _-_, _<_, _^_}
 use native.Mathlib.Omega.{arith}
 use mathlib.Core.Path.{_≡_, refl, ap, sym}
@@ -29,7 +28,8 @@ use Rattle.invariant.proofs.Payments.{same-grant, same-limits, refunded
 use Rattle.invariant.proofs.Moves.{Fewer, kept-recorded}
 
 -- counts fall, and a quota is paid back what it no longer owes
-module _ (q n : ℕ) (t : State) (g : Good t) (exists : q < QUOTAS) (hs : List Hold) (r : Ordered hs) (less : (j : ℕ) → owed (t .accounts .holds) j (objects (t .blocks)) ≡ owed hs j (objects (t .blocks)) + cond (eqb q j) n 0) where
+module _ (q n : ℕ) (t : State) (g : Good t) (exists : q < QUOTAS) (hs : List Hold) (r : Ordered hs)
+    (less : (j : ℕ) → owed (t .accounts .holds) j (objects (t .blocks)) ≡ owed hs j (objects (t .blocks)) + cond (eqb q j) n 0) where
   -- what is paid back fits 32 bits
   fits : remaining q (t .accounts) + n < 2 ^ 32
   unfolding remaining
@@ -41,13 +41,21 @@ module _ (q n : ℕ) (t : State) (g : Good t) (exists : q < QUOTAS) (hs : List H
   settled-paid = rw (eq-eqb q q refl) at (refunded q n (t .accounts) (good-limits t g) exists fits q)
 
   -- the objects that are held and the accounts fit together
-  settled-recorded : Fewer hs (t .accounts .holds) → Recorded (objects (settle (t .accounts .kind) hs (t .blocks))) (with-holds hs (refund q n (t .accounts)))
+  settled-recorded : Fewer hs (t .accounts .holds) → Recorded (objects (settle (t .accounts .kind) hs (t .blocks)))
+      (with-holds hs (refund q n (t .accounts)))
   settled-recorded fewer =
       let k = t .accounts in
       let b = good-recorded t g in
       rw (settle-objects (t .accounts .kind) hs (t .blocks))
       (kept-recorded (objects (t .blocks)) k (with-holds hs (refund q n k)) b r fewer (refund-kept q n k .same-last)
-      (λ j l. omega (arith, same-grant q k (refund q n k) (refund-kept q n k) j, refunded q n k (good-limits t g) exists fits j, b .balance j l, less j)))
+      (λ j l. omega (
+        arith,
+        same-grant q k (refund q n k) (refund-kept q n k) j,
+        refunded q n k (good-limits t g) exists fits j,
+        b .balance j l,
+        less
+            j,
+      )))
 
   -- and the state is good
   settled-good : Fewer hs (t .accounts .holds) → Good
@@ -67,9 +75,11 @@ cost-less n o p = go (eqb n 1) refl
     go false e = let f = eqb-false n 1 e in omega (arith, cost-some n o p, cost-some (n - 1) o (omega (arith, f)))
 
 -- an object that is there is released by a quota that has a record for it
-module _ (q : ℕ) (o : Handle) (t : State) (g : Good t) (there : List·Memᴰ o (objects (t .blocks))) (held : has-record (t .accounts .holds) q (o .serial) ≡ true) where
+module _ (q : ℕ) (o : Handle) (t : State) (g : Good t) (there : List·Memᴰ o (objects (t .blocks)))
+    (held : has-record (t .accounts .holds) q (o .serial) ≡ true) where
   -- the quota's count for it is one less
-  counts : (u j : ℕ) → count-of u j (lower-count (o .serial) q (t .accounts .holds)) ≡ cond (eqb (o .serial) u && eqb q j) (count-of u j (t .accounts .holds) - 1) (count-of u j (t .accounts .holds))
+  counts : (u j : ℕ) → count-of u j (lower-count (o .serial) q (t .accounts .holds))
+      ≡ cond (eqb (o .serial) u && eqb q j) (count-of u j (t .accounts .holds) - 1) (count-of u j (t .accounts .holds))
   counts = lower-counted (t .accounts .holds) (good-recorded t g .ordered) (o .serial) q held
 
   -- it was above 0
@@ -86,12 +96,15 @@ module _ (q : ℕ) (o : Handle) (t : State) (g : Good t) (there : List·Memᴰ o
 
   -- the quota owes what is given back less
   released-less : (j : ℕ)
-      → owed (t .accounts .holds) j (objects (t .blocks)) ≡ owed (lower-count (o .serial) q (t .accounts .holds)) j (objects (t .blocks)) + cond (eqb q j) (given-back q o (t .accounts)) 0
+      → owed (t .accounts .holds) j (objects (t .blocks)) ≡ owed (lower-count (o .serial) q (t .accounts .holds)) j (objects (t .blocks)) + cond
+      (eqb q j) (given-back q o (t .accounts)) 0
   unfolding given-back
   released-less j =
       let hs = t .accounts .holds in
-      let here : count-of (o .serial) q (lower-count (o .serial) q hs) ≡ count-of (o .serial) q hs - 1 = rw (themselves (o .serial) q) at (counts (o .serial) q) in
-      owed-moved (lower-count (o .serial) q hs) hs q o (objects (t .blocks)) (given-back q o (t .accounts)) (good-laid t g .differ) there (λ u j e. sym (rw e at (counts u j)))
+      let here : count-of (o .serial) q (lower-count (o .serial) q hs) ≡ count-of (o .serial) q hs - 1 =
+      rw (themselves (o .serial) q) at (counts (o .serial) q) in
+      owed-moved (lower-count (o .serial) q hs) hs q o (objects (t .blocks)) (given-back q o (t .accounts)) (good-laid t g .differ) there
+      (λ u j e. sym (rw e at (counts u j)))
       (rw here (cost-less (count-of (o .serial) q hs) o some)) j
 
   -- and is paid that
@@ -109,7 +122,8 @@ module _ (q : ℕ) (o : Handle) (t : State) (g : Good t) (there : List·Memᴰ o
   released-good =
       let hs = t .accounts .holds in
       let r = good-recorded t g .ordered in
-      settled-good q (given-back q o (t .accounts)) t g (counted-quota hs r (o .serial) q some) (lower-count (o .serial) q hs) (lower-ordered hs r (o .serial) q held) released-less
+      settled-good q (given-back q o (t .accounts)) t g (counted-quota hs r (o .serial) q some) (lower-count (o .serial) q hs)
+      (lower-ordered hs r (o .serial) q held) released-less
       released-fewer
 
   -- and its objects are those that are still held
@@ -139,14 +153,20 @@ module _ (q : ℕ) (t : State) (g : Good t) (exists : q < QUOTAS) where
 
   -- the quota owes nothing any more
   freed-less : (j : ℕ)
-      → owed (t .accounts .holds) j (objects (t .blocks)) ≡ owed (drop-records q (t .accounts .holds)) j (objects (t .blocks)) + cond (eqb q j) (charges (t .accounts .holds) q (objects (t .blocks))) 0
+      → owed (t .accounts .holds) j (objects (t .blocks)) ≡ owed (drop-records q (t .accounts .holds)) j (objects (t .blocks)) + cond (eqb q j)
+      (charges (t .accounts .holds) q (objects (t .blocks))) 0
   freed-less j = rw (charges-counted (t .accounts .holds) (good-recorded t g .ordered) q (objects (t .blocks))) (go (eqb q j) refl)
     where
       go : (x : Bool) → eqb q j ≡ x
-          → owed (t .accounts .holds) j (objects (t .blocks)) ≡ owed (drop-records q (t .accounts .holds)) j (objects (t .blocks)) + cond x (owed (t .accounts .holds) q (objects (t .blocks))) 0
+          → owed (t .accounts .holds) j (objects (t .blocks)) ≡ owed (drop-records q (t .accounts .holds)) j (objects (t .blocks)) + cond x
+          (owed (t .accounts .holds) q (objects (t .blocks))) 0
       go true e =
           rw (← eqb-true q j e)
-          (omega (arith, total-none (due (drop-records q (t .accounts .holds)) q) (objects (t .blocks)) (λ o. rw (dropped (o .serial) q, eq-eqb q q refl))))
+          (omega (
+            arith,
+            total-none (due (drop-records q (t .accounts .holds)) q) (objects (t .blocks))
+                (λ o. rw (dropped (o .serial) q, eq-eqb q q refl)),
+          ))
       go false e =
           omega (
             arith,
@@ -167,10 +187,12 @@ module _ (q : ℕ) (t : State) (g : Good t) (exists : q < QUOTAS) where
   unfolding freed
   freed-good =
       let hs = t .accounts .holds in
-      settled-good q (charges hs q (objects (t .blocks))) t g exists (drop-records q hs) (drop-ordered hs (good-recorded t g .ordered) q) freed-less freed-fewer
+      settled-good q (charges hs q (objects (t .blocks))) t g exists (drop-records q hs) (drop-ordered hs (good-recorded t g .ordered) q) freed-less
+      freed-fewer
 
   -- and its objects are those that are still held
-  pub freed-objects : objects (freed q (charges (t .accounts .holds) q (objects (t .blocks))) t .blocks) ≡ keep (object-held (drop-records q (t .accounts .holds))) (objects (t .blocks))
+  pub freed-objects : objects (freed q (charges (t .accounts .holds) q (objects (t .blocks))) t .blocks)
+      ≡ keep (object-held (drop-records q (t .accounts .holds))) (objects (t .blocks))
   unfolding freed
   freed-objects = settle-objects (t .accounts .kind) (drop-records q (t .accounts .holds)) (t .blocks)
 

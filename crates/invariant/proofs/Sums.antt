@@ -2,7 +2,6 @@
 -- A change of the first record that passes a test leaves those before and after it, so a sum loses what that record added and gains what the new
 -- one adds. Records differ exactly if each serial and quota has at most one used record, which is a sum of ones; and then the count of a serial
 -- and quota is the sum of the counts.
--- Assumes nothing.
 use mathlib.Core.Path.{_≡_, refl, ap, sym, subst, _∙_}
 use Prim.Native.Nat.{ℕ, _+_, _≤_}
 use native.Mathlib.Omega.{arith}

@@ -1,5 +1,4 @@
 -- What the proof of demand 3 keeps from call to call: a consistent state, and a ledger that matches it.
--- Assumes nothing.
 use Prim.Native.Nat.{ℕ, _<_, _^_}
 use mathlib.Core.Path.{_≡_}
 use mathlib.Core.List.{List, map, List·Memᴰ}

@@ -1,6 +1,5 @@
 -- Beyond the request: no call changes a byte of an object that stays, a new object is all zero, and a reallocated one has the copied bytes and then zeros.
 -- A call makes no live block but the new object's, and every other live block that is left was there before with the same bytes.
--- Assumes nothing.
 use Prim.Native.Nat.{ℕ, zero, suc, _+_, _*_, _<_}
 use native.Mathlib.Omega.{arith}
 use mathlib.Core.Path.{_≡_, refl, ap, _∙_}
@@ -16,13 +15,15 @@ use Rattle.model.specs.Lists.{all}
 use Rattle.model.specs.Objects.{objects, blocks-of, objects-of, lookup, lookup-whole, found}
 use Rattle.model.specs.Consistent.{long-enough, free-apart, well-cut, charges, has-record}
 use Rattle.model.specs.Space.{body-of, swept}
-use Rattle.model.specs.Calls.{Outcome, State, unless, state-of, allocated, released, freed, copied, new-object, allocate, allocate-array, claim, release}
+use Rattle.model.specs.Calls.{Outcome, State, unless, state-of, allocated, released, freed, copied, new-object, allocate, allocate-array, claim}
+use Rattle.model.specs.Calls.{release}
 use Rattle.model.specs.Calls.{free-all, reallocate, lend, remaining-of, can-release, list-block, clear, sweep}
 use Rattle.model.specs.Refusals.{first-refusal, quota-lines, free-all-lines, lend-lines, release-lines, claim-lines, check-lines, allocate-lines}
 use Rattle.model.specs.Refusals.{reallocate-lines}
 use Rattle.model.specs.Step.{step}
 use Rattle.model.specs.declared.Call.{Call}
-use Rattle.model.specs.declared.Call.the-variants.{Allocate, AllocateArray, Claim, Release, FreeAll, Reallocate, Lend, Remaining, CanRelease, ListBlock}
+use Rattle.model.specs.declared.Call.the-variants.{Allocate, AllocateArray, Claim, Release, FreeAll, Reallocate, Lend, Remaining, CanRelease}
+use Rattle.model.specs.declared.Call.the-variants.{ListBlock}
 use Rattle.model.specs.declared.Call.the-variants.{ClearPermissions, Sweep}
 use Rattle.model.proofs.Refusals.{accepted-exactly, by-lines}
 use Rattle.model.specs.declared.Handle.{Handle}
@@ -52,7 +53,8 @@ apart-of-cut bs e = and-right (all long-enough bs) (free-apart bs) e
 pub allocated-live : (q : ℕ) (o : Handle) (t : State) → Good t → Room q o t → (b : Block) → live b ≡ true → List·Memᴰ b (allocated q o t .blocks)
     → (b ≡ record { serial = o .serial; body = replicate (o .length) 0 }) ⊎ List·Memᴰ b (t .blocks)
 unfolding allocated
-allocated-live q o t g r b l m = carved-live (carved (o .base) (o .length) (o .serial) (t .blocks) (apart-of-cut (t .blocks) (g .tests .cut)) (r .fits)) b l m
+allocated-live q o t g r b l m = carved-live (carved (o .base) (o .length) (o .serial) (t .blocks) (apart-of-cut (t .blocks) (g .tests .cut))
+    (r .fits)) b l m
 
 pub allocated-leaves : (q : ℕ) (o : Handle) (t : State) → Good t → Room q o t → Leaves (o .serial) t (allocated q o t)
 allocated-leaves q o t g r b l m ne = ⊎-elim (λ e. absurd (ne (ap (λ (x : Block). x .serial) e))) (λ x. x) (allocated-live q o t g r b l m)
@@ -68,7 +70,8 @@ freed-leaves new q back t b l m ne = settled-live (t .accounts .kind) _ (t .bloc
 pub copied-leaves : (old new : Handle) (t : State) → Leaves (new .serial) t (copied old new t)
 unfolding copied
 copied-leaves old new t b l m ne =
-    ⊎-elim (λ x. x .0) (λ y. absurd (ne (ap (λ (z : Block). z .serial) (y .3)))) (copied-live (new .serial) (body-of (old .serial) (t .blocks)) (t .blocks) b l m)
+    ⊎-elim (λ x. x .0) (λ y. absurd (ne (ap (λ (z : Block). z .serial) (y .3))))
+    (copied-live (new .serial) (body-of (old .serial) (t .blocks)) (t .blocks) b l m)
 
 pub leaves-then : (new : ℕ) (t u v : State) → Leaves new t u → Leaves new u v → Leaves new t v
 leaves-then new t u v f g b l m ne = f b l (g b l m ne) ne
@@ -79,7 +82,8 @@ module _ (l : Ledger) (s : List ℕ) (k : Accounts) (a : Agrees l s k) (new : �
       → contents o (render (t .blocks)) ≡ contents o s
   unfolding objects-of
   left-bytes o m ne n =
-      contents-stay (blocks-of s) (t .blocks) new (good l s k a .tests .differ) f o m (rw (good-heap t g .blocks) at n) ne ∙ ap (contents o) (again l s k a)
+      contents-stay (blocks-of s) (t .blocks) new (good l s k a .tests .differ) f o m (rw (good-heap t g .blocks) at n) ne
+      ∙ ap (contents o) (again l s k a)
 
 -- bytes of objects that stay, of a call that may be refused
 abbrev Stays : List ℕ → List ℕ → Type 0
@@ -113,7 +117,8 @@ module _ (unit : ℕ → ℕ) (units : Units unit) (l : Ledger) (s : List ℕ) (
   free-bytes : (q : ℕ) → q < QUOTAS → Stays s (render (freed q (charges (k .holds) q (objects-of s)) (state-of s k) .blocks))
   unfolding objects-of
   free-bytes q x o m =
-      left-bytes l s k a (o .serial + 1) (freed q (charges (k .holds) q (objects (blocks-of s))) (state-of s k)) (freed-good q (state-of s k) (good l s k a) x)
+      left-bytes l s k a (o .serial + 1) (freed q (charges (k .holds) q (objects (blocks-of s))) (state-of s k))
+      (freed-good q (state-of s k) (good l s k a) x)
       (freed-leaves (o .serial + 1) q (charges (k .holds) q (objects (blocks-of s))) (state-of s k)) o m (λ e. omega arith)
 
   module _ (q : ℕ) (h : Handle) (n : ℕ) (p : Reallocatable unit s k q h n) where
@@ -138,7 +143,8 @@ module _ (unit : ℕ → ℕ) (units : Units unit) (l : Ledger) (s : List ℕ) (
     pub moved-good : Good (released q old made)
     moved-good =
         let x =
-        still-releasable (state-of s k) (good l s k a) q old new (room unit units l s k a q n (p .new)) (fresh-serial unit units l s k a q n (p .new) old old-here) old-here
+        still-releasable (state-of s k) (good l s k a) q old new (room unit units l s k a q n (p .new))
+        (fresh-serial unit units l s k a q n (p .new) old old-here) old-here
         old-recorded in
         released-good q old made made-good (x .0) (x .1)
 
@@ -147,7 +153,8 @@ module _ (unit : ℕ → ℕ) (units : Units unit) (l : Ledger) (s : List ℕ) (
         left-bytes l s k a (new .serial) (released q old made) moved-good
         (leaves-then (new .serial) (state-of s k) made (released q old made)
         (leaves-then (new .serial) (state-of s k) (allocated q new (state-of s k)) made
-        (allocated-leaves q new (state-of s k) (good l s k a) (room unit units l s k a q n (p .new))) (copied-leaves old new (allocated q new (state-of s k))))
+        (allocated-leaves q new (state-of s k) (good l s k a) (room unit units l s k a q n (p .new)))
+        (copied-leaves old new (allocated q new (state-of s k))))
         (released-leaves (new .serial) q old made))
         o m (not-new q n (p .new) o m)
 
@@ -158,14 +165,17 @@ module _ (unit : ℕ → ℕ) (units : Units unit) where
   unfolding step allocate allocate-array claim release free-all sweep reallocate lend remaining-of can-release list-block clear
   step-bytes (Allocate q n) l s k a =
       accepted-bytes s k (first-refusal (allocate-lines unit s k q n)) _
-      (λ e. allocate-bytes unit units l s k a q n (allocate-passed unit s k q n (accepted-exactly (allocate-lines unit s k q n) (by-lines unit (Allocate q n) s k .numbered) .0 e)))
+      (λ e. allocate-bytes unit units l s k a q n (allocate-passed unit s k q n
+      (accepted-exactly (allocate-lines unit s k q n) (by-lines unit (Allocate q n) s k .numbered) .0 e)))
   step-bytes (AllocateArray q count size) l s k a =
       accepted-bytes s k (first-refusal (allocate-lines unit s k q (count * size))) _
-      (λ e. allocate-bytes unit units l s k a q (count * size) (allocate-passed unit s k q (count * size) (accepted-exactly (allocate-lines unit s k q (count * size)) (by-lines unit (AllocateArray q count size) s k .numbered) .0 e)))
+      (λ e. allocate-bytes unit units l s k a q (count * size) (allocate-passed unit s k q (count * size)
+      (accepted-exactly (allocate-lines unit s k q (count * size)) (by-lines unit (AllocateArray q count size) s k .numbered) .0 e)))
   step-bytes (Claim q h) l s k a = accepted-bytes s k (first-refusal (claim-lines unit s k q h)) _ (λ e o m x. refl)
   step-bytes (Release q h) l s k a =
       accepted-bytes s k (first-refusal (release-lines unit s k q h)) _
-      (λ e. release-bytes unit units l s k a q h (release-passed unit s k q h (accepted-exactly (release-lines unit s k q h) (by-lines unit (Release q h) s k .numbered) .0 e)))
+      (λ e. release-bytes unit units l s k a q h (release-passed unit s k q h
+      (accepted-exactly (release-lines unit s k q h) (by-lines unit (Release q h) s k .numbered) .0 e)))
   step-bytes (FreeAll q) l s k a =
       accepted-bytes s k (first-refusal (free-all-lines unit s k q)) _
       (λ e. free-bytes unit units l s k a q (free-all-passed unit s k q
@@ -177,7 +187,8 @@ module _ (unit : ℕ → ℕ) (units : Units unit) where
       (λ b v x ne. swept-live (blocks-of s) b v x) o m (λ z. omega arith))
   step-bytes (Reallocate q h n) l s k a =
       accepted-bytes s k (first-refusal (reallocate-lines unit s k q h n)) _
-      (λ e. reallocate-bytes unit units l s k a q h n (reallocate-passed unit s k q h n (accepted-exactly (reallocate-lines unit s k q h n) (by-lines unit (Reallocate q h n) s k .numbered) .0 e)))
+      (λ e. reallocate-bytes unit units l s k a q h n (reallocate-passed unit s k q h n
+      (accepted-exactly (reallocate-lines unit s k q h n) (by-lines unit (Reallocate q h n) s k .numbered) .0 e)))
   step-bytes (Lend h) l s k a = accepted-bytes s k (first-refusal (lend-lines unit s k h)) _ (λ e o m x. refl)
   step-bytes (Remaining q) l s k a = accepted-bytes s k (first-refusal (quota-lines unit s k q)) _ (λ e o m x. refl)
   step-bytes (CanRelease q h) l s k a = accepted-bytes s k (first-refusal (release-lines unit s k q h)) _ (λ e o m x. refl)

@@ -1,6 +1,5 @@
 -- Rule 10.12: no call changes a byte of an object that stays. An object's bytes are the body of its block; a call leaves every live block as it is,
 -- but for the new object's and those that become free; and no two live blocks have the same serial.
--- Assumes nothing.
 use Prim.Native.Nat.{ℕ, _+_}
 use native.Mathlib.Nat.{add-zero, zero-add, add-assoc}
 use mathlib.Core.Path.{_≡_, refl, ap, sym, _∙_}
@@ -30,13 +29,15 @@ unfolding contents render
 at-block xs b ys = body-stands 0 xs b ys
 
 -- the object of a live block that stands behind others
-object-there : (at : ℕ) (xs : List Block) (b : Block) (ys : List Block) → live b ≡ true → List·Memᴰ (object (at + total-size xs) b) (objects-from at (xs ++ (b ∷ ys)))
+object-there : (at : ℕ) (xs : List Block) (b : Block) (ys : List Block) → live b ≡ true
+    → List·Memᴰ (object (at + total-size xs) b) (objects-from at (xs ++ (b ∷ ys)))
 unfolding objects-from total-size
 object-there at [] b ys l = rw (l, add-zero at) (List·Memᴰ·head refl)
 object-there at (x ∷ xs) b ys l = go (live x) (object-there (at + size x) xs b ys l)
   where
     go : (t : Bool) → List·Memᴰ (object (at + size x + total-size xs) b) (objects-from (at + size x) (xs ++ (b ∷ ys)))
-        → List·Memᴰ (object (at + (size x + total-size xs)) b) (cond t (object at x ∷ objects-from (at + size x) (xs ++ (b ∷ ys))) (objects-from (at + size x) (xs ++ (b ∷ ys))))
+        → List·Memᴰ (object (at + (size x + total-size xs)) b) (cond t (object at x ∷ objects-from (at + size x) (xs ++ (b ∷ ys)))
+        (objects-from (at + size x) (xs ++ (b ∷ ys))))
     go true m = List·Memᴰ·tail (rw (add-assoc at (size x) (total-size xs)) at m)
     go false m = rw (add-assoc at (size x) (total-size xs)) at m
 
@@ -65,7 +66,8 @@ pub record Object-of (b : Block) (bs : List Block) : Type 0 where
 
 splits : (b : Block) (bs : List Block) → List·Memᴰ b bs → (xs : List Block) × (ys : List Block) × (bs ≡ xs ++ (b ∷ ys))
 splits b [] m = absurd (List·Memᴰ·not-nil m)
-splits b (c ∷ cs) m = ⊎-elim (λ q. ([], cs, ap (λ (x : Block). x ∷ cs) (sym q))) (λ y. (let r = splits b cs y in (c ∷ r .0, r .1, ap (λ (l : List Block). c ∷ l) (r .2)))) (List·Memᴰ·cases-cons m)
+splits b (c ∷ cs) m = ⊎-elim (λ q. ([], cs, ap (λ (x : Block). x ∷ cs) (sym q)))
+    (λ y. (let r = splits b cs y in (c ∷ r .0, r .1, ap (λ (l : List Block). c ∷ l) (r .2)))) (List·Memᴰ·cases-cons m)
 
 object-split : (bs xs : List Block) (b : Block) (ys : List Block) → bs ≡ xs ++ (b ∷ ys) → live b ≡ true → Object-of b bs
 unfolding objects
@@ -77,7 +79,8 @@ pub object-of : (bs : List Block) (b : Block) → live b ≡ true → List·Mem�
 object-of bs b l m = let r = splits b bs m in object-split bs (r .0) b (r .1) (r .2) l
 
 -- where every live block of a list, but one with a new serial, was there before, an object that was there keeps its bytes
-pub contents-stay : (bs cs : List Block) (new : ℕ) → serials-differ (objects bs) ≡ true → ((b : Block) → live b ≡ true → List·Memᴰ b cs → (b .serial ≡ new → ⊥) → List·Memᴰ b bs)
+pub contents-stay : (bs cs : List Block) (new : ℕ) → serials-differ (objects bs) ≡ true
+    → ((b : Block) → live b ≡ true → List·Memᴰ b cs → (b .serial ≡ new → ⊥) → List·Memᴰ b bs)
     → (o : Handle) → List·Memᴰ o (objects bs) → List·Memᴰ o (objects cs) → (o .serial ≡ new → ⊥) → contents o (render cs) ≡ contents o (render bs)
 contents-stay bs cs new d f o m n ne =
     let c = block-of cs o n in
@@ -86,7 +89,8 @@ contents-stay bs cs new d f o m n ne =
     c .bytes ∙ sym (w .bytes) ∙ ap (λ (x : Handle). contents x (render bs)) same
 
 -- and the object of a block with a serial that no other has
-pub contents-are : (bs : List Block) → serials-differ (objects bs) ≡ true → (o : Handle) → List·Memᴰ o (objects bs) → (b : Block) → live b ≡ true → List·Memᴰ b bs
+pub contents-are : (bs : List Block) → serials-differ (objects bs) ≡ true → (o : Handle) → List·Memᴰ o (objects bs) → (b : Block) → live b ≡ true
+    → List·Memᴰ b bs
     → o .serial ≡ b .serial → contents o (render bs) ≡ b .body
 contents-are bs d o m b l n e =
     let w = object-of bs b l n in

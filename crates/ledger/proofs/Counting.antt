@@ -1,6 +1,5 @@
 -- Along a history there are as many records as at its beginning, and every count fits a byte: a new record counts 1,
 -- a release lowers a count, and a claim is refused where the count is 255 (rule 7.2, line 7).
--- Assumes nothing.
 use mathlib.Core.Path.{_≡_, refl, ap, sym, _∙_, subst}
 use mathlib.Core.List.{List, [], _∷_, map}
 use mathlib.Core.Bool.{Bool, true, false, cond, not}

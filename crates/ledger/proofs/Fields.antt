@@ -2,7 +2,6 @@
 -- Objects lie as blocks do, each behind its own header and before the next. A record belongs to a live object, which has an entry, and both the
 -- record's count and the entry's holds are the count of that serial and quota. Grant, remainder and charges balance over the live objects, which
 -- are the ledger's. And no line holds for a call that asks what remains.
--- Assumes nothing.
 use Prim.Native.Nat.{ℕ, _+_, _≤_, _<_}
 use native.Mathlib.Omega.{arith}
 use mathlib.Core.Path.{_≡_, refl, ap, sym, _∙_}
@@ -39,7 +38,8 @@ use Rattle.invariant.proofs.Heaps.{heap-good, good-ordered}
 use Rattle.ledger.proofs.Places.{objects-lie, objects-apart, headers-apart}
 
 -- a sum over entries is a sum over their objects, where what is added is the same
-total-entries : (f : Handle → ℕ) (g : Entry → ℕ) (es : List Entry) → ((e : Entry) → List·Memᴰ e es → g e ≡ f (e .object)) → total g es ≡ total f (map (λ (e : Entry). e .object) es)
+total-entries : (f : Handle → ℕ) (g : Entry → ℕ) (es : List Entry) → ((e : Entry) → List·Memᴰ e es → g e ≡ f (e .object)) → total g es
+    ≡ total f (map (λ (e : Entry). e .object) es)
 unfolding total
 total-entries f g [] h = refl
 total-entries f g (e ∷ es) h = rw (h e (List·Memᴰ·head refl), total-entries f g es (λ x m. h x (List·Memᴰ·tail m)))
@@ -64,7 +64,8 @@ module _ (l : Ledger) (s : List ℕ) (k : Accounts) (a : Agrees l s k) where
   apart-of = objects-apart 0 (blocks-of s)
 
   -- or a header
-  pub off-headers-of : (o : Handle) (b : ListedBlock) → List·Memᴰ o (objects-of s) → List·Memᴰ b (listing-from 0 (blocks-of s)) → (i : ℕ) → Within i o → b .offset ≤ i → i < b .offset + 8 → ⊥
+  pub off-headers-of : (o : Handle) (b : ListedBlock) → List·Memᴰ o (objects-of s) → List·Memᴰ b (listing-from 0 (blocks-of s)) → (i : ℕ)
+      → Within i o → b .offset ≤ i → i < b .offset + 8 → ⊥
   unfolding objects-of objects
   off-headers-of = headers-apart 0 (blocks-of s)
 

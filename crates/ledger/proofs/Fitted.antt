@@ -1,6 +1,5 @@
 -- Every object of the ledger, and so every live object, fits its unit (rule 5.10): a new object does, since a rounded length rounds to itself, and so do those
 -- of a state that was read; no other event makes an object.
--- Assumes nothing.
 use Prim.Native.Nat.{ℕ, zero, suc, _*_}
 use native.Mathlib.Omega.{arith}
 use mathlib.Core.Path.{_≡_, refl}
@@ -15,12 +14,14 @@ use Rattle.model.specs.Objects.{objects-of}
 use Rattle.model.specs.Consistent.{consistent, in-units, sound}
 use Rattle.model.specs.Refusals.{first-refusal, quota-lines, free-all-lines, lend-lines, release-lines, claim-lines, check-lines, allocate-lines}
 use Rattle.model.specs.Refusals.{reallocate-lines}
-use Rattle.model.specs.Calls.{Outcome, unless, allocate, allocate-array, claim, release, free-all, reallocate, lend, remaining-of, can-release, list-block}
+use Rattle.model.specs.Calls.{Outcome, unless, allocate, allocate-array, claim, release, free-all, reallocate, lend, remaining-of, can-release}
+use Rattle.model.specs.Calls.{list-block}
 use Rattle.model.specs.Calls.{clear, sweep}
 use Rattle.model.specs.Step.{step}
 use Rattle.model.specs.declared.Handle.{Handle}
 use Rattle.model.specs.declared.Call.{Call}
-use Rattle.model.specs.declared.Call.the-variants.{Allocate, AllocateArray, Claim, Release, FreeAll, Reallocate, Lend, Remaining, CanRelease, ListBlock}
+use Rattle.model.specs.declared.Call.the-variants.{Allocate, AllocateArray, Claim, Release, FreeAll, Reallocate, Lend, Remaining, CanRelease}
+use Rattle.model.specs.declared.Call.the-variants.{ListBlock}
 use Rattle.model.specs.declared.Call.the-variants.{ClearPermissions, Sweep}
 use Rattle.model.proofs.Bools.{and-both}
 use Rattle.model.proofs.Consistent.{sound-fits}
@@ -47,7 +48,8 @@ unfolding sound
 sound-of unit l s k a f p =
     let fits = member-all (in-units unit) (objects-of s) (λ o m. f o (a .matches .objects o .0 m)) in
     and-both (consistent s k) _ (a .sound)
-    (and-both (all (in-units unit) (objects-of s)) _ fits (and-both (all permissible (permissions k)) _ p (and-both _ _ (a .kinded .0) (a .kinded .1))))
+    (and-both (all (in-units unit) (objects-of s)) _ fits (and-both (all permissible (permissions k)) _ p
+    (and-both _ _ (a .kinded .0) (a .kinded .1))))
 
 -- a beginning has none, or those of a state that was read
 pub restored-fits : (unit : ℕ → ℕ) (s : List ℕ) (k : Accounts) → Restorable unit s k → Fitted unit (read-ledger s k)
@@ -73,7 +75,8 @@ module _ (unit : ℕ → ℕ) (l : Ledger) (h : Fitted unit l) where
   added q o e x m = ⊎-elim (λ (p : x ≡ o). rw p e) (λ p. h x p) (added-from q l o x m)
 
 -- a refused call is not recorded
-accepted-fits : (unit : ℕ → ℕ) (c : Call) (l : Ledger) (s : List ℕ) (k : Accounts) (n : ℕ) (done : Outcome) → Fitted unit l → done .values .refusal ≡ 0
+accepted-fits : (unit : ℕ → ℕ) (c : Call) (l : Ledger) (s : List ℕ) (k : Accounts) (n : ℕ) (done : Outcome) → Fitted unit l → done .values .refusal
+    ≡ 0
     → (n ≡ 0 → Fitted unit (record-accepted c (done .values) l)) → Fitted unit (record-call c (unless n s k done .values) l)
 unfolding unless record-call
 accepted-fits unit c l s k zero done a z f = rw (eq-eqb (done .values .refusal) 0 z) (f refl)
@@ -84,19 +87,27 @@ module _ (unit : ℕ → ℕ) (units : Units unit) where
   unfolding step record-accepted allocate allocate-array claim release free-all sweep reallocate lend remaining-of can-release list-block clear
   step-fits (Allocate q n) l s k f =
       accepted-fits unit (Allocate q n) l s k (first-refusal (allocate-lines unit s k q n)) _ f refl
-      (λ e. added unit l f q _ (new-in-units unit units s k q n (allocate-passed unit s k q n (accepted-exactly (allocate-lines unit s k q n) (by-lines unit (Allocate q n) s k .numbered) .0 e))))
+      (λ e. added unit l f q _ (new-in-units unit units s k q n (allocate-passed unit s k q n
+      (accepted-exactly (allocate-lines unit s k q n) (by-lines unit (Allocate q n) s k .numbered) .0 e))))
   step-fits (AllocateArray q count size) l s k f =
       accepted-fits unit (AllocateArray q count size) l s k (first-refusal (allocate-lines unit s k q (count * size))) _ f refl
-      (λ e. added unit l f q _ (new-in-units unit units s k q (count * size) (allocate-passed unit s k q (count * size) (accepted-exactly (allocate-lines unit s k q (count * size)) (by-lines unit (AllocateArray q count size) s k .numbered) .0 e))))
-  step-fits (Claim q h) l s k f = accepted-fits unit (Claim q h) l s k (first-refusal (claim-lines unit s k q h)) _ f refl (λ e. raised unit l f q (h .serial))
-  step-fits (Release q h) l s k f = accepted-fits unit (Release q h) l s k (first-refusal (release-lines unit s k q h)) _ f refl (λ e. lowered unit l f q (h .serial))
+      (λ e. added unit l f q _ (new-in-units unit units s k q (count * size)
+      (allocate-passed unit s k q (count * size) (accepted-exactly (allocate-lines unit s k q (count * size))
+      (by-lines unit (AllocateArray q count size) s k .numbered) .0 e))))
+  step-fits (Claim q h) l s k f = accepted-fits unit (Claim q h) l s k (first-refusal (claim-lines unit s k q h)) _ f refl
+      (λ e. raised unit l f q (h .serial))
+  step-fits (Release q h) l s k f = accepted-fits unit (Release q h) l s k (first-refusal (release-lines unit s k q h)) _ f refl
+      (λ e. lowered unit l f q (h .serial))
   step-fits (FreeAll q) l s k f = accepted-fits unit (FreeAll q) l s k (first-refusal (free-all-lines unit s k q)) _ f refl (λ e. dropped unit l f q)
   step-fits Sweep l s k f = accepted-fits unit Sweep l s k (first-refusal (check-lines unit s k)) _ f refl (λ e. f)
   step-fits (Reallocate q h n) l s k f =
       accepted-fits unit (Reallocate q h n) l s k (first-refusal (reallocate-lines unit s k q h n)) _ f refl
-      (λ e. lowered unit _ (added unit l f q _ (new-in-units unit units s k q n (reallocate-passed unit s k q h n (accepted-exactly (reallocate-lines unit s k q h n) (by-lines unit (Reallocate q h n) s k .numbered) .0 e) .new))) q (h .serial))
+      (λ e. lowered unit _ (added unit l f q _ (new-in-units unit units s k q n
+      (reallocate-passed unit s k q h n (accepted-exactly (reallocate-lines unit s k q h n) (by-lines unit (Reallocate q h n) s k .numbered) .0
+      e) .new))) q (h .serial))
   step-fits (Lend h) l s k f = accepted-fits unit (Lend h) l s k (first-refusal (lend-lines unit s k h)) _ f refl (λ e. f)
   step-fits (Remaining q) l s k f = accepted-fits unit (Remaining q) l s k (first-refusal (quota-lines unit s k q)) _ f refl (λ e. f)
   step-fits (CanRelease q h) l s k f = accepted-fits unit (CanRelease q h) l s k (first-refusal (release-lines unit s k q h)) _ f refl (λ e. f)
   step-fits (ListBlock at) l s k f = accepted-fits unit (ListBlock at) l s k (first-refusal (check-lines unit s k)) _ f refl (λ e. f)
-  step-fits (ClearPermissions q n) l s k f = accepted-fits unit (ClearPermissions q n) l s k (first-refusal (quota-lines unit s k q)) _ f refl (λ e. f)
+  step-fits (ClearPermissions q n) l s k f = accepted-fits unit (ClearPermissions q n) l s k (first-refusal (quota-lines unit s k q)) _ f refl
+      (λ e. f)

@@ -1,7 +1,6 @@
 -- Rule 10.5: an object stays while its serial is held. A change of holds keeps each entry's object, and the only object that a call adds has the
 -- serial after the last one, which is above every live one. So an entry that has the object's serial after a call had it before, and serials
 -- differ: it is the object's own.
--- Assumes nothing.
 use Prim.Native.Nat.{ℕ, zero, suc, _+_, _-_, _*_}
 use native.Mathlib.Omega.{arith}
 use mathlib.Core.Path.{_≡_, refl, ap, sym, _∙_, subst}
@@ -15,17 +14,20 @@ use Rattle.model.specs.Lists.{keep}
 use Rattle.model.specs.Objects.{objects-of}
 use Rattle.model.specs.Refusals.{first-refusal, quota-lines, free-all-lines, lend-lines, release-lines, claim-lines, check-lines, allocate-lines}
 use Rattle.model.specs.Refusals.{reallocate-lines}
-use Rattle.model.specs.Calls.{Outcome, unless, new-object, allocate, allocate-array, claim, release, free-all, reallocate, lend, remaining-of, can-release}
+use Rattle.model.specs.Calls.{Outcome, unless, new-object, allocate, allocate-array, claim, release, free-all, reallocate, lend, remaining-of}
+use Rattle.model.specs.Calls.{can-release}
 use Rattle.model.specs.Calls.{list-block, clear, sweep}
 use Rattle.model.specs.Step.{step}
 use Rattle.model.specs.declared.Handle.{Handle}
 use Rattle.model.specs.declared.Call.{Call}
-use Rattle.model.specs.declared.Call.the-variants.{Allocate, AllocateArray, Claim, Release, FreeAll, Reallocate, Lend, Remaining, CanRelease, ListBlock}
+use Rattle.model.specs.declared.Call.the-variants.{Allocate, AllocateArray, Claim, Release, FreeAll, Reallocate, Lend, Remaining, CanRelease}
+use Rattle.model.specs.declared.Call.the-variants.{ListBlock}
 use Rattle.model.specs.declared.Call.the-variants.{ClearPermissions, Sweep}
 use Rattle.model.proofs.Consistent.{consistent-facts}
 use Rattle.model.proofs.Lookup.{same-serial}
 use Rattle.invariant.proofs.Members.{keep-exactly}
-use Rattle.ledger.specs.Ledger.{Entry, Ledger, with-entries, change-holds, at-serial, is-held, leave, add-object, add-hold, take-hold, take-all, record-accepted, record-call}
+use Rattle.ledger.specs.Ledger.{Entry, Ledger, with-entries, change-holds, at-serial, is-held, leave, add-object, add-hold, take-hold, take-all}
+use Rattle.ledger.specs.Ledger.{record-accepted, record-call}
 use Rattle.ledger.specs.Demand3.{objects-in, HeldIn}
 use Rattle.ledger.proofs.Agreement.{Agrees}
 
@@ -46,7 +48,8 @@ left : (l : Ledger) → From (leave l) l
 unfolding leave
 left l o m =
     let r = Memᴰ·of-map (λ (e : Entry). e .object) (keep is-held (l .entries)) m in
-    subst (λ (x : Handle). List·Memᴰ x (objects-in l)) (r .2) (Memᴰ·map (λ (e : Entry). e .object) (keep-exactly is-held (l .entries) (r .0) .0 (r .1) .0))
+    subst (λ (x : Handle). List·Memᴰ x (objects-in l)) (r .2) (Memᴰ·map (λ (e : Entry). e .object)
+    (keep-exactly is-held (l .entries) (r .0) .0 (r .1) .0))
 
 at-serial-same : (serial : ℕ) (g : Entry → Entry) → ((e : Entry) → g e .object ≡ e .object) → (e : Entry)
     → cond (eqb (e .object .serial) serial) (g e) e .object ≡ e .object
@@ -97,8 +100,10 @@ module _ (unit : ℕ → ℕ) (l : Ledger) (s : List ℕ) (k : Accounts) where
   step-grown (Allocate q n) = accepted-grown (Allocate q n) l s k (first-refusal (allocate-lines unit s k q n)) _ refl (new-grown q n)
   step-grown (AllocateArray q count size) =
       accepted-grown (AllocateArray q count size) l s k (first-refusal (allocate-lines unit s k q (count * size))) _ refl (new-grown q (count * size))
-  step-grown (Claim q h) = accepted-grown (Claim q h) l s k (first-refusal (claim-lines unit s k q h)) _ refl (λ o m. inr (raised-from q l (h .serial) o m))
-  step-grown (Release q h) = accepted-grown (Release q h) l s k (first-refusal (release-lines unit s k q h)) _ refl (λ o m. inr (lowered-from q l (h .serial) o m))
+  step-grown (Claim q h) = accepted-grown (Claim q h) l s k (first-refusal (claim-lines unit s k q h)) _ refl
+      (λ o m. inr (raised-from q l (h .serial) o m))
+  step-grown (Release q h) = accepted-grown (Release q h) l s k (first-refusal (release-lines unit s k q h)) _ refl
+      (λ o m. inr (lowered-from q l (h .serial) o m))
   step-grown (FreeAll q) = accepted-grown (FreeAll q) l s k (first-refusal (free-all-lines unit s k q)) _ refl (λ o m. inr (dropped-from q l o m))
   step-grown Sweep = accepted-grown Sweep l s k (first-refusal (check-lines unit s k)) _ refl (λ o m. inr m)
   step-grown (Reallocate q h n) =
@@ -111,7 +116,8 @@ module _ (unit : ℕ → ℕ) (l : Ledger) (s : List ℕ) (k : Accounts) where
   step-grown (ClearPermissions q n) = accepted-grown (ClearPermissions q n) l s k (first-refusal (quota-lines unit s k q)) _ refl (λ o m. inr m)
 
   -- an object whose serial is held after a call was there before it, and is the same
-  pub step-lasts : (c : Call) → Agrees l s k → (o : Handle) → List·Memᴰ o (objects-in l) → HeldIn (o .serial) (record-call c (step unit c s k .values) l)
+  pub step-lasts : (c : Call) → Agrees l s k → (o : Handle) → List·Memᴰ o (objects-in l)
+      → HeldIn (o .serial) (record-call c (step unit c s k .values) l)
       → List·Memᴰ o (objects-in (record-call c (step unit c s k .values) l))
   unfolding objects-of
   step-lasts c a o m h =

@@ -1,6 +1,5 @@
 -- No event of a history changes the heap's length: a call leaves blocks whose sizes have the same sum, a write leaves as many bytes, and an image is read
 -- only into a heap of its own length.
--- Assumes nothing.
 use Prim.Native.Nat.{ℕ, zero, suc, _*_}
 use mathlib.Core.Path.{_≡_, refl, ap, sym, _∙_, subst}
 use mathlib.Core.List.{List, [], _∷_, _++_}

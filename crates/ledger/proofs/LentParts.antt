@@ -1,6 +1,5 @@
 -- A write through the part that lend gives is the write of a history, whatever the handle is, narrowed or not. The part is the handle's range, which lies in
 -- the object that it names, or empty where lend is refused. So a byte outside every live object is outside the part.
--- Assumes nothing.
 use Prim.Native.Nat.{ℕ, _+_, _≤_, _<_}
 use native.Mathlib.Omega.{arith}
 use mathlib.Core.Path.{_≡_, refl}

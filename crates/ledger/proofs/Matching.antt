@@ -2,11 +2,11 @@
 -- and changes a quota's holds as the counts change. An entry has a hold exactly if some quota's count for its serial is above 0, which is exactly
 -- if a record holds its object; so where entries without holds leave, the held objects are left, and the blocks of the others are what the ledger has as
 -- quarantined from then on in a heap of the second kind.
--- Assumes nothing.
 use Prim.Native.Nat.{ℕ, zero, suc, _+_, _-_, _<_}
 use native.Mathlib.Omega.{arith}
 use mathlib.Core.Path.{_≡_, refl, ap, sym, _∙_}
-use mathlib.Core.List.{List, [], _∷_, _++_, map, List·Memᴰ, List·Memᴰ·head, List·Memᴰ·tail, List·Memᴰ·cases-cons, List·Memᴰ·append-cases, Memᴰ·append-left, Memᴰ·append-right, Memᴰ·map, Memᴰ·of-map}
+use mathlib.Core.List.{List, [], _∷_, _++_, map, List·Memᴰ, List·Memᴰ·head, List·Memᴰ·tail, List·Memᴰ·cases-cons, List·Memᴰ·append-cases}
+use mathlib.Core.List.{Memᴰ·append-left, Memᴰ·append-right, Memᴰ·map, Memᴰ·of-map}
 use mathlib.Core.Bool.{Bool, true, false, not, cond, _&&_}
 use mathlib.Core.Logic.{_↔_, _⊎_, inl, inr}
 use lib.ListN.{length, getD, set, replicate, length-set, length-replicate}
@@ -27,7 +27,8 @@ use Rattle.model.proofs.Bools.{and-both}
 use Rattle.model.proofs.Lists.{any-member, member-any, none-exactly, getD-member, member-getD}
 use Rattle.model.proofs.Carve.{Added}
 use Rattle.model.proofs.Settle.{object-held}
-use Rattle.ledger.specs.Ledger.{Entry, Span, Ledger, block-of, with-entries, holds-of, change-holds, at-serial, is-held, left-behind, leave, add-object}
+use Rattle.ledger.specs.Ledger.{Entry, Span, Ledger, block-of, with-entries, holds-of, change-holds, at-serial, is-held, left-behind, leave}
+use Rattle.ledger.specs.Ledger.{add-object}
 use Rattle.ledger.specs.Ledger.{add-hold, take-hold, take-all, spans-from}
 use Rattle.ledger.specs.Demand3.{objects-in}
 use Rattle.invariant.proofs.Members.{keep-exactly, differ-kept}
@@ -48,12 +49,14 @@ abbrev objects-at : List Entry → List Handle
 objects-at es = map (λ e. e .object) es
 
 -- where a test of entries is one of their objects, the objects of the entries that are kept are the objects that are kept
-kept-objects : (p : Entry → Bool) (r : Handle → Bool) (es : List Entry) → ((e : Entry) → List·Memᴰ e es → p e ≡ r (e .object)) → objects-at (keep p es) ≡ keep r (objects-at es)
+kept-objects : (p : Entry → Bool) (r : Handle → Bool) (es : List Entry) → ((e : Entry) → List·Memᴰ e es → p e ≡ r (e .object))
+    → objects-at (keep p es) ≡ keep r (objects-at es)
 unfolding keep
 kept-objects p r [] f = refl
 kept-objects p r (e ∷ es) f = rw (← f e (List·Memᴰ·head refl)) (go (p e) (kept-objects p r es (λ x m. f x (List·Memᴰ·tail m))))
   where
-    go : (t : Bool) → objects-at (keep p es) ≡ keep r (objects-at es) → objects-at (cond t (e ∷ keep p es) (keep p es)) ≡ cond t (e .object ∷ keep r (objects-at es)) (keep r (objects-at es))
+    go : (t : Bool) → objects-at (keep p es) ≡ keep r (objects-at es) → objects-at (cond t (e ∷ keep p es) (keep p es))
+        ≡ cond t (e .object ∷ keep r (objects-at es)) (keep r (objects-at es))
     go true ih = rw ih
     go false ih = ih
 
@@ -80,7 +83,8 @@ module _ (l : Ledger) (os : List Handle) (hs : List Hold) (m : Matches l os hs) 
           let c = held-counted hs r (e .object .serial) .0 t in
           let b = counted-quota hs r (e .object .serial) (c .0) (c .1) in
           let w = m .widths e i in
-          member-any (λ n. ltb 0 n) (e .holds) (holds-of (c .0) e) (getD-member 0 (e .holds) (c .0) (omega arith)) (lt-ltb 0 (holds-of (c .0) e) (rw (m .holds e i (c .0)) (c .1)))
+          member-any (λ n. ltb 0 n) (e .holds) (holds-of (c .0) e) (getD-member 0 (e .holds) (c .0) (omega arith))
+          (lt-ltb 0 (holds-of (c .0) e) (rw (m .holds e i (c .0)) (c .1)))
 
   -- so the entries that are left match the objects that are held
   match-left : Matches (leave l) (keep (object-held hs) os) hs
@@ -128,7 +132,8 @@ module _ (l : Ledger) (os : List Handle) (hs hs′ : List Hold) (m : Matches l o
 
   -- and the changed entries match the other records
   match-changed : ((e : Entry) → f e .object ≡ e .object) → ((e : Entry) → length (f e .holds) ≡ length (e .holds))
-      → ((e : Entry) → List·Memᴰ e (l .entries) → (j : ℕ) → holds-of j (f e) ≡ count-of (e .object .serial) j hs′) → Matches (with-entries (map f (l .entries)) l) os hs′
+      → ((e : Entry) → List·Memᴰ e (l .entries) → (j : ℕ) → holds-of j (f e) ≡ count-of (e .object .serial) j hs′)
+      → Matches (with-entries (map f (l .entries)) l) os hs′
   match-changed same wide counts =
       let o = changed-objects same (l .entries) in
       record {
@@ -140,7 +145,8 @@ module _ (l : Ledger) (os : List Handle) (hs hs′ : List Hold) (m : Matches l o
       }
 
 -- a quota's holds after a change of them
-changed-holds : (q j : ℕ) (g : ℕ → ℕ) (e : Entry) → q < length (e .holds) → holds-of j (change-holds q g e) ≡ cond (eqb q j) (g (holds-of j e)) (holds-of j e)
+changed-holds : (q j : ℕ) (g : ℕ → ℕ) (e : Entry) → q < length (e .holds) → holds-of j (change-holds q g e)
+    ≡ cond (eqb q j) (g (holds-of j e)) (holds-of j e)
 unfolding change-holds
 changed-holds q j g e h = go (eqb q j) refl
   where
@@ -178,10 +184,12 @@ module _ (q serial : ℕ) (g : ℕ → ℕ) where
       go true = changed-width q g e
       go false = refl
 
-  one-holds : (j : ℕ) (e : Entry) → q < length (e .holds) → holds-of j (at-one e) ≡ cond (eqb serial (e .object .serial) && eqb q j) (g (holds-of j e)) (holds-of j e)
+  one-holds : (j : ℕ) (e : Entry) → q < length (e .holds) → holds-of j (at-one e)
+      ≡ cond (eqb serial (e .object .serial) && eqb q j) (g (holds-of j e)) (holds-of j e)
   one-holds j e h = go (eqb (e .object .serial) serial) refl
     where
-      go : (t : Bool) → eqb (e .object .serial) serial ≡ t → holds-of j (cond t (change-holds q g e) e) ≡ cond (eqb serial (e .object .serial) && eqb q j) (g (holds-of j e)) (holds-of j e)
+      go : (t : Bool) → eqb (e .object .serial) serial ≡ t → holds-of j (cond t (change-holds q g e) e)
+          ≡ cond (eqb serial (e .object .serial) && eqb q j) (g (holds-of j e)) (holds-of j e)
       go true t = let s = eqb-true (e .object .serial) serial t in rw (eq-eqb serial (e .object .serial) (sym s)) (changed-holds q j g e h)
       go false t = rw (ne-eqb serial (e .object .serial) (λ s. eqb-false (e .object .serial) serial t (sym s)))
 
@@ -227,7 +235,8 @@ module _ (l : Ledger) (os : List Handle) (hs hs′ : List Hold) (m : Matches l o
       → ((u j : ℕ) → count-of u j hs′ ≡ cond (eqb (o .serial) u && eqb q j) 1 (count-of u j hs)) → Matches (add-object q o l) os′ hs′
   unfolding add-object serials-differ
   match-added o os′ a f z c =
-      let apart : (e : Entry) → List·Memᴰ e (l .entries) → e .object .serial ≡ o .serial → ⊥ = λ e i. f (e .object) (m .objects (e .object) .1 (Memᴰ·map (λ (e : Entry). e .object) i)) in
+      let apart : (e : Entry) → List·Memᴰ e (l .entries) → e .object .serial ≡ o .serial → ⊥ =
+      λ e i. f (e .object) (m .objects (e .object) .1 (Memᴰ·map (λ (e : Entry). e .object) i)) in
       let none = none-exactly (has-serial (o .serial)) (objects-in l) .1 (λ p i t. f p (m .objects p .1 i) (eqb-true (p .serial) (o .serial) t)) in
       record {
         objects = λ p. (
@@ -255,9 +264,11 @@ module _ (l : Ledger) (os : List Handle) (hs hs′ : List Hold) (m : Matches l o
       width e (inl p) = rw p (length-set (no-holds (length (l .grants))) q 1 ∙ length-replicate (length (l .grants)) 0 ∙ m .quotas)
       width e (inr i) = m .widths e i
 
-      counted : (e : Entry) (j : ℕ) → (e ≡ new) ⊎ List·Memᴰ e (l .entries) → ((e : Entry) → List·Memᴰ e (l .entries) → e .object .serial ≡ o .serial → ⊥)
+      counted : (e : Entry) (j : ℕ) → (e ≡ new) ⊎ List·Memᴰ e (l .entries)
+          → ((e : Entry) → List·Memᴰ e (l .entries) → e .object .serial ≡ o .serial → ⊥)
           → holds-of j e ≡ count-of (e .object .serial) j hs′
-      counted e j (inl p) apart = rw p (one-hold (length (l .grants)) q j (rw (m .quotas) exists) ∙ rw (c (o .serial) j, eq-eqb (o .serial) (o .serial) refl, z j))
+      counted e j (inl p) apart = rw p (one-hold (length (l .grants)) q j (rw (m .quotas) exists)
+          ∙ rw (c (o .serial) j, eq-eqb (o .serial) (o .serial) refl, z j))
       counted e j (inr i) apart = rw (c (e .object .serial) j, ne-eqb (o .serial) (e .object .serial) (λ t. apart e i (sym t))) (m .holds e i j)
 
   -- the holds of a quota are changed as its counts are
@@ -278,24 +289,28 @@ module _ (l : Ledger) (os : List Handle) (hs hs′ : List Hold) (m : Matches l o
       → Matches (with-entries (at-serial serial (change-holds q (λ n. n - 1)) (l .entries)) l) os hs′
   lowered serial c = match-one serial (λ n. n - 1) c
 
-  pub match-lowered : (serial : ℕ) → Ordered hs′ → ((u j : ℕ) → count-of u j hs′ ≡ cond (eqb serial u && eqb q j) (count-of u j hs - 1) (count-of u j hs))
+  pub match-lowered : (serial : ℕ) → Ordered hs′ → ((u j : ℕ) → count-of u j hs′
+      ≡ cond (eqb serial u && eqb q j) (count-of u j hs - 1) (count-of u j hs))
       → Matches (take-hold q serial l) (keep (object-held hs′) os) hs′
   unfolding take-hold
   match-lowered serial r c = match-left (with-entries (at-serial serial (change-holds q (λ n. n - 1)) (l .entries)) l) os hs′ (lowered serial c) r
 
-  pub waits-lowered : (serial : ℕ) → Ordered hs′ → ((u j : ℕ) → count-of u j hs′ ≡ cond (eqb serial u && eqb q j) (count-of u j hs - 1) (count-of u j hs))
+  pub waits-lowered : (serial : ℕ) → Ordered hs′ → ((u j : ℕ) → count-of u j hs′
+      ≡ cond (eqb serial u && eqb q j) (count-of u j hs - 1) (count-of u j hs))
       → (bs : List Block) → os ≡ objects bs → SameSpans (spans-from 0 bs) (l .quarantined)
       → SameSpans (spans-from 0 (settle (l .kind) hs′ bs)) (take-hold q serial l .quarantined)
   unfolding take-hold
   waits-lowered serial r c = waits-left (with-entries (at-serial serial (change-holds q (λ n. n - 1)) (l .entries)) l) os hs′ (lowered serial c) r
 
   -- no hold of the quota
-  dropped : ((u j : ℕ) → count-of u j hs′ ≡ cond (eqb q j) 0 (count-of u j hs)) → Matches (with-entries (map (change-holds q (λ n. 0)) (l .entries)) l) os hs′
+  dropped : ((u j : ℕ) → count-of u j hs′ ≡ cond (eqb q j) 0 (count-of u j hs))
+      → Matches (with-entries (map (change-holds q (λ n. 0)) (l .entries)) l) os hs′
   dropped c =
       match-changed l os hs hs′ m (change-holds q (λ n. 0)) (changed-object q (λ n. 0)) (changed-width q (λ n. 0))
       (λ e i j. (let w = m .widths e i in changed-holds q j (λ n. 0) e (omega arith) ∙ rw (m .holds e i j, c (e .object .serial) j)))
 
-  pub match-dropped : Ordered hs′ → ((u j : ℕ) → count-of u j hs′ ≡ cond (eqb q j) 0 (count-of u j hs)) → Matches (take-all q l) (keep (object-held hs′) os) hs′
+  pub match-dropped : Ordered hs′ → ((u j : ℕ) → count-of u j hs′ ≡ cond (eqb q j) 0 (count-of u j hs))
+      → Matches (take-all q l) (keep (object-held hs′) os) hs′
   unfolding take-all
   match-dropped r c = match-left (with-entries (map (change-holds q (λ n. 0)) (l .entries)) l) os hs′ (dropped c) r
 

@@ -1,6 +1,5 @@
 -- Narrowed handles over a history (rules 4.7 and 10.5). A handle that a request answered, made as narrow as one byte, names that object, right after the
 -- request and for as long as some quota holds it. So claim, release and lend can be called with it.
--- Assumes nothing.
 use Prim.Native.Nat.{ℕ, _*_}
 use mathlib.Core.Path.{_≡_}
 use mathlib.Core.List.{List, _++_, List·Memᴰ}

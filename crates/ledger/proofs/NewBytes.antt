@@ -1,6 +1,5 @@
 -- Beyond the request: a new object is all zero, and a reallocated one has the old one's bytes, as many as fit, and then zeros.
 -- The one live block with the new serial is the one that was carved, of zeros; reallocate writes the old object's bytes over its start and leaves it so.
--- Assumes nothing.
 use Prim.Native.Nat.{ℕ, zero, suc, _+_, _-_, _≤_}
 use native.Mathlib.Omega.{arith}
 use native.Mathlib.Nat.{sub-zero, zero-sub, suc-sub-suc}
@@ -42,7 +41,8 @@ use Rattle.invariant.proofs.Requested.{still-releasable}
 use Rattle.ledger.proofs.Steps.{good, room, fresh-serial}
 use Rattle.ledger.proofs.Bytes.{allocated-live, released-leaves, new-good, allocate-bytes, old, new, made-good, old-here}
 
-module _ (unit : ℕ → ℕ) (units : Units unit) (l : Ledger) (s : List ℕ) (k : Accounts) (a : Agrees l s k) (q n : ℕ) (p : Allocatable unit s k q n) where
+module _ (unit : ℕ → ℕ) (units : Units unit) (l : Ledger) (s : List ℕ) (k : Accounts) (a : Agrees l s k) (q n : ℕ)
+    (p : Allocatable unit s k q n) where
   o : Handle
   o = new-object unit s k n
 
@@ -60,7 +60,8 @@ module _ (unit : ℕ → ℕ) (units : Units unit) (l : Ledger) (s : List ℕ) (
 
   new-there : List·Memᴰ o (objects (t .blocks))
   unfolding t o
-  new-there = added-new (new-object unit s k n) (objects (blocks-of s)) _ (allocated-objects q (new-object unit s k n) (state-of s k) (good l s k a) (room unit units l s k a q n p))
+  new-there = added-new (new-object unit s k n) (objects (blocks-of s)) _
+      (allocated-objects q (new-object unit s k n) (state-of s k) (good l s k a) (room unit units l s k a q n p))
 
   live-there : List·Memᴰ o (objects-of (render (t .blocks)))
   unfolding t o
@@ -76,7 +77,8 @@ drop-same x (suc m) zero = rw zero-sub
 drop-same x (suc m) (suc n) = rw suc-sub-suc (drop-same x m n)
 
 -- the bytes of the block with an object's serial are the object's
-copied-is : (bs : List Block) → serials-differ (objects bs) ≡ true → (o : Handle) → List·Memᴰ o (objects bs) → body-of (o .serial) bs ≡ contents o (render bs)
+copied-is : (bs : List Block) → serials-differ (objects bs) ≡ true → (o : Handle) → List·Memᴰ o (objects bs) → body-of (o .serial) bs
+    ≡ contents o (render bs)
 copied-is bs d o m =
     let b = block-of bs o m in
     let r = body-there (o .serial) bs (b .block) (b .member) (sym (b .serial)) in
@@ -86,7 +88,8 @@ copied-is bs d o m =
 -- the block that bytes were copied to
 copied-to : (old new : Handle) (t : State) (o : Handle) (zeros : List ℕ) → List·Memᴰ o (objects (copied old new t .blocks)) → o .serial ≡ new .serial
     → ((b : Block) → live b ≡ true → List·Memᴰ b (t .blocks) → o .serial ≡ b .serial → b .body ≡ zeros)
-    → contents o (render (copied old new t .blocks)) ≡ take (length zeros) (body-of (old .serial) (t .blocks)) ++ drop (length (body-of (old .serial) (t .blocks))) zeros
+    → contents o (render (copied old new t .blocks)) ≡ take (length zeros) (body-of (old .serial) (t .blocks))
+    ++ drop (length (body-of (old .serial) (t .blocks))) zeros
 unfolding copied
 copied-to old new t o zeros m same f =
     let bytes = body-of (old .serial) (t .blocks) in
@@ -99,15 +102,19 @@ copied-to old new t o zeros m same f =
     (copied-live (new .serial) bytes (t .blocks) (b .block) (b .alive) (b .member))
 
 -- a new object is held still when the old one is released
-new-kept : (q : ℕ) (old new : Handle) (t : State) (g : Good t) (r : Room q new t) → (old .serial ≡ new .serial → ⊥) → (g₂ : Good (copied old new (allocated q new t)))
-    → (there : List·Memᴰ old (objects (copied old new (allocated q new t) .blocks))) → (held : has-record (copied old new (allocated q new t) .accounts .holds) q (old .serial) ≡ true)
-    → List·Memᴰ new (objects (copied old new (allocated q new t) .blocks)) → List·Memᴰ new (objects (released q old (copied old new (allocated q new t)) .blocks))
+new-kept : (q : ℕ) (old new : Handle) (t : State) (g : Good t) (r : Room q new t) → (old .serial ≡ new .serial → ⊥)
+    → (g₂ : Good (copied old new (allocated q new t)))
+    → (there : List·Memᴰ old (objects (copied old new (allocated q new t) .blocks)))
+    → (held : has-record (copied old new (allocated q new t) .accounts .holds) q (old .serial) ≡ true)
+    → List·Memᴰ new (objects (copied old new (allocated q new t) .blocks))
+    → List·Memᴰ new (objects (released q old (copied old new (allocated q new t)) .blocks))
 unfolding copied
 new-kept q old new t g r ne g₂ there held m =
     let u = copied old new (allocated q new t) in
     let hs = u .accounts .holds in
     let z : eqb (old .serial) (new .serial) ≡ false = ne-eqb (old .serial) (new .serial) ne in
-    let one : count-of (new .serial) q hs ≡ 1 = allocated-counts q new t g r (new .serial) q ∙ rw (eq-eqb (new .serial) (new .serial) refl, eq-eqb q q refl) in
+    let one : count-of (new .serial) q hs ≡ 1 = allocated-counts q new t g r (new .serial) q
+    ∙ rw (eq-eqb (new .serial) (new .serial) refl, eq-eqb q q refl) in
     let o = good-ordered u g₂ in
     let c : count-of (new .serial) q (lower-count (old .serial) q hs) ≡ 1 = lower-counted hs o (old .serial) q held (new .serial) q ∙ rw z one in
     rw (released-objects q old u g₂ there held)
@@ -145,7 +152,8 @@ contents-length : (o : Handle) (s : List ℕ) → o .base + o .length ≤ length
 unfolding contents
 contents-length o s h = simp (length-take, length-drop) (omega arith)
 
-module _ (unit : ℕ → ℕ) (units : Units unit) (l : Ledger) (s : List ℕ) (k : Accounts) (a : Agrees l s k) (q : ℕ) (h : Handle) (n : ℕ) (p : Reallocatable unit s k q h n) where
+module _ (unit : ℕ → ℕ) (units : Units unit) (l : Ledger) (s : List ℕ) (k : Accounts) (a : Agrees l s k) (q : ℕ) (h : Handle) (n : ℕ)
+    (p : Reallocatable unit s k q h n) where
   N : ℕ
   N = object-length unit n
 
@@ -166,7 +174,8 @@ module _ (unit : ℕ → ℕ) (units : Units unit) (l : Ledger) (s : List ℕ) (
   unfolding was t₁ will objects-of
   was-still =
       added-old (new-object unit s k n) (objects (blocks-of s)) _
-      (allocated-objects q (new-object unit s k n) (state-of s k) (good l s k a) (room unit units l s k a q n (p .new))) (found (lookup-whole h s)) (old-here unit units l s k a q h n p)
+      (allocated-objects q (new-object unit s k n) (state-of s k) (good l s k a) (room unit units l s k a q n (p .new))) (found (lookup-whole h s))
+      (old-here unit units l s k a q h n p)
 
   -- what is copied is what the old object holds
   copied-bytes : body-of (was .serial) (t₁ .blocks) ≡ contents was s
@@ -209,7 +218,8 @@ module _ (unit : ℕ → ℕ) (units : Units unit) (l : Ledger) (s : List ℕ) (
   moved-bytes : contents will (render (released q was (copied was will t₁) .blocks)) ≡ take N (contents was s) ++ replicate (N - was .length) 0
   unfolding t₁ will was
   moved-bytes =
-      contents-stay (copied was will t₁ .blocks) (released q was (copied was will t₁) .blocks) (will .serial + 1) (made-good unit units l s k a q h n p .tests .differ)
+      contents-stay (copied was will t₁ .blocks) (released q was (copied was will t₁) .blocks) (will .serial + 1)
+      (made-good unit units l s k a q h n p .tests .differ)
       (released-leaves (will .serial + 1) q was (copied was will t₁)) will will-there last-there (λ e. omega arith)
       ∙ written
 
@@ -219,7 +229,8 @@ module _ (unit : ℕ → ℕ) (units : Units unit) (l : Ledger) (s : List ℕ) (
   was-handle = ap found (p .names) ∙ sym (lookup-whole-exactly h s (p .object) .0 (p .names) .0)
 
   handle-bytes : contents will (render (released q was (copied was will t₁) .blocks)) ≡ take N (contents h s) ++ replicate (N - h .length) 0
-  handle-bytes = subst (λ (x : Handle). contents will (render (released q was (copied was will t₁) .blocks)) ≡ take N (contents x s) ++ replicate (N - x .length) 0) was-handle moved-bytes
+  handle-bytes = subst (λ (x : Handle). contents will (render (released q was (copied was will t₁) .blocks)) ≡ take N (contents x s)
+      ++ replicate (N - x .length) 0) was-handle moved-bytes
 
 -- a reallocated object has the old one's bytes, as many as fit, and then zeros
 pub reallocated-bytes : (unit : ℕ → ℕ) (units : Units unit) (l : Ledger) (s : List ℕ) (k : Accounts) → Agrees l s k → (q : ℕ) (h : Handle) (n : ℕ)
@@ -231,10 +242,12 @@ reallocated-bytes unit units l s k a q h n e =
     let d = accepted-done (first-refusal (reallocate-lines unit s k q h n)) s k _ e in
     rw (d .1)
     (handle-bytes unit units l s k a q h n
-    (reallocate-passed unit s k q h n (accepted-exactly (reallocate-lines unit s k q h n) (by-lines unit (Reallocate q h n) s k .numbered) .0 (d .0))))
+    (reallocate-passed unit s k q h n (accepted-exactly (reallocate-lines unit s k q h n) (by-lines unit (Reallocate q h n) s k .numbered) .0
+    (d .0))))
 
 -- and is live in the heap that is left
-pub reallocated-live-there : (unit : ℕ → ℕ) (units : Units unit) (l : Ledger) (s : List ℕ) (k : Accounts) → Agrees l s k → (q : ℕ) (h : Handle) (n : ℕ)
+pub reallocated-live-there : (unit : ℕ → ℕ) (units : Units unit) (l : Ledger) (s : List ℕ) (k : Accounts) → Agrees l s k
+    → (q : ℕ) (h : Handle) (n : ℕ)
     → reallocate unit s k q h n .values .refusal ≡ 0
     → List·Memᴰ (reallocate unit s k q h n .values .handle) (objects-of (reallocate unit s k q h n .heap))
 unfolding reallocate was will t₁
@@ -242,4 +255,5 @@ reallocated-live-there unit units l s k a q h n e =
     let d = accepted-done (first-refusal (reallocate-lines unit s k q h n)) s k _ e in
     rw (d .1)
     (last-live unit units l s k a q h n
-    (reallocate-passed unit s k q h n (accepted-exactly (reallocate-lines unit s k q h n) (by-lines unit (Reallocate q h n) s k .numbered) .0 (d .0))))
+    (reallocate-passed unit s k q h n (accepted-exactly (reallocate-lines unit s k q h n) (by-lines unit (Reallocate q h n) s k .numbered) .0
+    (d .0))))

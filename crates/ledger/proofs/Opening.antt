@@ -1,6 +1,5 @@
 -- After an accepted opening the empty ledger agrees with heap and accounts. The heap is one free block of an allowed length, so that there is no
 -- object; no record is used, and each remainder is the grant. So every test of consistency passes, and nothing has to match.
--- Assumes nothing.
 use Prim.Native.Nat.{ℕ, zero, suc, _+_, _-_, _%_, _≤_, _<_, _^_}
 use native.Mathlib.Nat.{add-zero}
 use native.Mathlib.Omega.{arith}

@@ -1,6 +1,5 @@
 -- Permissions along a history (rule 15.7): from any point of it to a later one no quota gets a permission that it lacked, unless an image is read in between.
 -- Each call sets none, which is model's; the other events leave the accounts.
--- Assumes nothing.
 use Prim.Native.Nat.{ℕ}
 use mathlib.Core.Path.{_≡_, ap, _∙_}
 use mathlib.Core.List.{List, [], _∷_, _++_}

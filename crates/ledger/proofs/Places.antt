@@ -1,6 +1,5 @@
 -- Where the objects of blocks lie. A block's object is all of the block behind its header, and the next block starts at its end; so, block after
 -- block, every object lies inside the blocks, apart from every other object and from every header.
--- Assumes nothing.
 use Prim.Native.Nat.{ℕ, _+_, _≤_, _<_}
 use native.Mathlib.Omega.{arith}
 use mathlib.Core.Path.{_≡_, sym, _∙_}
@@ -18,11 +17,13 @@ use Rattle.model.proofs.Listing.{starts-behind}
 use Rattle.ledger.specs.Demand3.{Within}
 
 -- an object is that of the first block, or one of the others
-pub objects-cases : (at : ℕ) (b : Block) (bs : List Block) (o : Handle) → List·Memᴰ o (objects-from at (b ∷ bs)) → (o ≡ object at b) ⊎ List·Memᴰ o (objects-from (at + size b) bs)
+pub objects-cases : (at : ℕ) (b : Block) (bs : List Block) (o : Handle) → List·Memᴰ o (objects-from at (b ∷ bs))
+    → (o ≡ object at b) ⊎ List·Memᴰ o (objects-from (at + size b) bs)
 unfolding objects-from
 objects-cases at b bs o m = go (live b) m
   where
-    go : (t : Bool) → List·Memᴰ o (cond t (object at b ∷ objects-from (at + size b) bs) (objects-from (at + size b) bs)) → (o ≡ object at b) ⊎ List·Memᴰ o (objects-from (at + size b) bs)
+    go : (t : Bool) → List·Memᴰ o (cond t (object at b ∷ objects-from (at + size b) bs) (objects-from (at + size b) bs))
+        → (o ≡ object at b) ⊎ List·Memᴰ o (objects-from (at + size b) bs)
     go true m = List·Memᴰ·cases-cons m
     go false m = inr m
 
@@ -36,16 +37,19 @@ unfolding objects-from total-size
 objects-lie at [] o m = absurd (List·Memᴰ·not-nil m)
 objects-lie at (b ∷ bs) o m = go (objects-cases at b bs o m) (objects-lie (at + size b) bs o)
   where
-    go : (o ≡ object at b) ⊎ List·Memᴰ o (objects-from (at + size b) bs) → (List·Memᴰ o (objects-from (at + size b) bs) → Lies (at + size b) (at + size b + total-size bs) o)
+    go : (o ≡ object at b) ⊎ List·Memᴰ o (objects-from (at + size b) bs)
+        → (List·Memᴰ o (objects-from (at + size b) bs) → Lies (at + size b) (at + size b + total-size bs) o)
         → Lies at (at + (size b + total-size bs)) o
     go (inl e) ih = rw e (record { low = omega arith; high = omega arith })
     go (inr m) ih = let r = ih m in record { low = omega arith; high = omega arith }
 
 -- two objects with a common byte are the same
-pub objects-apart : (at : ℕ) (bs : List Block) (o p : Handle) → List·Memᴰ o (objects-from at bs) → List·Memᴰ p (objects-from at bs) → (i : ℕ) → Within i o → Within i p → o ≡ p
+pub objects-apart : (at : ℕ) (bs : List Block) (o p : Handle) → List·Memᴰ o (objects-from at bs) → List·Memᴰ p (objects-from at bs) → (i : ℕ)
+    → Within i o → Within i p → o ≡ p
 unfolding objects-from
 objects-apart at [] o p m n i w v = absurd (List·Memᴰ·not-nil m)
-objects-apart at (b ∷ bs) o p m n i w v = go (objects-cases at b bs o m) (objects-cases at b bs p n) (λ m n. objects-apart (at + size b) bs o p m n i w v)
+objects-apart at (b ∷ bs) o p m n i w v = go (objects-cases at b bs o m) (objects-cases at b bs p n)
+    (λ m n. objects-apart (at + size b) bs o p m n i w v)
   where
     behind : (x y : Handle) → x ≡ object at b → List·Memᴰ y (objects-from (at + size b) bs) → Within i x → Within i y → o ≡ p
     behind x y e m w v =

@@ -1,6 +1,5 @@
 -- Every consistent state agrees with the ledger that is read off it: its objects are the live ones, and each quota's holds are its record's count. So a
 -- state that no history led to can be a beginning.
--- Assumes nothing.
 use Prim.Native.Nat.{ℕ, zero, suc, _+_, _≤_, _<_, _^_}
 use native.Mathlib.Nat.{not-suc-le-zero}
 use native.Mathlib.Omega.{arith}
@@ -101,11 +100,13 @@ consistent-agrees s k e o c l n f =
             objects = λ x. (λ m. rw same m, λ m. rw same at m);
             once = rw same (g .tests .differ);
             quotas = rw (length-map (k .quotas) (λ (x : Quota). x .grant)) l;
-            widths = λ x m. (let y = read-member (k .holds) (objects-of s) x m in ap (λ (z : Entry). length (z .holds)) (y .1) ∙ values-length (λ q. count-of (y .0 .serial) q (k .holds)) 0 QUOTAS);
+            widths = λ x m. (let y = read-member (k .holds) (objects-of s) x m in ap (λ (z : Entry). length (z .holds)) (y .1)
+                ∙ values-length (λ q. count-of (y .0 .serial) q (k .holds)) 0 QUOTAS);
             holds =
                 λ x m q.
                 (let y = read-member (k .holds) (objects-of s) x m in
-                ap (holds-of q) (y .1) ∙ read-holds (k .holds) r (y .0) q ∙ ap (λ (z : Entry). count-of (z .object .serial) q (k .holds)) (sym (y .1)));
+                ap (holds-of q) (y .1) ∙ read-holds (k .holds) r (y .0) q
+                ∙ ap (λ (z : Entry). count-of (z .object .serial) q (k .holds)) (sym (y .1)));
           };
       waits = record { both = λ x. (λ m. m, λ m. m); once = spans-once 0 (blocks-of s) };
     }

@@ -2,7 +2,6 @@
 -- two happened. So after an image is read, the state is reached by the image's own history and the events since: on
 -- the board that wrote it, where what came in between is gone, and on any other. The ledger read off the state says
 -- what the ledger of the image's history says, since both agree with one state.
--- Assumes nothing.
 use mathlib.Core.Path.{_≡_, refl, sym, _∙_, subst}
 use mathlib.Core.List.{List, [], _∷_, _++_}
 use Prim.Native.Nat.{ℕ}

@@ -1,5 +1,4 @@
 -- The ledger of short lists of events, computed: what rules 9.2 to 9.5, 13.15 to 13.18, 15.9 and 22.10 to 22.13 make of them.
--- Assumes nothing.
 use Prim.Native.Nat.{ℕ, _-_}
 use native.Mathlib.Omega.{arith}
 use mathlib.Core.Path.{_≡_, refl, ap}

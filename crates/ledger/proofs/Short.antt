@@ -1,6 +1,5 @@
 -- Short lists of calls on a heap of 64 bytes, made by any run: the state that they lead to, their events, and that
 -- these are a history. What demand 3 says of them can be computed.
--- Assumes nothing.
 use Prim.Native.Nat.{ℕ, zero, suc, _-_, _<_, _^_}
 use native.Mathlib.Omega.{arith}
 use mathlib.Core.Path.{_≡_, refl}

@@ -1,7 +1,6 @@
 -- Rule 10.9: a request for which no other line holds is refused by 11 exactly if there is no base for it, and accepted otherwise.
 -- Its last line says that the search found no base; the search finds one exactly if some multiple of the alignment is suitable; and what is suitable is said
 -- over bytes by model's laws.
--- Assumes nothing.
 use Prim.Native.Nat.{ℕ, _+_, _*_, _%_}
 use native.Mathlib.Nat.{add-assoc}
 use native.Mathlib.Omega.{arith}
@@ -21,12 +20,14 @@ use Rattle.layout.specs.Blocks.{Block, size, occupied, quarantined}
 use Rattle.model.specs.Lists.{any, keep, is-none}
 use Rattle.model.specs.Objects.{object, objects-from, objects, blocks-of, objects-of, lookup-whole, found}
 use Rattle.model.specs.Space.{suitable}
-use Rattle.model.specs.Refusals.{Line, _when_, line-holds, first-refusal, line-1, line-2, line-3, line-4, line-5, line-6, line-8, line-9, line-10, line-11}
+use Rattle.model.specs.Refusals.{Line, _when_, line-holds, first-refusal, line-1, line-2, line-3, line-4, line-5, line-6, line-8, line-9, line-10}
+use Rattle.model.specs.Refusals.{line-11}
 use Rattle.model.specs.Refusals.{line-12, base-for, allocate-lines, reallocate-lines}
 use Rattle.model.specs.Step.{step}
 use Rattle.model.specs.declared.Handle.{Handle}
 use Rattle.model.specs.declared.Call.{Call}
-use Rattle.model.specs.declared.Call.the-variants.{Allocate, AllocateArray, Claim, Release, FreeAll, Reallocate, Lend, Remaining, CanRelease, ListBlock}
+use Rattle.model.specs.declared.Call.the-variants.{Allocate, AllocateArray, Claim, Release, FreeAll, Reallocate, Lend, Remaining, CanRelease}
+use Rattle.model.specs.declared.Call.the-variants.{ListBlock}
 use Rattle.model.specs.declared.Call.the-variants.{ClearPermissions, Sweep}
 use Rattle.model.proofs.Refusals.{lines-of, by-lines, refusal-of-lines}
 use Rattle.model.proofs.Sweep.{quarantined-occupied}
@@ -134,10 +135,12 @@ module _ (unit : ℕ → ℕ) (units : Units unit) (s : List ℕ) (k : Accounts)
   allocate-decided : (q n : ℕ) → passes-others (allocate-lines unit s k q n) ≡ true → Decided unit s n (first-refusal (allocate-lines unit s k q n))
   unfolding passes-others allocate-lines keep line-1 line-2 line-3 line-12 line-4 line-8 line-9 line-10 line-11
   allocate-decided q n e =
-      line-decides unit units s n (line-1 s ∷ line-2 unit s k ∷ line-3 q ∷ line-12 ALLOCATE k q ∷ line-4 n ∷ line-8 k q (object-length unit n) ∷ line-9 k
+      line-decides unit units s n (line-1 s ∷ line-2 unit s k ∷ line-3 q ∷ line-12 ALLOCATE k q ∷ line-4 n ∷ line-8 k q (object-length unit n)
+      ∷ line-9 k
       ∷ line-10 k ∷ []) (not-true _ e)
 
-  reallocate-decided : (q : ℕ) (h : Handle) (n : ℕ) → passes-others (reallocate-lines unit s k q h n) ≡ true → Decided unit s n (first-refusal (reallocate-lines unit s k q h n))
+  reallocate-decided : (q : ℕ) (h : Handle) (n : ℕ) → passes-others (reallocate-lines unit s k q h n) ≡ true
+      → Decided unit s n (first-refusal (reallocate-lines unit s k q h n))
   unfolding passes-others reallocate-lines keep line-1 line-2 line-3 line-12 line-4 line-5 line-6 line-8 line-9 line-10 line-11
   reallocate-decided q h n e =
       line-decides unit units s n
@@ -147,12 +150,14 @@ module _ (unit : ℕ → ℕ) (units : Units unit) (s : List ℕ) (k : Accounts)
 
   -- the lines of a call give its refusal
   of-request : (c : Call) (r₀ r : Request) → some r₀ ≡ some r → passes-others (r .lines) ≡ true
-      → (passes-others (r₀ .lines) ≡ true → Decided unit s (r₀ .asked) (first-refusal (lines-of unit c s k))) → Decided unit s (r .asked) (step unit c s k .values .refusal)
+      → (passes-others (r₀ .lines) ≡ true → Decided unit s (r₀ .asked) (first-refusal (lines-of unit c s k)))
+      → Decided unit s (r .asked) (step unit c s k .values .refusal)
   of-request c r₀ r e p f =
       let x : r₀ ≡ r = Option·some-injective r₀ r e in
       rw (refusal-of-lines (by-lines unit c s k), ← x) (f (rw x p))
 
-  pub space-decided : (c : Call) (r : Request) → request-of unit c s k ≡ some r → passes-others (r .lines) ≡ true → Decided unit s (r .asked) (step unit c s k .values .refusal)
+  pub space-decided : (c : Call) (r : Request) → request-of unit c s k ≡ some r → passes-others (r .lines) ≡ true
+      → Decided unit s (r .asked) (step unit c s k .values .refusal)
   unfolding request-of
   space-decided (Allocate q n) r e p = of-request (Allocate q n) _ r e p (allocate-decided q n)
   space-decided (AllocateArray q count size) r e p = of-request (AllocateArray q count size) _ r e p (allocate-decided q (count * size))

@@ -1,6 +1,5 @@
 -- Where quarantined blocks stand, and what each change of blocks does to them. Joining, carving and copying leave each of them at its place; settling leaves
 -- one more, in a heap of the second kind, for each object that no record holds any more; and a sweep leaves none.
--- Assumes nothing.
 use Prim.Native.Nat.{ℕ, _+_, _-_, _%_, _<_}
 use native.Mathlib.Nat.{add-zero, add-assoc}
 use native.Mathlib.Omega.{arith}

@@ -1,8 +1,8 @@
 -- The live blocks that each change leaves: carving adds one with a new serial, settling and joining make no live block, and copying changes one.
--- Assumes nothing.
 use Prim.Native.Nat.{ℕ, zero, suc, _-_}
 use mathlib.Core.Path.{_≡_, refl, ap, sym, _∙_}
-use mathlib.Core.List.{List, [], _∷_, _++_, List·Memᴰ, List·Memᴰ·head, List·Memᴰ·tail, List·Memᴰ·not-nil, List·Memᴰ·cases-cons, List·Memᴰ·append-cases, List·Memᴰ·eq-of-singleton, Memᴰ·append-left, Memᴰ·append-right}
+use mathlib.Core.List.{List, [], _∷_, _++_, List·Memᴰ, List·Memᴰ·head, List·Memᴰ·tail, List·Memᴰ·not-nil, List·Memᴰ·cases-cons}
+use mathlib.Core.List.{List·Memᴰ·append-cases, List·Memᴰ·eq-of-singleton, Memᴰ·append-left, Memᴰ·append-right}
 use mathlib.Core.Bool.{Bool, true, false, not, cond, _&&_, true≢false}
 use mathlib.Core.Logic.{_⊎_, inl, inr, ⊎-elim}
 use lib.ListN.{length, take, drop, replicate}
@@ -28,7 +28,8 @@ left-free zero body b l m = List·Memᴰ·not-nil m
 left-free (suc n) body b l m = free-not b (record { serial = 0; body = body }) l refl (List·Memᴰ·eq-of-singleton m)
 
 -- the one live block of a cut is the new one
-cut-live : (base n serial at : ℕ) (f b : Block) → live b ≡ true → List·Memᴰ b (cut-block base n serial at f) → b ≡ record { serial = serial; body = replicate n 0 }
+cut-live : (base n serial at : ℕ) (f b : Block) → live b ≡ true → List·Memᴰ b (cut-block base n serial at f) → b
+    ≡ record { serial = serial; body = replicate n 0 }
 unfolding cut-block
 cut-live base n serial at f b l m =
     ⊎-elim (λ x. absurd (left-free _ _ b l x)) (λ y. ⊎-elim (λ e. e) (λ z. absurd (left-free _ _ b l z)) (List·Memᴰ·cases-cons y))
@@ -39,7 +40,8 @@ pub carved-live : {base n serial at : ℕ} {bs cs : List Block} (c : Carved base
     → (b ≡ record { serial = serial; body = replicate n 0 }) ⊎ List·Memᴰ b bs
 carved-live {base} {n} {serial} {at} {bs} {cs} c b l m =
     ⊎-elim (λ x. inr (rw (c .split) (Memᴰ·append-left (c .block ∷ c .back) x)))
-    (λ y. ⊎-elim (λ z. inl (cut-live base n serial _ (c .block) b l z)) (λ z. inr (rw (c .split) (Memᴰ·append-right (c .front) (List·Memᴰ·tail z)))) (List·Memᴰ·append-cases (cut-block base n serial _ (c .block)) y))
+    (λ y. ⊎-elim (λ z. inl (cut-live base n serial _ (c .block) b l z)) (λ z. inr (rw (c .split) (Memᴰ·append-right (c .front) (List·Memᴰ·tail z))))
+    (List·Memᴰ·append-cases (cut-block base n serial _ (c .block)) y))
     (List·Memᴰ·append-cases (c .front) (rw (c .now) at m))
 
 -- joining: a live block was there
@@ -51,7 +53,8 @@ join-live c cs b l =
 joined-live : (bs : List Block) (b : Block) → live b ≡ true → List·Memᴰ b (join-free bs) → List·Memᴰ b bs
 unfolding join-free
 joined-live [] b l m = m
-joined-live (c ∷ cs) b l m = ⊎-elim (λ x. List·Memᴰ·head x) (λ y. List·Memᴰ·tail (joined-live cs b l y)) (List·Memᴰ·cases-cons (join-live c (join-free cs) b l m))
+joined-live (c ∷ cs) b l m = ⊎-elim (λ x. List·Memᴰ·head x) (λ y. List·Memᴰ·tail (joined-live cs b l y))
+    (List·Memᴰ·cases-cons (join-live c (join-free cs) b l m))
 
 vacated-live : (kind : ℕ) (hs : List Hold) (bs : List Block) (b : Block) → live b ≡ true → List·Memᴰ b (vacate-unheld kind hs bs) → List·Memᴰ b bs
 unfolding changed
@@ -89,13 +92,15 @@ swept-live bs b l m = unquarantined-live bs b l (joined-live (unquarantine-all b
 
 -- copying: a live block with another serial was there, and one with this serial has the bytes copied in front of its own
 pub copied-live : (serial : ℕ) (new : List ℕ) (bs : List Block) (b : Block) → live b ≡ true → List·Memᴰ b (copy-into serial new bs)
-    → (List·Memᴰ b bs × (b .serial ≡ serial → ⊥)) ⊎ ((c : Block) × List·Memᴰ c bs × (c .serial ≡ serial) × (b ≡ record { serial = serial; body = take (length (c .body)) new ++ drop (length new) (c .body) }))
+    → (List·Memᴰ b bs × (b .serial ≡ serial → ⊥)) ⊎ ((c : Block) × List·Memᴰ c bs × (c .serial ≡ serial)
+    × (b ≡ record { serial = serial; body = take (length (c .body)) new ++ drop (length new) (c .body) }))
 unfolding copy-into
 copied-live serial new [] b l m = absurd (List·Memᴰ·not-nil m)
 copied-live serial new (c ∷ cs) b l m = go (eqb (c .serial) serial) refl (List·Memᴰ·cases-cons m) (copied-live serial new cs b l)
   where
     Copied : List Block → Type 0
-    Copied bs = (c : Block) × List·Memᴰ c bs × (c .serial ≡ serial) × (b ≡ record { serial = serial; body = take (length (c .body)) new ++ drop (length new) (c .body) })
+    Copied bs = (c : Block) × List·Memᴰ c bs × (c .serial ≡ serial) ×
+        (b ≡ record { serial = serial; body = take (length (c .body)) new ++ drop (length new) (c .body) })
 
     Left : List Block → Type 0
     Left bs = List·Memᴰ b bs × (b .serial ≡ serial → ⊥)
@@ -105,7 +110,8 @@ copied-live serial new (c ∷ cs) b l m = go (eqb (c .serial) serial) refl (List
     later (inr y) = inr (y .0, List·Memᴰ·tail (y .1), y .2, y .3)
 
     go : (t : Bool) → eqb (c .serial) serial ≡ t
-        → (b ≡ cond t (record { serial = serial; body = take (length (c .body)) new ++ drop (length new) (c .body) }) c) ⊎ List·Memᴰ b (copy-into serial new cs)
+        → (b ≡ cond t (record { serial = serial; body = take (length (c .body)) new ++ drop (length new) (c .body) }) c) ⊎ List·Memᴰ b
+        (copy-into serial new cs)
         → (List·Memᴰ b (copy-into serial new cs) → Left cs ⊎ Copied cs) → Left (c ∷ cs) ⊎ Copied (c ∷ cs)
     go true t (inl e) ih = inr (c, List·Memᴰ·head refl, eqb-true (c .serial) serial t, e)
     go true t (inr x) ih = later (ih x)
@@ -122,7 +128,8 @@ body-there serial (c ∷ cs) b m e = go (eqb (c .serial) serial) refl (List·Mem
     Found : List Block → List ℕ → Type 0
     Found bs body = (c : Block) × List·Memᴰ c bs × (c .serial ≡ serial) × (body ≡ c .body)
 
-    go : (t : Bool) → eqb (c .serial) serial ≡ t → (b ≡ c) ⊎ List·Memᴰ b cs → (List·Memᴰ b cs → Found cs (body-of serial cs)) → Found (c ∷ cs) (cond t (c .body) (body-of serial cs))
+    go : (t : Bool) → eqb (c .serial) serial ≡ t → (b ≡ c) ⊎ List·Memᴰ b cs → (List·Memᴰ b cs → Found cs (body-of serial cs))
+        → Found (c ∷ cs) (cond t (c .body) (body-of serial cs))
     go true t x ih = (c, List·Memᴰ·head refl, eqb-true (c .serial) serial t, refl)
     go false t (inl x) ih = absurd (eqb-false (c .serial) serial t (ap (λ (z : Block). z .serial) (sym x) ∙ e))
     go false t (inr x) ih = let r = ih x in (r .0, List·Memᴰ·tail (r .1), r .2, r .3)

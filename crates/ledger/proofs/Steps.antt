@@ -1,7 +1,6 @@
 -- Each call keeps agreement: heap and accounts after it agree with the ledger that has recorded it.
 -- A refused call changes nothing and is not recorded. An accepted one has passed its lines, which give what its change needs; the change keeps a good
 -- state, and the ledger's change matches that of objects and records.
--- Assumes nothing.
 use Prim.Native.Nat.{ℕ, zero, suc, _*_, _<_}
 use native.Mathlib.Omega.{arith}
 use mathlib.Core.Path.{_≡_, refl, ap, sym, _∙_, subst, subst₂}
@@ -19,7 +18,8 @@ use Rattle.model.specs.Objects.{blocks-of, objects, objects-of, lookup, lookup-
 use Rattle.model.specs.Consistent.{charges, has-record}
 use Rattle.model.specs.Refusals.{first-refusal, quota-lines, free-all-lines, lend-lines, release-lines, claim-lines, check-lines, allocate-lines}
 use Rattle.model.specs.Refusals.{reallocate-lines}
-use Rattle.model.specs.Calls.{Outcome, State, unless, state-of, allocated, claimed, released, freed, copied, new-object, allocate, allocate-array, claim}
+use Rattle.model.specs.Calls.{Outcome, State, unless, state-of, allocated, claimed, released, freed, copied, new-object, allocate, allocate-array}
+use Rattle.model.specs.Calls.{claim}
 use Rattle.model.specs.Calls.{release, free-all, sweep, reallocate, lend, remaining-of, can-release, list-block, clear}
 use Rattle.model.specs.Step.{step}
 use Rattle.model.specs.declared.Handle.{Handle}
@@ -113,7 +113,8 @@ module _ (l : Ledger) (s : List ℕ) (k : Accounts) (a : Agrees l s k) (q : ℕ)
       subst₂ (λ (y : ℕ) (z : List ℕ). Agrees (add-hold q y l) z (claimed q o k)) (same-serial-as (p .object) (p .names)) (again l s k a) r
 
   releases : Releasable s k q h
-      → Agrees (take-hold q (h .serial) l) (render (released q (found (lookup h s)) (state-of s k) .blocks)) (released q (found (lookup h s)) (state-of s k) .accounts)
+      → Agrees (take-hold q (h .serial) l) (render (released q (found (lookup h s)) (state-of s k) .blocks))
+      (released q (found (lookup h s)) (state-of s k) .accounts)
   releases p =
       let o = found (lookup h s) in
       subst (λ (y : ℕ). Agrees (take-hold q y l) (render (released q o (state-of s k) .blocks)) (released q o (state-of s k) .accounts))
@@ -149,8 +150,10 @@ module _ (unit : ℕ → ℕ) (units : Units unit) (l : Ledger) (s : List ℕ) (
 
   reallocates : Reallocatable unit s k q h n
       → Agrees (take-hold q (h .serial) (add-object q (new-object unit s k n) l))
-      (render (released q (found (lookup-whole h s)) (copied (found (lookup-whole h s)) (new-object unit s k n) (allocated q (new-object unit s k n) (state-of s k))) .blocks))
-      (released q (found (lookup-whole h s)) (copied (found (lookup-whole h s)) (new-object unit s k n) (allocated q (new-object unit s k n) (state-of s k))) .accounts)
+      (render (released q (found (lookup-whole h s)) (copied (found (lookup-whole h s)) (new-object unit s k n)
+      (allocated q (new-object unit s k n) (state-of s k))) .blocks))
+      (released q (found (lookup-whole h s)) (copied (found (lookup-whole h s)) (new-object unit s k n)
+      (allocated q (new-object unit s k n) (state-of s k))) .accounts)
   reallocates p =
       let old = found (lookup-whole h s) in
       let new = new-object unit s k n in
@@ -207,25 +210,31 @@ module _ (unit : ℕ → ℕ) (units : Units unit) where
   unfolding step record-accepted allocate allocate-array claim release free-all sweep reallocate lend remaining-of can-release list-block clear
   step-agrees (Allocate q n) l s k a =
       accepted-step (Allocate q n) l s k (first-refusal (allocate-lines unit s k q n)) _ a refl
-      (λ e. allocates unit units l s k a q n (allocate-passed unit s k q n (accepted-exactly (allocate-lines unit s k q n) (by-lines unit (Allocate q n) s k .numbered) .0 e)))
+      (λ e. allocates unit units l s k a q n (allocate-passed unit s k q n
+      (accepted-exactly (allocate-lines unit s k q n) (by-lines unit (Allocate q n) s k .numbered) .0 e)))
   step-agrees (AllocateArray q count size) l s k a =
       accepted-step (AllocateArray q count size) l s k (first-refusal (allocate-lines unit s k q (count * size))) _ a refl
-      (λ e. allocates unit units l s k a q (count * size) (allocate-passed unit s k q (count * size) (accepted-exactly (allocate-lines unit s k q (count * size)) (by-lines unit (AllocateArray q count size) s k .numbered) .0 e)))
+      (λ e. allocates unit units l s k a q (count * size) (allocate-passed unit s k q (count * size)
+      (accepted-exactly (allocate-lines unit s k q (count * size)) (by-lines unit (AllocateArray q count size) s k .numbered) .0 e)))
   step-agrees (Claim q h) l s k a =
       accepted-step (Claim q h) l s k (first-refusal (claim-lines unit s k q h)) _ a refl
-      (λ e. claims l s k a q h (claim-passed unit s k q h (accepted-exactly (claim-lines unit s k q h) (by-lines unit (Claim q h) s k .numbered) .0 e)))
+      (λ e. claims l s k a q h (claim-passed unit s k q h (accepted-exactly (claim-lines unit s k q h) (by-lines unit (Claim q h) s k .numbered) .0
+      e)))
   step-agrees (Release q h) l s k a =
       accepted-step (Release q h) l s k (first-refusal (release-lines unit s k q h)) _ a refl
-      (λ e. releases l s k a q h (release-passed unit s k q h (accepted-exactly (release-lines unit s k q h) (by-lines unit (Release q h) s k .numbered) .0 e)))
+      (λ e. releases l s k a q h (release-passed unit s k q h (accepted-exactly (release-lines unit s k q h)
+      (by-lines unit (Release q h) s k .numbered) .0 e)))
   step-agrees (FreeAll q) l s k a =
       accepted-step (FreeAll q) l s k (first-refusal (free-all-lines unit s k q)) _ a refl
-      (λ e. frees l s k a q (free-all-passed unit s k q (accepted-exactly (free-all-lines unit s k q) (by-lines unit (FreeAll q) s k .numbered) .0 e)))
+      (λ e. frees l s k a q (free-all-passed unit s k q (accepted-exactly (free-all-lines unit s k q) (by-lines unit (FreeAll q) s k .numbered) .0
+      e)))
   step-agrees Sweep l s k a =
       accepted-step Sweep l s k (first-refusal (check-lines unit s k)) _ a refl
       (λ e. agrees-from _ _ (track-swept l (state-of s k) (tracked l s k a)))
   step-agrees (Reallocate q h n) l s k a =
       accepted-step (Reallocate q h n) l s k (first-refusal (reallocate-lines unit s k q h n)) _ a refl
-      (λ e. reallocates unit units l s k a q h n (reallocate-passed unit s k q h n (accepted-exactly (reallocate-lines unit s k q h n) (by-lines unit (Reallocate q h n) s k .numbered) .0 e)))
+      (λ e. reallocates unit units l s k a q h n (reallocate-passed unit s k q h n
+      (accepted-exactly (reallocate-lines unit s k q h n) (by-lines unit (Reallocate q h n) s k .numbered) .0 e)))
   step-agrees (Lend h) l s k a = accepted-step (Lend h) l s k (first-refusal (lend-lines unit s k h)) _ a refl (λ e. a)
   step-agrees (Remaining q) l s k a = accepted-step (Remaining q) l s k (first-refusal (quota-lines unit s k q)) _ a refl (λ e. a)
   step-agrees (CanRelease q h) l s k a = accepted-step (CanRelease q h) l s k (first-refusal (release-lines unit s k q h)) _ a refl (λ e. a)

@@ -2,7 +2,6 @@
 -- of heaps.
 -- Along a history ledger, heap and accounts agree: an opening does, and each call and each write keeps it. What demand 3 says of a history is what
 -- agreement says of its end.
--- Assumes nothing.
 use Prim.Native.Nat.{ℕ, _<_}
 use native.Mathlib.Omega.{arith}
 use mathlib.Core.Path.{_≡_, refl, sym, subst, ap, _∙_}
@@ -25,9 +24,11 @@ use Rattle.model.proofs.StepFrame.{step-keeps}
 use Rattle.model.proofs.Permissions.{step-permissible}
 use Rattle.model.specs.Answers.{Values}
 use Rattle.model.specs.declared.Call.{Call}
-use Rattle.model.specs.declared.Call.the-variants.{Allocate, AllocateArray, Claim, Release, FreeAll, Reallocate, Lend, Remaining, CanRelease, ListBlock}
+use Rattle.model.specs.declared.Call.the-variants.{Allocate, AllocateArray, Claim, Release, FreeAll, Reallocate, Lend, Remaining, CanRelease}
+use Rattle.model.specs.declared.Call.the-variants.{ListBlock}
 use Rattle.model.specs.declared.Call.the-variants.{ClearPermissions, Sweep}
-use Rattle.ledger.specs.Ledger.{Ledger, Event, Called, Wrote, Saved, Restored, leave, add-object, add-hold, take-hold, take-all, record-accepted}
+use Rattle.ledger.specs.Ledger.{Ledger, Event, Called, Wrote, Saved, Restored, leave, add-object, add-hold, take-hold, take-all}
+use Rattle.ledger.specs.Ledger.{record-accepted}
 use Rattle.ledger.specs.Ledger.{record-call, record-event, unrestored, ledger-of, read-ledger}
 use Rattle.ledger.specs.History.{History, by-own}
 use Rattle.ledger.specs.Demand3.{Within, objects-in, HeldIn, Holds, Demand3}
@@ -35,7 +36,8 @@ use Rattle.ledger.proofs.Agreement.{Agrees}
 use Rattle.ledger.proofs.Opening.{restored-agrees, beginning-agrees, beginning-permissible, beginning-edition}
 use Rattle.ledger.proofs.Writing.{written-agrees}
 use Rattle.ledger.proofs.Steps.{step-agrees}
-use Rattle.ledger.proofs.Fields.{live-once-of, apart-of, off-headers-of, inside-of, record-held-of, hold-recorded-of, records-once-of, balanced-of, answered-of}
+use Rattle.ledger.proofs.Fields.{live-once-of, apart-of, off-headers-of, inside-of, record-held-of, hold-recorded-of, records-once-of}
+use Rattle.ledger.proofs.Fields.{balanced-of, answered-of}
 use Rattle.ledger.proofs.Space.{space-decided}
 use Rattle.ledger.proofs.Lasting.{step-lasts}
 use Rattle.ledger.proofs.Fitted.{Fitted, restored-fits, beginning-fits, step-fits, sound-of}
@@ -49,7 +51,8 @@ apart-places l s k a i j i<j j<n at u v =
     let m = a .matches in
     let x = m .objects (getD os i zero-handle) .1 (getD-member zero-handle os i (omega arith)) in
     let y = m .objects (getD os j zero-handle) .1 (getD-member zero-handle os j j<n) in
-    serials-exactly os .0 (m .once) i j i<j j<n (ap (λ (o : Handle). o .serial) (apart-of l s k a (getD os i zero-handle) (getD os j zero-handle) x y at u v))
+    serials-exactly os .0 (m .once) i j i<j j<n (ap (λ (o : Handle). o .serial)
+    (apart-of l s k a (getD os i zero-handle) (getD os j zero-handle) x y at u v))
 
 -- the ledger keeps the kind, the edition and the grants
 abbrev Kept : Ledger → Ledger → Type 0
@@ -90,7 +93,8 @@ ledger-kept begun (Restored s k ∷ es) u = absurd (false≢true u)
 abbrev Since : Ledger → List Event → List Event → ℕ → Type 0
 Since begun front back serial = (late early : List Event) → back ≡ late ++ early → HeldIn serial (ledger-of begun (early ++ front))
 
-sooner : (begun : Ledger) (front : List Event) (e : Event) (es : List Event) (serial : ℕ) → Since begun front (e ∷ es) serial → Since begun front es serial
+sooner : (begun : Ledger) (front : List Event) (e : Event) (es : List Event) (serial : ℕ) → Since begun front (e ∷ es) serial
+    → Since begun front es serial
 sooner begun front e es serial f late early q = f (e ∷ late) early (ap (λ (x : List Event). e ∷ x) q)
 
 -- an object of the ledger after the front, whose serial is held ever since, is one of its objects now, where no image was read since
@@ -107,7 +111,8 @@ module _ (tables : ℕ → ℕ → ℕ) (units : (e : ℕ) → Units (tables e))
   history-agrees begun [] s k h = beginning-agrees tables begun s k h
   history-agrees begun (Called c v ∷ es) s k h =
       subst (λ (t : Outcome). Agrees (record-call c (t .values) (ledger-of begun es)) (t .heap) (t .accounts)) (h .3)
-      (step-agrees (tables (h .1 .edition)) (units (h .1 .edition)) c (ledger-of begun es) (h .0) (h .1) (history-agrees begun es (h .0) (h .1) (h .2)))
+      (step-agrees (tables (h .1 .edition)) (units (h .1 .edition)) c (ledger-of begun es) (h .0) (h .1)
+      (history-agrees begun es (h .0) (h .1) (h .2)))
   history-agrees begun (Wrote ∷ es) s k h = written-agrees (ledger-of begun es) (h .0) s k (history-agrees begun es (h .0) k (h .1)) (h .2)
   history-agrees begun (Saved s₀ k₀ ∷ es) s k h = history-agrees begun es s k (h .0)
   history-agrees begun (Restored s₁ k₁ ∷ es) s k h = rw (← h .5, ← h .6) (restored-agrees (tables (k .edition)) s k (h .4))
@@ -159,14 +164,18 @@ module _ (tables : ℕ → ℕ → ℕ) (units : (e : ℕ) → Units (tables e))
       let l = ledger-of begun (es ++ front) in
       let before = history-lasts begun front es (h .0) (h .1) (h .2) u o m (sooner begun front (Called c v) es (o .serial) f) in
       subst (λ (t : Outcome). HeldIn (o .serial) (record-call c (t .values) l) → List·Memᴰ o (objects-in (record-call c (t .values) l))) (h .3)
-      (step-lasts (tables (h .1 .edition)) l (h .0) (h .1) c (history-agrees begun (es ++ front) (h .0) (h .1) (h .2)) o before) (f [] (Called c v ∷ es) refl)
-  history-lasts begun front (Wrote ∷ es) s k h u o m f = history-lasts begun front es (h .0) k (h .1) u o m (sooner begun front Wrote es (o .serial) f)
-  history-lasts begun front (Saved s₀ k₀ ∷ es) s k h u o m f = history-lasts begun front es s k (h .0) u o m (sooner begun front (Saved s₀ k₀) es (o .serial) f)
+      (step-lasts (tables (h .1 .edition)) l (h .0) (h .1) c (history-agrees begun (es ++ front) (h .0) (h .1) (h .2)) o before)
+      (f [] (Called c v ∷ es) refl)
+  history-lasts begun front (Wrote ∷ es) s k h u o m f = history-lasts begun front es (h .0) k (h .1) u o m
+      (sooner begun front Wrote es (o .serial) f)
+  history-lasts begun front (Saved s₀ k₀ ∷ es) s k h u o m f = history-lasts begun front es s k (h .0) u o m
+      (sooner begun front (Saved s₀ k₀) es (o .serial) f)
   history-lasts begun front (Restored s₁ k₁ ∷ es) s k h u o m f = absurd (false≢true u)
 
   -- what demand 3 says of a history is what agreement says of its end
   holds-after : (begun : Ledger) (front back : List Event) (s : List ℕ) (k : Accounts) → Lasts begun front back
-      → Agrees (ledger-of begun (back ++ front)) s k → Fitted (tables (k .edition)) (ledger-of begun (back ++ front)) → all permissible (permissions k) ≡ true
+      → Agrees (ledger-of begun (back ++ front)) s k → Fitted (tables (k .edition)) (ledger-of begun (back ++ front))
+      → all permissible (permissions k) ≡ true
       → k .edition ≡ ledger-of begun (back ++ front) .edition → Holds (tables (k .edition)) (by-own tables) begun front back s k
   holds-after begun front back s k lasts a f p e =
       let l = ledger-of begun (back ++ front) in
@@ -208,7 +217,8 @@ module _ (tables : ℕ → ℕ → ℕ) (units : (e : ℕ) → Units (tables e))
         always =
             λ begun front back s k h.
             holds-after begun front back s k (history-lasts begun front back s k h) (history-agrees begun (back ++ front) s k h)
-            (history-fits begun (back ++ front) s k h) (history-permissible begun (back ++ front) s k h) (history-edition begun (back ++ front) s k h);
+            (history-fits begun (back ++ front) s k h) (history-permissible begun (back ++ front) s k h)
+            (history-edition begun (back ++ front) s k h);
       }
 
 -- and so of both editions' tables (rules 6.1 and 23.1)

@@ -1,5 +1,4 @@
 -- Each change of a state that a call makes is one of its ledger: what the ledger has after it tracks the state after it.
--- Assumes nothing.
 use Prim.Native.Nat.{ℕ, _-_, _≤_, _<_}
 use mathlib.Core.Path.{_≡_, refl, sym, _∙_, subst}
 use mathlib.Core.List.{[], List·Memᴰ}

@@ -1,6 +1,5 @@
 -- The ledger's quarantined blocks stay the heap's, each once, where objects leave (rules 22.10 and 22.11). Blocks stand one behind the other, so two objects
 -- whose blocks start at one place are the same, and no object's block starts where a quarantined one does.
--- Assumes nothing.
 use Prim.Native.Nat.{ℕ, _+_, _-_, _≤_}
 use native.Mathlib.Omega.{arith}
 use mathlib.Core.Path.{_≡_, refl, ap, sym, _∙_}

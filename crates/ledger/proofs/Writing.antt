@@ -1,7 +1,6 @@
 -- A write inside live objects keeps agreement. No byte of a header lies in an object, so every header stands as it did; what is read then are
 -- the same blocks with other bodies of the same lengths. Objects, sizes and free neighbours are the same, and the test for consistency reads no
 -- more of the blocks than these.
--- Assumes nothing.
 use Prim.Native.Nat.{ℕ, _+_}
 use native.Mathlib.Nat.{zero-add}
 use native.Mathlib.Omega.{arith}

@@ -2,7 +2,6 @@
 -- that the line above it names. Every field of `Holds` has such a heap but three: `kind-begun`, `edition-begun` and
 -- `grants-begun` speak of the ledger alone and hold of any events (`ledger-kept` in Theorem.antt), whatever heap
 -- answered.
--- Assumes nothing.
 use Prim.Native.Nat.{ℕ, _+_, _-_, _%_, _≤_}
 use native.Mathlib.Omega.{arith}
 use mathlib.Core.Path.{_≡_, refl, ap, subst}

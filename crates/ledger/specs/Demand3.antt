@@ -22,7 +22,8 @@ use Rattle.model.specs.Step.{step}
 use Rattle.model.specs.declared.Handle.{Handle}
 use Rattle.model.specs.declared.ListedBlock.{ListedBlock}
 use Rattle.model.specs.declared.Call.{Call}
-use Rattle.model.specs.declared.Call.the-variants.{Allocate, AllocateArray, Claim, Release, FreeAll, Reallocate, Lend, Remaining, CanRelease, ListBlock}
+use Rattle.model.specs.declared.Call.the-variants.{Allocate, AllocateArray, Claim, Release, FreeAll, Reallocate, Lend, Remaining, CanRelease}
+use Rattle.model.specs.declared.Call.the-variants.{ListBlock}
 use Rattle.model.specs.declared.Call.the-variants.{ClearPermissions, Sweep}
 use Rattle.ledger.specs.Ledger.{Entry, Span, Ledger, Event, holds-of, cost-to, quarantined-of, unrestored, ledger-of}
 use Rattle.ledger.specs.History.{Run, History}
@@ -108,7 +109,8 @@ pub record Holds (unit : ℕ → ℕ) (run : Run) (begun : Ledger) (front back :
   pub inside : (o : Handle) → List·Memᴰ o (objects-in (ledger-of begun (back ++ front))) → o .base + o .length ≤ length s
   -- rule 10.7: used records and the ledger's holds are the same, each once
   pub record-held : (h : Hold) → List·Memᴰ h (k .holds) → used h ≡ true
-      → (e : Entry) × List·Memᴰ e (ledger-of begun (back ++ front) .entries) × (e .object .serial ≡ h .serial) × (holds-of (h .quota) e ≡ h .count) × (0 < h .count)
+      → (e : Entry) × List·Memᴰ e (ledger-of begun (back ++ front) .entries) × (e .object .serial ≡ h .serial) × (holds-of (h .quota) e ≡ h .count)
+      × (0 < h .count)
   pub hold-recorded : (e : Entry) (q : ℕ) → List·Memᴰ e (ledger-of begun (back ++ front) .entries) → 0 < holds-of q e
       → List·Memᴰ (record { serial = e .object .serial; quota = q; count = holds-of q e }) (k .holds)
   pub records-once : records-differ (k .holds) ≡ true

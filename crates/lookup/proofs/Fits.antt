@@ -1,6 +1,5 @@
 -- What the fit of one block and of a heap says: a block fits exactly if it has room, at its lowest base, and the heap's fit is the first block
 -- that has room. Each is by the definition's test.
--- Assumes nothing.
 use mathlib.Core.Path.{_≡_, refl}
 use mathlib.Core.List.{List}
 use mathlib.Core.Bool.{Bool, true, false, not, cond}

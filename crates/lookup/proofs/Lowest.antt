@@ -2,7 +2,6 @@
 -- the alignment, and where no block has room, no multiple is suitable.
 -- The run of a base in a free block touches no other block. A suitable run lies in one free block, so that block has room, and the first block that
 -- has room has its base no higher: it is the same block, or ends before it.
--- Assumes nothing.
 use mathlib.Core.Path.{_≡_, refl, ap, sym, _∙_}
 use mathlib.Core.List.{List, [], _∷_, _++_}
 use mathlib.Core.Bool.{Bool, true, false, not}

@@ -1,7 +1,6 @@
 -- The lowest multiple of a number from a place on: it is a multiple, at or behind the place, and no other such multiple is lower. The gap in
 -- front of it is given by a remainder, so it can be found without a sum that could wrap.
 -- Dividing rounds down, so adding a - 1 first rounds up.
--- Assumes nothing.
 use mathlib.Core.Path.{_≡_}
 use Prim.Native.Nat.{ℕ, suc, _+_, _*_, _-_, _/_, _%_, _≤_, _<_}
 use native.Mathlib.Nat.{mul-mod-left, lt-div-mul-add, div-lt-iff-lt-mul, div-add-mod', add-div-right, mul-le-mul-right, suc-mul, mod-lt}

@@ -1,7 +1,6 @@
 -- The lookup by the walk is that of rules 4.3 and 4.4: on a heap that is cut into blocks it finds the block of the object that the handle names, and finds
 -- none where the handle names none.
 -- The walk meets the blocks in order, each live block with its object, so the first block whose object passes a test has the first object that does.
--- Assumes nothing.
 use mathlib.Core.Path.{_≡_, refl, ap, sym, _∙_}
 use mathlib.Core.List.{List, [], _∷_}
 use mathlib.Core.Bool.{Bool, true, false, _&&_}

@@ -1,6 +1,5 @@
 -- On a heap that is cut into blocks the walk meets exactly these blocks, at their places, and what a search finds among them is one of them.
 -- Reading the blocks and walking over them take the same steps: each goes by the header at the place, and on behind its block.
--- Assumes nothing.
 use mathlib.Core.Path.{_≡_, refl, ap, sym, _∙_}
 use mathlib.Core.List.{List, [], _∷_, _++_, append-assoc}
 use mathlib.Core.Bool.{Bool, true, false}

@@ -1,6 +1,5 @@
 -- The search for the block whose object a handle names: blocks that end at or before the handle's base are passed, the last one that starts a header or more
 -- in front of the base is compared, and no block behind that is named.
--- Assumes nothing.
 use mathlib.Core.Path.{_≡_, refl, ap, sym, _∙_}
 use mathlib.Core.List.{List, [], _∷_}
 use mathlib.Core.Logic.{_≢_, _⊎_, inl, inr, ⊎-elim}

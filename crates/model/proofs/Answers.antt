@@ -3,7 +3,6 @@
 -- A number gives its refusal back, which shows that no two have the same; of an answer, the refusal's number and the value give it back.
 -- And `answer-of` loses nothing: the answer that it gives to what `step` gives has step's values, so two outcomes of a call with different values
 -- have different answers. Every line of a call has the number of a refusal, which is computed; the rest is by cases of the calls.
--- Assumes nothing.
 use mathlib.Core.Path.{_≡_, refl, ap, sym, _∙_}
 use Prim.Native.Nat.{ℕ, zero, suc, _≤_}
 use native.Mathlib.Omega.{arith}

@@ -1,7 +1,6 @@
 -- The base of a new object is that of rule 8.6: the lowest multiple of the alignment whose bytes lie in the heap and in no occupied block.
 -- The search goes through the multiples in order, so what it finds passes and nothing before it does; it ends at H, and above H nothing fits.
 -- Two ranges of bytes that overlap share the later of their two starts, so comparing ends is the same as looking at every byte.
--- Assumes nothing.
 use mathlib.Core.Path.{_≡_, refl, sym, _∙_}
 use Prim.Native.Nat.{ℕ, zero, suc, _+_, _*_, _-_, _/_, _%_, _≤_, _<_, max}
 use native.Mathlib.Nat.{not-suc-le-zero, le-of-suc-le-suc, suc-mul, zero-mul, mul-mod-left, div-add-mod', div-lt-iff-lt-mul, le-div-iff-mul-le, zero-add}

@@ -1,7 +1,6 @@
 -- Laws of lists of blocks that the changes of blocks share: objects, sizes and free neighbours of a list that is put together from parts, and the
 -- block that an object is of.
 -- Each goes along the first part block by block.
--- Assumes nothing.
 use mathlib.Core.Path.{_≡_, refl, ap, sym, _∙_}
 use Prim.Native.Nat.{ℕ, _+_, _%_}
 use native.Mathlib.Nat.{add-zero, add-assoc}

@@ -1,6 +1,5 @@
 -- What a test that is an `and`, an `or` or a `not` says of its parts: each law by the cases of a test.
 -- Every law stands on these, and these name the computed tables, so that a wrong definition is refused at a row before it is at a law.
--- Assumes nothing.
 use mathlib.Core.Path.{_≡_, refl}
 use mathlib.Core.Bool.{Bool, true, false, not, _&&_, _||_, false≢true, true≢false}
 use mathlib.Core.Logic.{_⊎_, inl, inr}

@@ -2,12 +2,12 @@
 -- A live block that the run does not touch ends before it or starts behind it. A free block that does not hold the whole run ends before it,
 -- because the block behind it is live. So the walk comes to the one free block that holds the run, and what is left of that block in front and
 -- behind is nothing or at least a header, since all places and sizes are multiples of 8.
--- Assumes nothing.
 use mathlib.Core.Path.{_≡_, refl, ap, sym, _∙_}
 use Prim.Native.Nat.{ℕ, zero, suc, _+_, _-_, _%_, _≤_, _<_}
 use native.Mathlib.Nat.{add-zero, add-assoc}
 use native.Mathlib.Omega.{arith}
-use mathlib.Core.List.{List, [], _∷_, _++_, append-assoc, List·Memᴰ, List·Memᴰ·append-cases, List·Memᴰ·cases-cons, Memᴰ·append-left, Memᴰ·append-right}
+use mathlib.Core.List.{List, [], _∷_, _++_, append-assoc, List·Memᴰ, List·Memᴰ·append-cases, List·Memᴰ·cases-cons, Memᴰ·append-left}
+use mathlib.Core.List.{Memᴰ·append-right}
 use mathlib.Core.Bool.{Bool, true, false, not, _&&_, _||_, false≢true, true≢false}
 use mathlib.Core.Logic.{_⊎_, inl, inr}
 use lib.ListN.{length, take, drop, replicate, length-replicate, length-take, length-drop}
@@ -49,7 +49,8 @@ module _ (base n serial : ℕ) where
   outside-tail at b bs out = and-right (not (occupied b) || (leb (base + n) at || leb (at + size b) (base - 8))) _ out
 
   -- a live block that starts before the end of the run ends before the run
-  live-past : (at : ℕ) (b : Block) (bs : List Block) → occupied b ≡ true → at < base + n → 8 ≤ base → outside-occupied (base - 8) (base + n) at (b ∷ bs) ≡ true
+  live-past : (at : ℕ) (b : Block) (bs : List Block) → occupied b ≡ true → at < base + n → 8 ≤ base
+      → outside-occupied (base - 8) (base + n) at (b ∷ bs) ≡ true
       → at + size b + 8 ≤ base
   unfolding outside-occupied
   live-past at b bs eb h first out =
@@ -76,7 +77,12 @@ module _ (base n serial : ℕ) where
   carve-past : (at : ℕ) (b : Block) (bs : List Block) → at + size b + 8 ≤ base
       → carve-from base n serial at (b ∷ bs) ≡ b ∷ carve-from base n serial (at + size b) bs
   unfolding carve-from
-  carve-past at b bs h = rw (lt-leb (base + n) (at + size b) (omega arith), and-no (leb (at + 8) base) false refl, and-no (not (occupied b)) false refl)
+  carve-past at b bs h = rw (
+    lt-leb (base + n) (at + size b) (omega arith),
+    and-no (leb (at + 8) base) false refl,
+    and-no (not (occupied b)) false
+        refl,
+  )
 
   carved-later : (at : ℕ) (b : Block) (bs cs : List Block) → Carved base n serial (at + size b) bs cs → Carved base n serial at (b ∷ bs) (b ∷ cs)
   unfolding total
@@ -121,7 +127,8 @@ module _ (base n serial : ℕ) where
       (occupied b) (leb (base + n) (at + size b)) refl refl
 
   -- a suitable run of a heap lies in one free block, where carving cuts it out
-  pub carved : (bs : List Block) → free-apart bs ≡ true → suitable (total size bs) bs n base ≡ true → Carved base n serial 0 bs (carve base n serial bs)
+  pub carved : (bs : List Block) → free-apart bs ≡ true → suitable (total size bs) bs n base ≡ true
+      → Carved base n serial 0 bs (carve base n serial bs)
   unfolding suitable carve
   carved bs apart fits =
       let out = outside-occupied (base - 8) (base + n) 0 bs in
@@ -172,14 +179,17 @@ module _ (base n serial at : ℕ) (b : Block) where
   back-rest = left-over (at + size b - (base + n)) (drop (base + n - at) (b .body))
 
   -- a cut block passes a test of all blocks if its parts do
-  pub cut-all : (p : Block → Bool) → p (new-block n serial) ≡ true → (0 < base - 8 - at → p (record { serial = 0; body = take (base - 16 - at) (b .body) }) ≡ true)
-      → (0 < at + size b - (base + n) → p (record { serial = 0; body = drop (base + n - at) (b .body) }) ≡ true) → all p (cut-block base n serial at b) ≡ true
+  pub cut-all : (p : Block → Bool) → p (new-block n serial) ≡ true →
+      (0 < base - 8 - at → p (record { serial = 0; body = take (base - 16 - at) (b .body) }) ≡ true)
+      → (0 < at + size b - (base + n) → p (record { serial = 0; body = drop (base + n - at) (b .body) }) ≡ true)
+      → all p (cut-block base n serial at b) ≡ true
   unfolding cut-block all
   cut-all p new f g =
       rw (all-append p front-rest (new-block n serial ∷ back-rest), left-all p (base - 8 - at) (take (base - 16 - at) (b .body)) f, new)
       (left-all p (at + size b - (base + n)) (drop (base + n - at) (b .body)) g)
 
-  module _ (here : at % 8 ≡ 0) (sized : size b % 8 ≡ 0) (aligned : base % 8 ≡ 0) (even : n % 8 ≡ 0) (low : at + 8 ≤ base) (high : base + n ≤ at + size b) where
+  module _ (here : at % 8 ≡ 0) (sized : size b % 8 ≡ 0) (aligned : base % 8 ≡ 0) (even : n % 8 ≡ 0) (low : at + 8 ≤ base)
+      (high : base + n ≤ at + size b) where
     -- what is left over in front, and behind, is a header and a body
     pub front-size : 0 < base - 8 - at → base - 8 - at ≡ 8 + length (take (base - 16 - at) (b .body))
     front-size p =
@@ -199,7 +209,8 @@ module _ (base n serial at : ℕ) (b : Block) where
     unfolding cut-block total
     cut-total = rw (total-append size front-rest (new-block n serial ∷ back-rest), front-total, back-total, length-replicate) (omega arith)
 
-    cut-objects : live (new-block n serial) ≡ true → objects-from at (cut-block base n serial at b) ≡ record { base = base; length = n; serial = serial } ∷ []
+    cut-objects : live (new-block n serial) ≡ true → objects-from at (cut-block base n serial at b)
+        ≡ record { base = base; length = n; serial = serial } ∷ []
     unfolding cut-block
     cut-objects new =
         let base-is : at + (base - 8 - at) + 8 ≡ base = omega arith in
@@ -224,7 +235,8 @@ module _ (base n serial at : ℕ) (b : Block) where
   cut-long : 8 ≤ n → all long-enough (cut-block base n serial at b) ≡ true
   unfolding long-enough
   cut-long h =
-      cut-all long-enough (or-right (not (occupied (new-block n serial))) _ (le-leb 16 (size (new-block n serial)) (rw length-replicate (omega arith))))
+      cut-all long-enough (or-right (not (occupied (new-block n serial))) _
+      (le-leb 16 (size (new-block n serial)) (rw length-replicate (omega arith))))
       (λ p. refl) (λ p. refl)
 
   cut-apart : (bs : List Block) → occupied b ≡ false → occupied (new-block n serial) ≡ true → free-apart (b ∷ bs) ≡ true → free-apart
@@ -243,7 +255,8 @@ module _ {base n serial at : ℕ} {bs cs : List Block} (c : Carved base n serial
   place = at + total size (c .front)
 
   -- the blocks in front and behind stay; between them stand the new object's block, of n zeros, and what is left over
-  pub carved-parts : cs ≡ c .front ++ (front-rest base n serial place (c .block) ++ (new-block n serial ∷ (back-rest base n serial place (c .block) ++ c .back)))
+  pub carved-parts : cs ≡ c .front ++ (front-rest base n serial place (c .block)
+      ++ (new-block n serial ∷ (back-rest base n serial place (c .block) ++ c .back)))
   unfolding cut-block
   carved-parts = rw append-assoc at (c .now)
 
@@ -273,7 +286,8 @@ module _ {base n serial at : ℕ} {bs cs : List Block} (c : Carved base n serial
   pub carved-all : (p : Block → Bool) → all p bs ≡ true → all p (cut-block base n serial place (c .block)) ≡ true → all p cs ≡ true
   carved-all p a e =
       let cut = cut-block base n serial place (c .block) in
-      rw (c .now, all-append p (c .front) (cut ++ c .back), all-append p cut (c .back), all-front p a, e) (and-right (p (c .block)) (all p (c .back)) (all-behind p a))
+      rw (c .now, all-append p (c .front) (cut ++ c .back), all-append p cut (c .back), all-front p a, e)
+      (and-right (p (c .block)) (all p (c .back)) (all-behind p a))
 
   -- every block is long enough, the new one from 8 bytes on
   pub carved-long : 8 ≤ n → all long-enough bs ≡ true → all long-enough cs ≡ true
@@ -316,7 +330,15 @@ module _ {base n serial at : ℕ} {bs cs : List Block} (c : Carved base n serial
     unfolding total
     carved-total =
         let cut = cut-block base n serial place (c .block) in
-        rw (c .now, c .split, total-append size (c .front) (cut ++ c .back), total-append size cut (c .back), total-append size (c .front) (c .block ∷ c .back), the-total)
+        rw (
+          c .now,
+          c .split,
+          total-append size (c .front) (cut ++ c .back),
+          total-append size cut (c .back),
+          total-append size (c .front)
+              (c .block ∷ c .back),
+          the-total,
+        )
 
     -- the objects are the old ones, in order, with the new one at one place
     pub carved-objects : 0 < serial → serial < QUARANTINED → Added (record { base = base; length = n; serial = serial }) (objects-from at bs)
@@ -325,12 +347,18 @@ module _ {base n serial at : ℕ} {bs cs : List Block} (c : Carved base n serial
         let cut = cut-block base n serial place (c .block) in
         let rest = objects-from (place + size (c .block)) (c .back) in
         let o : Handle = record { base = base; length = n; serial = serial } in
-        let the-cut = cut-objects base n serial place (c .block) place-whole block-whole aligned even (c .low) (c .high) (new-live n serial new low) in
+        let the-cut = cut-objects base n serial place (c .block) place-whole block-whole aligned even (c .low) (c .high)
+        (new-live n serial new low) in
         let between : objects-from place (cut ++ c .back) ≡ o ∷ rest = rw (objects-append place cut (c .back), the-cut, the-total) in
         record {
           front = objects-from at (c .front);
           back = rest;
-          old = rw (c .split, objects-append at (c .front) (c .block ∷ c .back), objects-free place (c .block) (c .back) (free-not-live (c .block) (c .free)));
+          old = rw (
+            c .split,
+            objects-append at (c .front) (c .block ∷ c .back),
+            objects-free place (c .block) (c .back)
+                (free-not-live (c .block) (c .free)),
+          );
           now = rw (c .now, objects-append at (c .front) (cut ++ c .back), between);
         }
 
@@ -339,4 +367,5 @@ pub carve-objects : (base n serial : ℕ) (bs : List Block) → free-apart bs �
     → n % 8 ≡ 0 → 0 < serial → serial < QUARANTINED
     → Added (record { base = base; length = n; serial = serial }) (objects bs) (objects (carve base n serial bs))
 unfolding objects
-carve-objects base n serial bs apart fits whole aligned even new low = carved-objects (carved base n serial bs apart fits) refl whole aligned even new low
+carve-objects base n serial bs apart fits whole aligned even new low =
+    carved-objects (carved base n serial bs apart fits) refl whole aligned even new low

@@ -2,7 +2,6 @@
 -- of them hold.
 -- The test is an `and` of seven tests. Each of these goes through a list, or through its pairs, and by induction on the list it passes exactly
 -- if what it tests holds of each member or of each two places.
--- Assumes nothing.
 use mathlib.Core.Path.{_≡_, refl, ap, sym, _∙_}
 use Prim.Native.Nat.{ℕ, zero, suc, _+_, _≤_, _<_, suc-le-suc, zero-le}
 use native.Mathlib.Omega.{arith}
@@ -30,7 +29,8 @@ use Rattle.model.specs.Consistent.{in-units, in-kind}
 use Rattle.model.specs.Consistent.{in-range, greatest-serial}
 use Rattle.model.specs.declared.Handle.{Handle}
 use Rattle.model.proofs.Bools.{and-left, and-right, and-both, or-cases, or-left, or-right, implies, implied, fails}
-use Rattle.model.proofs.Lists.{all-member, member-all, none-member, all-exactly, any-exactly, any-and, unrelated, unrelated-places, places-unrelated}
+use Rattle.model.proofs.Lists.{all-member, member-all, none-member, all-exactly, any-exactly, any-and, unrelated, unrelated-places}
+use Rattle.model.proofs.Lists.{places-unrelated}
 
 -- the seven tests, for rules 5.2 to 5.8 in their order
 pub record Tests (bs : List Block) (k : Accounts) : Type 0 where
@@ -58,7 +58,8 @@ pub record Facts (bs : List Block) (k : Accounts) : Type 0 where
   pub given : (o : Handle) → List·Memᴰ o (objects bs) → o .serial ≤ k .«last_serial»
   pub valid : (h : Hold) → List·Memᴰ h (k .holds) → used h ≡ true → Valid (objects bs) h
   pub unique : (i j : ℕ) → i < j → j < length (k .holds) → used (getD (k .holds) i zero-hold) ≡ true → used (getD (k .holds) j zero-hold) ≡ true
-      → getD (k .holds) i zero-hold .serial ≡ getD (k .holds) j zero-hold .serial → getD (k .holds) i zero-hold .quota ≡ getD (k .holds) j zero-hold .quota → ⊥
+      → getD (k .holds) i zero-hold .serial ≡ getD (k .holds) j zero-hold .serial → getD (k .holds) i zero-hold .quota
+      ≡ getD (k .holds) j zero-hold .quota → ⊥
   pub recorded : (o : Handle) → List·Memᴰ o (objects bs) → Held (k .holds) (o .serial)
   pub balance : (q : ℕ) → q < length (k .quotas)
       → getD (k .quotas) q zero-quota .grant ≡ getD (k .quotas) q zero-quota .remainder + charges (k .holds) q (objects bs)
@@ -147,8 +148,11 @@ given-exactly last = all-exactly (λ o. leb (o .serial) last) (λ o. o .serial �
 -- a record is used for a serial, and for a serial and a quota
 pub is-of-exactly : (serial : ℕ) (h : Hold) → (is-of serial h ≡ true) ↔ ((used h ≡ true) × (h .serial ≡ serial))
 unfolding is-of
-is-of-exactly serial h =
-    (λ e. (and-left (used h) _ e, eqb-true (h .serial) serial (and-right (used h) _ e)), λ f. and-both (used h) _ (f .0) (eq-eqb (h .serial) serial (f .1)))
+is-of-exactly serial h = (
+  λ e. (and-left (used h) _ e, eqb-true (h .serial) serial (and-right (used h) _ e)),
+  λ f. and-both (used h) _ (f .0)
+      (eq-eqb (h .serial) serial (f .1)),
+)
 
 pub is-for-exactly : (serial q : ℕ) (h : Hold) → (is-for serial q h ≡ true) ↔ ((used h ≡ true) × (h .serial ≡ serial) × (h .quota ≡ q))
 unfolding is-for is-of
@@ -167,7 +171,8 @@ valid-exactly os =
     (λ h. (λ e u. there h (implies (used h) _ e u), λ f. implied (used h) _ (λ u. back h (f u))))
   where
     some-object : (h : Hold) → (any (has-serial (h .serial)) os ≡ true) ↔ ((o : Handle) × (List·Memᴰ o os) × (o .serial ≡ h .serial))
-    some-object h = any-exactly (has-serial (h .serial)) (λ o. o .serial ≡ h .serial) (λ o. (eqb-true (o .serial) (h .serial), eq-eqb (o .serial) (h .serial))) os
+    some-object h = any-exactly (has-serial (h .serial)) (λ o. o .serial ≡ h .serial)
+        (λ o. (eqb-true (o .serial) (h .serial), eq-eqb (o .serial) (h .serial))) os
 
     there : (h : Hold) → (any (has-serial (h .serial)) os && (ltb (h .quota) QUOTAS && leb 1 (h .count))) ≡ true → Valid os h
     there h e =
@@ -192,9 +197,11 @@ pub unique-exactly : (hs : List Hold) → (records-differ hs ≡ true)
     → getD hs i zero-hold .serial ≡ getD hs j zero-hold .serial → getD hs i zero-hold .quota ≡ getD hs j zero-hold .quota → ⊥)
 unique-exactly hs =
     rw records-unrelated (
-      λ e i j l h u v p q. unrelated-places same-hold zero-hold hs e i j l h (and-both _ _ u (is-for-exactly _ _ (getD hs j zero-hold) .1 (v, sym p, sym q))),
+      λ e i j l h u v p q. unrelated-places same-hold zero-hold hs e i j l h
+          (and-both _ _ u (is-for-exactly _ _ (getD hs j zero-hold) .1 (v, sym p, sym q))),
       λ f. places-unrelated same-hold zero-hold hs (λ i j l h t.
-          (let r = is-for-exactly _ _ (getD hs j zero-hold) .0 (and-right (used (getD hs i zero-hold)) _ t) in f i j l h (and-left _ _ t) (r .0) (sym (r .1)) (sym (r .2)))),
+          (let r = is-for-exactly _ _ (getD hs j zero-hold) .0 (and-right (used (getD hs i zero-hold)) _ t) in f i j l h (and-left _ _ t) (r .0)
+          (sym (r .1)) (sym (r .2)))),
     )
 
 -- rule 5.7: every object is held
@@ -204,7 +211,8 @@ held-exactly hs serial =
     let r = any-exactly (is-of serial) _ (is-of-exactly serial) hs in
     (λ e. (let h = r .0 e in (h .0, h .1, h .2 .0, h .2 .1)), λ h. r .1 (h .0, h .1, (h .2, h .3)))
 
-pub recorded-exactly : (hs : List Hold) (os : List Handle) → (all (λ o. held hs (o .serial)) os ≡ true) ↔ ((o : Handle) → List·Memᴰ o os → Held hs (o .serial))
+pub recorded-exactly : (hs : List Hold) (os : List Handle) → (all (λ o. held hs (o .serial)) os ≡ true)
+    ↔ ((o : Handle) → List·Memᴰ o os → Held hs (o .serial))
 recorded-exactly hs = all-exactly (λ o. held hs (o .serial)) _ (λ o. held-exactly hs (o .serial))
 
 -- a record that holds a serial may be taken away, and the others hold every other serial that was held
@@ -220,12 +228,17 @@ unfolding held any
 taken-away [] n e = absurd (false≢true e)
 taken-away (h ∷ hs) n e = go (is-of n h) refl (taken-away hs n)
   where
-    go : (x : Bool) → is-of n h ≡ x → (held hs n ≡ true → (rest : List Hold) × (length hs ≡ suc (length rest)) × ((m : ℕ) → eqb m n ≡ false → held hs m ≡ true → held rest m ≡ true))
+    go : (x : Bool) → is-of n h ≡ x → (held hs n ≡ true → (rest : List Hold) × (length hs ≡ suc (length rest))
+        × ((m : ℕ) → eqb m n ≡ false → held hs m ≡ true → held rest m ≡ true))
         → (rest : List Hold) × (length (h ∷ hs) ≡ suc (length rest)) × ((m : ℕ) → eqb m n ≡ false → held (h ∷ hs) m ≡ true → held rest m ≡ true)
     go true t ih = (hs, refl, λ m d u. other-held h hs n m t d u)
     go false t ih =
-        let r = ih (rw t at e) in
-        (h ∷ r .0, ap suc (r .1), λ m d u. ⊎-elim (λ v. or-left (is-of m h) _ v) (λ v. or-right (is-of m h) _ (r .2 m d v)) (or-cases (is-of m h) (held hs m) u))
+        let r = ih (rw t at e) in (
+          h ∷ r .0,
+          ap suc (r .1),
+          λ m d u. ⊎-elim (λ v. or-left (is-of m h) _ v) (λ v. or-right (is-of m h) _ (r .2 m d v))
+              (or-cases (is-of m h) (held hs m) u),
+        )
 
 -- so there are no more objects than records
 pub objects-few : (os : List Handle) (hs : List Hold) → serials-differ os ≡ true → all (λ o. held hs (o .serial)) os ≡ true → length os ≤ length hs
@@ -250,7 +263,8 @@ unfolding balanced-from
 balanced-all os hs q [] e i h = absurd (not-suc-le-zero h)
 balanced-all os hs q (x ∷ xs) e zero h = rw add-zero (eqb-true (x .grant) _ (and-left (eqb (x .grant) (x .remainder + charges hs q os)) _ e))
 balanced-all os hs q (x ∷ xs) e (suc i) h =
-    rw (add-suc q i, ← suc-add q i) (balanced-all os hs (suc q) xs (and-right (eqb (x .grant) (x .remainder + charges hs q os)) _ e) i (le-of-suc-le-suc h))
+    rw (add-suc q i, ← suc-add q i) (balanced-all os hs (suc q) xs (and-right (eqb (x .grant) (x .remainder + charges hs q os)) _ e) i
+    (le-of-suc-le-suc h))
 
 all-balanced : (os : List Handle) (hs : List Hold) (q : ℕ) (qs : List Quota) → Balance os hs q qs → balanced-from os hs q qs ≡ true
 unfolding balanced-from
@@ -299,11 +313,13 @@ unfolding blocks-of or-else
 blocks-parsed s bs e = rw e
 
 -- heap and accounts are consistent exactly if the heap is cut into blocks for which the test passes
-pub consistent-exactly : (s : List ℕ) (k : Accounts) → (consistent s k ≡ true) ↔ ((bs : List Block) × (parse s ≡ some bs) × (consistent-blocks bs k ≡ true))
+pub consistent-exactly : (s : List ℕ) (k : Accounts) → (consistent s k ≡ true)
+    ↔ ((bs : List Block) × (parse s ≡ some bs) × (consistent-blocks bs k ≡ true))
 unfolding consistent consistent-parsed
 consistent-exactly s k = (go (parse s) refl, λ r. rw (r .1) (r .2))
   where
-    go : (o : Option (List Block)) → parse s ≡ o → consistent-parsed o k ≡ true → (bs : List Block) × (parse s ≡ some bs) × (consistent-blocks bs k ≡ true)
+    go : (o : Option (List Block)) → parse s ≡ o → consistent-parsed o k ≡ true → (bs : List Block) × (parse s ≡ some bs)
+        × (consistent-blocks bs k ≡ true)
     go none p e = absurd (false≢true e)
     go (some bs) p e = (bs, p, e)
 
@@ -342,7 +358,8 @@ module _ (unit : ℕ → ℕ) (s : List ℕ) (k : Accounts) (e : sound unit s k 
   unfolding sound
   sound-consistent = and-left (consistent s k) _ e
 
-  sound-settings : all (in-units unit) (objects-of s) && (all permissible (permissions k) && (all (in-kind (k .kind)) (blocks-of s) && in-range k)) ≡ true
+  sound-settings : all (in-units unit) (objects-of s) && (all permissible (permissions k) && (all (in-kind (k .kind)) (blocks-of s) && in-range k))
+      ≡ true
   unfolding sound
   sound-settings = and-right (consistent s k) _ e
 
@@ -381,7 +398,8 @@ module _ (k : Accounts) (e : in-range k ≡ true) where
   pub range-next : (r : Accounts) → r .kind ≡ k .kind → r .edition ≡ k .edition → r .«last_serial» < QUARANTINED → in-range r ≡ true
   unfolding in-range
   range-next r kind edition l =
-      and-both (leb (r .«last_serial») greatest-serial) _ (le-leb (r .«last_serial») greatest-serial (omega arith)) (rw (kind, edition) range-settings)
+      and-both (leb (r .«last_serial») greatest-serial) _ (le-leb (r .«last_serial») greatest-serial (omega arith))
+      (rw (kind, edition) range-settings)
 
   pub range-like : (r : Accounts) → r .kind ≡ k .kind → r .edition ≡ k .edition → r .«last_serial» ≡ k .«last_serial» → in-range r ≡ true
   range-like r kind edition l = range-next r kind edition (rw l range-serial)

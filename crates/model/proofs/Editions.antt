@@ -1,5 +1,4 @@
 -- Heaps of either edition, of the definitions: each list is one theorem, by computation.
--- Assumes nothing.
 use mathlib.Core.Path.{_≡_, refl}
 use mathlib.Core.List.{[], _∷_, map}
 use Rattle.model.specs.Units.{placed, gap, heap-with, accounts-with}

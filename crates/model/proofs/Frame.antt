@@ -1,6 +1,5 @@
 -- What no rule names stays: no call changes a grant, another quota, or a record that it is not about, and only a new object counts the last serial up.
 -- The accounts are changed by `charge`, `refund` and the changes of records alone, and each of these keeps all but one quota or one record.
--- Assumes nothing.
 use mathlib.Core.Path.{_≡_, refl, ap, sym, _∙_}
 use Prim.Native.Nat.{ℕ, zero, suc, _+_, _<_, suc-le-suc}
 use native.Mathlib.Nat.{not-suc-le-zero, le-of-suc-le-suc}
@@ -15,7 +14,8 @@ use borrow.Author.Tests.{not-true, eqb-false}
 use Rattle.accounts.specs.declared.Quota.{Quota}
 use Rattle.accounts.specs.declared.Hold.{Hold}
 use Rattle.accounts.specs.declared.Accounts.{Accounts}
-use Rattle.accounts.specs.Accounts.{QUOTAS, zero-quota, zero-hold, with-remainder, quota-at, remaining, set-remaining, less-paid, paid-back, charge, refund, with-holds, used, unused, is-for, drop-records}
+use Rattle.accounts.specs.Accounts.{QUOTAS, zero-quota, zero-hold, with-remainder, quota-at, remaining, set-remaining, less-paid, paid-back, charge}
+use Rattle.accounts.specs.Accounts.{refund, with-holds, used, unused, is-for, drop-records}
 use Rattle.accounts.specs.Accounts.{with-permissions, left-permissions, clear-at, clear-permissions}
 use Rattle.model.specs.Lists.{change-first}
 use Rattle.model.specs.Holds.{with-count, take-record, raise-count, less-one, lower-count}
@@ -101,7 +101,8 @@ clear-keeps q n p k = go (ltb q QUOTAS)
     go true =
         record {
           grants = map-set-same (λ (x : Quota). x .grant) (k .quotas) q (with-permissions (left-permissions q n k) (quota-at q k)) zero-quota refl;
-          others = λ j e. getD-set-other (k .quotas) q j (with-permissions (left-permissions q n k) (quota-at q k)) zero-quota (λ x. eqb-false q j e (sym x));
+          others = λ j e. getD-set-other (k .quotas) q j (with-permissions (left-permissions q n k) (quota-at q k)) zero-quota
+              (λ x. eqb-false q j e (sym x));
           records = λ i e. refl;
           places = refl;
           same-kind = refl;
@@ -151,7 +152,8 @@ change-other p f [] i e = refl
 change-other p f (h ∷ hs) zero e = rw (not-true (p h) e)
 change-other p f (h ∷ hs) (suc i) e = go (p h) e (change-other p f hs i)
   where
-    go : (t : Bool) → not (not t && first-at p hs i) ≡ true → (other-place p hs i ≡ true → getD (change-first p f hs) i zero-hold ≡ getD hs i zero-hold)
+    go : (t : Bool) → not (not t && first-at p hs i) ≡ true → (other-place p hs i ≡ true → getD (change-first p f hs) i zero-hold
+        ≡ getD hs i zero-hold)
         → getD (cond t (f h ∷ hs) (h ∷ change-first p f hs)) (suc i) zero-hold ≡ getD hs i zero-hold
     go true e g = refl
     go false e g = g e
@@ -281,7 +283,8 @@ module _ (q : ℕ) (o : Handle) where
     where
       go : (t : Bool)
           → Kept (eqb q) (λ i. cond t (beside-unused (k .holds) i) (other-record (o .serial) q (k .holds) i)) k
-          (cond t (with-holds (take-record (o .serial) q (k .holds)) (charge q (charge-of (o .length)) k)) (with-holds (raise-count (o .serial) q (k .holds)) k))
+          (cond t (with-holds (take-record (o .serial) q (k .holds)) (charge q (charge-of (o .length)) k))
+          (with-holds (raise-count (o .serial) q (k .holds)) k))
       go true = paid-keeps k
       go false = raise-keeps (o .serial) q k
 

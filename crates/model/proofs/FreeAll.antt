@@ -1,7 +1,6 @@
 -- Free-all: what it gives back is what the quota has spent, since in a consistent state that is the sum of its charges.
 -- With no record (rule 8.22) the very heap bytes and accounts come back:
 -- No record is dropped, so nothing is charged for, every object is held still, and settling and writing the blocks gives what was read.
--- Assumes nothing.
 use Prim.Native.Nat.{ℕ, _<_}
 use native.Mathlib.Omega.{arith}
 use native.Mathlib.Nat.{zero-add}

@@ -1,7 +1,6 @@
 -- Joining: free blocks that stand side by side become one, and nothing else changes.
 -- A block joins only the first block behind it, so one look at the two says what becomes of them; going on along the list gives the rest.
 -- Joining two blocks and then a third is joining all three, because the bytes are put together in the same order.
--- Assumes nothing.
 use mathlib.Core.Path.{_≡_, refl, ap, _∙_}
 use Prim.Native.Nat.{ℕ, _+_, _%_, _≤_}
 use native.Mathlib.Omega.{arith}
@@ -53,10 +52,17 @@ front-objects : (at : ℕ) (b : Block) (cs : List Block) → objects-from at (jo
 front-objects at b cs =
     join-elim (λ l. objects-from at l ≡ objects-from at (b ∷ cs)) b cs (λ e. refl)
     (λ d ds eb ed e.
-    (rw (e, objects-free at b (d ∷ ds) (free-not-live b eb), objects-free (at + size b) d ds (free-not-live d ed), objects-free at (joined b d) ds refl)
+    (rw (
+      e,
+      objects-free at b (d ∷ ds) (free-not-live b eb),
+      objects-free (at + size b) d ds (free-not-live d ed),
+      objects-free at (joined b d) ds
+          refl,
+    )
     (ap (λ (k : ℕ). objects-from k ds) (omega (arith, joined-size b d)))))
 
-pub objects-cong : (at : ℕ) (b : Block) (xs ys : List Block) → objects-from (at + size b) xs ≡ objects-from (at + size b) ys → objects-from at (b ∷ xs)
+pub objects-cong : (at : ℕ) (b : Block) (xs ys : List Block) → objects-from (at + size b) xs ≡ objects-from (at + size b) ys
+    → objects-from at (b ∷ xs)
     ≡ objects-from at (b ∷ ys)
 unfolding objects-from
 objects-cong at b xs ys e = rw e
@@ -99,7 +105,8 @@ module _ (p : Block → Bool) (f : (b c : Block) → p b ≡ true → p c ≡ tr
   appended-all [] ys a e = e
   appended-all (x ∷ []) ys a e = front-all x ys (and-left (p x) true a) e
   appended-all (x ∷ (y ∷ xs)) ys a e =
-      and-both (p x) (all p (append-joined (y ∷ xs) ys)) (and-left (p x) (all p (y ∷ xs)) a) (appended-all (y ∷ xs) ys (and-right (p x) (all p (y ∷ xs)) a) e)
+      and-both (p x) (all p (append-joined (y ∷ xs) ys)) (and-left (p x) (all p (y ∷ xs)) a)
+      (appended-all (y ∷ xs) ys (and-right (p x) (all p (y ∷ xs)) a) e)
 
 -- every block stays long enough
 pub join-long : (bs : List Block) → all long-enough bs ≡ true → all long-enough (join-free bs) ≡ true
@@ -151,7 +158,8 @@ join-same [] a = refl
 join-same (b ∷ bs) a = rw (join-same bs (apart-tail b bs a)) (join-apart b bs (apart-head b bs a))
 
 -- joining two blocks and then what stands behind them is joining it to the second and then to the first
-pub join-assoc : (b c : Block) (ds : List Block) → occupied b ≡ false → occupied c ≡ false → join-front (joined b c) ds ≡ join-front b (join-front c ds)
+pub join-assoc : (b c : Block) (ds : List Block) → occupied b ≡ false → occupied c ≡ false → join-front (joined b c) ds
+    ≡ join-front b (join-front c ds)
 unfolding starts-free
 join-assoc b c [] eb ec = rw (join-apart (joined b c) [] refl, join-apart c [] (or-true (occupied c)), join-both b c [] eb ec)
 join-assoc b c (d ∷ ds) eb ec = go (occupied d) refl
@@ -172,17 +180,20 @@ unfolding append-joined starts-free
 appended-starts x [] ys = front-starts x ys
 appended-starts x (y ∷ xs) ys = refl
 
-appended-apart : (x y : Block) (xs ys zs : List Block) → free-apart (x ∷ y ∷ zs) ≡ true → join-front x (append-joined (y ∷ xs) ys) ≡ x ∷ append-joined (y ∷ xs) ys
+appended-apart : (x y : Block) (xs ys zs : List Block) → free-apart (x ∷ y ∷ zs) ≡ true → join-front x (append-joined (y ∷ xs) ys) ≡ x
+    ∷ append-joined (y ∷ xs) ys
 unfolding starts-free
 appended-apart x y xs ys zs a = join-apart x (append-joined (y ∷ xs) ys) (rw (appended-starts y xs ys) (apart-head x (y ∷ zs) a))
 
 -- where another block takes the place of one in a list without free neighbours, joining joins it to its neighbours and changes nothing else
-pub join-replaced : (xs : List Block) (b v : Block) (ys : List Block) → free-apart (xs ++ (b ∷ ys)) ≡ true → join-free (xs ++ (v ∷ ys)) ≡ join-neighbours xs v ys
+pub join-replaced : (xs : List Block) (b v : Block) (ys : List Block) → free-apart (xs ++ (b ∷ ys)) ≡ true → join-free (xs ++ (v ∷ ys))
+    ≡ join-neighbours xs v ys
 unfolding join-free append-joined join-neighbours
 join-replaced [] b v ys a = rw (join-same ys (apart-tail b ys a))
 join-replaced (x ∷ []) b v ys a = ap (λ (l : List Block). join-front x (join-front v l)) (join-same ys (apart-tail b ys (apart-tail x (b ∷ ys) a)))
 join-replaced (x ∷ (y ∷ xs)) b v ys a =
-    ap (join-front x) (join-replaced (y ∷ xs) b v ys (apart-tail x (y ∷ xs ++ (b ∷ ys)) a)) ∙ appended-apart x y xs (join-front v ys) (xs ++ (b ∷ ys)) a
+    ap (join-front x) (join-replaced (y ∷ xs) b v ys (apart-tail x (y ∷ xs ++ (b ∷ ys)) a))
+    ∙ appended-apart x y xs (join-front v ys) (xs ++ (b ∷ ys)) a
 
 front-split : (x c : Block) (zs : List Block) → join-front x (c ∷ zs) ≡ join-front x (c ∷ []) ++ zs
 unfolding join-front

@@ -1,5 +1,4 @@
 -- In which order the lines are looked at, of the definitions: each table is one theorem, by computation.
--- Assumes nothing.
 use mathlib.Core.Path.{_≡_, refl}
 use mathlib.Core.List.{[], _∷_, map}
 use Rattle.rounding.specs.Rounding.{unit}

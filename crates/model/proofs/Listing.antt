@@ -1,7 +1,6 @@
 -- The listing's law (rules 8.32 to 8.34): a step gives the block that starts at a place and none elsewhere;
 -- the steps from 0 on, each to the end of the block before, are all the blocks in order, and then none.
 -- Every block has at least its header's eight bytes, so that each starts behind all before it and no two start at one place.
--- Assumes nothing.
 use mathlib.Core.Path.{_≡_, refl, ap, sym, _∙_}
 use Prim.Native.Nat.{ℕ, zero, suc, _+_, _≤_}
 use native.Mathlib.Nat.{not-suc-le-zero, le-of-suc-le-suc}
@@ -37,12 +36,14 @@ abbrev pub block-at : List Block → ℕ → Option ListedBlock
 block-at bs at = block-at-from 0 bs at
 
 -- the listing's call answers such a step
-pub list-block-step : (unit : ℕ → ℕ) (s : List ℕ) (k : Accounts) (at : ℕ) → first-refusal (check-lines unit s k) ≡ 0 → list-block unit s k at ≡ unchanged s k (listed (block-at (blocks-of s) at))
+pub list-block-step : (unit : ℕ → ℕ) (s : List ℕ) (k : Accounts) (at : ℕ) → first-refusal (check-lines unit s k) ≡ 0 → list-block unit s k at
+    ≡ unchanged s k (listed (block-at (blocks-of s) at))
 unfolding list-block unless
 list-block-step unit s k at e = rw e
 
 -- behind the blocks xs it gives the block that starts there
-step-from : (from : ℕ) (xs : List Block) (b : Block) (ys : List Block) (at : ℕ) → at ≡ from + total size xs → block-at-from from (xs ++ (b ∷ ys)) at ≡ some (listed-at at b)
+step-from : (from : ℕ) (xs : List Block) (b : Block) (ys : List Block) (at : ℕ) → at ≡ from + total size xs → block-at-from from (xs ++ (b ∷ ys)) at
+    ≡ some (listed-at at b)
 unfolding total first listing-from
 step-from from [] b ys at e =
     let q : from ≡ at = omega arith in
@@ -114,10 +115,12 @@ step-exactly bs at l = (there l, back)
         let f = first-found p (listing-from 0 bs) (member-any p (listing-from 0 bs) l (r .0) (eq-eqb (l .offset) at (r .1))) in
         let t = there (f .0) (f .1) in
         let e : f .0 .offset ≡ l .offset = t .1 ∙ sym (r .1) in
-        f .1 ∙ ap some (unrelated-same same-offset (listing-from 0 bs) (offsets-differ 0 bs) (f .0) l (t .0) (r .0) (eq-eqb _ _ (sym e)) (eq-eqb _ _ e))
+        f .1 ∙ ap some (unrelated-same same-offset (listing-from 0 bs) (offsets-differ 0 bs) (f .0) l (t .0) (r .0) (eq-eqb _ _ (sym e))
+        (eq-eqb _ _ e))
 
 -- and none exactly if no block of the listing starts there
-pub step-none-exactly : (bs : List Block) (at : ℕ) → (block-at bs at ≡ none) ↔ ((l : ListedBlock) → List·Memᴰ l (listing-from 0 bs) → l .offset ≡ at → ⊥)
+pub step-none-exactly : (bs : List Block) (at : ℕ) → (block-at bs at ≡ none)
+    ↔ ((l : ListedBlock) → List·Memᴰ l (listing-from 0 bs) → l .offset ≡ at → ⊥)
 step-none-exactly bs at =
     let p : ListedBlock → Bool = λ l. eqb (l .offset) at in
     let n = none-exactly p (listing-from 0 bs) in

@@ -1,6 +1,5 @@
 -- Laws of the tests, sums and searches over lists: what a test of all, of some or of each two elements says of members and places, and what
 -- a search finds. Each is by induction on the list.
--- Assumes nothing.
 use mathlib.Core.Path.{_≡_, refl, ap, sym, _∙_}
 use Prim.Native.Nat.{ℕ, zero, suc, _+_, _<_, suc-le-suc, zero-le}
 use native.Mathlib.Nat.{not-suc-le-zero, le-of-suc-le-suc}
@@ -36,7 +35,8 @@ module _ {A : Type 0} (p : A → Bool) where
   any-member [] e = absurd (false≢true e)
   any-member (y ∷ ys) e = go (or-cases (p y) (any p ys) e) (any-member ys)
     where
-      go : (p y ≡ true) ⊎ (any p ys ≡ true) → (any p ys ≡ true → (x : A) × (List·Memᴰ x ys) × (p x ≡ true)) → (x : A) × (List·Memᴰ x (y ∷ ys)) × (p x ≡ true)
+      go : (p y ≡ true) ⊎ (any p ys ≡ true) → (any p ys ≡ true → (x : A) × (List·Memᴰ x ys) × (p x ≡ true)) → (x : A) × (List·Memᴰ x (y ∷ ys))
+          × (p x ≡ true)
       go (inl q) ih = (y, List·Memᴰ·head refl, q)
       go (inr q) ih = let r = ih q in (r .0, List·Memᴰ·tail (r .1), r .2)
 
@@ -61,7 +61,11 @@ module _ {A : Type 0} (p : A → Bool) where
   all-exactly P says xs = (λ e x m. says x .0 (all-member xs e x m), λ f. member-all xs (λ x m. says x .1 (f x m)))
 
   pub any-exactly : (P : A → Type 0) → ((x : A) → (p x ≡ true) ↔ P x) → (xs : List A) → (any p xs ≡ true) ↔ ((x : A) × (List·Memᴰ x xs) × P x)
-  any-exactly P says xs = (λ e. (let r = any-member xs e in (r .0, r .1, says (r .0) .0 (r .2))), λ r. member-any xs (r .0) (r .1) (says (r .0) .1 (r .2)))
+  any-exactly P says xs = (
+    λ e. (let r = any-member xs e in (r .0, r .1, says (r .0) .0 (r .2))),
+    λ r. member-any xs (r .0) (r .1)
+        (says (r .0) .1 (r .2)),
+  )
 
   -- a test beside that for some element may stand in front of it
   pub any-and : (c : Bool) (xs : List A) → (c && any p xs) ≡ any (λ x. c && p x) xs
@@ -140,7 +144,8 @@ module _ {A : Type 0} (d : A) where
   member-getD [] x m = absurd (List·Memᴰ·not-nil m)
   member-getD (y ∷ ys) x m = go (List·Memᴰ·cases-cons m) (member-getD ys x)
     where
-      go : (x ≡ y) ⊎ List·Memᴰ x ys → (List·Memᴰ x ys → (i : ℕ) × (i < length ys) × (getD ys i d ≡ x)) → (i : ℕ) × (i < length (y ∷ ys)) × (getD (y ∷ ys) i d ≡ x)
+      go : (x ≡ y) ⊎ List·Memᴰ x ys → (List·Memᴰ x ys → (i : ℕ) × (i < length ys) × (getD ys i d ≡ x)) → (i : ℕ) × (i < length (y ∷ ys))
+          × (getD (y ∷ ys) i d ≡ x)
       go (inl e) ih = (0, suc-le-suc zero-le, sym e)
       go (inr m) ih = let r = ih m in (suc (r .0), suc-le-suc (r .1), r .2)
 
@@ -155,7 +160,8 @@ module _ {A : Type 0} (r : A → A → Bool) (d : A) where
   unrelated-places [] u i j l h t = absurd (not-suc-le-zero h)
   unrelated-places (x ∷ xs) u i zero l h t = absurd (not-suc-le-zero l)
   unrelated-places (x ∷ xs) u zero (suc j) l h t =
-      none-member (r x) xs (not-true (any (r x) xs) (and-left (not (any (r x) xs)) (unrelated r xs) u)) (getD xs j d) (getD-member d xs j (le-of-suc-le-suc h)) t
+      none-member (r x) xs (not-true (any (r x) xs) (and-left (not (any (r x) xs)) (unrelated r xs) u)) (getD xs j d)
+      (getD-member d xs j (le-of-suc-le-suc h)) t
   unrelated-places (x ∷ xs) u (suc i) (suc j) l h t =
       unrelated-places xs (and-right (not (any (r x) xs)) (unrelated r xs) u) i j (le-of-suc-le-suc l) (le-of-suc-le-suc h) t
 

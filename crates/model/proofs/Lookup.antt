@@ -1,7 +1,6 @@
 -- Handles and the objects that they name (rules 4.3, 4.6 and 4.7): a handle names an object exactly if it has its serial and a range of at least one byte
 -- inside it. Where serials differ, an object is known by its serial alone: two objects with one serial cannot stand at two places, so they are the same, and
 -- the lookup finds the one that is named. A handle that names an object names it still when its range is made narrower.
--- Assumes nothing.
 use mathlib.Core.Path.{_≡_, refl, ap, sym, _∙_}
 use Prim.Native.Nat.{ℕ, _+_, _≤_}
 use native.Mathlib.Omega.{arith}
@@ -22,7 +21,8 @@ use Rattle.model.specs.declared.Handle.{Handle}
 use Rattle.model.proofs.Blocks.{live-occupied}
 use Rattle.model.proofs.Bools.{and-left, and-right, and-both}
 use Rattle.model.proofs.Lists.{first-some, first-none, first-found, member-any, search-some, search-none, unrelated-same}
-use Rattle.model.proofs.Consistent.{is-for-exactly, serials-unrelated, records-unrelated, same-hold, tests-exactly, consistent-cut, consistent-facts}
+use Rattle.model.proofs.Consistent.{is-for-exactly, serials-unrelated, records-unrelated, same-hold, tests-exactly, consistent-cut}
+use Rattle.model.proofs.Consistent.{consistent-facts}
 
 -- where serials differ, two objects with the same serial are the same
 pub same-serial : (os : List Handle) → serials-differ os ≡ true → (o p : Handle) → List·Memᴰ o os → List·Memᴰ p os → o .serial ≡ p .serial → o ≡ p
@@ -39,7 +39,11 @@ same-record hs d h g m n u v p q =
 -- a handle is the whole of an object exactly if it is that object
 pub whole-exactly : (h o : Handle) → (whole h o ≡ true) ↔ (h ≡ o)
 unfolding whole
-whole-exactly h o = (there, λ e. rw e (and-both _ _ (eq-eqb (o .base) (o .base) refl) (and-both _ _ (eq-eqb (o .length) (o .length) refl) (eq-eqb (o .serial) (o .serial) refl))))
+whole-exactly h o = (
+  there,
+  λ e. rw e (and-both _ _ (eq-eqb (o .base) (o .base) refl)
+      (and-both _ _ (eq-eqb (o .length) (o .length) refl) (eq-eqb (o .serial) (o .serial) refl))),
+)
   where
     there : whole h o ≡ true → h ≡ o
     there e =
@@ -96,7 +100,8 @@ lookup-exactly h s o d = (lookup-named h s o, finds)
         let f = first-found (names h) (objects-of s) (member-any (names h) (objects-of s) o (r .1) (r .0)) in
         let g = first-some (names h) (objects-of s) (f .0) (f .1) in
         f .1
-        ∙ ap some (same-serial (objects-of s) d (f .0) o (g .0) (r .1) (sym (names-exactly h (f .0) .0 (g .1) .serial) ∙ names-exactly h o .0 (r .0) .serial))
+        ∙ ap some (same-serial (objects-of s) d (f .0) o (g .0) (r .1)
+        (sym (names-exactly h (f .0) .0 (g .1) .serial) ∙ names-exactly h o .0 (r .0) .serial))
 
 pub lookup-none : (h : Handle) (s : List ℕ) → lookup h s ≡ none → (o : Handle) → List·Memᴰ o (objects-of s) → names h o ≡ true → ⊥
 unfolding lookup

@@ -1,5 +1,4 @@
 -- The run M (rule 12.1), M1 to M12, of the definitions: one table, one theorem, by computation.
--- Assumes nothing.
 use mathlib.Core.Path.{_≡_, refl}
 use mathlib.Core.List.{[], _∷_, map}
 use lib.ListN.{replicate, take, drop}

@@ -1,6 +1,5 @@
 -- Permissions (rules, section 15): no call but the one that clears them changes a quota's permissions, and that one sets none.
 -- A refused call changes nothing; payments and changes of records leave the permissions, and a bit that is left after clearing was there.
--- Assumes nothing.
 use Prim.Native.Nat.{ℕ, zero, suc, _+_, _*_, _/_, _%_, _<_}
 use native.Mathlib.Omega.{arith}
 use mathlib.Core.Path.{_≡_, refl, ap, sym, _∙_}

@@ -1,5 +1,4 @@
 -- Heaps with quarantine, of the definition: each table is one theorem, by computation.
--- Assumes nothing.
 use mathlib.Core.Path.{_≡_, refl}
 use mathlib.Core.List.{map}
 use Rattle.rounding.specs.Rounding.{unit}

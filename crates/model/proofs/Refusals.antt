@@ -2,7 +2,6 @@
 -- and a refused call hands back what came in.
 -- The search is by induction on the lines. Every call is `unless` over its lines, with an outcome that answers no refusal where none is due,
 -- so that what is shown of `unless` once holds of every call.
--- Assumes nothing.
 use mathlib.Core.Path.{_≡_, refl, ap, sym, _∙_}
 use Prim.Native.Nat.{ℕ, zero, suc, _*_}
 use native.Mathlib.Omega.{arith}
@@ -16,15 +15,18 @@ use Rattle.accounts.specs.declared.settings.Settings.{Settings}
 use Rattle.accounts.specs.Accounts.{zero-accounts}
 use Rattle.model.specs.Lists.{all, any}
 use Rattle.model.specs.Answers.{Values, refused}
-use Rattle.model.specs.Refusals.{Line, _when_, line-number, line-holds, first-refusal, line-1, line-2, line-3, line-4, line-5, line-6, line-7, line-8}
+use Rattle.model.specs.Refusals.{Line, _when_, line-number, line-holds, first-refusal, line-1, line-2, line-3, line-4, line-5, line-6, line-7}
+use Rattle.model.specs.Refusals.{line-8}
 use Rattle.model.specs.Refusals.{line-9, line-10, line-11, line-12, only-if, open-lines, check-lines, quota-lines, free-all-lines, lend-lines}
 use Rattle.model.specs.Refusals.{release-lines, claim-lines, allocate-lines, reallocate-lines}
-use Rattle.model.specs.Calls.{Outcome, unless, unchanged, open-heap, allocate, allocate-array, claim, release, free-all, reallocate, lend, remaining-of}
+use Rattle.model.specs.Calls.{Outcome, unless, unchanged, open-heap, allocate, allocate-array, claim, release, free-all, reallocate, lend}
+use Rattle.model.specs.Calls.{remaining-of}
 use Rattle.model.specs.Calls.{can-release, check, list-block, clear, sweep}
 use Rattle.model.specs.Step.{step}
 use Rattle.model.specs.declared.Handle.{Handle}
 use Rattle.model.specs.declared.Call.{Call}
-use Rattle.model.specs.declared.Call.the-variants.{Allocate, AllocateArray, Claim, Release, FreeAll, Reallocate, Lend, Remaining, CanRelease, ListBlock}
+use Rattle.model.specs.declared.Call.the-variants.{Allocate, AllocateArray, Claim, Release, FreeAll, Reallocate, Lend, Remaining, CanRelease}
+use Rattle.model.specs.declared.Call.the-variants.{ListBlock}
 use Rattle.model.specs.declared.Call.the-variants.{ClearPermissions, Sweep}
 use Rattle.model.proofs.Bools.{and-left, and-right}
 
@@ -205,7 +207,8 @@ Kept s k t = (t .heap ≡ s) × (t .accounts ≡ k)
 
 module _ (unit : ℕ → ℕ) (s : List ℕ) (k : Accounts) (q : ℕ) (h : Handle) (at : ℕ) where
   -- lend, remaining, can release, the listing and the check change nothing, accepted or not; claim and clearing permissions never change the heap
-  pub changes-nothing : Kept s k (lend unit s k h) × Kept s k (remaining-of unit s k q) × Kept s k (can-release unit s k q h) × Kept s k (list-block unit s k at) × Kept s k (check unit s k)
+  pub changes-nothing : Kept s k (lend unit s k h) × Kept s k (remaining-of unit s k q) × Kept s k (can-release unit s k q h)
+      × Kept s k (list-block unit s k at) × Kept s k (check unit s k)
       × (claim unit s k q h .heap ≡ s) × (clear unit s k q at .heap ≡ s)
   unfolding lend remaining-of can-release list-block check claim clear
   changes-nothing = (kept _ _, kept _ _, kept _ _, kept _ _, kept _ _, same-heap _ _ refl, same-heap _ _ refl)
@@ -217,6 +220,7 @@ module _ (unit : ℕ → ℕ) (s : List ℕ) (k : Accounts) (q : ℕ) (h : Handl
       kept n v = unless-has (Kept s k) n s k (unchanged s k v) (refl, refl) (λ m. (refl, refl))
 
 -- can release gives the refusal that release would give
-pub can-release-is-release : (unit : ℕ → ℕ) (s : List ℕ) (k : Accounts) (q : ℕ) (h : Handle) → can-release unit s k q h .values .refusal ≡ release unit s k q h .values .refusal
+pub can-release-is-release : (unit : ℕ → ℕ) (s : List ℕ) (k : Accounts) (q : ℕ) (h : Handle) → can-release unit s k q h .values .refusal
+    ≡ release unit s k q h .values .refusal
 unfolding step
 can-release-is-release unit s k q h = refusal-of-lines (by-lines unit (CanRelease q h) s k) ∙ sym (refusal-of-lines (by-lines unit (Release q h) s k))

@@ -1,7 +1,6 @@
 -- Bytes that stay: two lists of bytes, equally long, that agree wherever a test fails, so the test says which bytes may differ.
 -- Bytes put together from parts stay where the parts' bytes do; a write changes nothing outside the place that it writes; and of blocks that
 -- stand behind another block only the back size of the first depends on it.
--- Assumes nothing.
 use mathlib.Core.Path.{_≡_, refl, sym, ap, _∙_}
 use Prim.Native.Nat.{ℕ, zero, suc, _+_, _-_, _≤_, _<_}
 use native.Mathlib.Omega.{arith}
@@ -36,7 +35,8 @@ out-within start end i (inl h) = rw (lt-leb start i h)
 out-within start end i (inr h) = and-no (leb start i) (ltb i end) (le-ltb i end h)
 
 -- so it is outside of one range if it, or a place beside it, is outside of another that reaches as far on both sides
-pub within-moved : (start end i start′ end′ i′ : ℕ) → (i < start → i′ < start′) → (end ≤ i → end′ ≤ i′) → within start end i ≡ false → within start′ end′ i′ ≡ false
+pub within-moved : (start end i start′ end′ i′ : ℕ) → (i < start → i′ < start′) → (end ≤ i → end′ ≤ i′) → within start end i ≡ false
+    → within start′ end′ i′ ≡ false
 within-moved start end i start′ end′ i′ f g e = out-within start′ end′ i′ (go (within-out start end i e))
   where
     go : (i < start) ⊎ (end ≤ i) → (i′ < start′) ⊎ (end′ ≤ i′)
@@ -49,7 +49,8 @@ pub record Same (t : ℕ → Bool) (s s′ : List ℕ) : Type 0 where
   pub same : (i : ℕ) → t i ≡ false → getD s i 0 ≡ getD s′ i 0
 
 -- it is enough to look at places below the length
-pub same-below : {t : ℕ → Bool} {s s′ : List ℕ} → length s ≡ length s′ → ((i : ℕ) → i < length s → t i ≡ false → getD s i 0 ≡ getD s′ i 0) → Same t s s′
+pub same-below : {t : ℕ → Bool} {s s′ : List ℕ} → length s ≡ length s′ → ((i : ℕ) → i < length s → t i ≡ false → getD s i 0 ≡ getD s′ i 0)
+    → Same t s s′
 same-below {t} {s} {s′} l f = record { long = l; same = λ i e. go i e (ltb i (length s)) refl }
   where
     go : (i : ℕ) → t i ≡ false → (x : Bool) → ltb i (length s) ≡ x → getD s i 0 ≡ getD s′ i 0
@@ -124,23 +125,27 @@ same-when {t} {s′} false w = same-refl t s′
 
 -- headers that differ only in the size, and only in the back size
 pub header-sizes : (m n back serial : ℕ)
-    → Same (within 0 2) (header-bytes (record { size = m; back = back; serial = serial })) (header-bytes (record { size = n; back = back; serial = serial }))
+    → Same (within 0 2) (header-bytes (record { size = m; back = back; serial = serial }))
+    (header-bytes (record { size = n; back = back; serial = serial }))
 unfolding header-bytes bytes within
 header-sizes m n back serial = record { long = refl; same = go }
   where
     go : (i : ℕ) → within 0 2 i ≡ false
-        → getD (header-bytes (record { size = m; back = back; serial = serial })) i 0 ≡ getD (header-bytes (record { size = n; back = back; serial = serial })) i 0
+        → getD (header-bytes (record { size = m; back = back; serial = serial })) i 0
+        ≡ getD (header-bytes (record { size = n; back = back; serial = serial })) i 0
     go zero e = absurd (true≢false e)
     go (suc zero) e = absurd (true≢false e)
     go (suc (suc i)) e = refl
 
 pub header-backs : (n u v serial : ℕ)
-    → Same (within 2 4) (header-bytes (record { size = n; back = u; serial = serial })) (header-bytes (record { size = n; back = v; serial = serial }))
+    → Same (within 2 4) (header-bytes (record { size = n; back = u; serial = serial }))
+    (header-bytes (record { size = n; back = v; serial = serial }))
 unfolding header-bytes bytes within
 header-backs n u v serial = record { long = refl; same = go }
   where
     go : (i : ℕ) → within 2 4 i ≡ false
-        → getD (header-bytes (record { size = n; back = u; serial = serial })) i 0 ≡ getD (header-bytes (record { size = n; back = v; serial = serial })) i 0
+        → getD (header-bytes (record { size = n; back = u; serial = serial })) i 0
+        ≡ getD (header-bytes (record { size = n; back = v; serial = serial })) i 0
     go zero e = refl
     go (suc zero) e = refl
     go (suc (suc zero)) e = absurd (true≢false e)
@@ -152,4 +157,5 @@ pub render-backs : (u v : ℕ) (bs : List Block) → Same (within 2 4) (render-f
 unfolding render-from
 render-backs u v [] = same-refl (within 2 4) []
 render-backs u v (b ∷ bs) =
-    same-append (header-backs (units b) u v (b .serial)) (same-refl (λ i. within 2 4 (length (header-bytes (header-of u b)) + i)) (b .body ++ render-from (units b) bs))
+    same-append (header-backs (units b) u v (b .serial)) (same-refl (λ i. within 2 4 (length (header-bytes (header-of u b)) + i))
+    (b .body ++ render-from (units b) bs))

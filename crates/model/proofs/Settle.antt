@@ -1,7 +1,6 @@
 -- Settling: the blocks that no record holds become free and join their free neighbours; every other block stays.
 -- Vacating looks at each block by itself and keeps its size, and joining keeps objects and sizes. A block that some records
 -- leave unheld is unheld by fewer of them too, and joining earlier or later gives the same blocks; so settling in steps is settling once.
--- Assumes nothing.
 use mathlib.Core.Path.{_≡_, refl, ap, sym, _∙_}
 use Prim.Native.Nat.{ℕ, _+_, _≤_, _<_, _^_}
 use native.Mathlib.Omega.{arith}
@@ -21,7 +20,8 @@ use Rattle.model.specs.declared.Handle.{Handle}
 use Rattle.model.proofs.Bools.{and-left, and-right, and-both, or-left, or-right, or-neither, implies}
 use Rattle.model.proofs.Lists.{total-append}
 use Rattle.model.proofs.Blocks.{whole-size, Whole, objects-live, objects-free, live-occupied}
-use Rattle.model.proofs.Join.{join-elim, join-objects, join-total, join-long, join-whole, join-writable, join-apart-all, join-same, join-assoc, join-replaced}
+use Rattle.model.proofs.Join.{join-elim, join-objects, join-total, join-long, join-whole, join-writable, join-apart-all, join-same, join-assoc}
+use Rattle.model.proofs.Join.{join-replaced}
 
 -- a record holds this object
 abbrev pub object-held : List Hold → Handle → Bool
@@ -139,7 +139,8 @@ module _ (kind : ℕ) where
 
   vacated-cons : (hs : List Hold) (at : ℕ) (b : Block) (bs : List Block)
       → objects-from (at + size b) (vacate-unheld hs bs) ≡ keep (object-held hs) (objects-from (at + size b) bs)
-      → (x y : Bool) → live b ≡ x → held hs (b .serial) ≡ y → objects-from at (vacate-unheld hs (b ∷ bs)) ≡ keep (object-held hs) (objects-from at (b ∷ bs))
+      → (x y : Bool) → live b ≡ x → held hs (b .serial) ≡ y → objects-from at (vacate-unheld hs (b ∷ bs))
+      ≡ keep (object-held hs) (objects-from at (b ∷ bs))
   unfolding changed keep vacate
   vacated-cons hs at b bs ih false y eb eh = rw (eb, objects-free at b (vacate-unheld hs bs) eb, objects-free at b bs eb) ih
   vacated-cons hs at b bs ih true true eb eh = rw (eb, eh, objects-live at b (vacate-unheld hs bs) eb, objects-live at b bs eb, eh, ih)
@@ -147,7 +148,8 @@ module _ (kind : ℕ) where
       rw (eb, eh, objects-live at b bs eb, eh) (objects-free at (vacate kind b) (vacate-unheld hs bs) (vacated-dead b) ∙ rw length-replicate ih)
 
   -- the objects left are exactly the held ones, in order
-  pub vacated-objects : (hs : List Hold) (at : ℕ) (bs : List Block) → objects-from at (vacate-unheld hs bs) ≡ keep (object-held hs) (objects-from at bs)
+  pub vacated-objects : (hs : List Hold) (at : ℕ) (bs : List Block) → objects-from at (vacate-unheld hs bs)
+      ≡ keep (object-held hs) (objects-from at bs)
   unfolding changed objects-from keep
   vacated-objects hs at [] = refl
   vacated-objects hs at (b ∷ bs) = vacated-cons hs at b bs (vacated-objects hs (at + size b) bs) (live b) (held hs (b .serial)) refl refl
@@ -217,12 +219,17 @@ module _ (kind : ℕ) where
     settle-twice bs = join-vacated hs′ (vacate-unheld hs bs) ∙ ap join-free (vacated-twice bs)
 
   -- vacating one block of a list where every other live block is held
-  vacated-one : (hs : List Hold) (xs : List Block) (b : Block) (ys : List Block) → live b ≡ true → held hs (b .serial) ≡ false → all (stays hs) xs ≡ true
+  vacated-one : (hs : List Hold) (xs : List Block) (b : Block) (ys : List Block) → live b ≡ true → held hs (b .serial) ≡ false → all (stays hs) xs
+      ≡ true
       → all (stays hs) ys ≡ true → vacate-unheld hs (xs ++ (b ∷ ys)) ≡ xs ++ (vacate kind b ∷ ys)
   unfolding changed all
   vacated-one hs [] b ys eb eh sx sy = rw (eb, eh, vacated-same hs ys sy)
   vacated-one hs (x ∷ xs) b ys eb eh sx sy =
-      rw (vacated-stays hs x (and-left (stays hs x) (all (stays hs) xs) sx), vacated-one hs xs b ys eb eh (and-right (stays hs x) (all (stays hs) xs) sx) sy)
+      rw (
+        vacated-stays hs x (and-left (stays hs x) (all (stays hs) xs) sx),
+        vacated-one hs xs b ys eb eh
+            (and-right (stays hs x) (all (stays hs) xs) sx) sy,
+      )
 
   -- where one live block is no longer held, that block joins its free neighbours and nothing else changes
   pub settle-one : (hs : List Hold) (bs xs : List Block) (b : Block) (ys : List Block) → bs ≡ xs ++ (b ∷ ys) → free-apart bs ≡ true → live b ≡ true
@@ -256,7 +263,13 @@ module _ (kind : ℕ) where
     pub freed-total : total size (join-neighbours xs (vacate kind b) ys) ≡ total size (xs ++ (b ∷ ys))
     unfolding total vacate
     freed-total =
-        rw (← freed-joined, join-total (xs ++ (vacate kind b ∷ ys)), total-append size xs (vacate kind b ∷ ys), total-append size xs (b ∷ ys), length-replicate)
+        rw (
+          ← freed-joined,
+          join-total (xs ++ (vacate kind b ∷ ys)),
+          total-append size xs (vacate kind b ∷ ys),
+          total-append size xs (b ∷ ys),
+          length-replicate,
+        )
 
     -- the blocks can be written, where their sizes add up to at most 32,768
     pub freed-writable : AllWritable (xs ++ (b ∷ ys)) → total size (xs ++ (b ∷ ys)) ≤ 32768 → AllWritable (join-neighbours xs (vacate kind b) ys)

@@ -4,7 +4,6 @@
 -- the old ones but for those named. Where a free block in front of them has changed, the blocks left join it: its body stays, and what
 -- stands behind that body is again the old bytes but for those named, now that the run is a changed one. A block that joins a block in front keeps
 -- its body, a live one that stays keeps all but its back size, and behind it nothing has changed.
--- Assumes nothing.
 use mathlib.Core.Path.{_≡_, refl, sym, _∙_}
 use Prim.Native.Nat.{ℕ, _+_, _-_, _≤_, _<_}
 use native.Mathlib.Omega.{arith}
@@ -47,7 +46,8 @@ module _ (p : Block → Bool) (f : Block → Block) (was : (b : Block) → p b �
 
   module _ (run : Bool) (b : Block) (bs : List Block) where
     -- which bytes of the first block's header, of its body and of what stands behind it settling touches
-    touched-header : (i : ℕ) → i < 8 → reclaim-touches p run (b ∷ bs) i ≡ (p b || cond (occupied b) (run && within 2 4 i) (run || starts-changed p bs))
+    touched-header : (i : ℕ) → i < 8 → reclaim-touches p run (b ∷ bs) i
+        ≡ (p b || cond (occupied b) (run && within 2 4 i) (run || starts-changed p bs))
     unfolding reclaim-touches
     touched-header i h = rw (lt-ltb i (size b) (omega arith), lt-ltb i 8 h)
 
@@ -95,7 +95,8 @@ module _ (p : Block → Bool) (f : Block → Block) (was : (b : Block) → p b �
 
   module _ (b : Block) (bs : List Block) (ih : Both bs) where
     -- a block that becomes the free block d and joins the changed block v in front of it
-    joins-free : (d v : Block) (u w : ℕ) → reclaim p f (b ∷ bs) ≡ join-front d (reclaim p f bs) → occupied d ≡ false → occupied v ≡ false → length (d .body)
+    joins-free : (d v : Block) (u w : ℕ) → reclaim p f (b ∷ bs) ≡ join-front d (reclaim p f bs) → occupied d ≡ false → occupied v ≡ false
+        → length (d .body)
         ≡ length (b .body)
         → cond (occupied b) (p b) true ≡ true → ((i : ℕ) → (p b || cond (occupied b) (within 2 4 i) true) ≡ true)
         → Same (λ i. p b) (d .body) (b .body) → Behind v u w (b ∷ bs)
@@ -124,8 +125,10 @@ module _ (p : Block → Bool) (f : Block → Block) (was : (b : Block) → p b �
           now = rw (reclaim-live b bs e eb, join-apart v (b ∷ reclaim p f bs) apart) (render-cons u v (b ∷ reclaim p f bs));
           same =
               rw (render-cons w b bs, render-cons (units v) b (reclaim p f bs))
-              (block-same true b bs false (header-bytes (header-of (units v) b)) (header-bytes (header-of w b)) (b .body) (b .body) (rw (e, eb)) (header-length (header-of (units v) b)) refl
-              (same-wider (λ i l f. rw (e, eb) at f) (header-backs (units b) (units v) w (b .serial))) (same-refl (λ i. p b) (b .body)) (ih .stays (units b)));
+              (block-same true b bs false (header-bytes (header-of (units v) b)) (header-bytes (header-of w b)) (b .body) (b .body) (rw (e, eb))
+              (header-length (header-of (units v) b)) refl
+              (same-wider (λ i l f. rw (e, eb) at f) (header-backs (units b) (units v) w (b .serial))) (same-refl (λ i. p b) (b .body))
+              (ih .stays (units b)));
         }
 
     -- a block that becomes d, behind a block that is as it was, where what stands behind it is settled so
@@ -174,7 +177,11 @@ module _ (p : Block → Bool) (f : Block → Block) (was : (b : Block) → p b �
           stays = λ u. stays-vacated u e;
           joins = λ v u w ev. joins-free (f b) v u w (reclaim-gone b bs e) (freed b) ev l (rw (e, el)) (λ i. rw e) (same-any (λ i. e) l);
         }
-    both-cons apart false true e eb = record { stays = λ u. stays-same u (reclaim-live b bs e eb) (rw (e, eb)); joins = λ v u w ev. joins-live v u w e eb ev }
+    both-cons apart false true e eb = record {
+      stays = λ u. stays-same u (reclaim-live b bs e eb) (rw (e, eb));
+      joins =
+          λ v u w ev. joins-live v u w e eb ev;
+    }
     both-cons apart false false e eb =
         record {
           stays = λ u. stays-free u e eb (not-true (starts-free bs) (rw eb at (apart-head b bs apart))) (starts-changed p bs) refl;
@@ -217,7 +224,8 @@ module _ (p : Block → Bool) (f : Block → Block) (was : (b : Block) → p b �
       rw k (touched-behind run x (xs ++ (b ∷ ys)) (total size xs + i) ∙ body-untouched (cond (occupied x) (p x) run) xs b ys i e l h)
 
   -- so a byte of the body of a block that stays, free or held, never changes
-  pub body-stays : (bs xs : List Block) (b : Block) (ys : List Block) → bs ≡ xs ++ (b ∷ ys) → free-apart bs ≡ true → p b ≡ false → (i : ℕ) → 8 ≤ i → i < size b
+  pub body-stays : (bs xs : List Block) (b : Block) (ys : List Block) → bs ≡ xs ++ (b ∷ ys) → free-apart bs ≡ true → p b ≡ false → (i : ℕ) → 8 ≤ i
+      → i < size b
       → getD (render (reclaim p f bs)) (total size xs + i) 0 ≡ getD (render bs) (total size xs + i) 0
   body-stays bs xs b ys e a s i l h = reclaim-frame bs a .same (total size xs + i) (rw e (body-untouched false xs b ys i s l h))
 

@@ -1,7 +1,6 @@
 -- Section 5 of the rules as one law: line 2 passes a state exactly if each sentence of the section holds of it. What the
 -- test of rules 5.1 to 5.8 says is `Consistent`; the rest of the section is said here, of objects, quotas, blocks and
 -- the numbers of the accounts.
--- Assumes nothing.
 use mathlib.Core.Path.{_≡_, refl, ap, sym, subst, _∙_}
 use Prim.Native.Nat.{ℕ, _%_, _≤_, _<_}
 use mathlib.Core.List.{List, [], _∷_, map, List·Memᴰ}

@@ -1,6 +1,5 @@
 -- What no rule names stays, of every call: `step-frame`, of the accounts in `step-keeps` and of the last serial in `step-serial`.
 -- A refused call changes nothing; an accepted one changes what `proofs/Frame.antt` shows of its definition.
--- Assumes nothing.
 use mathlib.Core.Path.{_≡_, refl, sym}
 use Prim.Native.Nat.{ℕ, zero, suc, _+_, _*_}
 use native.Mathlib.Nat.{add-zero}
@@ -14,16 +13,20 @@ use Rattle.accounts.specs.Accounts.{clear-at, clear-permissions}
 use Rattle.model.specs.Objects.{objects-of, lookup, lookup-whole, found}
 use Rattle.model.specs.Consistent.{charge-of, charges}
 use Rattle.model.specs.Holds.{take-record, raise-count}
-use Rattle.model.specs.Refusals.{first-refusal, claims-first, quota-lines, free-all-lines, release-lines, claim-lines, allocate-lines, reallocate-lines}
+use Rattle.model.specs.Refusals.{first-refusal, claims-first, quota-lines, free-all-lines, release-lines, claim-lines, allocate-lines}
+use Rattle.model.specs.Refusals.{reallocate-lines}
 use Rattle.model.specs.Refusals.{lend-lines, check-lines}
-use Rattle.model.specs.Calls.{Outcome, unless, state-of, allocated, claimed, given-back, released, freed, copied, new-object, allocate, allocate-array}
+use Rattle.model.specs.Calls.{Outcome, unless, state-of, allocated, claimed, given-back, released, freed, copied, new-object, allocate}
+use Rattle.model.specs.Calls.{allocate-array}
 use Rattle.model.specs.Calls.{claim, release, free-all, reallocate, lend, remaining-of, can-release, list-block, clear, sweep}
 use Rattle.model.specs.Step.{step}
 use Rattle.model.specs.declared.Handle.{Handle}
 use Rattle.model.specs.declared.Call.{Call}
-use Rattle.model.specs.declared.Call.the-variants.{Allocate, AllocateArray, Claim, Release, FreeAll, Reallocate, Lend, Remaining, CanRelease, ListBlock}
+use Rattle.model.specs.declared.Call.the-variants.{Allocate, AllocateArray, Claim, Release, FreeAll, Reallocate, Lend, Remaining, CanRelease}
+use Rattle.model.specs.declared.Call.the-variants.{ListBlock}
 use Rattle.model.specs.declared.Call.the-variants.{ClearPermissions, Sweep}
-use Rattle.model.proofs.Frame.{Kept, kept-quotas, kept-same, beside-unused, beside-claim, beside-both, other-record, other-quota, allocated-keeps}
+use Rattle.model.proofs.Frame.{Kept, kept-quotas, kept-same, beside-unused, beside-claim, beside-both, other-record, other-quota}
+use Rattle.model.proofs.Frame.{allocated-keeps}
 use Rattle.model.proofs.Frame.{claimed-keeps, released-keeps, reallocated-keeps, freed-keeps, clear-keeps}
 
 -- the quotas that a call may change
@@ -56,7 +59,8 @@ bystander (CanRelease q h) s k i = true
 bystander (ListBlock at) s k i = true
 bystander (ClearPermissions q n) s k i = true
 
-unless-keeps : (w p : ℕ → Bool) (n : ℕ) (s : List ℕ) (k : Accounts) (done : Outcome) → Kept w p k (done .accounts) → Kept w p k (unless n s k done .accounts)
+unless-keeps : (w p : ℕ → Bool) (n : ℕ) (s : List ℕ) (k : Accounts) (done : Outcome) → Kept w p k (done .accounts)
+    → Kept w p k (unless n s k done .accounts)
 unfolding unless
 unless-keeps w p zero s k done a = a
 unless-keeps w p (suc n) s k done a = kept-same w p k
@@ -72,7 +76,8 @@ module _ (unit : ℕ → ℕ) where
       unless-keeps (eqb q) (beside-unused (k .holds)) (first-refusal (allocate-lines unit s k q (count * size))) s k _
       (allocated-keeps q (new-object unit s k (count * size)) (state-of s k))
   step-keeps (Claim q h) s k =
-      unless-keeps (eqb q) (beside-claim q (found (lookup h s)) k) (first-refusal (claim-lines unit s k q h)) s k _ (claimed-keeps q (found (lookup h s)) k)
+      unless-keeps (eqb q) (beside-claim q (found (lookup h s)) k) (first-refusal (claim-lines unit s k q h)) s k _
+      (claimed-keeps q (found (lookup h s)) k)
   step-keeps (Release q h) s k =
       unless-keeps (eqb q) (other-record (found (lookup h s) .serial) q (k .holds)) (first-refusal (release-lines unit s k q h)) s k _
       (released-keeps q (found (lookup h s)) (state-of s k))
@@ -87,7 +92,8 @@ module _ (unit : ℕ → ℕ) where
   step-keeps (Remaining q) s k = unless-keeps (λ j. false) (λ x. true) (first-refusal (quota-lines unit s k q)) s k _ (kept-same _ _ k)
   step-keeps (CanRelease q h) s k = unless-keeps (λ j. false) (λ x. true) (first-refusal (release-lines unit s k q h)) s k _ (kept-same _ _ k)
   step-keeps (ListBlock at) s k = unless-keeps (λ j. false) (λ x. true) (first-refusal (check-lines unit s k)) s k _ (kept-same _ _ k)
-  step-keeps (ClearPermissions q n) s k = unless-keeps (eqb q) (λ x. true) (first-refusal (quota-lines unit s k q)) s k _ (clear-keeps q n (λ x. true) k)
+  step-keeps (ClearPermissions q n) s k = unless-keeps (eqb q) (λ x. true) (first-refusal (quota-lines unit s k q)) s k _
+      (clear-keeps q n (λ x. true) k)
 
 -- payments leave the last serial
 set-serial : (t : Bool) (q n : ℕ) (k : Accounts) → cond t (set-remaining q n k) k .«last_serial» ≡ k .«last_serial»
@@ -108,7 +114,8 @@ unfolding claimed
 claimed-serial q o k = go (claims-first k q o)
   where
     go : (t : Bool)
-        → cond t (with-holds (take-record (o .serial) q (k .holds)) (charge q (charge-of (o .length)) k)) (with-holds (raise-count (o .serial) q (k .holds)) k) .«last_serial»
+        → cond t (with-holds (take-record (o .serial) q (k .holds)) (charge q (charge-of (o .length)) k))
+        (with-holds (raise-count (o .serial) q (k .holds)) k) .«last_serial»
         ≡ k .«last_serial»
     go true = charge-serial q (charge-of (o .length)) k
     go false = refl
@@ -141,7 +148,8 @@ serials-given-by (ListBlock at) r = 0
 serials-given-by (ClearPermissions q n) r = 0
 
 -- a refused call gives none; what it would have answered does not matter
-unless-same : (n : ℕ) (s : List ℕ) (k : Accounts) (done : Outcome) → done .accounts .«last_serial» ≡ k .«last_serial» → unless n s k done .accounts .«last_serial» ≡ k .«last_serial» + 0
+unless-same : (n : ℕ) (s : List ℕ) (k : Accounts) (done : Outcome) → done .accounts .«last_serial» ≡ k .«last_serial»
+    → unless n s k done .accounts .«last_serial» ≡ k .«last_serial» + 0
 unfolding unless
 unless-same zero s k done e = rw add-zero e
 unless-same (suc n) s k done e = sym (add-zero (k .«last_serial»))
@@ -160,11 +168,14 @@ module _ (unit : ℕ → ℕ) where
   step-serial (Allocate q n) s k = unless-next (first-refusal (allocate-lines unit s k q n)) s k _ refl refl
   step-serial (AllocateArray q count size) s k = unless-next (first-refusal (allocate-lines unit s k q (count * size))) s k _ refl refl
   step-serial (Claim q h) s k = unless-same (first-refusal (claim-lines unit s k q h)) s k _ (claimed-serial q (found (lookup h s)) k)
-  step-serial (Release q h) s k = unless-same (first-refusal (release-lines unit s k q h)) s k _ (refund-serial q (given-back q (found (lookup h s)) k) k)
-  step-serial (FreeAll q) s k = unless-same (first-refusal (free-all-lines unit s k q)) s k _ (refund-serial q (charges (k .holds) q (objects-of s)) k)
+  step-serial (Release q h) s k = unless-same (first-refusal (release-lines unit s k q h)) s k _
+      (refund-serial q (given-back q (found (lookup h s)) k) k)
+  step-serial (FreeAll q) s k = unless-same (first-refusal (free-all-lines unit s k q)) s k _
+      (refund-serial q (charges (k .holds) q (objects-of s)) k)
   step-serial Sweep s k = unless-same (first-refusal (check-lines unit s k)) s k _ refl
   step-serial (Reallocate q h n) s k =
-      unless-next (first-refusal (reallocate-lines unit s k q h n)) s k _ refl (refund-serial q _ (allocated q (new-object unit s k n) (state-of s k) .accounts))
+      unless-next (first-refusal (reallocate-lines unit s k q h n)) s k _ refl
+      (refund-serial q _ (allocated q (new-object unit s k n) (state-of s k) .accounts))
   step-serial (Lend h) s k = unless-same (first-refusal (lend-lines unit s k h)) s k _ refl
   step-serial (Remaining q) s k = unless-same (first-refusal (quota-lines unit s k q)) s k _ refl
   step-serial (CanRelease q h) s k = unless-same (first-refusal (release-lines unit s k q h)) s k _ refl

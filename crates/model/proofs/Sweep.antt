@@ -1,6 +1,5 @@
 -- A sweep: quarantined blocks become free and join their free neighbours; objects, sizes and every other block stay.
 -- Unquarantining looks at each block by itself and keeps its bytes, and a quarantined block is no object before or after it.
--- Assumes nothing.
 use mathlib.Core.Path.{_≡_, refl, ap, sym, _∙_}
 use Prim.Native.Nat.{ℕ, _+_, _≤_}
 use mathlib.Core.List.{List, [], _∷_, _++_}

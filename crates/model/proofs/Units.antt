@@ -1,5 +1,4 @@
 -- Which objects fit their units, of the definition: each list is one theorem, by computation.
--- Assumes nothing.
 use mathlib.Core.Path.{_≡_, refl}
 use mathlib.Core.List.{[], _∷_, map}
 use Rattle.rounding.specs.Rounding.{unit}

@@ -10,7 +10,8 @@ use Rattle.model.specs.Calls.{Outcome, open-heap}
 use Rattle.model.specs.Marked.{handle}
 use Rattle.model.specs.Tables.{Case, case, run, head, zeros, parts, quota-with, quota, hold, places, accounts-of, state, written}
 use Rattle.model.specs.declared.Call.{Call}
-use Rattle.model.specs.declared.Call.the-variants.{Allocate, AllocateArray, Claim, Release, FreeAll, Reallocate, Lend, Remaining, CanRelease, ListBlock}
+use Rattle.model.specs.declared.Call.the-variants.{Allocate, AllocateArray, Claim, Release, FreeAll, Reallocate, Lend, Remaining, CanRelease}
+use Rattle.model.specs.declared.Call.the-variants.{ListBlock}
 use Rattle.model.specs.declared.Call.the-variants.{ClearPermissions}
 
 -- a fresh heap of H bytes with two grants, and with as many records as the accounts of a case have
@@ -33,7 +34,8 @@ lengths =
     0 (parts (head 1 0 0 ∷ (1 ∷ 4 ∷ 1 ∷ 0 ∷ 1 ∷ 0 ∷ 0 ∷ 0 ∷ []) ∷ [])) (accounts-of (quota 100000 91800 ∷ []) 1 (hold 1 0 1 ∷ []))
     ∷ case (opened-heap 16400 100000 0) (Allocate 0 16383 ∷ Allocate 0 16368 ∷ []) (refused 11 ∷ given (handle 16 16368 1) ∷ [])
     0 (head 1 0 0) (accounts-of (quota 100000 83624 ∷ []) 1 (hold 1 0 1 ∷ []))
-    ∷ case (opened-heap 16416 100000 0) (Allocate 0 16384 ∷ []) (given (handle 32 16384 1) ∷ []) 0 (head 3 0 0) (accounts-of (quota 100000 83608 ∷ []) 1 (hold 1 0 1 ∷ []))
+    ∷ case (opened-heap 16416 100000 0) (Allocate 0 16384 ∷ []) (given (handle 32 16384 1) ∷ []) 0 (head 3 0 0)
+    (accounts-of (quota 100000 83608 ∷ []) 1 (hold 1 0 1 ∷ []))
     ∷ case (opened-heap 32768 100000 0) (Allocate 0 32737 ∷ Allocate 0 32736 ∷ []) (refused 11 ∷ given (handle 32 32736 1) ∷ [])
     0 (head 3 0 0) (accounts-of (quota 100000 67256 ∷ []) 1 (hold 1 0 1 ∷ []))
     ∷ case (opened-heap 64 40000 0)
@@ -103,7 +105,8 @@ claims =
     0 (parts (head 2 0 1 ∷ zeros 8 ∷ head 2 2 2 ∷ zeros 8 ∷ head 4 2 0 ∷ zeros 24 ∷ []))
     (accounts-of (quota 100 68 ∷ quota 16 0 ∷ []) 2 (hold 1 0 1 ∷ hold 1 1 2 ∷ hold 2 0 1 ∷ []))
     -- a count goes to 255 and no further
-    ∷ case (held-times 254) (Claim 0 h ∷ Claim 0 h ∷ []) (amount-of 8 ∷ refused 7 ∷ []) 0 (head 2 0 1) (accounts-of (quota 16 0 ∷ []) 1 (hold 1 0 255 ∷ []))
+    ∷ case (held-times 254) (Claim 0 h ∷ Claim 0 h ∷ []) (amount-of 8 ∷ refused 7 ∷ []) 0 (head 2 0 1)
+    (accounts-of (quota 16 0 ∷ []) 1 (hold 1 0 255 ∷ []))
     -- a first claim takes the lowest unused record
     ∷ case with-gaps (Claim 1 (handle 24 8 2) ∷ Claim 1 (handle 72 8 4) ∷ Claim 1 (handle 24 8 2) ∷ []) (amount-of 8 ∷ amount-of 8 ∷ amount-of 8 ∷ [])
     0 (head 2 0 0) (accounts-of (quota 1000 968 ∷ quota 1000 968 ∷ []) 4 (hold 2 1 2 ∷ hold 2 0 1 ∷ hold 4 1 1 ∷ hold 4 0 1 ∷ []))
@@ -224,7 +227,8 @@ narrowed =
 -- a walk over the blocks, a place inside a block, the end and a place past it
 unfoldable pub walks : List Case
 walks =
-    case with-gaps (ListBlock 0 ∷ ListBlock 16 ∷ ListBlock 32 ∷ ListBlock 64 ∷ ListBlock 80 ∷ ListBlock 8 ∷ ListBlock 40 ∷ ListBlock 128 ∷ ListBlock 136 ∷ [])
+    case with-gaps (ListBlock 0 ∷ ListBlock 16 ∷ ListBlock 32 ∷ ListBlock 64 ∷ ListBlock 80 ∷ ListBlock 8 ∷ ListBlock 40 ∷ ListBlock 128
+    ∷ ListBlock 136 ∷ [])
     (block 0 16 0 ∷ block 16 16 2 ∷ block 32 32 0 ∷ block 64 16 4 ∷ block 80 48 0 ∷ listed none ∷ listed none ∷ listed none ∷ listed none ∷ [])
     0 (parts (head 2 0 0 ∷ zeros 8 ∷ head 2 2 2 ∷ zeros 8 ∷ head 4 2 0 ∷ zeros 24 ∷ head 2 4 4 ∷ zeros 8 ∷ head 6 2 0 ∷ zeros 40 ∷ []))
     (accounts-of (quota 1000 968 ∷ quota 1000 1000 ∷ []) 4 (zero-hold ∷ hold 2 0 1 ∷ zero-hold ∷ hold 4 0 1 ∷ []))
@@ -236,14 +240,16 @@ clearings =
     let h = handle 8 8 1 in
     -- all are set at opening; bits above 2 mean nothing; a quota that may neither claim nor free all still releases
     case (opened-heap 64 100 100)
-    (ClearPermissions 0 0 ∷ ClearPermissions 0 4294967288 ∷ Allocate 0 8 ∷ ClearPermissions 0 1 ∷ Allocate 0 8 ∷ Claim 1 h ∷ ClearPermissions 1 4294967290
+    (ClearPermissions 0 0 ∷ ClearPermissions 0 4294967288 ∷ Allocate 0 8 ∷ ClearPermissions 0 1 ∷ Allocate 0 8 ∷ Claim 1 h
+    ∷ ClearPermissions 1 4294967290
     ∷ Claim 1 h ∷ ClearPermissions 1 4 ∷ FreeAll 1 ∷ Release 1 h ∷ ClearPermissions 0 8 ∷ FreeAll 0 ∷ [])
     (amount-of 7 ∷ amount-of 7 ∷ given h ∷ amount-of 6 ∷ refused 12 ∷ amount-of 8 ∷ amount-of 5
     ∷ refused 12 ∷ amount-of 1 ∷ refused 12 ∷ amount-of 16 ∷ amount-of 6 ∷ amount-of 16 ∷ [])
     0 (parts (head 8 0 0 ∷ zeros 56 ∷ [])) (accounts-of (quota-with 6 100 100 ∷ quota-with 1 100 100 ∷ []) 1 [])
     -- a quota that may allocate alone reallocates
     ∷ case (opened-heap 128 100 0)
-    (Allocate 0 8 ∷ ClearPermissions 0 6 ∷ Reallocate 0 h 8 ∷ AllocateArray 0 2 4 ∷ Claim 0 (handle 24 8 2) ∷ FreeAll 0 ∷ Release 0 (handle 24 8 2) ∷ [])
+    (Allocate 0 8 ∷ ClearPermissions 0 6 ∷ Reallocate 0 h 8 ∷ AllocateArray 0 2 4 ∷ Claim 0 (handle 24 8 2) ∷ FreeAll 0 ∷ Release 0 (handle 24 8 2)
+    ∷ [])
     (given h ∷ amount-of 1 ∷ given (handle 24 8 2) ∷ given (handle 8 8 3) ∷ refused 12 ∷ refused 12 ∷ amount-of 16 ∷ [])
     0 (parts (head 2 0 3 ∷ zeros 8 ∷ head 14 2 0 ∷ zeros 104 ∷ [])) (accounts-of (quota-with 1 100 84 ∷ []) 3 (hold 3 0 1 ∷ []))
     ∷ []

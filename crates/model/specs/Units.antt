@@ -1,4 +1,5 @@
--- Which objects fit their units (rule 5.10): states with one object, which quota 0 holds, on both sides of the rule. What the check gives for each is proved by computing.
+-- Which objects fit their units (rule 5.10): states with one object, which quota 0 holds, on both sides of the rule.
+-- What the check gives for each is proved by computing.
 use Prim.Native.Nat.{ℕ, _+_, _-_}
 use mathlib.Core.List.{List, [], _∷_, _++_}
 use mathlib.Core.Bool.{cond}
@@ -37,7 +38,8 @@ refusal-with u p = check u (heap-with p) (accounts-with p) .values .refusal
 
 unfoldable pub fitting : List Placed
 fitting =
-    placed 8 8184 0 ∷ placed 24 8184 0 ∷ placed 16 8192 0 ∷ placed 16 8208 8 ∷ placed 16 16368 0 ∷ placed 32 16384 0 ∷ placed 64 16384 0 ∷ placed 32 32736 0 ∷ []
+    placed 8 8184 0 ∷ placed 24 8184 0 ∷ placed 16 8192 0 ∷ placed 16 8208 8 ∷ placed 16 16368 0 ∷ placed 32 16384 0 ∷ placed 64 16384 0
+    ∷ placed 32 32736 0 ∷ []
 
 unfoldable pub unfitting : List Placed
 unfitting =

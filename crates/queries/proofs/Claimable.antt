@@ -1,5 +1,4 @@
 -- Can claim by a claim: where a result is the claim's, its refusal is the answer.
--- Assumes nothing.
 use Prim.Native.Nat.{ℕ}
 use mathlib.Core.Path.{_≡_, refl, ap, _∙_}
 use mathlib.Core.List.{List}

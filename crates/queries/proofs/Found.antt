@@ -1,5 +1,4 @@
 -- What the survey's lookup and its record say, taken apart: the block is that of the object that the handle names, and the record the quota's for it.
--- Assumes nothing.
 use Prim.Native.Nat.{ℕ, _%_, _<_}
 use mathlib.Core.Path.{_≡_, refl, ap, sym, _∙_}
 use mathlib.Core.Bool.{Bool, true, false}

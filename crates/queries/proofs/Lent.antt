@@ -1,6 +1,5 @@
 -- What lend and the write of a byte give, from what the check and the lookup answered. The block that the lookup found is one of the heap's, so its
 -- object, and the handle's range in it, lies in the heap.
--- Assumes nothing.
 use mathlib.Core.Path.{_≡_, ap, sym, _∙_}
 use mathlib.Core.List.{List, [], _∷_}
 use mathlib.Core.Bool.{true, false}

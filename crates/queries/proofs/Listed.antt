@@ -1,6 +1,5 @@
 -- The listing's walk finds what rules 8.32 and 8.33 say: on a heap that is cut into blocks, the block that starts at the place, or none.
 -- The walk meets the blocks in the order of the listing, at the same places. So a walker from 0 on gives all the blocks in order, and then none.
--- Assumes nothing.
 use mathlib.Core.Path.{_≡_, refl, ap, sym, _∙_}
 use mathlib.Core.List.{List, [], _∷_, _++_, append-nil, map}
 use mathlib.Core.Bool.{Bool, true, false}

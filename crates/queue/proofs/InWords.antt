@@ -1,6 +1,5 @@
 -- The queue that words hold: its places; with a handle more, and with the oldest less. Words that hold the same queue are the same, so a call that leaves the
 -- queue as it was changes no word.
--- Assumes nothing.
 use Prim.Native.Nat.{ℕ, _+_, _-_, _*_, _/_, _%_, _≤_, _<_}
 use mathlib.Core.Path.{_≡_, refl, ap, sym, subst, _∙_}
 use mathlib.Core.List.{List, [], _∷_, _++_}

@@ -1,7 +1,6 @@
 -- Packets in demand 3's lists: a send joins a history as a claim and a release, and a packet lives as long as its receiver holds it.
 -- A refused send leaves heap and accounts, so the list stays as it is. The rest is demand 3's: an object whose serial is held at every point since is live at
 -- its place, and a live object has a record, which is a hold of the ledger.
--- Assumes nothing.
 use Prim.Native.Nat.{ℕ, zero, suc, _+_, _≤_, _<_}
 use native.Mathlib.Omega.{arith}
 use mathlib.Core.Path.{_≡_, refl, ap, sym, subst, _∙_}

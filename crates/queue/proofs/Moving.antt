@@ -1,7 +1,6 @@
 -- A send moves a hold: the claim and the release that it is made of are both accepted, and the receiver holds the packet then.
 -- A claim changes no byte and takes no hold from anybody, so what the sender could release it still can. The receiver's count is one more, and the
 -- release takes it away again only if sender and receiver are one, and then it was above 0 before.
--- Assumes nothing.
 use Prim.Native.Nat.{ℕ, zero, suc, _+_, _-_, _<_}
 use native.Mathlib.Omega.{arith}
 use mathlib.Core.Path.{_≡_, refl, ap, subst, _∙_}

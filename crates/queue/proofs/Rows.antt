@@ -1,5 +1,4 @@
 -- Computed rows: sends on both sides of each line and what they leave, receives, a list of both, and a queue as words.
--- Assumes nothing.
 use Prim.Native.Nat.{ℕ}
 use mathlib.Core.Path.{_≡_, refl}
 use mathlib.Core.List.{List, [], _∷_, _++_, map}

@@ -1,6 +1,5 @@
 -- A send with a handle that names nothing is refused and changes nothing: by a line of the queue, else as the claim for
 -- the receiver is. `stale-forever` (safety) says when a handle names nothing.
--- Assumes nothing.
 use Prim.Native.Nat.{ℕ, _≤_, _<_}
 use native.Mathlib.Omega.{arith}
 use mathlib.Core.Path.{_≡_, refl, ap, sym}

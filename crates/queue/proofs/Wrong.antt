@@ -1,5 +1,4 @@
 -- The wrong queues are not first in, first out: each is refuted by a short list of calls that is computed.
--- Assumes nothing.
 use Prim.Native.Nat.{ℕ}
 use native.Mathlib.Omega.{arith}
 use mathlib.Core.Path.{_≡_, refl, ap}

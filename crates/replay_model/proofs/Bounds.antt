@@ -1,6 +1,5 @@
 -- The output of every replay is short enough: an answer's line is at most six times as long as the line that asked for it, and a heap has at most
 -- 4,096 blocks.
--- Assumes nothing.
 use mathlib.Core.Path.{_≡_, refl, sym}
 use mathlib.Core.List.{List, [], _∷_, _++_}
 use mathlib.Core.Bool.{Bool, true, false, cond}
@@ -25,7 +24,9 @@ use Rattle.model.specs.declared.Call.the-variants.{Allocate, AllocateArray, Cla
 use Rattle.replay_model.specs.Text.{text, LINE-FEED, SPACE, decimal, read-number}
 use Rattle.replay_model.specs.Lines.{onto, split, lines, words, join-number, numbers}
 use Rattle.replay_model.specs.Commands.{Opening, handle-in, word-of, taking, call-of, named, phrase-of, phrase-call, line-call, line-opening}
-use Rattle.replay_model.specs.Replay.{LONGEST, OUTPUT, tail-of, ok-line, no-line, bad-line, gives-handle, handle-numbers, answer-numbers, answer-line, block-line, block-lines, heap-lines, ending, on-call, run-lines, run-opened, run-opening, run-input, replay}
+use Rattle.replay_model.specs.Replay.{LONGEST, OUTPUT, tail-of, ok-line, no-line, bad-line, gives-handle, handle-numbers, answer-numbers}
+use Rattle.replay_model.specs.Replay.{answer-line, block-line, block-lines, heap-lines, ending, on-call, run-lines, run-opened, run-opening}
+use Rattle.replay_model.specs.Replay.{run-input, replay}
 use Rattle.replay_model.specs.Events.{Reached, Granted}
 use Rattle.replay_model.specs.declared.Word.{Word}
 use Rattle.replay_model.specs.declared.Word.the-variants.{Open, Alloc, Array, Claim, Free, All, Realloc, Unknown}
@@ -70,7 +71,13 @@ answer-most c v = go (eqb (v .refusal) 0)
 block-most : (b : ListedBlock) → length (block-line b) ≤ 33
 unfolding block-line
 block-most b =
-    omega (arith, length-append (decimal (b .offset)) (tail-of (b .size ∷ (b .serial ∷ []))), decimal-most (b .offset), tail-most (b .size ∷ (b .serial ∷ [])))
+    omega (
+      arith,
+      length-append (decimal (b .offset)) (tail-of (b .size ∷ (b .serial ∷ []))),
+      decimal-most (b .offset),
+      tail-most
+          (b .size ∷ (b .serial ∷ [])),
+    )
 
 blocks-most : (at : ℕ) (bs : List Block) → length (block-lines (listing-from at bs)) ≤ 33 * length bs
 unfolding block-lines listing-from
@@ -134,7 +141,8 @@ unfolding numbers join-number total
 numbers-least [] ns e = let q : ns ≡ [] = cc in rw q (omega arith)
 numbers-least (w ∷ ws) ns e = go (read-number w) refl (numbers ws) (λ ms. numbers-least ws ms) e
   where
-    go : (o : Option ℕ) → read-number w ≡ o → (p : Option (List ℕ)) → ((ms : List ℕ) → p ≡ some ms → 2 * length ms ≤ spans ws) → join-number o p ≡ some ns
+    go : (o : Option ℕ) → read-number w ≡ o → (p : Option (List ℕ)) → ((ms : List ℕ) → p ≡ some ms → 2 * length ms ≤ spans ws) → join-number o p
+        ≡ some ns
         → 2 * length ns ≤ length w + 1 + spans ws
     go none a p ih f = let z : _≡_ {A = ℕ} 0 1 = cc in absurd (omega arith)
     go (some n) a none ih f = let z : _≡_ {A = ℕ} 0 1 = cc in absurd (omega arith)
@@ -153,10 +161,26 @@ taking-some k ns c d e = go (eqb (length ns) k) refl e
 call-least : (x : Word) (ns : List ℕ) (c : Call) → call-of x ns ≡ some c → (1 ≤ length ns) × (x ≡ Unknown → ⊥)
 unfolding call-of
 call-least Open ns c e = let z : _≡_ {A = ℕ} 0 1 = cc in absurd (omega arith)
-call-least Alloc ns c e = (omega (arith, taking-some 2 ns c (Allocate (getD ns 0 0) (getD ns 1 0)) e), λ q. let z : _≡_ {A = ℕ} 0 1 = cc in omega arith)
-call-least Array ns c e = (omega (arith, taking-some 3 ns c (AllocateArray (getD ns 0 0) (getD ns 1 0) (getD ns 2 0)) e), λ q. let z : _≡_ {A = ℕ} 0 1 = cc in omega arith)
-call-least Claim ns c e = (omega (arith, taking-some 4 ns c (Claims (getD ns 0 0) (handle-in ns)) e), λ q. let z : _≡_ {A = ℕ} 0 1 = cc in omega arith)
-call-least Free ns c e = (omega (arith, taking-some 4 ns c (Release (getD ns 0 0) (handle-in ns)) e), λ q. let z : _≡_ {A = ℕ} 0 1 = cc in omega arith)
+call-least Alloc ns c e = (
+  omega (arith, taking-some 2 ns c (Allocate (getD ns 0 0) (getD ns 1 0)) e),
+  λ q. let z : _≡_ {A = ℕ} 0 1 =
+      cc in omega arith,
+)
+call-least Array ns c e = (
+  omega (arith, taking-some 3 ns c (AllocateArray (getD ns 0 0) (getD ns 1 0) (getD ns 2 0)) e),
+  λ q. let z : _≡_ {A = ℕ} 0
+      1 = cc in omega arith,
+)
+call-least Claim ns c e = (
+  omega (arith, taking-some 4 ns c (Claims (getD ns 0 0) (handle-in ns)) e),
+  λ q. let z : _≡_ {A = ℕ} 0 1 =
+      cc in omega arith,
+)
+call-least Free ns c e = (
+  omega (arith, taking-some 4 ns c (Release (getD ns 0 0) (handle-in ns)) e),
+  λ q. let z : _≡_ {A = ℕ} 0 1 =
+      cc in omega arith,
+)
 call-least All ns c e = (omega (arith, taking-some 1 ns c (FreeAll (getD ns 0 0)) e), λ q. let z : _≡_ {A = ℕ} 0 1 = cc in omega arith)
 call-least Realloc ns c e =
     (omega (arith, taking-some 5 ns c (Reallocate (getD ns 0 0) (handle-in ns) (getD ns 4 0)) e), λ q. let z : _≡_ {A = ℕ} 0 1 = cc in omega arith)
@@ -187,7 +211,8 @@ unfolding phrase-call phrase-of named total
 phrase-least [] c e = let z : _≡_ {A = ℕ} 0 1 = cc in absurd (omega arith)
 phrase-least (w ∷ ws) c e = go (numbers ws) (λ ns. numbers-least ws ns) e
   where
-    go : (p : Option (List ℕ)) → ((ns : List ℕ) → p ≡ some ns → 2 * length ns ≤ spans ws) → phrase-call (named (word-of w) p) ≡ some c → 6 ≤ length w + 1 + spans ws
+    go : (p : Option (List ℕ)) → ((ns : List ℕ) → p ≡ some ns → 2 * length ns ≤ spans ws) → phrase-call (named (word-of w) p) ≡ some c
+        → 6 ≤ length w + 1 + spans ws
     go none h f = let z : _≡_ {A = ℕ} 0 1 = cc in absurd (omega arith)
     go (some ns) h f =
         let l = call-least (word-of w) ns c f in
@@ -209,7 +234,8 @@ run-most [] s k r = omega (arith, bad-most)
 run-most (l ∷ []) s k r = omega (arith, ending-most l s (reached-length s k r))
 run-most (l ∷ (m ∷ ls)) s k r = go (line-call l) refl (λ s′ k′. run-most (m ∷ ls) s′ k′)
   where
-    go : (o : Option Call) → line-call l ≡ o → ((s′ : List ℕ) (k′ : Accounts) → Reached s′ k′ → length (run-lines (m ∷ ls) s′ k′) ≤ 6 * spans (m ∷ ls) + list-most)
+    go : (o : Option Call) → line-call l ≡ o → ((s′ : List ℕ) (k′ : Accounts) → Reached s′ k′
+        → length (run-lines (m ∷ ls) s′ k′) ≤ 6 * spans (m ∷ ls) + list-most)
         → length (on-call o (λ c. answer-line c (own-step c s k .values) ++ run-lines (m ∷ ls) (own-step c s k .heap) (own-step c s k .accounts)))
         ≤ 6 * (length l + 1 + spans (m ∷ ls)) + list-most
     go none e ih = omega (arith, bad-most)
@@ -228,7 +254,8 @@ ok-short : length (ok-line []) ≡ 3
 unfolding ok-line tail-of
 ok-short = refl
 
-opened-most : (s grants : List ℕ) (ls : List (List ℕ)) → Granted grants → length (run-opened (open-heap plain s grants) ls) ≤ 6 * spans ls + list-most + 14
+opened-most : (s grants : List ℕ) (ls : List (List ℕ)) → Granted grants
+    → length (run-opened (open-heap plain s grants) ls) ≤ 6 * spans ls + list-most + 14
 unfolding run-opened
 opened-most s grants ls g = go (eqb (open-heap plain s grants .values .refusal) 0) refl
   where
@@ -238,7 +265,13 @@ opened-most s grants ls g = go (eqb (open-heap plain s grants .values .refusal) 
     go : (t : Bool) → eqb (o .values .refusal) 0 ≡ t
         → length (cond t (ok-line [] ++ run-lines ls (o .heap) (o .accounts)) (no-line (o .values .refusal))) ≤ 6 * spans ls + list-most + 14
     go true e =
-        omega (arith, length-append (ok-line []) (run-lines ls (o .heap) (o .accounts)), ok-short, run-most ls (o .heap) (o .accounts) (opened-by s grants g (eqb-true (o .values .refusal) 0 e)))
+        omega (
+          arith,
+          length-append (ok-line []) (run-lines ls (o .heap) (o .accounts)),
+          ok-short,
+          run-most ls (o .heap) (o .accounts)
+              (opened-by s grants g (eqb-true (o .values .refusal) 0 e)),
+        )
     go false e = omega (arith, no-most (o .values .refusal))
 
 input-most : (ls : List (List ℕ)) → length (run-input ls) ≤ 6 * spans ls + list-most + 14
@@ -247,7 +280,8 @@ input-most [] = omega (arith, bad-most)
 input-most (l ∷ []) = omega (arith, bad-most)
 input-most (l ∷ (m ∷ ls)) = go (line-opening l) (λ o. opening-granted l o)
   where
-    go : (p : Option Opening) → ((o : Opening) → p ≡ some o → Granted (o .grants)) → length (run-opening p (m ∷ ls)) ≤ 6 * (length l + 1 + spans (m ∷ ls)) + list-most + 14
+    go : (p : Option Opening) → ((o : Opening) → p ≡ some o → Granted (o .grants))
+        → length (run-opening p (m ∷ ls)) ≤ 6 * (length l + 1 + spans (m ∷ ls)) + list-most + 14
     go none g = omega (arith, bad-most)
     go (some o) g = omega (arith, opened-most (replicate (o .heap) 0) (o .grants) (m ∷ ls) (g o refl))
 

@@ -1,5 +1,4 @@
 -- Laws of digits: how many a number has, and that a decimal has as many.
--- Assumes nothing.
 use mathlib.Core.Path.{_≡_, refl}
 use mathlib.Core.Bool.{Bool, true, false, cond}
 use Prim.Native.Nat.{ℕ, zero, suc, _/_, _≤_, _<_}

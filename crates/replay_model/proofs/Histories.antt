@@ -1,6 +1,5 @@
 -- Every replay whose opening is accepted is a history: its events are the calls of its lines with what each answers, and what it prints are their answers.
 -- So demand 3 holds of it, at every split of its events.
--- Assumes nothing.
 use mathlib.Core.Path.{_≡_, refl, ap, sym, subst, _∙_}
 use mathlib.Core.List.{List, [], _∷_, _++_, append-assoc}
 use mathlib.Core.Bool.{Bool, cond}
@@ -64,8 +63,10 @@ ran-printed (l ∷ (m ∷ ls)) s k es = go (line-call l) (λ s′ k′ es′. ra
     stopped = record { heap = s; accounts = k; events = es; last = bad-line }
 
     go : (o : Option Call)
-        → ((s′ : List ℕ) (k′ : Accounts) (es′ : List Event) → answer-lines es′ ++ run-lines (m ∷ ls) s′ k′ ≡ answer-lines (ran-lines (m ∷ ls) s′ k′ es′ .events) ++ ran-lines (m ∷ ls) s′ k′ es′ .last)
-        → answer-lines es ++ on-call o (λ c. answer-line c (own-step c s k .values) ++ run-lines (m ∷ ls) (own-step c s k .heap) (own-step c s k .accounts))
+        → ((s′ : List ℕ) (k′ : Accounts) (es′ : List Event) → answer-lines es′ ++ run-lines (m ∷ ls) s′ k′
+        ≡ answer-lines (ran-lines (m ∷ ls) s′ k′ es′ .events) ++ ran-lines (m ∷ ls) s′ k′ es′ .last)
+        → answer-lines es ++ on-call o (λ c. answer-line c (own-step c s k .values)
+        ++ run-lines (m ∷ ls) (own-step c s k .heap) (own-step c s k .accounts))
         ≡ answer-lines (ran-call o stopped after .events) ++ ran-call o stopped after .last
     go none ih = refl
     go (some c) ih =
@@ -90,14 +91,16 @@ whole-printed s l m ls o h e q =
 pub replay-history : (s l m : List ℕ) (ls : List (List ℕ)) (o : Opening) → length s ≤ LONGEST → lines s ≡ l ∷ (m ∷ ls) → line-opening l ≡ some o
     → open-heap plain (replicate (o .heap) 0) (o .grants) .values .refusal ≡ 0
     → Historical s (o .grants)
-    (ran-lines (m ∷ ls) (open-heap plain (replicate (o .heap) 0) (o .grants) .heap) (open-heap plain (replicate (o .heap) 0) (o .grants) .accounts) [])
+    (ran-lines (m ∷ ls) (open-heap plain (replicate (o .heap) 0) (o .grants) .heap) (open-heap plain (replicate (o .heap) 0) (o .grants) .accounts)
+    [])
 unfolding answer-lines
 replay-history s l m ls o h e q z =
     let b = open-heap plain (replicate (o .heap) 0) (o .grants) in
     let r = ran-lines (m ∷ ls) (b .heap) (b .accounts) [] in
     let leads = ran-history (o .grants) (m ∷ ls) (b .heap) (b .accounts) [] (begins (replicate (o .heap) 0) (o .grants) (opening-granted l o q) z) in
     record {
-      printed = whole-printed s l m ls o h e q ∙ begun-printed b (m ∷ ls) z ∙ ap (λ (x : List ℕ). ok-line [] ++ x) (ran-printed (m ∷ ls) (b .heap) (b .accounts) []);
+      printed = whole-printed s l m ls o h e q ∙ begun-printed b (m ∷ ls) z
+          ∙ ap (λ (x : List ℕ). ok-line [] ++ x) (ran-printed (m ∷ ls) (b .heap) (b .accounts) []);
       history = leads;
       holds =
           λ front back d.

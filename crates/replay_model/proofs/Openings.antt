@@ -1,5 +1,4 @@
 -- Openings of a line: it has a grant for each quota, of 32 bits; and an opening that is accepted begins a history.
--- Assumes nothing.
 use mathlib.Core.Path.{_≡_, refl, ap, sym, subst}
 use mathlib.Core.List.{List, [], _∷_}
 use mathlib.Core.Bool.{Bool, true, false, cond, _&&_}

@@ -1,5 +1,4 @@
 -- States that a history reaches: demand 3 speaks of them, so the check accepts them, and a call leads to another.
--- Assumes nothing.
 use mathlib.Core.Path.{_≡_, sym}
 use mathlib.Core.List.{List, [], _∷_}
 use mathlib.Core.Bool.{_&&_}
@@ -33,7 +32,8 @@ module _ (s : List ℕ) (k : Accounts) (r : Reached s k) where
   pub reached-length : length s ≤ 32768
   unfolding allowed
   reached-length =
-      leb-true (length s) 32768 (and-right (leb 64 (length s)) (leb (length s) 32768) (and-right (eqb (length s % 8) 0) (leb 64 (length s) && leb (length s) 32768) (reached-holds .length-allowed)))
+      leb-true (length s) 32768 (and-right (leb 64 (length s)) (leb (length s) 32768)
+      (and-right (eqb (length s % 8) 0) (leb 64 (length s) && leb (length s) 32768) (reached-holds .length-allowed)))
 
 -- a call's state is reached from the state before it
 pub reached-next : (s : List ℕ) (k : Accounts) (c : Call) (s′ : List ℕ) (k′ : Accounts) (v : Values) → Reached s k

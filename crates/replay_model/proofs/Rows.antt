@@ -1,5 +1,4 @@
 -- Replays that are computed: the example of rule 11.16, and the corners of section 11. One table, one theorem, and others for long inputs and for numbers.
--- Assumes nothing.
 use Prim.Native.Nat.{ℕ, zero, suc, _-_}
 use Prim.Native.String.{String}
 use mathlib.Core.Path.{_≡_, refl}

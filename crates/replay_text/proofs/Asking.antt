@@ -1,6 +1,5 @@
 -- A name and its numbers as a call or an opening: a line with more numbers than any call takes asks for nothing, and the numbers in the array's
 -- front are the line's.
--- Assumes nothing.
 use mathlib.Core.Path.{_≡_, refl, ap, sym}
 use mathlib.Core.List.{List, [], _∷_}
 use mathlib.Core.Bool.{Bool, true, false, cond}
@@ -94,21 +93,25 @@ module _ (n : ℕ) (vs : List ℕ) (fits : n ≤ length vs) where
 
   pub call-alloc : cond (eqb n 2) (some (Allocate (getD vs 0 0) (getD vs 1 0))) none ≡ call-of Alloc (take n vs)
   unfolding call-of
-  call-alloc = taken 2 (Allocate (getD vs 0 0) (getD vs 1 0)) (Allocate (getD (take n vs) 0 0) (getD (take n vs) 1 0)) (λ e i. Allocate (at 0 (omega arith) i) (at 1 (omega arith) i))
+  call-alloc = taken 2 (Allocate (getD vs 0 0) (getD vs 1 0)) (Allocate (getD (take n vs) 0 0) (getD (take n vs) 1 0))
+      (λ e i. Allocate (at 0 (omega arith) i) (at 1 (omega arith) i))
 
   pub call-array : cond (eqb n 3) (some (AllocateArray (getD vs 0 0) (getD vs 1 0) (getD vs 2 0))) none ≡ call-of Array (take n vs)
   unfolding call-of
   call-array =
-      taken 3 (AllocateArray (getD vs 0 0) (getD vs 1 0) (getD vs 2 0)) (AllocateArray (getD (take n vs) 0 0) (getD (take n vs) 1 0) (getD (take n vs) 2 0))
+      taken 3 (AllocateArray (getD vs 0 0) (getD vs 1 0) (getD vs 2 0))
+      (AllocateArray (getD (take n vs) 0 0) (getD (take n vs) 1 0) (getD (take n vs) 2 0))
       (λ e i. AllocateArray (at 0 (omega arith) i) (at 1 (omega arith) i) (at 2 (omega arith) i))
 
   pub call-claim : cond (eqb n 4) (some (Claim (getD vs 0 0) (handle-in vs))) none ≡ call-of ClaimWord (take n vs)
   unfolding call-of
-  call-claim = taken 4 (Claim (getD vs 0 0) (handle-in vs)) (Claim (getD (take n vs) 0 0) (handle-in (take n vs))) (λ e i. Claim (at 0 (omega arith) i) (handle-at (omega arith) i))
+  call-claim = taken 4 (Claim (getD vs 0 0) (handle-in vs)) (Claim (getD (take n vs) 0 0) (handle-in (take n vs)))
+      (λ e i. Claim (at 0 (omega arith) i) (handle-at (omega arith) i))
 
   pub call-free : cond (eqb n 4) (some (Release (getD vs 0 0) (handle-in vs))) none ≡ call-of Free (take n vs)
   unfolding call-of
-  call-free = taken 4 (Release (getD vs 0 0) (handle-in vs)) (Release (getD (take n vs) 0 0) (handle-in (take n vs))) (λ e i. Release (at 0 (omega arith) i) (handle-at (omega arith) i))
+  call-free = taken 4 (Release (getD vs 0 0) (handle-in vs)) (Release (getD (take n vs) 0 0) (handle-in (take n vs)))
+      (λ e i. Release (at 0 (omega arith) i) (handle-at (omega arith) i))
 
   pub call-all : cond (eqb n 1) (some (FreeAll (getD vs 0 0))) none ≡ call-of All (take n vs)
   unfolding call-of
@@ -117,7 +120,8 @@ module _ (n : ℕ) (vs : List ℕ) (fits : n ≤ length vs) where
   pub call-realloc : cond (eqb n 5) (some (Reallocate (getD vs 0 0) (handle-in vs) (getD vs 4 0))) none ≡ call-of Realloc (take n vs)
   unfolding call-of
   call-realloc =
-      taken 5 (Reallocate (getD vs 0 0) (handle-in vs) (getD vs 4 0)) (Reallocate (getD (take n vs) 0 0) (handle-in (take n vs)) (getD (take n vs) 4 0))
+      taken 5 (Reallocate (getD vs 0 0) (handle-in vs) (getD vs 4 0))
+      (Reallocate (getD (take n vs) 0 0) (handle-in (take n vs)) (getD (take n vs) 4 0))
       (λ e i. Reallocate (at 0 (omega arith) i) (handle-at (omega arith) i) (at 4 (omega arith) i))
 
 -- an opening has as many numbers as the array

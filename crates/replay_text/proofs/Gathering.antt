@@ -1,5 +1,4 @@
 -- The numbers of a line, read word by word into an array: those that were read and those of the words that are left are all of them.
--- Assumes nothing.
 use mathlib.Core.Path.{_≡_, refl, ap, sym, _∙_}
 use mathlib.Core.List.{List, [], _∷_, _++_, append-nil, append-assoc}
 use mathlib.Core.Option.{Option, none, some}
@@ -90,7 +89,8 @@ gather-end ws values count g =
     let q : numbers ws ≡ some (take count values) = g .told ∙ ap some (append-nil (take count values)) in
     record { told = sym (ap few q ∙ rw (le-leb (length (take count values)) MOST (omega arith))); small = s; kept = k }
 
-pub gather-nothing : (ws rest : List (List ℕ)) (values : List ℕ) (count : ℕ) → Gathering ws rest values count → few (numbers ws) ≡ none → Counted ws values Nothing
+pub gather-nothing : (ws rest : List (List ℕ)) (values : List ℕ) (count : ℕ) → Gathering ws rest values count → few (numbers ws) ≡ none
+    → Counted ws values Nothing
 gather-nothing ws rest values count g e = record { told = sym e; small = omega arith; kept = g .kept }
 
 -- the numbers behind the first, copied one by one

@@ -1,5 +1,4 @@
 -- The run of a whole input, by where its first line ends and what it asks for; and what is written of it is the replay.
--- Assumes nothing.
 use mathlib.Core.Path.{_≡_, ap, sym, _∙_}
 use mathlib.Core.List.{List, _++_}
 use mathlib.Core.Bool.{Bool, true, false, cond}
@@ -31,7 +30,8 @@ module _ (input : List ℕ) (end : ℕ) (m : FirstMark LINE-FEED 0 (length input
 
   pub input-unended : end ≡ length input → bad-line ≡ run-input (lines input)
   unfolding run-input
-  input-unended e = sym (ap (λ (s : List ℕ). run-input (lines s)) whole ∙ ap run-input (split-last LINE-FEED (length input) input (omega arith) 0 end e m))
+  input-unended e = sym (ap (λ (s : List ℕ). run-input (lines s)) whole
+      ∙ ap run-input (split-last LINE-FEED (length input) input (omega arith) 0 end e m))
 
   module _ (h : end < length input) where
     first-line : run-input (lines input) ≡ run-opening (line-opening (slice 0 end input)) (lines (slice (end + 1) (length input) input))
@@ -64,7 +64,8 @@ module _ (s out : List ℕ) (long : OUTPUT ≤ length out) where
       let b : out′ ≡ replay s ++ drop (length (replay s)) out =
       p .bytes ∙ overwrite-fits 0 (replay s) out (omega (arith, replay-fits s)) ∙ ap (λ (k : ℕ). replay s ++ drop k out) zero-add in
       (λ i. record { answer = Written (n i); output = b i })
-      ∙ sym (ap (λ (t : Bool). cond t (record { answer = TooShort; output = out }) (record { answer = Written (length (replay s)); output = replay s ++ drop (length (replay s)) out })) (le-ltb (length out) OUTPUT long))
+      ∙ sym (ap (λ (t : Bool). cond t (record { answer = TooShort; output = out })
+      (record { answer = Written (length (replay s)); output = replay s ++ drop (length (replay s)) out })) (le-ltb (length out) OUTPUT long))
     where
       zero-add : 0 + length (replay s) ≡ length (replay s)
       zero-add = omega arith
@@ -88,7 +89,9 @@ unfolding replayed
 replayed-counts s out out′ n e = go (ltb (length out) OUTPUT) e
   where
     go : (t : Bool)
-        → _≡_ {A = Result} (record { answer = Written n; output = out′ }) (cond t (record { answer = TooShort; output = out }) (record { answer = Written (length (replay s)); output = replay s ++ drop (length (replay s)) out }))
+        → _≡_ {A = Result} (record { answer = Written n; output = out′ })
+        (cond t (record { answer = TooShort; output = out }) (record
+        { answer = Written (length (replay s)); output = replay s ++ drop (length (replay s)) out }))
         → n ≤ length out′
     go true f =
         let q : Written n ≡ TooShort = ap (λ (r : Result). r .answer) f in

@@ -1,5 +1,4 @@
 -- The run of the lines from a place on, by where the next line ends: the end of the input, another kind of line, or a call and the lines behind it.
--- Assumes nothing.
 use mathlib.Core.Path.{_≡_, refl, ap, sym, _∙_}
 use mathlib.Core.List.{List, [], _∷_, _++_}
 use mathlib.Core.Bool.{Bool, true, false, cond}

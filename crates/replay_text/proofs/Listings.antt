@@ -1,5 +1,4 @@
 -- The list at the end: a state that a history leads to passes the check, so that the listing's call gives its blocks one after the other.
--- Assumes nothing.
 use mathlib.Core.Path.{_≡_, refl, ap, sym, subst, _∙_}
 use mathlib.Core.List.{List, [], _∷_, _++_, append-nil}
 use mathlib.Core.Option.{none, some}

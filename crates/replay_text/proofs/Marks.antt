@@ -1,5 +1,4 @@
 -- Lines and words are found by their marks: where a mark first stands, the part before it is the first of the parts between marks.
--- Assumes nothing.
 use mathlib.Core.Path.{_≡_, refl, ap, sym, _∙_}
 use mathlib.Core.List.{List, [], _∷_}
 use mathlib.Core.Bool.{Bool, true, false}
@@ -31,7 +30,8 @@ absent-more mark from to s a n i h l e = go (ltb i to) refl
 
 -- the parts of what stands from a place up to another, where the first mark is at r or there is none
 module _ (mark to : ℕ) (s : List ℕ) (k : to ≤ length s) where
-  skip : (from : ℕ) → from < to → (getD s from 0 ≡ mark → ⊥) → split mark (slice from to s) ≡ onto (getD s from 0) (split mark (slice (from + 1) to s))
+  skip : (from : ℕ) → from < to → (getD s from 0 ≡ mark → ⊥) → split mark (slice from to s)
+      ≡ onto (getD s from 0) (split mark (slice (from + 1) to s))
   unfolding split
   skip from h n = rw (part-cons from to s (getD s from 0) h k refl, ne-eqb (getD s from 0) mark n)
 
@@ -43,7 +43,8 @@ module _ (mark to : ℕ) (s : List ℕ) (k : to ≤ length s) where
       ∙ ap (onto (getD s from 0)) (last-from d (from + 1) (omega arith) (λ i h. a i (omega arith)))
       ∙ ap (λ (p : List ℕ). p ∷ []) (sym (part-cons from to s (getD s from 0) (omega arith) k refl))
 
-  more-from : (d from r : ℕ) → from + d ≡ r → r < to → getD s r 0 ≡ mark → Absent mark from r s → split mark (slice from to s) ≡ slice from r s ∷ split mark (slice (r + 1) to s)
+  more-from : (d from r : ℕ) → from + d ≡ r → r < to → getD s r 0 ≡ mark → Absent mark from r s → split mark (slice from to s) ≡ slice from r s
+      ∷ split mark (slice (r + 1) to s)
   unfolding split onto
   more-from zero from r e h f a =
       let q : from ≡ r = omega arith in
@@ -62,7 +63,8 @@ module _ (mark to : ℕ) (s : List ℕ) (k : to ≤ length s) where
       let l = m .low in
       last-from d from (omega arith) (λ i x y. m .absent i x (omega arith)) ∙ ap (λ (n : ℕ). slice from n s ∷ []) (sym e)
 
-  pub split-more : (from r : ℕ) → r < to → FirstMark mark from to s r → split mark (slice from to s) ≡ slice from r s ∷ split mark (slice (r + 1) to s)
+  pub split-more : (from r : ℕ) → r < to → FirstMark mark from to s r → split mark (slice from to s) ≡ slice from r s
+      ∷ split mark (slice (r + 1) to s)
   split-more from r h m =
       let d = r - from in
       let l = m .low in

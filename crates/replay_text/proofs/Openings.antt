@@ -1,5 +1,4 @@
 -- An opening's verdict decides the run: a refusal is printed, and else the lines are run on a state that a history reaches. A heap that is too long is refused.
--- Assumes nothing.
 use mathlib.Core.Path.{_≡_, refl, ap, sym, _∙_}
 use mathlib.Core.List.{List, [], _∷_, _++_}
 use mathlib.Core.Bool.{Bool, false, cond, _&&_}
@@ -48,14 +47,16 @@ module _ (s grants s′ : List ℕ) (k : Accounts) (v : Verdict) (told : outcome
   opened-refused ls h =
       let q : n ≡ verdict-values v .refusal = e ∙ verdict-is v in
       ap no-line q
-      ∙ sym (ap (λ (t : Bool). cond t (ok-line [] ++ run-lines ls s′ k) (no-line (verdict-values v .refusal))) (ne-eqb (verdict-values v .refusal) 0 (λ z. h (q ∙ z))))
+      ∙ sym (ap (λ (t : Bool). cond t (ok-line [] ++ run-lines ls s′ k) (no-line (verdict-values v .refusal)))
+      (ne-eqb (verdict-values v .refusal) 0 (λ z. h (q ∙ z))))
       ∙ ap (λ (o : Outcome). run-opened o ls) told
 
   pub opened-runs : (ls : List (List ℕ)) → n ≡ 0 → ok-line [] ++ run-lines ls s′ k ≡ run-opened (open-heap plain s grants) ls
   unfolding run-opened
   opened-runs ls z =
       let q : n ≡ verdict-values v .refusal = e ∙ verdict-is v in
-      sym (ap (λ (t : Bool). cond t (ok-line [] ++ run-lines ls s′ k) (no-line (verdict-values v .refusal))) (eq-eqb (verdict-values v .refusal) 0 (sym q ∙ z)))
+      sym (ap (λ (t : Bool). cond t (ok-line [] ++ run-lines ls s′ k) (no-line (verdict-values v .refusal)))
+      (eq-eqb (verdict-values v .refusal) 0 (sym q ∙ z)))
       ∙ ap (λ (o : Outcome). run-opened o ls) told
 
   pub opened-reached : Granted grants → n ≡ 0 → Reached s′ k

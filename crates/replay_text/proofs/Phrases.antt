@@ -1,5 +1,4 @@
 -- A line that was read: its first word is the name and the others are the numbers, and so it asks for what the line asks for.
--- Assumes nothing.
 use mathlib.Core.Path.{_≡_, refl, ap, sym, _∙_}
 use mathlib.Core.List.{List, []}
 use mathlib.Core.Bool.{Bool, true, false, cond, true≢false}
@@ -23,7 +22,8 @@ use Rattle.replay_text.proofs.Marks.{split-last, split-more}
 use Rattle.replay_text.proofs.Asking.{few-phrase-call, few-phrase-opening}
 
 -- the name x ends at r, and an array of numbers is there
-module _ (from to : ℕ) (s : List ℕ) (r : ℕ) (x : Word) (vs : List ℕ) (k : to ≤ length s) (m : FirstMark SPACE from to s r) (e : x ≡ word-of (slice from r s)) where
+module _ (from to : ℕ) (s : List ℕ) (r : ℕ) (x : Word) (vs : List ℕ) (k : to ≤ length s) (m : FirstMark SPACE from to s r)
+    (e : x ≡ word-of (slice from r s)) where
   -- nothing behind the name
   pub line-alone : r ≡ to → length vs ≡ MOST → LineRead (slice from to s) (record { ok = true; name = x; count = 0; values = vs })
   unfolding few-phrase named few numbers
@@ -35,7 +35,8 @@ module _ (from to : ℕ) (s : List ℕ) (r : ℕ) (x : Word) (vs : List ℕ) (k 
       }
 
   -- numbers behind the name, or what is no numbers
-  pub line-numbers : r < to → (n : ℕ) → Counted (words (slice (r + 1) to s)) vs (Read n) → LineRead (slice from to s) (record { ok = true; name = x; count = n; values = vs })
+  pub line-numbers : r < to → (n : ℕ) → Counted (words (slice (r + 1) to s)) vs (Read n)
+      → LineRead (slice from to s) (record { ok = true; name = x; count = n; values = vs })
   unfolding few-phrase named
   line-numbers h n g =
       record {
@@ -44,7 +45,8 @@ module _ (from to : ℕ) (s : List ℕ) (r : ℕ) (x : Word) (vs : List ℕ) (k 
         kept = g .kept;
       }
 
-  pub line-nothing : r < to → Counted (words (slice (r + 1) to s)) vs Nothing → LineRead (slice from to s) (record { ok = false; name = x; count = 0; values = vs })
+  pub line-nothing : r < to → Counted (words (slice (r + 1) to s)) vs Nothing
+      → LineRead (slice from to s) (record { ok = false; name = x; count = 0; values = vs })
   unfolding few-phrase named
   line-nothing h g =
       record {
@@ -65,19 +67,23 @@ module _ (l : List ℕ) (r : Line) (read : LineRead l r) where
 
   pub call-not : r .ok ≡ false → none ≡ line-call l
   unfolding phrase-call
-  call-not e = sym (ap (λ (t : Bool). phrase-call (cond t (some (record { name = r .name; values = take (r .count) (r .values) })) none)) e) ∙ asked-call-is
+  call-not e = sym (ap (λ (t : Bool). phrase-call (cond t (some (record { name = r .name; values = take (r .count) (r .values) })) none)) e)
+      ∙ asked-call-is
 
   pub call-is : r .ok ≡ true → call-of (r .name) (take (r .count) (r .values)) ≡ line-call l
   unfolding phrase-call
-  call-is e = sym (ap (λ (t : Bool). phrase-call (cond t (some (record { name = r .name; values = take (r .count) (r .values) })) none)) e) ∙ asked-call-is
+  call-is e = sym (ap (λ (t : Bool). phrase-call (cond t (some (record { name = r .name; values = take (r .count) (r .values) })) none)) e)
+      ∙ asked-call-is
 
   pub opening-not : r .ok ≡ false → none ≡ line-opening l
   unfolding phrase-opening
-  opening-not e = sym (ap (λ (t : Bool). phrase-opening (cond t (some (record { name = r .name; values = take (r .count) (r .values) })) none)) e) ∙ asked-opening-is
+  opening-not e = sym (ap (λ (t : Bool). phrase-opening (cond t (some (record { name = r .name; values = take (r .count) (r .values) })) none)) e)
+      ∙ asked-opening-is
 
   pub opening-is : r .ok ≡ true → opening-of (r .name) (take (r .count) (r .values)) ≡ line-opening l
   unfolding phrase-opening
-  opening-is e = sym (ap (λ (t : Bool). phrase-opening (cond t (some (record { name = r .name; values = take (r .count) (r .values) })) none)) e) ∙ asked-opening-is
+  opening-is e = sym (ap (λ (t : Bool). phrase-opening (cond t (some (record { name = r .name; values = take (r .count) (r .values) })) none)) e)
+      ∙ asked-opening-is
 
 -- an opening has its name and as many numbers as the array
 pub opens-not : (x : Word) (ns : List ℕ) → is-open x ≡ false → none ≡ opening-of x ns

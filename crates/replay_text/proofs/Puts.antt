@@ -1,5 +1,4 @@
 -- Texts written behind each other are one text: room for both is room for each, and the two writes are the write of the whole.
--- Assumes nothing.
 use mathlib.Core.Path.{_≡_, refl, ap, sym, _∙_}
 use mathlib.Core.List.{List, [], _∷_, _++_, append-assoc}
 use Prim.Native.Nat.{ℕ, suc, _+_, _≤_, _<_}

@@ -1,5 +1,4 @@
 -- Reading a part of an input byte by byte: the digits of a number, the bytes of a word, and the parts between marks.
--- Assumes nothing.
 use mathlib.Core.Path.{_≡_, refl, ap, sym, _∙_}
 use mathlib.Core.List.{List, [], _∷_}
 use mathlib.Core.Bool.{true, false, _&&_}
@@ -37,7 +36,8 @@ module _ (n from to : ℕ) (s : List ℕ) (b : ℕ) (h : from < to) (k : to ≤ 
   unfolding read-on is-digit
   digit-large l m g = rw (part-cons from to s b h k e, le-leb 48 b l, le-leb b 57 m, lt-leb (n * 10 + (b - 48)) greatest-number g)
 
-  pub digit-more : 48 ≤ b → b ≤ 57 → n * 10 + (b - 48) ≤ greatest-number → read-on n (slice from to s) ≡ read-on (n * 10 + (b - 48)) (slice (from + 1) to s)
+  pub digit-more : 48 ≤ b → b ≤ 57 → n * 10 + (b - 48) ≤ greatest-number → read-on n (slice from to s)
+      ≡ read-on (n * 10 + (b - 48)) (slice (from + 1) to s)
   unfolding read-on is-digit
   digit-more l m g = rw (part-cons from to s b h k e, le-leb 48 b l, le-leb b 57 m, le-leb (n * 10 + (b - 48)) greatest-number g)
 
@@ -56,7 +56,8 @@ behind-zero b c w e = rw (eq-eqb b 48 e)
 
 pub number-zero : (from to : ℕ) (s : List ℕ) → to ≤ length s → getD s from 0 ≡ 48 → 1 < to - from → read-number (slice from to s) ≡ none
 number-zero from to s k e h =
-    ap read-number (part-cons from to s (getD s from 0) (omega arith) k refl ∙ ap (λ (w : List ℕ). getD s from 0 ∷ w) (part-cons (from + 1) to s (getD s (from + 1) 0) (omega arith) k refl))
+    ap read-number (part-cons from to s (getD s from 0) (omega arith) k refl
+    ∙ ap (λ (w : List ℕ). getD s from 0 ∷ w) (part-cons (from + 1) to s (getD s (from + 1) 0) (omega arith) k refl))
     ∙ behind-zero (getD s from 0) (getD s (from + 1) 0) (slice (from + 1 + 1) to s) e
 
 plain : (b : ℕ) (w : List ℕ) → (b ≡ 48 → ⊥) → read-number (b ∷ w) ≡ read-on 0 (b ∷ w)
@@ -64,13 +65,15 @@ unfolding read-number
 plain b [] h = refl
 plain b (c ∷ w) h = rw (ne-eqb b 48 h)
 
-pub number-plain : (from to : ℕ) (s : List ℕ) → from < to → to ≤ length s → (getD s from 0 ≡ 48 → ⊥) → read-number (slice from to s) ≡ read-on 0 (slice from to s)
+pub number-plain : (from to : ℕ) (s : List ℕ) → from < to → to ≤ length s → (getD s from 0 ≡ 48 → ⊥) → read-number (slice from to s)
+    ≡ read-on 0 (slice from to s)
 number-plain from to s h k e = rw (part-cons from to s (getD s from 0) h k refl) (plain (getD s from 0) (slice (from + 1) to s) e)
 
 pub number-one : (from to : ℕ) (s : List ℕ) → from < to → to ≤ length s → to - from ≤ 1 → read-number (slice from to s) ≡ read-on 0 (slice from to s)
 unfolding read-number
 number-one from to s h k l =
-    let e : slice from to s ≡ getD s from 0 ∷ [] = part-cons from to s (getD s from 0) h k refl ∙ ap (λ (w : List ℕ). getD s from 0 ∷ w) (part-none (from + 1) to s (omega arith) (omega arith)) in
+    let e : slice from to s ≡ getD s from 0 ∷ [] = part-cons from to s (getD s from 0) h k refl
+    ∙ ap (λ (w : List ℕ). getD s from 0 ∷ w) (part-none (from + 1) to s (omega arith) (omega arith)) in
     rw e
 
 -- two words of different lengths are not the same
@@ -81,7 +84,8 @@ same-apart from to s w l k h = same-lengths (slice from to s) w (λ e. h (sym (l
 module _ (from to : ℕ) (s : List ℕ) (i : ℕ) (w : List ℕ) (h : from < to) (k : to ≤ length s) (l : i < length w) where
   both : same (slice from to s) (drop i w) ≡ (eqb (getD s from 0) (getD w i 0) && same (slice (from + 1) to s) (drop (i + 1) w))
   unfolding same
-  both = rw (part-cons from to s (getD s from 0) h k refl, drop-cons w i 0 l) (ap (λ (n : ℕ). eqb (getD s from 0) (getD w i 0) && same (slice (from + 1) to s) (drop n w)) (sym (add-one i)))
+  both = rw (part-cons from to s (getD s from 0) h k refl, drop-cons w i 0 l)
+      (ap (λ (n : ℕ). eqb (getD s from 0) (getD w i 0) && same (slice (from + 1) to s) (drop n w)) (sym (add-one i)))
 
   pub same-differ : (getD s from 0 ≡ getD w i 0 → ⊥) → same (slice from to s) (drop i w) ≡ false
   same-differ e = both ∙ rw (ne-eqb (getD s from 0) (getD w i 0) e)

@@ -1,5 +1,4 @@
 -- A text written piece by piece: the pieces that are written and the rest are the whole text, so that there is room for the next piece.
--- Assumes nothing.
 use mathlib.Core.Path.{_≡_, refl, ap, sym, subst, _∙_}
 use mathlib.Core.List.{List, [], _++_, append-assoc, append-nil}
 use Prim.Native.Nat.{ℕ, _+_}

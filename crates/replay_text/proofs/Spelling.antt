@@ -1,5 +1,4 @@
 -- Digits one by one: how a loop counts them, and writes them from the last one on.
--- Assumes nothing.
 use mathlib.Core.Path.{_≡_, ap, sym, subst, _∙_}
 use mathlib.Core.List.{List, [], _∷_, _++_, append-assoc, append-nil}
 use Prim.Native.Nat.{ℕ, zero, suc, _+_, _-_, _/_, _%_, _^_, _≤_, _<_}
@@ -69,7 +68,8 @@ spell-on at count n s left rest s′ h c =
       done = (48 + rest % 10) ∷ c .done;
       bytes = ap (λ (x : List ℕ). set x (at + left) (48 + rest % 10)) (c .bytes ∙ ap (λ (p : ℕ). overwrite p (c .done) s) (omega arith))
           ∙ overwrite-before (at + left) (48 + rest % 10) (c .done) s (omega arith);
-      whole = sym (append-assoc (digits left (rest / 10)) ((48 + rest % 10) ∷ []) (c .done)) ∙ ap (λ (k : ℕ). digits k rest ++ c .done) (sym (add-one left)) ∙ c .whole;
+      whole = sym (append-assoc (digits left (rest / 10)) ((48 + rest % 10) ∷ []) (c .done))
+          ∙ ap (λ (k : ℕ). digits k rest ++ c .done) (sym (add-one left)) ∙ c .whole;
     }
 
 pub spell-more : (at count n : ℕ) (s : List ℕ) (left rest : ℕ) (s′ : List ℕ) → at + count ≤ length s → 0 < left → Spelling at count n s left rest s′
@@ -78,7 +78,8 @@ spell-more at count n s left rest s′ h p c =
     let e : left ≡ left - 1 + 1 = omega arith in
     spell-on at count n s (left - 1) rest s′ h (subst (λ (k : ℕ). Spelling at count n s k rest s′) e c)
 
-pub spell-end : (at count n : ℕ) (s : List ℕ) (left rest : ℕ) (s′ : List ℕ) → left ≤ 0 → Spelling at count n s left rest s′ → s′ ≡ overwrite at (digits count n) s
+pub spell-end : (at count n : ℕ) (s : List ℕ) (left rest : ℕ) (s′ : List ℕ) → left ≤ 0 → Spelling at count n s left rest s′ → s′
+    ≡ overwrite at (digits count n) s
 unfolding digits
 spell-end at count n s left rest s′ h c =
     let z : left ≡ 0 = omega arith in

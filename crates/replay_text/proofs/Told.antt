@@ -1,5 +1,4 @@
 -- What is read of a word or of a line tells answers apart: the number, or the call, gives the answer back.
--- Assumes nothing.
 use Prim.Native.Nat.{ℕ}
 use mathlib.Core.Path.{_≡_, refl, ap, sym, _∙_}
 use mathlib.Core.Option.{Option, none, some}

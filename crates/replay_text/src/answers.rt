@@ -15,7 +15,8 @@ ghost use mathlib.Core.List.{[], _∷_};
 ghost use Prim.Native.Nat.{_+_, _≤_};
 ghost use Rattle.layout.specs.Blocks.{greatest-heap};
 ghost use Rattle.model.specs.Answers.{answer-values, zero-handle};
-ghost use Rattle.replay_text.specs.Answered.{verdict-refusal, handle-refusal, amount-refusal, range-refusal, block-refusal, answer-refusal, given-handle, answer-handle, given-amount, answer-amount};
+ghost use Rattle.replay_text.specs.Answered.{verdict-refusal, handle-refusal, amount-refusal, range-refusal, block-refusal, answer-refusal};
+ghost use Rattle.replay_text.specs.Answered.{given-handle, answer-handle, given-amount, answer-amount};
 ghost use Rattle.replay_model.specs.Replay.{tail-of, ok-line, no-line, bad-line, handle-numbers, gives-handle, answer-line, block-line};
 ghost use Rattle.replay_text.specs.Contracts.{Put, Room};
 

@@ -43,8 +43,10 @@ fn put_ending(
     output: &mut [u8],
     at: usize,
 ) -> usize
-    requires { ⌜ (from ≤ length (now input)) × Reached (now heap) accounts × Room at (ending (slice from (length (now input)) (now input)) (now heap)) (now output) ⌝ }
-    ensures { λ r. ⌜ Put at (ending (slice from (length (now (input .entry))) (now (input .entry))) (now (heap .entry))) (now (output .entry)) (now (output .exit)) r ⌝ }
+    requires { ⌜ (from ≤ length (now input)) × Reached (now heap) accounts
+        × Room at (ending (slice from (length (now input)) (now input)) (now heap)) (now output) ⌝ }
+    ensures { λ r. ⌜ Put at (ending (slice from (length (now (input .entry))) (now (input .entry))) (now (heap .entry))) (now (output .entry))
+        (now (output .exit)) r ⌝ }
 {
     if from == input.len() {
         return put_blocks(heap, accounts, output, at);
@@ -61,8 +63,10 @@ fn run_calls(
     output: &mut [u8],
     at: usize,
 ) -> usize
-    requires { ⌜ (from ≤ length (now input)) × Reached (now heap) accounts × Room at (run-lines (lines (slice from (length (now input)) (now input))) (now heap) accounts) (now output) ⌝ }
-    ensures { λ r. ⌜ Put at (run-lines (lines (slice from (length (now (input .entry))) (now (input .entry)))) (now (heap .entry)) accounts) (now (output .entry)) (now (output .exit)) r ⌝ }
+    requires { ⌜ (from ≤ length (now input)) × Reached (now heap) accounts
+        × Room at (run-lines (lines (slice from (length (now input)) (now input))) (now heap) accounts) (now output) ⌝ }
+    ensures { λ r. ⌜ Put at (run-lines (lines (slice from (length (now (input .entry))) (now (input .entry)))) (now (heap .entry)) accounts)
+        (now (output .entry)) (now (output .exit)) r ⌝ }
 {
     let len = input.len();
     let mut start = from;
@@ -92,8 +96,10 @@ fn run_opened(
     grants: [u32; QUOTAS],
     output: &mut [u8],
 ) -> usize
-    requires { ⌜ (from ≤ length (now input)) × Granted grants × Room 0 (run-opened (open-heap plain (now heap) grants) (lines (slice from (length (now input)) (now input)))) (now output) ⌝ }
-    ensures { λ r. ⌜ Put 0 (run-opened (open-heap plain (now (heap .entry)) grants) (lines (slice from (length (now (input .entry))) (now (input .entry))))) (now (output .entry)) (now (output .exit)) r ⌝ }
+    requires { ⌜ (from ≤ length (now input)) × Granted grants × Room 0
+        (run-opened (open-heap plain (now heap) grants) (lines (slice from (length (now input)) (now input)))) (now output) ⌝ }
+    ensures { λ r. ⌜ Put 0 (run-opened (open-heap plain (now (heap .entry)) grants)
+        (lines (slice from (length (now (input .entry))) (now (input .entry))))) (now (output .entry)) (now (output .exit)) r ⌝ }
 {
     let opened = heap::open_plain(heap, grants);
     let verdict = opened.verdict;
@@ -121,8 +127,10 @@ fn run_opening(
     grants: [u32; QUOTAS],
     output: &mut [u8],
 ) -> usize
-    requires { ⌜ (from ≤ length (now input)) × Granted grants × Room 0 (run-opened (open-heap plain (replicate size 0) grants) (lines (slice from (length (now input)) (now input)))) (now output) ⌝ }
-    ensures { λ r. ⌜ Put 0 (run-opened (open-heap plain (replicate size 0) grants) (lines (slice from (length (now (input .entry))) (now (input .entry))))) (now (output .entry)) (now (output .exit)) r ⌝ }
+    requires { ⌜ (from ≤ length (now input)) × Granted grants × Room 0
+        (run-opened (open-heap plain (replicate size 0) grants) (lines (slice from (length (now input)) (now input)))) (now output) ⌝ }
+    ensures { λ r. ⌜ Put 0 (run-opened (open-heap plain (replicate size 0) grants)
+        (lines (slice from (length (now (input .entry))) (now (input .entry))))) (now (output .entry)) (now (output .exit)) r ⌝ }
 {
     let len = size as usize;
     if GREATEST_HEAP < len {

@@ -1,5 +1,4 @@
 -- Each refusal has a number of its own, which gives it back; and no two answers come to the same numbers.
--- Assumes nothing.
 use mathlib.Core.Path.{_≡_, refl, ap, sym, _∙_}
 use mathlib.Core.Bool.{false, cond}
 use mathlib.Core.List.{List, [], _∷_}

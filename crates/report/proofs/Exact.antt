@@ -1,5 +1,4 @@
 -- Import takes exactly the lines that export writes, and what it refuses is told by the first bad line (rules 18.6 and 18.9).
--- Assumes nothing.
 use mathlib.Core.Path.{_≡_, refl, ap, sym, _∙_}
 use mathlib.Core.List.{List, [], _∷_, _++_, append-assoc, append-nil}
 use mathlib.Core.Logic.{_⊎_, inl, inr, ⊎-elim, _↔_}

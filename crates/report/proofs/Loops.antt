@@ -1,5 +1,4 @@
 -- What the loops over words and lines find: a word read, tested and written, character by character, and a line word by word.
--- Assumes nothing.
 use mathlib.Core.Path.{_≡_, refl, ap, sym, _∙_}
 use mathlib.Core.List.{List, [], _∷_, _++_}
 use mathlib.Core.Bool.{Bool, true, false, _&&_}

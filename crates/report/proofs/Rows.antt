@@ -1,5 +1,4 @@
 -- The definitions computed: good and bad lines, texts of 0, 1, 32 and 33 lines, which refusal comes first, and lent texts around 1,728 bytes.
--- Assumes nothing.
 use mathlib.Core.Path.{_≡_, refl}
 use mathlib.Core.List.{List, [], _∷_, _++_, map}
 use Prim.Native.Nat.{ℕ, zero, suc}

@@ -1,6 +1,5 @@
 -- A reply's numbers say everything: what was answered is had back from them. An export's reply says all but the text,
 -- which stands where it was lent.
--- Assumes nothing.
 use mathlib.Core.Path.{_≡_, refl, ap, sym, _∙_}
 use mathlib.Core.List.{List}
 use Prim.Native.Nat.{ℕ}

@@ -1,5 +1,4 @@
 -- An amount as a result makes the outcome with that amount.
--- Assumes nothing.
 use Prim.Native.Nat.{ℕ}
 use mathlib.Core.Path.{_≡_, ap}
 use mathlib.Core.List.{List}

@@ -1,5 +1,4 @@
 -- The refusal of a call by its lines, from what the check has answered: every call but open begins with the check's two lines.
--- Assumes nothing.
 use Prim.Native.Nat.{ℕ, zero, suc, _/_, _%_, _≤_, _<_}
 use native.Mathlib.Nat.{not-suc-le-zero}
 use native.Mathlib.Omega.{arith}

@@ -1,6 +1,5 @@
 -- What the lookup in a state that the check has accepted decides: a handle that names no live object is refused, and another's block is known,
 -- with its object inside the heap.
--- Assumes nothing.
 use Prim.Native.Nat.{ℕ, _+_, _-_, _%_, _≤_, _<_}
 use native.Mathlib.Omega.{arith}
 use mathlib.Core.Path.{_≡_, ap, sym, _∙_}

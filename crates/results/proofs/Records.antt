@@ -1,5 +1,4 @@
 -- A record that was found by its place, and the change of the first record that passes a test, are the same.
--- Assumes nothing.
 use Prim.Native.Nat.{ℕ, suc, _+_}
 use native.Mathlib.Omega.{arith}
 use mathlib.Core.Path.{_≡_, refl, ap}

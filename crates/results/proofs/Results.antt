@@ -1,5 +1,4 @@
 -- What a result and the heap at the call's exit make together gives both back, so no two results make the same outcome.
--- Assumes nothing.
 use Prim.Native.Nat.{ℕ}
 use mathlib.Core.Path.{_≡_, ap}
 use mathlib.Core.List.{List}

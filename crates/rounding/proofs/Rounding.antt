@@ -1,7 +1,7 @@
 -- Laws of the rounding of lengths: of any table of units, and of edition 1's.
--- Assumes nothing.
 use Prim.Native.Nat.{ℕ, _+_, _*_, _-_, _/_, _%_, _^_, _≤_, _<_}
-use native.Mathlib.Nat.{mul-mod-left, lt-div-mul-add, div-mul-le-self, div-add-mod', eq-or-lt-of-le, dvd-of-mod-eq-zero, dvd-mul-left-of-dvd, mod-eq-zero-of-dvd}
+use native.Mathlib.Nat.{mul-mod-left, lt-div-mul-add, div-mul-le-self, div-add-mod', eq-or-lt-of-le, dvd-of-mod-eq-zero, dvd-mul-left-of-dvd}
+use native.Mathlib.Nat.{mod-eq-zero-of-dvd}
 use native.Mathlib.Omega.{arith}
 use mathlib.Core.Path.{_≡_, refl, sym, ap, _∙_, subst}
 use mathlib.Core.Bool.{Bool, true, false}
@@ -47,7 +47,8 @@ module _ (u : ℕ → ℕ) (units : Units u) where
   alignment-positive n = units .positive (object-length u n)
 
 -- what holds of each row's unit on its row holds of the unit of any length
-module _ (P : ℕ → Type 0) (n : ℕ) (row-8 : n ≤ 8191 → P 8) (row-16 : 8192 ≤ n → n ≤ 16383 → P 16) (row-32 : 16384 ≤ n → n ≤ 32767 → P 32) (row-64 : 32768 ≤ n → P 64) where
+module _ (P : ℕ → Type 0) (n : ℕ) (row-8 : n ≤ 8191 → P 8) (row-16 : 8192 ≤ n → n ≤ 16383 → P 16) (row-32 : 16384 ≤ n → n ≤ 32767 → P 32)
+    (row-64 : 32768 ≤ n → P 64) where
   by-tests : (x y z : Bool) → leb n 8191 ≡ x → leb n 16383 ≡ y → leb n 32767 ≡ z → P (unit n)
   unfolding unit
   by-tests true y z e f g = rw e (row-8 (leb-true n 8191 e))
@@ -75,10 +76,14 @@ rounded-multiple : (n : ℕ) → object-length unit n % unit (object-length unit
 unfolding object-length
 rounded-multiple n =
     by-row (λ (k : ℕ). let x = (n + (k - 1)) / k * k in x % unit x ≡ 0) n
-    (λ l. by-row (λ (j : ℕ). (n + 7) / 8 * 8 % j ≡ 0) ((n + 7) / 8 * 8) (λ a. omega arith) (λ a b. omega arith) (λ a b. omega arith) (λ a. omega arith))
-    (λ l m. by-row (λ (j : ℕ). (n + 15) / 16 * 16 % j ≡ 0) ((n + 15) / 16 * 16) (λ a. omega arith) (λ a b. omega arith) (λ a b. omega arith) (λ a. omega arith))
-    (λ l m. by-row (λ (j : ℕ). (n + 31) / 32 * 32 % j ≡ 0) ((n + 31) / 32 * 32) (λ a. omega arith) (λ a b. omega arith) (λ a b. omega arith) (λ a. omega arith))
-    (λ l. by-row (λ (j : ℕ). (n + 63) / 64 * 64 % j ≡ 0) ((n + 63) / 64 * 64) (λ a. omega arith) (λ a b. omega arith) (λ a b. omega arith) (λ a. omega arith))
+    (λ l. by-row (λ (j : ℕ). (n + 7) / 8 * 8 % j ≡ 0) ((n + 7) / 8 * 8) (λ a. omega arith) (λ a b. omega arith) (λ a b. omega arith)
+    (λ a. omega arith))
+    (λ l m. by-row (λ (j : ℕ). (n + 15) / 16 * 16 % j ≡ 0) ((n + 15) / 16 * 16) (λ a. omega arith) (λ a b. omega arith) (λ a b. omega arith)
+    (λ a. omega arith))
+    (λ l m. by-row (λ (j : ℕ). (n + 31) / 32 * 32 % j ≡ 0) ((n + 31) / 32 * 32) (λ a. omega arith) (λ a b. omega arith) (λ a b. omega arith)
+    (λ a. omega arith))
+    (λ l. by-row (λ (j : ℕ). (n + 63) / 64 * 64 % j ≡ 0) ((n + 63) / 64 * 64) (λ a. omega arith) (λ a b. omega arith) (λ a b. omega arith)
+    (λ a. omega arith))
 
 unit-positive : (n : ℕ) → 0 < unit n
 unit-positive n = by-row (λ (k : ℕ). 0 < k) n (λ _. omega arith) (λ _ _. omega arith) (λ _ _. omega arith) (λ _. omega arith)

@@ -1,6 +1,5 @@
 -- The tables of units, computed at both ends of each row, with the object's lengths, the alignments and the hardware's alignment there, the leading zeros
 -- at the powers of two, and the units by these (rules 6.1 to 6.4, 6.7, 23.1, 23.3, 23.6).
--- Assumes nothing.
 use mathlib.Core.Path.{_≡_, refl}
 use mathlib.Core.List.{[], _∷_, map}
 use Rattle.rounding.specs.Rounding.{unit, unit-2, table, object-length, alignment, leading-zeros, exponent, representable-alignment, by-zeros}

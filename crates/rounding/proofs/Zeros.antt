@@ -1,5 +1,4 @@
 -- The count of leading zeros: it is the machine's, for every number of so many bits, and powers of two bound it (rule 6.7).
--- Assumes nothing.
 use Prim.Native.Nat.{ℕ, zero, suc, _+_, _*_, _^_, _≤_, _<_}
 use native.Mathlib.Nat.{pow-suc, eq-zero-or-pos}
 use native.Mathlib.Omega.{arith}

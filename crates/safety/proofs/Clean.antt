@@ -1,7 +1,6 @@
 -- Blocks that are live or whose bytes pass a test that 0 passes: what the changes of the rules leave of them. A new object is cut out of a free block, and
 -- what is left over of it has bytes of that block; an object that leaves becomes zero, and so does each header that vanishes; a copy changes the new object
 -- alone.
--- Assumes nothing.
 use Prim.Native.Nat.{ℕ, zero, suc, _+_, _-_, _<_}
 use mathlib.Core.Path.{_≡_, refl, ap, sym, _∙_}
 use mathlib.Core.List.{List, [], _∷_, _++_}

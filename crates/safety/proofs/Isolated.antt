@@ -1,6 +1,5 @@
 -- What a quota can learn of the others. Each line of a call made for a quota, and each of its answers, reads of the accounts only the quota's own numbers and
 -- records, the edition, the last serial, and whether a record is left.
--- Assumes nothing.
 use Prim.Native.Nat.{ℕ, zero, suc, _*_}
 use native.Mathlib.Omega.{arith}
 use mathlib.Core.Path.{_≡_, refl, ap, sym, subst}

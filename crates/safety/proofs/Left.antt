@@ -1,6 +1,5 @@
 -- Nothing is left of what was released. An opening makes all bytes zero; each call keeps what blocks that are not live hold to a test that 0 passes
 -- (`proofs/Clean.antt`), and a write changes live blocks alone. So the heap is blank along every history, from an opening or from a blank image on.
--- Assumes nothing.
 use Prim.Native.Nat.{ℕ, _-_, _*_, _<_}
 use native.Mathlib.Omega.{arith}
 use mathlib.Core.Path.{_≡_, refl, subst}

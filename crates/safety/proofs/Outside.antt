@@ -1,5 +1,4 @@
 -- In blank blocks a byte that is in no header and in no live object is a byte of a block that is not live, and so it is zero.
--- Assumes nothing.
 use Prim.Native.Nat.{ℕ, _+_, _-_, _≤_, _<_}
 use native.Mathlib.Omega.{arith}
 use mathlib.Core.Path.{_≡_, refl, ap, sym, _∙_}

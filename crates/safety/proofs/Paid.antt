@@ -1,7 +1,6 @@
 -- What is live is paid for. Each live object has a record of a quota that exists, and that quota's charges have the object's among them; a quota's grant less
 -- its remainder is its charges. So the sum over objects and quotas of what each quota pays for each object, added up by quotas, is what they paid; added up by
 -- objects, it is at least what these cost.
--- Assumes nothing.
 use Prim.Native.Nat.{ℕ, zero, suc, _+_, _-_, _≤_, _<_}
 use native.Mathlib.Omega.{arith}
 use mathlib.Core.Path.{_≡_, refl, ap}

@@ -1,6 +1,5 @@
 -- Nothing leaks. Where the ledger has no object and no quarantined block no block is occupied; no two free blocks stand side by side, so there is one, and it
 -- holds zeros. A used record would have a live object, so none is used; and a quota that pays for nothing has its whole grant.
--- Assumes nothing.
 use Prim.Native.Nat.{ℕ, zero, suc, _+_, _-_, _%_, _≤_, _<_}
 use native.Mathlib.Omega.{arith}
 use mathlib.Core.Path.{_≡_, refl, ap, sym, subst, _∙_}

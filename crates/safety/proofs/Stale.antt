@@ -1,6 +1,5 @@
 -- A stale handle stays stale. A new object gets the serial after the last one, and the last serial never falls while no image is read; so a serial that was
 -- given and that no object has is never that of an object again. Without an object both lookups find nothing, and line 5 holds.
--- Assumes nothing.
 use Prim.Native.Nat.{ℕ, zero, suc, _+_, _≤_}
 use native.Mathlib.Omega.{arith}
 use mathlib.Core.Path.{_≡_, refl, ap, sym, subst, _∙_}

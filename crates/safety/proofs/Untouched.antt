@@ -1,6 +1,5 @@
 -- What a quota has is its own. A call pays for and counts for its own quota alone. An object with a hold left stays live, since the objects after a call are
 -- old ones or the new one, and no call changes a byte of an object that stays.
--- Assumes nothing.
 use Prim.Native.Nat.{ℕ, _-_, _*_, _<_}
 use native.Mathlib.Omega.{arith}
 use mathlib.Core.Path.{_≡_, refl, ap, sym, _∙_}

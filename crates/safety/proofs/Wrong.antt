@@ -1,5 +1,4 @@
 -- The laws don't hold of the wrong heaps: each is refuted by a short list of calls that is computed.
--- Assumes nothing.
 use Prim.Native.Nat.{ℕ, zero, suc, _-_, _≤_, _^_}
 use native.Mathlib.Omega.{arith}
 use mathlib.Core.Path.{_≡_, refl, ap, sym, subst, _∙_}

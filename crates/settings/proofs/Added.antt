@@ -1,5 +1,4 @@
 -- The bytes of an entry behind a run of entries: they are read as that entry, and the others as before.
--- Assumes nothing.
 use mathlib.Core.Path.{_≡_, ap, sym, _∙_}
 use mathlib.Core.List.{List, [], _∷_, _++_}
 use mathlib.Core.Option.{some}

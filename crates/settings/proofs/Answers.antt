@@ -1,6 +1,5 @@
 -- After an accepted add (rule 20.9): the store is well formed, with the new entry last; no answer at a lower version has changed, nor one for another
 -- name; at its version and above the new value is found.
--- Assumes nothing.
 use mathlib.Core.Path.{_≡_, refl, ap, sym, _∙_}
 use mathlib.Core.List.{List, [], _∷_, _++_, append-assoc}
 use mathlib.Core.Bool.{Bool, true, false, cond, _&&_}

@@ -1,5 +1,4 @@
 -- Which entry answers: exactly the last one that does (rules 20.5 and 20.6). Which stores are well formed: exactly the runs of entries (rule 20.3).
--- Assumes nothing.
 use mathlib.Core.Path.{_≡_, refl, ap, sym, _∙_}
 use mathlib.Core.List.{List, [], _∷_, _++_, append-assoc}
 use mathlib.Core.Bool.{Bool, true, false, cond}

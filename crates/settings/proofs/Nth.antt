@@ -1,5 +1,4 @@
 -- One entry more, asked for by its number: the new entry where that is its own, else what was found before.
--- Assumes nothing.
 use Prim.Native.Nat.{ℕ, zero, suc}
 use mathlib.Core.Path.{_≡_, refl, ap, sym, _∙_}
 use mathlib.Core.List.{List, [], _∷_, _++_}

@@ -1,5 +1,4 @@
 -- Writing an entry: its parts side by side are its bytes; and each answer of adding.
--- Assumes nothing.
 use mathlib.Core.Path.{_≡_, refl, ap, _∙_}
 use mathlib.Core.List.{List, [], _∷_, _++_}
 use mathlib.Core.Option.{Option, none, some}

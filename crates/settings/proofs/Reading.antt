@@ -1,5 +1,4 @@
 -- What reading an entry tells: each way not to fit, and what is known of one that fits.
--- Assumes nothing.
 use mathlib.Core.Path.{_≡_, refl}
 use mathlib.Core.List.{List}
 use mathlib.Core.Bool.{Bool, true, false, cond, _&&_}

@@ -1,5 +1,4 @@
 -- The definitions computed: stores of no, one and several entries, every way to be malformed, which entry answers, and adding around each refusal.
--- Assumes nothing.
 use mathlib.Core.Path.{_≡_, refl}
 use mathlib.Core.List.{List, [], _∷_, _++_, map}
 use mathlib.Core.Option.{Option, none, some}

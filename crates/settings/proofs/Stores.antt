@@ -1,5 +1,4 @@
 -- The used bytes of a store: each case.
--- Assumes nothing.
 use mathlib.Core.Path.{_≡_}
 use mathlib.Core.List.{List}
 use mathlib.Core.Option.{none}

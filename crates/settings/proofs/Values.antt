@@ -1,5 +1,4 @@
 -- What is found: by one entry more, inside its bytes, and each case of the two stores.
--- Assumes nothing.
 use mathlib.Core.Path.{_≡_, refl, ap, _∙_}
 use mathlib.Core.List.{List, [], _∷_, _++_}
 use mathlib.Core.Bool.{Bool, true, false, cond}

@@ -1,5 +1,4 @@
 -- A loop that reads one entry after the other: the entries so far, and that those from its place on are the others.
--- Assumes nothing.
 use mathlib.Core.Path.{_≡_, refl, ap, sym, _∙_}
 use mathlib.Core.List.{List, [], _∷_, _++_, append-assoc}
 use mathlib.Core.Bool.{Bool, true, false, cond}

@@ -1,6 +1,5 @@
 -- A reply's numbers say everything: what was answered is had back from them, so no two answers give the same reply.
 -- An add's reply says all but the store, which stands where it was lent.
--- Assumes nothing.
 use Prim.Native.Nat.{ℕ, zero, suc}
 use mathlib.Core.Path.{_≡_, refl, ap, sym, _∙_}
 use mathlib.Core.List.{List}

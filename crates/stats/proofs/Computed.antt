@@ -1,5 +1,4 @@
 -- The figures of small heaps, computed, and the greatest lengths on both sides of each limit.
--- Assumes nothing.
 use Prim.Native.Nat.{ℕ, _-_}
 use mathlib.Core.Path.{_≡_, refl}
 use mathlib.Core.List.{List, [], _∷_, map}

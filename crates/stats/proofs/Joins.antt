@@ -1,6 +1,5 @@
 -- The tally of the blocks that a walk meets, joined from the tally of each block: from where a walk stands, the tally so far and that of the blocks to come
 -- make the whole.
--- Assumes nothing.
 use Prim.Native.Nat.{ℕ, zero, suc, _+_, _≤_, _<_}
 use native.Mathlib.Nat.{zero-add, add-zero, add-assoc}
 use native.Mathlib.Omega.{arith}

@@ -1,6 +1,5 @@
 -- What the figures say of a heap that the check accepts: the three parts make the heap (rule 25.3), a request is refused for space exactly if it is longer than
 -- the figure of its unit (rule 25.7), and the figures by the tally of the blocks and by the pass over the records are the definitions'.
--- Assumes nothing.
 use Prim.Native.Nat.{ℕ, suc, _+_, _-_, _≤_, _<_}
 use native.Mathlib.Omega.{arith}
 use mathlib.Core.Path.{_≡_, refl, ap, sym, _∙_}

@@ -1,6 +1,5 @@
 -- The greatest length in a unit, by the room for it: it is the definition's, which tries every length; and a request in that unit has a base exactly if it is
 -- no longer.
--- Assumes nothing.
 use Prim.Native.Nat.{ℕ, zero, suc, _+_, _*_, _-_, _/_, _%_, _≤_, _<_}
 use native.Mathlib.Omega.{arith}
 use mathlib.Core.Path.{_≡_, refl, ap, sym, subst, _∙_}

@@ -1,5 +1,4 @@
 -- The tally of the blocks that a walk meets is the definition's of the blocks that the heap is cut into; and the three parts make the whole.
--- Assumes nothing.
 use Prim.Native.Nat.{ℕ, _+_, _≤_}
 use native.Mathlib.Omega.{arith}
 use mathlib.Core.Path.{_≡_, refl, ap, sym, _∙_}

@@ -1,6 +1,5 @@
 -- The room in free blocks and the space line (rule 8.6): a run has a base at a multiple of an alignment exactly if it is no longer than the greatest room from
 -- such a multiple on.
--- Assumes nothing.
 use Prim.Native.Nat.{ℕ, _+_, _-_, _≤_, _<_}
 use native.Mathlib.Omega.{arith}
 use mathlib.Core.Path.{_≡_, refl, ap, sym, _∙_}

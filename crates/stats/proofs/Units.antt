@@ -1,5 +1,4 @@
 -- The lengths of each unit, counted in units: at most so many, and more than half as many where the unit is not 8.
--- Assumes nothing.
 use Prim.Native.Nat.{ℕ, zero, suc, _+_, _*_, _-_, _/_, _%_, _≤_, _<_}
 use native.Mathlib.Omega.{arith}
 use mathlib.Core.Path.{_≡_, refl, ap, sym, _∙_}

@@ -1,5 +1,4 @@
 -- A block that a walk met or that a handle names is the one by the header at its place.
--- Assumes nothing.
 use Prim.Native.Nat.{ℕ, _+_}
 use mathlib.Core.Path.{_≡_, refl, ap, sym, _∙_}
 use mathlib.Core.List.{List}

@@ -1,7 +1,6 @@
 -- The index as it is built, from place 0 up: a record without a serial needs no place in it; a used one is alone in its slot, or hung into the tree of the
 -- record
 -- that was there.
--- Assumes nothing.
 use Prim.Native.Nat.{ℕ, suc, _+_, _-_, _*_, _/_, _%_, _<_, _≤_}
 use mathlib.Core.Path.{_≡_, refl, ap, sym, subst, _∙_}
 use mathlib.Core.List.{List}

@@ -1,5 +1,4 @@
 -- The keys of the open records: a record is closed by its slot where it is alone, or by the flag in its first link, and its key is struck then.
--- Assumes nothing.
 use Prim.Native.Nat.{ℕ, suc, _+_, _-_, _<_, _≤_}
 use mathlib.Core.Path.{_≡_, refl, ap, sym, subst, _∙_}
 use mathlib.Core.Bool.{true, false, cond, _&&_, true≢false}

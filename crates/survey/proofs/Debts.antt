@@ -1,5 +1,4 @@
 -- What the quotas owe, told by one loop that no quota ends: the quotas before a place are valid if none was short and no bit above a permission's was met.
--- Assumes nothing.
 use Prim.Native.Nat.{ℕ, suc, _+_, _-_, _<_, _≤_}
 use mathlib.Core.Path.{_≡_, refl, ap, sym, subst, _∙_}
 use mathlib.Core.Bool.{Bool, true, false, cond, _&&_, and-true}

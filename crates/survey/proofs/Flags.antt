@@ -1,6 +1,5 @@
 -- The flags of the live blocks. In well-formed records every quota is below QUOTAS, so a record of another quota than QUOTAS is any record of its serial. The
 -- walk puts one flag for each live block that it meets, until no block starts or every flag is put.
--- Assumes nothing.
 use Prim.Native.Nat.{ℕ, zero, suc, _+_, _*_, _≤_, _<_}
 use native.Mathlib.Omega.{arith}
 use mathlib.Core.Path.{_≡_, refl, ap, sym, _∙_}

@@ -1,5 +1,4 @@
 -- Headers of a heap that lies in a stream: the eight bytes at a place of the stream are those of the heap.
--- Assumes nothing.
 use Prim.Native.Nat.{ℕ, _+_, _-_, _≤_}
 use mathlib.Core.Path.{_≡_, ap, sym, _∙_}
 use mathlib.Core.List.{List, _++_}

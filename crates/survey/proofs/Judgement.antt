@@ -1,5 +1,4 @@
 -- The verdict: by the length and by the audit, whose parts are the index, what the quotas owe, and the walk.
--- Assumes nothing.
 use Prim.Native.Nat.{ℕ, _+_, _%_, _<_, _≤_}
 use native.Mathlib.Omega.{arith}
 use borrow.Author.Tests.{eqb-true, leb-true}

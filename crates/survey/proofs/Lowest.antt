@@ -1,5 +1,4 @@
 -- The lowest unused record, found from the first place up.
--- Assumes nothing.
 use Prim.Native.Nat.{ℕ, suc, _+_, _%_, _/_, _<_, _≤_}
 use mathlib.Core.Path.{_≡_, refl, sym, subst, ap, _∙_}
 use mathlib.Core.Bool.{Bool, true, false, not, cond}

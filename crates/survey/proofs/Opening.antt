@@ -1,5 +1,4 @@
 -- The index at the start of the walk: every used record is open, and its path leads to it.
--- Assumes nothing.
 use Prim.Native.Nat.{ℕ, _+_, _-_, _/_, _%_, _<_, _≤_}
 use mathlib.Core.Path.{_≡_, ap, sym, subst, _∙_}
 use mathlib.Core.Bool.{true}

@@ -1,5 +1,4 @@
 -- Whether a record is a quota's own, and whether another quota has one for the same object, by what is read of it.
--- Assumes nothing.
 use Prim.Native.Nat.{ℕ, _<_}
 use mathlib.Core.Path.{_≡_, refl, ap, sym, _∙_}
 use mathlib.Core.Bool.{Bool, true, false}

@@ -1,6 +1,5 @@
 -- Paths through the index: links go up, and a search along a serial's path finds what a search place by place finds, since the path leads to every place that
 -- has the serial. A record that is hung into an empty link is at the end of its path, and every other path stays.
--- Assumes nothing.
 use Prim.Native.Nat.{ℕ, suc, _+_, _-_, _*_, _/_, _%_, _<_, _≤_}
 use mathlib.Core.Path.{_≡_, refl, ap, sym, subst, _∙_}
 use mathlib.Core.Bool.{Bool, true, false, true≢false}

@@ -1,7 +1,6 @@
 -- The settlement of one serial. Along its path: at each open record of the serial the key is struck and its quota pays; what a link leaps over is of other
 -- serials.
 -- So at the path's end all keys of the serial are struck and paid for. Where the serial's slot has one record, that one is all.
--- Assumes nothing.
 use Prim.Native.Nat.{ℕ, suc, _+_, _-_, _*_, _/_, _%_, _<_, _≤_}
 use mathlib.Core.Path.{_≡_, refl, ap, sym, subst, _∙_}
 use mathlib.Core.Bool.{Bool, true, false, true≢false}

@@ -1,6 +1,5 @@
 -- One block of the walk: each of the definition's tests, one of a free block's size and one of a live block's object decides it where it fails, and where
 -- all pass, the settlement of a live block leaves the arrays as the walk wants them.
--- Assumes nothing.
 use Prim.Native.Nat.{ℕ, _-_, _<_, _≤_}
 use mathlib.Core.Path.{_≡_, refl, ap, sym, subst, _∙_}
 use mathlib.Core.Bool.{Bool, true, false, not, cond, _&&_, _||_}

@@ -2,7 +2,6 @@
 -- objects
 -- fit if those in the rest do. A rest that starts no block, among them one whose size is 0, or a back size that is wrong, is no cut; a block that fails or
 -- does not fit fails the whole.
--- Assumes nothing.
 use Prim.Native.Nat.{ℕ, _+_, _*_, _-_, _%_, _<_, _≤_}
 use native.Mathlib.Nat.{sub-self}
 use mathlib.Core.Path.{_≡_, refl, ap, sym, subst, _∙_}

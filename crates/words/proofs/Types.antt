@@ -1,5 +1,4 @@
 -- What the type of the accounts says of them. The type of an array says of each element what the element's type says, so it goes along the list.
--- Assumes nothing.
 use Prim.Native.Nat.{ℕ, zero, suc, _<_, _^_}
 use native.Mathlib.Omega.{arith}
 use mathlib.Core.List.{List, [], _∷_, map}

@@ -1,6 +1,5 @@
 -- The accounts and the padding are all that words hold: words with the same accounts and the same padding are the same. So a call that leaves both as they were
 -- changes no word.
--- Assumes nothing.
 use Prim.Native.Nat.{ℕ, _+_, _-_, _*_, _/_, _%_, _≤_, _<_}
 use mathlib.Core.Path.{_≡_, refl, ap, sym, subst, _∙_}
 use mathlib.Core.List.{List}

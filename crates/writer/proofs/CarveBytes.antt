@@ -2,7 +2,6 @@
 -- The free block that is cut is a header and its body. Cut at the two ends of the new object with its header, its bytes are what is left in
 -- front, eight bytes for the header, n for the object, and what is left behind; each write replaces the bytes of one of these parts by as many.
 -- The first write leaves the back size and the serial of the header as they were, since what is left in front stands where the free block stood.
--- Assumes nothing.
 use mathlib.Core.Path.{_≡_, refl, ap, sym, _∙_}
 use Prim.Native.Nat.{ℕ, zero, suc, _+_, _-_, _/_, _%_, _≤_, _<_, min}
 use native.Mathlib.Nat.{zero-add}
@@ -25,7 +24,8 @@ use Rattle.model.proofs.Touched.{within, carve-touches}
 use Rattle.writer.specs.Writes.{write-rest, units-after, write-object, write-next, carve-bytes}
 use Rattle.model.proofs.Bools.{or-neither}
 use Rattle.model.proofs.Blocks.{Whole, total-is}
-use Rattle.model.proofs.Same.{Same, within-moved, same-refl, same-then, same-wider, same-append, same-header, same-number, same-zero, same-when, header-sizes}
+use Rattle.model.proofs.Same.{Same, within-moved, same-refl, same-then, same-wider, same-append, same-header, same-number, same-zero, same-when}
+use Rattle.model.proofs.Same.{header-sizes}
 use Rattle.model.proofs.Carve.{Carved, new-block, front-rest, back-rest, front-size, back-size, place-whole, block-whole}
 
 -- what is left over, m bytes with the header: how long it is, the units of the last block with it, and that its header is written
@@ -54,14 +54,16 @@ rest-written p (suc m) u body g w r e l sized d =
     rw (lt-ltb 0 (suc m) (omega arith), append-nil, append-assoc, ← q) o
 
 -- bytes that become zero, and an object's header in front of them
-pub zero-written : (base n : ℕ) (g y r : List ℕ) → length g ≡ base → length y ≡ n → zero-part base (base + n) (g ++ (y ++ r)) ≡ g ++ (replicate n 0 ++ r)
+pub zero-written : (base n : ℕ) (g y r : List ℕ) → length g ≡ base → length y ≡ n → zero-part base (base + n) (g ++ (y ++ r)) ≡ g
+    ++ (replicate n 0 ++ r)
 unfolding zero-part
 zero-written base n g y r e l =
     let k : base + n - base ≡ n = omega arith in
     rw k (overwrite-at g y r (replicate n 0) base e (length-replicate n 0 ∙ sym l))
 
 pub object-written : (base n u serial : ℕ) (g x y r : List ℕ) → length g + 8 ≡ base → length x ≡ 8 → length y ≡ n
-    → write-object base n u serial (g ++ (x ++ (y ++ r))) ≡ g ++ (header-bytes (record { size = (n + 8) / 8; back = u; serial = serial }) ++ (replicate n 0 ++ r))
+    → write-object base n u serial (g ++ (x ++ (y ++ r))) ≡ g ++ (header-bytes (record { size = (n + 8) / 8; back = u; serial = serial })
+    ++ (replicate n 0 ++ r))
 unfolding write-object write-header
 object-written base n u serial g x y r e lx ly =
     let h = header-bytes (record { size = (n + 8) / 8; back = u; serial = serial }) in
@@ -85,9 +87,11 @@ next-written at u v g (b ∷ bs) e =
 -- bytes in four parts
 four-parts : (c : List ℕ) (i j k : ℕ) → c ≡ take i c ++ (take j (drop i c) ++ (take k (drop (i + j) c) ++ drop (i + j + k) c))
 four-parts c i j k =
-    sym (rw (← drop-drop k (i + j) c, take-append-drop k (drop (i + j) c), ← drop-drop j i c, take-append-drop j (drop i c), take-append-drop i c) refl)
+    sym (rw (← drop-drop k (i + j) c, take-append-drop k (drop (i + j) c), ← drop-drop j i c, take-append-drop j (drop i c), take-append-drop i c)
+    refl)
 
-module _ (base n serial at u : ℕ) (b : Block) (here : at % 8 ≡ 0) (sized : size b % 8 ≡ 0) (aligned : base % 8 ≡ 0) (even : n % 8 ≡ 0) (low : at + 8 ≤ base)
+module _ (base n serial at u : ℕ) (b : Block) (here : at % 8 ≡ 0) (sized : size b % 8 ≡ 0) (aligned : base % 8 ≡ 0) (even : n % 8 ≡ 0)
+    (low : at + 8 ≤ base)
     (high : base + n ≤ at + size b) where
   -- behind eight bytes of the part in front, and of the part behind, stand the bytes of the body that are left there
   front-body : 0 < base - 8 - at → drop 8 (take (base - 8 - at) (header-bytes (header-of u b) ++ b .body)) ≡ take (base - 16 - at) (b .body)
@@ -160,15 +164,24 @@ module _ (base n serial at u : ℕ) (b : Block) (here : at % 8 ≡ 0) (sized : s
       let lz : length z ≡ behind = simp length-drop (omega arith) in
       let lg : length g ≡ at + front = simp length-append (omega (arith, left-length front u (take (base - 16 - at) (b .body)) left)) in
       let lg′ : length g′ ≡ base + n =
-      simp (length-append, length-replicate) (omega (arith, lg, length-append f rest, header-length (record { size = own; back = before; serial = serial }))) in
+      simp (length-append, length-replicate) (omega (
+        arith,
+        lg,
+        length-append f rest,
+        header-length
+            (record { size = own; back = before; serial = serial }),
+      )) in
       let cut : h ++ (b .body ++ q) ≡ w ++ (x ++ (y ++ (z ++ q))) =
       sym (append-assoc h (b .body) q) ∙ ap (λ (l : List ℕ). l ++ q) (four-parts c front 8 n) ∙ simp append-assoc in
       let first = rest-written at front u (take (base - 16 - at) (b .body)) f w (x ++ (y ++ (z ++ q))) long lw left front-body in
       let second = object-written base n before serial g x y (z ++ q) (omega arith) lx ly in
       let third = rest-written (base + n) behind own (drop (base + n - at) (b .body)) g′ z q lg′ lz left′ (λ p. back-body) in
-      let fourth = next-written end (units b) after (g′ ++ rest′) bs (omega (arith, length-append g′ rest′, left-length behind own (drop (base + n - at) (b .body)) left′)) in
-      ap (λ (l : List ℕ). write-next end after (write-rest (base + n) behind own (write-object base n before serial (write-rest at front u (f ++ l))))) cut
-      ∙ ap (λ (l : List ℕ). write-next end after (write-rest (base + n) behind own (write-object base n before serial l))) (first ∙ sym (append-assoc f rest (x ++ (y ++ (z ++ q)))))
+      let fourth = next-written end (units b) after (g′ ++ rest′) bs
+      (omega (arith, length-append g′ rest′, left-length behind own (drop (base + n - at) (b .body)) left′)) in
+      ap (λ (l : List ℕ). write-next end after (write-rest (base + n) behind own
+      (write-object base n before serial (write-rest at front u (f ++ l))))) cut
+      ∙ ap (λ (l : List ℕ). write-next end after (write-rest (base + n) behind own (write-object base n before serial l)))
+      (first ∙ sym (append-assoc f rest (x ++ (y ++ (z ++ q)))))
       ∙ ap (λ (l : List ℕ). write-next end after (write-rest (base + n) behind own l)) (second ∙ simp append-assoc)
       ∙ ap (write-next end after) (third ∙ sym (append-assoc g′ rest′ q))
       ∙ fourth
@@ -187,12 +200,14 @@ front-same : (at m u : ℕ) (b : Block) (f r : List ℕ) → b .serial ≡ 0 →
 unfolding write-rest write-header
 front-same at m u b f r free long =
     let h = header-bytes (record { size = m / 8; back = u; serial = 0 }) in
-    let o = overwrite-at f (header-bytes (header-of u b)) r h at long (header-length (record { size = m / 8; back = u; serial = 0 }) ∙ sym (header-length (header-of u b))) in
+    let o = overwrite-at f (header-bytes (header-of u b)) r h at long
+    (header-length (record { size = m / 8; back = u; serial = 0 }) ∙ sym (header-length (header-of u b))) in
     let k : Same (within 0 2) h (header-bytes (header-of u b)) = rw free (header-sizes (m / 8) (units b) u 0) in
     same-when (ltb 0 m)
     (rw o
     (same-append (same-refl (within at (at + 2)) f)
-    (same-wider (λ i l e. within-moved at (at + 2) (length f + i) 0 2 i (omega arith) (omega arith) e) (same-append k (same-refl (λ i. within 0 2 (length h + i)) r)))))
+    (same-wider (λ i l e. within-moved at (at + 2) (length f + i) 0 2 i (omega arith) (omega arith) e)
+    (same-append k (same-refl (λ i. within 0 2 (length h + i)) r)))))
 
 -- an object changes only its bytes and its header
 object-same : (base n u serial : ℕ) (s : List ℕ) → 8 ≤ base → Same (within (base - 8) (base + n)) (write-object base n u serial s) s
@@ -201,7 +216,8 @@ object-same base n u serial s h =
     same-then
     (same-wider (λ i l e. within-moved (base - 8) (base + n) i (base - 8) (base - 8 + 8) i (omega arith) (omega arith) e)
     (same-header (base - 8) (record { size = (n + 8) / 8; back = u; serial = serial }) (zero-part base (base + n) s)))
-    (same-wider (λ i l e. within-moved (base - 8) (base + n) i base (base + n) i (omega arith) (omega arith) e) (same-zero base (base + n) s (omega arith)))
+    (same-wider (λ i l e. within-moved (base - 8) (base + n) i base (base + n) i (omega arith) (omega arith) e)
+    (same-zero base (base + n) s (omega arith)))
 
 -- and the last write only the back size of the next block
 next-same : (at v : ℕ) (s : List ℕ) → Same (within (at + 2) (at + 4)) (write-next at v s) s
@@ -225,12 +241,15 @@ free-serial b e = eqb-true (b .serial) 0 (not-false (eqb (b .serial) 0) e)
 
 -- the bytes of the old blocks, with the block that is cut
 carved-old : {base n serial : ℕ} {bs cs : List Block} (c : Carved base n serial 0 bs cs) → render bs
-    ≡ render-from 0 (c .front) ++ (header-bytes (header-of (back-after 0 (c .front)) (c .block)) ++ (c .block .body ++ render-from (units (c .block)) (c .back)))
+    ≡ render-from 0 (c .front) ++ (header-bytes (header-of (back-after 0 (c .front)) (c .block))
+    ++ (c .block .body ++ render-from (units (c .block)) (c .back)))
 unfolding render
 carved-old c =
-    rw (c .split) (render-append 0 (c .front) (c .block ∷ c .back) ∙ ap (λ (l : List ℕ). render-from 0 (c .front) ++ l) (render-cons (back-after 0 (c .front)) (c .block) (c .back)))
+    rw (c .split) (render-append 0 (c .front) (c .block ∷ c .back) ∙ ap (λ (l : List ℕ). render-from 0 (c .front) ++ l)
+    (render-cons (back-after 0 (c .front)) (c .block) (c .back)))
 
-module _ {base n serial : ℕ} {bs cs : List Block} (c : Carved base n serial 0 bs cs) (whole : Whole bs) (aligned : base % 8 ≡ 0) (even : n % 8 ≡ 0) where
+module _ {base n serial : ℕ} {bs cs : List Block} (c : Carved base n serial 0 bs cs) (whole : Whole bs) (aligned : base % 8 ≡ 0)
+    (even : n % 8 ≡ 0) where
   -- the bytes of the blocks with the new object are those of the old blocks after the writes
   pub carve-writes : render cs
       ≡ carve-bytes (total size (c .front)) (total size (c .front) + size (c .block)) base n (back-after 0 (c .front)) serial (render bs)
@@ -240,7 +259,8 @@ module _ {base n serial : ℕ} {bs cs : List Block} (c : Carved base n serial 0 
       let u = back-after 0 (c .front) in
       let start : 0 + at ≡ at = zero-add at in
       let now = rw start at (c .now) in
-      let w = cut-written base n serial at u (c .block) (rw start at (place-whole c refl whole aligned even)) (block-whole c refl whole aligned even) aligned even
+      let w = cut-written base n serial at u (c .block) (rw start at (place-whole c refl whole aligned even)) (block-whole c refl whole aligned even)
+      aligned even
       (rw start at (c .low)) (rw start at (c .high)) (render-from 0 (c .front)) (c .back) (length-render 0 (c .front) ∙ total-is (c .front)) in
       rw now (render-append 0 (c .front) (cut-block base n serial at (c .block) ++ c .back))
       ∙ sym (ap (carve-bytes at (at + size (c .block)) base n u serial) (carved-old c) ∙ w)
@@ -263,14 +283,17 @@ module _ {base n serial : ℕ} {bs cs : List Block} (c : Carved base n serial 0 
       let whole′ : end % 8 ≡ 0 = omega (arith, place-whole c refl whole aligned even, block-whole c refl whole aligned even) in
       let front-stays : Same (within at (at + 2)) s₁ (render bs) =
       rw (carved-old c)
-      (front-same at front u (c .block) (render-from 0 (c .front)) (c .block .body ++ render-from (units (c .block)) (c .back)) (free-serial (c .block) (c .free))
+      (front-same at front u (c .block) (render-from 0 (c .front)) (c .block .body ++ render-from (units (c .block)) (c .back))
+      (free-serial (c .block) (c .free))
       (length-render 0 (c .front) ∙ total-is (c .front))) in
       rw carve-writes
       (same-then (same-wider (λ i l e. untouched at end base n i e .2) (next-same end (units-after own behind) s₃))
       (same-then
       (rest-same (base + n) behind own s₂
-      (λ p i e. within-moved (base - 8) (min (base + n + 8) end) i (base + n) (base + n + 8) i (omega arith) (omega arith) (untouched at end base n i e .1)))
+      (λ p i e. within-moved (base - 8) (min (base + n + 8) end) i (base + n) (base + n + 8) i (omega arith) (omega arith)
+      (untouched at end base n i e .1)))
       (same-then
-      (same-wider (λ i l e. within-moved (base - 8) (min (base + n + 8) end) i (base - 8) (base + n) i (omega arith) (omega arith) (untouched at end base n i e .1))
+      (same-wider (λ i l e. within-moved (base - 8) (min (base + n + 8) end) i (base - 8) (base + n) i (omega arith) (omega arith)
+      (untouched at end base n i e .1))
       (object-same base n (units-after u front) serial s₁ (omega arith)))
       (same-wider (λ i l e. untouched at end base n i e .0) front-stays))))

@@ -2,7 +2,6 @@
 -- bytes are the old ones with the copied bytes over them. Where what is copied is the body of another block, the two bodies lie in different
 -- blocks and do not meet, so copying inside the heap does the same.
 -- A serial that is a live block's is no other block's where live serials differ, because no other block has the serial of a live one.
--- Assumes nothing.
 use mathlib.Core.Path.{_≡_, refl, ap, sym, _∙_}
 use Prim.Native.Nat.{ℕ, _+_, _≤_, min}
 use native.Mathlib.Nat.{zero-add}
@@ -62,7 +61,8 @@ none-there p [] b ys e = or-neither (p b) (any p ys) e .0
 none-there p (x ∷ xs) b ys e = none-there p xs b ys (or-neither (p x) (any p (xs ++ (b ∷ ys))) e .1)
 
 -- where live serials differ, a live block's serial is no other block's
-pub others-differ : (at : ℕ) (xs : List Block) (b : Block) (ys : List Block) → live b ≡ true → serials-differ (objects-from at (xs ++ (b ∷ ys))) ≡ true
+pub others-differ : (at : ℕ) (xs : List Block) (b : Block) (ys : List Block) → live b ≡ true → serials-differ (objects-from at (xs ++ (b ∷ ys)))
+    ≡ true
     → (any (of-serial (b .serial)) xs ≡ false) × (any (of-serial (b .serial)) ys ≡ false)
 unfolding any serials-differ
 others-differ at [] b ys eb d =
@@ -93,7 +93,8 @@ others-differ at (x ∷ xs) b ys eb d = go (live x) refl (others-differ (at + si
         both (ne-eqb (x .serial) (b .serial) (λ k. true≢false (sym eb ∙ sym (ap living k) ∙ e))) (ih (rw (objects-free at x bs e) at d))
 
 -- the body of the first block with a serial
-pub body-found : (ws : List Block) (c : Block) (zs : List Block) → any (of-serial (c .serial)) ws ≡ false → body-of (c .serial) (ws ++ (c ∷ zs)) ≡ c .body
+pub body-found : (ws : List Block) (c : Block) (zs : List Block) → any (of-serial (c .serial)) ws ≡ false → body-of (c .serial) (ws ++ (c ∷ zs))
+    ≡ c .body
 unfolding body-of any
 body-found [] c zs e = rw (eq-eqb (c .serial) (c .serial) refl)
 body-found (w ∷ ws) c zs e =
@@ -110,7 +111,8 @@ module _ (serial : ℕ) (new : List ℕ) where
       rw (n .0, copy-others bs (n .1))
 
 -- copying changes the one block with the serial
-pub copy-one : (new : List ℕ) (xs : List Block) (b : Block) (ys : List Block) → any (of-serial (b .serial)) xs ≡ false → any (of-serial (b .serial)) ys ≡ false
+pub copy-one : (new : List ℕ) (xs : List Block) (b : Block) (ys : List Block) → any (of-serial (b .serial)) xs ≡ false
+    → any (of-serial (b .serial)) ys ≡ false
     → copy-into (b .serial) new (xs ++ (b ∷ ys)) ≡ xs ++ (filled new b ∷ ys)
 unfolding copy-into any
 copy-one new [] b ys ex ey = rw (eq-eqb (b .serial) (b .serial) refl, copy-others (b .serial) new ys ey)
@@ -131,16 +133,19 @@ fill-writes new xs b ys =
     let lf : length (take n new ++ drop (length new) (b .body)) ≡ n = simp (length-append, length-take, length-drop) (omega arith) in
     let o = overwrite-at g (take (length new) (b .body)) (drop (length new) (b .body) ++ r) (take n new) (total size xs + 8) lg lo in
     let cut : b .body ++ r ≡ take (length new) (b .body) ++ (drop (length new) (b .body) ++ r) =
-    ap (λ (l : List ℕ). l ++ r) (sym (take-append-drop (length new) (b .body))) ∙ append-assoc (take (length new) (b .body)) (drop (length new) (b .body)) r in
+    ap (λ (l : List ℕ). l ++ r) (sym (take-append-drop (length new) (b .body)))
+    ∙ append-assoc (take (length new) (b .body)) (drop (length new) (b .body)) r in
     rw (render-at xs (filled new b) ys, lf, render-at xs b ys, cut) (simp append-assoc (sym (simp append-assoc at o)))
 
 -- copying into the block with the serial
-pub copy-writes : (new : List ℕ) (xs : List Block) (b : Block) (ys : List Block) → any (of-serial (b .serial)) xs ≡ false → any (of-serial (b .serial)) ys ≡ false
+pub copy-writes : (new : List ℕ) (xs : List Block) (b : Block) (ys : List Block) → any (of-serial (b .serial)) xs ≡ false
+    → any (of-serial (b .serial)) ys ≡ false
     → render (copy-into (b .serial) new (xs ++ (b ∷ ys))) ≡ overwrite (total size xs + 8) (take (length (b .body)) new) (render (xs ++ (b ∷ ys)))
 copy-writes new xs b ys ex ey = rw (copy-one new xs b ys ex ey) (fill-writes new xs b ys)
 
 -- two blocks of different serials lie apart
-pub blocks-apart : (xs : List Block) (b : Block) (ys ws : List Block) (c : Block) (zs : List Block) → xs ++ (b ∷ ys) ≡ ws ++ (c ∷ zs) → (b .serial ≡ c .serial → ⊥)
+pub blocks-apart : (xs : List Block) (b : Block) (ys ws : List Block) (c : Block) (zs : List Block) → xs ++ (b ∷ ys) ≡ ws ++ (c ∷ zs)
+    → (b .serial ≡ c .serial → ⊥)
     → (total size xs + size b ≤ total size ws) ⊎ (total size ws + size c ≤ total size xs)
 unfolding total
 blocks-apart [] b ys [] c zs e d = let k : b ≡ c = cc in absurd (d (ap (λ (x : Block). x .serial) k))
@@ -211,16 +216,19 @@ module _ (bs xs : List Block) (b : Block) (ys ws : List Block) (c : Block) (zs :
 -- so the copy from one object to another is a copy of as many bytes as the shorter has, from base to base
 module _ (bs : List Block) (differ : serials-differ (objects bs) ≡ true) (old new : Handle) (apart : new .serial ≡ old .serial → ⊥) where
   copied-placed : Placed 0 old bs → Placed 0 new bs
-      → render (copy-into (new .serial) (body-of (old .serial) bs) bs) ≡ copy-part (old .base) (new .base) (min (new .length) (old .length)) (render bs)
+      → render (copy-into (new .serial) (body-of (old .serial) bs) bs)
+      ≡ copy-part (old .base) (new .base) (min (new .length) (old .length)) (render bs)
   unfolding objects
   copied-placed c b =
       let x = others-differ 0 (b .front) (b .block) (b .back) (b .alive) (rw (b .split) at differ) in
       let y = others-differ 0 (c .front) (c .block) (c .back) (c .alive) (rw (c .split) at differ) in
-      let ne : b .block .serial ≡ c .block .serial → ⊥ = λ e. apart (ap (λ (o : Handle). o .serial) (b .place) ∙ e ∙ sym (ap (λ (o : Handle). o .serial) (c .place))) in
+      let ne : b .block .serial ≡ c .block .serial → ⊥ = λ e. apart (ap (λ (o : Handle). o .serial) (b .place) ∙ e
+      ∙ sym (ap (λ (o : Handle). o .serial) (c .place))) in
       rw (b .place, c .place, zero-add (total-size (b .front)), zero-add (total-size (c .front)), total-is (b .front), total-is (c .front))
       (copied-writes bs (b .front) (b .block) (b .back) (c .front) (c .block) (c .back) (b .split) (c .split) ne (x .0) (x .1) (y .0))
 
   pub copied-bytes : List·Memᴰ old (objects bs) → List·Memᴰ new (objects bs)
-      → render (copy-into (new .serial) (body-of (old .serial) bs) bs) ≡ copy-part (old .base) (new .base) (min (new .length) (old .length)) (render bs)
+      → render (copy-into (new .serial) (body-of (old .serial) bs) bs)
+      ≡ copy-part (old .base) (new .base) (min (new .length) (old .length)) (render bs)
   unfolding objects
   copied-bytes o n = copied-placed (placed 0 bs old o) (placed 0 bs new n)

@@ -3,7 +3,6 @@
 -- blocks that stand side by side turns the header of the second into zeros, gives the first one a header of both sizes, and tells the block
 -- behind them, if there is one, of the new size. Freeing is vacating, then joining the block behind, then joining the result to the block in
 -- front; where a neighbour is live or missing, that joining is one with no bytes and writes nothing.
--- Assumes nothing.
 use mathlib.Core.Path.{_≡_, refl, ap, sym, _∙_}
 use Prim.Native.Nat.{ℕ, _+_, _-_, _/_, _≤_}
 use native.Mathlib.Omega.{arith}
@@ -14,7 +13,8 @@ use lib.ListN.{length, replicate, length-append, length-replicate}
 use lib.Dec.{ltb, eqb}
 use borrow.Author.Tests.{lt-ltb, le-ltb}
 use Rattle.layout.specs.Bytes.{overwrite, zero-part}
-use Rattle.layout.specs.Blocks.{Block, size, units, occupied, QUARANTINED, live, back-after, header-of, header-bytes, write-header, render-from, render}
+use Rattle.layout.specs.Blocks.{Block, size, units, occupied, QUARANTINED, live, back-after, header-of, header-bytes, write-header, render-from}
+use Rattle.layout.specs.Blocks.{render}
 use Rattle.layout.proofs.Overwrite.{overwrite-at}
 use Rattle.layout.proofs.Fields.{header-length}
 use Rattle.layout.proofs.Render.{length-render, render-append, render-cons}
@@ -59,7 +59,8 @@ pub last-of : (xs : List Block) → (xs ≡ []) ⊎ ((ws : List Block) × (f : B
 last-of [] = inl refl
 last-of (x ∷ xs) = go (last-of xs)
   where
-    go : (xs ≡ []) ⊎ ((ws : List Block) × (f : Block) × (xs ≡ ws ++ (f ∷ []))) → (x ∷ xs ≡ []) ⊎ ((ws : List Block) × (f : Block) × (x ∷ xs ≡ ws ++ (f ∷ [])))
+    go : (xs ≡ []) ⊎ ((ws : List Block) × (f : Block) × (xs ≡ ws ++ (f ∷ [])))
+        → (x ∷ xs ≡ []) ⊎ ((ws : List Block) × (f : Block) × (x ∷ xs ≡ ws ++ (f ∷ [])))
     go (inl e) = inr ([], x, ap (λ (l : List Block). x ∷ l) e)
     go (inr r) = inr (x ∷ r .0, r .1, ap (λ (l : List Block). x ∷ l) (r .2))
 
@@ -181,14 +182,16 @@ pub behind-writes : (xs : List Block) (v : Block) (ys : List Block) → occupied
 unfolding free-behind starts-free
 behind-writes xs v [] ev =
     rw (join-apart v [] (or-true (occupied v)))
-    (sym (join-none (total size xs) (total size xs + size v) (total size xs + size v + 0) (back-after 0 xs) (render (xs ++ (v ∷ []))) (inr (omega arith))))
+    (sym (join-none (total size xs) (total size xs + size v) (total size xs + size v + 0) (back-after 0 xs) (render (xs ++ (v ∷ [])))
+    (inr (omega arith))))
 behind-writes xs v (d ∷ ds) ev = go (occupied d) refl
   where
     go : (x : Bool) → occupied d ≡ x → render (xs ++ join-front v (d ∷ ds))
         ≡ join-bytes (total size xs) (total size xs + size v) (total size xs + size v + free-size d) (back-after 0 xs) (render (xs ++ (v ∷ d ∷ ds)))
     go true e =
         rw (e, join-apart v (d ∷ ds) (rw (e, or-true)))
-        (sym (join-none (total size xs) (total size xs + size v) (total size xs + size v + 0) (back-after 0 xs) (render (xs ++ (v ∷ d ∷ ds))) (inr (omega arith))))
+        (sym (join-none (total size xs) (total size xs + size v) (total size xs + size v + 0) (back-after 0 xs) (render (xs ++ (v ∷ d ∷ ds)))
+        (inr (omega arith))))
     go false e = rw (e, join-both v d ds ev e) (join-writes xs v d ds)
 
 -- what the block becomes is a free block still, as long as both
@@ -225,7 +228,8 @@ front-writes xs c zs ec = go (last-of xs)
 
     go : (xs ≡ []) ⊎ ((ws : List Block) × (f : Block) × (xs ≡ ws ++ (f ∷ []))) → render (append-joined xs (c ∷ zs))
         ≡ join-bytes (total size xs - free-in-front xs) (total size xs) (total size xs + size c) (back-before 0 xs) (render (xs ++ (c ∷ zs)))
-    go (inl e) = rw e (sym (join-none (total size [] - 0) (total size []) (total size [] + size c) (back-before 0 []) (render (c ∷ zs)) (inl (omega arith))))
+    go (inl e) = rw e (sym (join-none (total size [] - 0) (total size []) (total size [] + size c) (back-before 0 []) (render (c ∷ zs))
+        (inl (omega arith))))
     go (inr r) = at-last (r .0) (r .1) (r .2) (occupied (r .1)) refl
 
 -- a free block joins both: what is left goes from where the last block in front starts, if it is free, up to where the first one behind ends, if it is free

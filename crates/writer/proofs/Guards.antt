@@ -1,6 +1,5 @@
 -- The tests that the public writes make first hold exactly where the object has room in its block, and where the block lies in the heap; where they
 -- hold, the writes are made.
--- Assumes nothing.
 use Prim.Native.Nat.{ℕ, _+_, _*_, _-_, _≤_, _<_}
 use native.Mathlib.Omega.{arith}
 use mathlib.Core.Path.{_≡_, refl, sym}
@@ -13,7 +12,8 @@ use Rattle.model.proofs.Bools.{and-left, and-right, and-both, fails}
 use Rattle.lookup.specs.declared.Met.{Met}
 use Rattle.writer.specs.Writes.{carve-bytes}
 use Rattle.writer.specs.Carving.{Room, has-room, carve-in}
-use Rattle.writer.specs.Freeing.{room-at, free-block, free-end, quarantine-block, Inside, is-inside, vacate-block, vacate-end, vacate-in, vacate-end-in}
+use Rattle.writer.specs.Freeing.{room-at, free-block, free-end, quarantine-block, Inside, is-inside, vacate-block, vacate-end, vacate-in}
+use Rattle.writer.specs.Freeing.{vacate-end-in}
 use Rattle.writer.specs.Freeing.{unquarantine-block, unquarantine-in, free-end-in}
 
 -- a test that both tests imply of each other is the same
@@ -50,7 +50,8 @@ module _ (m : Met) (base n : ℕ) where
       (λ e. le-leb n (m .at + m .size - base) (omega (arith, room-of-test e .high)))
 
   -- where there is room the object is cut out of the block, and else nothing is written
-  pub carves : (serial : ℕ) (s : List ℕ) → has-room m base n ≡ true → carve-bytes (m .at) (m .at + m .size) base n (m .back) serial s ≡ carve-in m base n serial s
+  pub carves : (serial : ℕ) (s : List ℕ) → has-room m base n ≡ true → carve-bytes (m .at) (m .at + m .size) base n (m .back) serial s
+      ≡ carve-in m base n serial s
   unfolding carve-in
   carves serial s e = rw e
 

@@ -1,6 +1,5 @@
 -- Freeing a block in place is freeing it among the blocks: on the bytes of blocks the headers in front of a block and behind it are those of its
 -- neighbours, so the bytes that are written are those of the blocks with this one vacated and joined to its free neighbours.
--- Assumes nothing.
 use mathlib.Core.Path.{_≡_, refl, ap, sym, _∙_}
 use Prim.Native.Nat.{ℕ, _+_, _*_, _-_, _/_, _≤_}
 use native.Mathlib.Omega.{arith}
@@ -9,7 +8,8 @@ use mathlib.Core.Bool.{Bool, true, false, not, cond}
 use mathlib.Core.Logic.{_⊎_, inl, inr}
 use lib.ListN.{length}
 use lib.Dec.{eqb, lit<}
-use Rattle.layout.specs.Blocks.{Block, size, units, occupied, QUARANTINED, total-size, back-after, header-of, start-at, write-header, render, Writable}
+use Rattle.layout.specs.Blocks.{Block, size, units, occupied, QUARANTINED, total-size, back-after, header-of, start-at, write-header, render}
+use Rattle.layout.specs.Blocks.{Writable}
 use Rattle.layout.specs.Blocks.{AllWritable}
 use Rattle.layout.specs.declared.Header.{Header}
 use Rattle.layout.specs.declared.Start.{Start}
@@ -52,7 +52,8 @@ room-ends at s l = go (start-at at s) refl
         rw (room-starts at s h e) (omega (arith, picked (eqb (h .serial) 0) (8 * h .size)))
 
 -- the three steps of freeing a block
-pub freed-is : (m : Met) (s : List ℕ) → 8 ≤ m .size → (front behind : Room) → front ≡ room-at (m .at - 8 * m .back) s → behind ≡ room-at (m .at + m .size) s
+pub freed-is : (m : Met) (s : List ℕ) → 8 ≤ m .size → (front behind : Room) → front ≡ room-at (m .at - 8 * m .back) s → behind
+    ≡ room-at (m .at + m .size) s
     → (s₁ s₂ s₃ : List ℕ) → s₁ ≡ write-object (m .at + 8) (m .size - 8) (m .back) 0 s
     → s₂ ≡ join-bytes (m .at) (m .at + m .size) (m .at + m .size + behind .free) (m .back) s₁
     → s₃ ≡ join-bytes (m .at - front .free) (m .at) (m .at + m .size + behind .free) (front .back) s₂ → s₃ ≡ free-block m s
@@ -82,7 +83,8 @@ room-stands xs b ys w =
     let wb = all-right Writable xs (b ∷ ys) w .0 in
     let e = start-stands 0 xs b ys wb (back-small 0 xs (lit< tt) (all-left Writable xs (b ∷ ys) w)) in
     let f = same-free (eqb (b .serial) 0) (8 * units b) (size b) (wb .whole) in
-    room-starts (total-size xs) (render (xs ++ (b ∷ ys))) (header-of (back-after 0 xs) b) (rw render-is e) ∙ (λ i. record { free = f i; back = back-after 0 xs })
+    room-starts (total-size xs) (render (xs ++ (b ∷ ys))) (header-of (back-after 0 xs) b) (rw render-is e)
+    ∙ (λ i. record { free = f i; back = back-after 0 xs })
 
 size-last : (xs : List Block) (b : Block) → total-size (xs ++ (b ∷ [])) ≡ total-size xs + size b
 unfolding total-size

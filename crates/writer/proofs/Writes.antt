@@ -1,5 +1,4 @@
 -- The writes for a new object, one by one: each of the definition's writes by the test that the code makes.
--- Assumes nothing.
 use mathlib.Core.Path.{_≡_}
 use Prim.Native.Nat.{ℕ, _+_, _-_, _/_, _≤_, _<_}
 use native.Mathlib.Omega.{arith}
@@ -49,7 +48,8 @@ module _ (at back : ℕ) (s : List ℕ) where
   next-none h = rw (le-ltb at (length s) h)
 
 -- the writes one after the other are all of them
-pub carve-steps : (at end base n back serial : ℕ) (s : List ℕ) {s₁ s₂ s₃ s₄ : List ℕ} {u v : ℕ} → s₁ ≡ write-rest at (base - 8 - at) back s → u ≡ units-after back (base - 8 - at)
+pub carve-steps : (at end base n back serial : ℕ) (s : List ℕ) {s₁ s₂ s₃ s₄ : List ℕ} {u v : ℕ} → s₁ ≡ write-rest at (base - 8 - at) back s → u
+    ≡ units-after back (base - 8 - at)
     → s₂ ≡ write-object base n u serial s₁ → s₃ ≡ write-rest (base + n) (end - (base + n)) ((n + 8) / 8) s₂
     → v ≡ units-after ((n + 8) / 8) (end - (base + n)) → s₄ ≡ write-next end v s₃ → s₄ ≡ carve-bytes at end base n back serial s
 unfolding carve-bytes

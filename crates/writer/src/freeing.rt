@@ -9,7 +9,8 @@ use lookup::Met;
 ghost use mathlib.Core.Path.{_≡_};
 ghost use Prim.Native.Nat.{_^_, _<_};
 ghost use Rattle.writer.specs.Writes.{join-bytes};
-ghost use Rattle.writer.specs.Freeing.{Inside, room-at, free-block, free-end, is-inside, vacate-block, vacate-end, vacate-in, vacate-end-in, unquarantine-block, unquarantine-in, free-end-in};
+ghost use Rattle.writer.specs.Freeing.{Inside, room-at, free-block, free-end, is-inside, vacate-block, vacate-end, vacate-in, vacate-end-in};
+ghost use Rattle.writer.specs.Freeing.{unquarantine-block, unquarantine-in, free-end-in};
 
 // What a header says of a block: its bytes if it is free, else 0, and the units of the block before it.
 struct Room {
@@ -106,7 +107,8 @@ fn is_inside(heap: &[u8], block: Met) -> bool
     front.free <= block.at
 }
 
-// Rules 8.18 and 22.3, what becomes of a live block that nobody holds: in a plain heap it is free and joins, else it waits. The end of the block that this makes is given.
+// Rules 8.18 and 22.3, what becomes of a live block that nobody holds: in a plain heap it is free and joins, else it
+// waits. The end of the block that this makes is given.
 fn make_vacant(heap: &mut [u8], block: Met, kind: u8) -> usize
     requires { ⌜ Inside block (now heap) ⌝ }
     ensures leaves { λ _. ⌜ now (heap .exit) ≡ vacate-block kind block (now (heap .entry)) ⌝ }

@@ -1,7 +1,6 @@
 -- A handle that names nothing, in the two calls that are no `Call` of a history and take a handle: a write is refused
 -- by 5, and can claim as the claim would be. `stale-forever` (safety) says when a handle names nothing: once its object
 -- has left, until an image is read.
--- Assumes nothing.
 use Prim.Native.Nat.{ℕ}
 use mathlib.Core.Path.{_≡_, refl, ap, sym, _∙_}
 use mathlib.Core.List.{List, [], _∷_}

@@ -1,6 +1,5 @@
 -- What `write_object` leaves is a heap that was written inside live objects alone, so a history goes on with it. The byte stands in the handle's range, and
 -- so in the object that the handle names; a refused write, and one at or beyond the range's length, leaves the heap as it is.
--- Assumes nothing.
 use Prim.Native.Nat.{ℕ, zero, suc, _+_, _<_}
 use native.Mathlib.Omega.{arith}
 use mathlib.Core.Path.{_≡_, refl, sym}

@@ -1,5 +1,4 @@
 -- `accounts::bit_left` meets its contract.
--- Assumes nothing.
 use native.Mathlib.Omega.{arith}
 use mathlib.Core.Path.{sym}
 use Rattle.accounts.proofs.Permissions.{bit-stays, bit-goes}

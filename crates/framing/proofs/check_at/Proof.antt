@@ -21,17 +21,8 @@ abbrev μ-loop : tie.MeasureT-loop
 loop-holds : tie.Need-loop-holds Inv-loop μ-loop
 loop-holds c = let a = c .before .args in (search needs, wraps-none (drop (a .at) (a .image .now)))
 
-mul-read-u32 : tie.Need-mul-read-u32 Inv-loop μ-loop
-mul-read-u32 c = search needs
-
 add-read-u32 : tie.Need-add-read-u32 Inv-loop μ-loop
 add-read-u32 c = omega arith
-
-read-u32-requires : tie.Need-read-u32-requires Inv-loop μ-loop
-read-u32-requires c κs = search needs
-
-wrapping-add-u32-requires : tie.Need-wrapping-add-u32-requires Inv-loop μ-loop
-wrapping-add-u32-requires c κs = search needs
 
 add-i : tie.Need-add-i Inv-loop μ-loop
 add-i c = omega arith
@@ -63,10 +54,10 @@ check-at-spec =
     Inv-loop
     μ-loop
     loop-holds
-    mul-read-u32
+    (λ c. search needs)
     add-read-u32
-    read-u32-requires
-    wrapping-add-u32-requires
+    (λ c κs. search needs)
+    (λ c κs. search needs)
     add-i
     loop-less
     loop-again

@@ -32,12 +32,6 @@ loop-holds c = let a = c .before .before .args in (omega arith, refl, fill-none 
 add-stream-at : tie.Need-add-stream-at Inv-loop μ-loop
 add-stream-at c = omega (arith, len (c .before))
 
-stream-at-requires : tie.Need-stream-at-requires Inv-loop μ-loop
-stream-at-requires c κs = search needs
-
-slice-write-out : tie.Need-slice-write-out Inv-loop μ-loop
-slice-write-out c = search needs
-
 add-i : tie.Need-add-i Inv-loop μ-loop
 add-i c = omega (arith, len (c .before .before))
 
@@ -75,8 +69,8 @@ copy-stream-spec =
     μ-loop
     loop-holds
     add-stream-at
-    stream-at-requires
-    slice-write-out
+    (λ c κs. search needs)
+    (λ c. search needs)
     add-i
     loop-less
     loop-again

@@ -32,9 +32,6 @@ loop-holds c = let a = c .before .before .before .args in (search needs, fill-no
 add-stream-byte : tie.Need-add-stream-byte Inv-loop μ-loop
 add-stream-byte c = omega arith
 
-stream-byte-requires : tie.Need-stream-byte-requires Inv-loop μ-loop
-stream-byte-requires c κs = search needs
-
 add-image : tie.Need-add-image Inv-loop μ-loop
 add-image c = omega (arith, len (c .before .before))
 
@@ -74,7 +71,7 @@ fill-spec =
     μ-loop
     loop-holds
     add-stream-byte
-    stream-byte-requires
+    (λ c κs. search needs)
     add-image
     slice-write-image
     add-i

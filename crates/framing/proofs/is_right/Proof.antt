@@ -8,26 +8,11 @@ use Rattle.framing.proofs.check_at.Reads as check-at-reads
 use Rattle.layout.proofs.read_u16.Reads as read-u16-reads
 use Rattle.layout.proofs.read_u32.Reads as read-u32-reads
 
-read-u16-requires : tie.Need-read-u16-requires
-read-u16-requires c κs = search needs
-
-cast-if1 : tie.Need-cast-if1
-cast-if1 c = search needs
-
 returns : tie.Need-returns
 returns c =
     let r = c .before in
     let a = r .before .before .args in
     wrong-number (a .at) (a .image .now) (r .before .before .pre) (a .number) (a .count) (r .read-u16 .result) (r .read-u16 .ensures) (c .if1 .taken)
-
-add-read-u16 : tie.Need-add-read-u16
-add-read-u16 c = search needs
-
-read-u16-requires-2 : tie.Need-read-u16-requires-2
-read-u16-requires-2 c κs = search needs
-
-cast-if2 : tie.Need-cast-if2
-cast-if2 c = search needs
 
 returns-2 : tie.Need-returns-2
 returns-2 c =
@@ -36,15 +21,6 @@ returns-2 c =
     let a = r .before .before .args in
     wrong-count (a .at) (a .image .now) (r .before .before .pre) (a .number) (a .count) (r .read-u16 .result) (r .read-u16 .ensures) (r₂ .before .if1 .left)
     (r₂ .read-u162 .result) (r₂ .read-u162 .ensures) (c .if2 .taken)
-
-add-read-u32 : tie.Need-add-read-u32
-add-read-u32 c = search needs
-
-read-u32-requires : tie.Need-read-u32-requires
-read-u32-requires c κs = search needs
-
-check-at-requires : tie.Need-check-at-requires
-check-at-requires c κs = search needs
 
 returns-3 : tie.Need-returns-3
 returns-3 c =
@@ -61,14 +37,14 @@ pub is-right-spec : {M : Type 1} → statement M
 is-right-spec =
     tie.close
     (tie.spec
-    read-u16-requires
-    cast-if1
+    (λ c κs. search needs)
+    (λ c. search needs)
     returns
-    add-read-u16
-    read-u16-requires-2
-    cast-if2
+    (λ c. search needs)
+    (λ c κs. search needs)
+    (λ c. search needs)
     returns-2
-    add-read-u32
-    read-u32-requires
-    check-at-requires
+    (λ c. search needs)
+    (λ c κs. search needs)
+    (λ c κs. search needs)
     returns-3)

@@ -9,22 +9,10 @@ use Rattle.framing.proofs.stream_at.Lts as lts
 returns : tie.Need-returns
 returns c = let a = c .before .args in stream-past (a .image .now) (a .at) (c .if1 .taken)
 
-mul-result : tie.Need-mul-result
-mul-result c = search needs
-
-add-result : tie.Need-add-result
-add-result c = search needs
-
-add-result-2 : tie.Need-add-result-2
-add-result-2 c = search needs
-
-shared-slice-read-result : tie.Need-shared-slice-read-result
-shared-slice-read-result c = search needs
-
 returns-2 : tie.Need-returns-2
 returns-2 c = let a = c .before .before .args in stream-inside (a .image .now) (a .at) (omega arith)
 
 pub stream-at-spec : {M : Type 1} → statement M
 stream-at-spec =
     tie.close
-    (tie.spec returns mul-result add-result add-result-2 shared-slice-read-result returns-2)
+    (tie.spec returns (λ c. search needs) (λ c. search needs) (λ c. search needs) (λ c. search needs) returns-2)

@@ -8,17 +8,8 @@ use Rattle.framing.proofs.stream_byte.Tie as tie
 use Rattle.framing.proofs.stream_byte.Reads as reads
 use Rattle.framing.proofs.stream_byte.Lts as lts
 
-shared-slice-read-result : tie.Need-shared-slice-read-result
-shared-slice-read-result c = search needs
-
 returns : tie.Need-returns
 returns c = let a = c .before .before .args in sym (List·getD-append (a .head .now) (a .body .now) 0 (a .at) (omega arith))
-
-sub-rest : tie.Need-sub-rest
-sub-rest c = search needs
-
-shared-slice-read-result-2 : tie.Need-shared-slice-read-result-2
-shared-slice-read-result-2 c = search needs
 
 returns-2 : tie.Need-returns-2
 returns-2 c = let a = c .before .before .before .args in stream-second (a .head .now) (a .body .now) (a .at) (omega arith)
@@ -30,9 +21,9 @@ pub stream-byte-spec : {M : Type 1} → statement M
 stream-byte-spec =
     tie.close
     (tie.spec
-    shared-slice-read-result
+    (λ c. search needs)
     returns
-    sub-rest
-    shared-slice-read-result-2
+    (λ c. search needs)
+    (λ c. search needs)
     returns-2
     returns-3)

@@ -11,33 +11,6 @@ use Rattle.framing.proofs.fill.Reads as fill-reads
 use Rattle.layout.proofs.write_u16.Reads as write-u16-reads
 use Rattle.layout.proofs.write_u32.Reads as write-u32-reads
 
-write-u16-requires : tie.Need-write-u16-requires
-write-u16-requires c κs = search needs
-
-add-write-u16 : tie.Need-add-write-u16
-add-write-u16 c = search needs
-
-write-u16-requires-2 : tie.Need-write-u16-requires-2
-write-u16-requires-2 c κs = search needs
-
-add-fill : tie.Need-add-fill
-add-fill c = search needs
-
-fill-requires : tie.Need-fill-requires
-fill-requires c κs = search needs
-
-check-at-requires : tie.Need-check-at-requires
-check-at-requires c κs = search needs
-
-add-write-u32 : tie.Need-add-write-u32
-add-write-u32 c = search needs
-
-write-u32-requires : tie.Need-write-u32-requires
-write-u32-requires c κs = search needs
-
-same-length : tie.Need-same-length
-same-length c = search needs
-
 returns : tie.Need-returns
 returns c =
     let w₄ = c .before .before in
@@ -55,13 +28,13 @@ pub write-frame-spec : {M : Type 1} → statement M
 write-frame-spec =
     tie.close
     (tie.spec
-    write-u16-requires
-    add-write-u16
-    write-u16-requires-2
-    add-fill
-    fill-requires
-    check-at-requires
-    add-write-u32
-    write-u32-requires
-    same-length
+    (λ c κs. search needs)
+    (λ c. search needs)
+    (λ c κs. search needs)
+    (λ c. search needs)
+    (λ c κs. search needs)
+    (λ c κs. search needs)
+    (λ c. search needs)
+    (λ c κs. search needs)
+    (λ c. search needs)
     returns)

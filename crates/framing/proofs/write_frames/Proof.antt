@@ -1,5 +1,4 @@
 -- Each test that fails leaves the image as it is; past them the frames have room (`Room`).
--- Assumes nothing.
 use native.Mathlib.Omega.{arith}
 use mathlib.Core.Path.{refl}
 use Rattle.framing.proofs.Room.{too-long, too-short, fits}
@@ -12,36 +11,15 @@ returns c =
     let a = c .before .before .before .before .args in
     too-long (a .image .now) (a .head .now) (a .body .now) (omega arith)
 
-sub-if2 : tie.Need-sub-if2
-sub-if2 c = search needs
-
 returns-2 : tie.Need-returns-2
 returns-2 c =
     let a = c .before .before .before .before .before .args in
     too-long (a .image .now) (a .head .now) (a .body .now) (omega arith)
 
-add-count : tie.Need-add-count
-add-count c = search needs
-
-add-count-2 : tie.Need-add-count-2
-add-count-2 c = search needs
-
-mul-if3 : tie.Need-mul-if3
-mul-if3 c = search needs
-
 returns-3 : tie.Need-returns-3
 returns-3 c =
     let a = c .before .before .before .before .before .before .args in
     too-short (a .image .now) (a .head .now) (a .body .now) _ (omega arith) refl (omega arith)
-
-put-frames-requires : tie.Need-put-frames-requires
-put-frames-requires c κs = search needs
-
-mul-t7 : tie.Need-mul-t7
-mul-t7 c = search needs
-
-same-length : tie.Need-same-length
-same-length c = search needs
 
 returns-4 : tie.Need-returns-4
 returns-4 c =
@@ -54,13 +32,13 @@ write-frames-spec =
     tie.close
     (tie.spec
     returns
-    sub-if2
+    (λ c. search needs)
     returns-2
-    add-count
-    add-count-2
-    mul-if3
+    (λ c. search needs)
+    (λ c. search needs)
+    (λ c. search needs)
     returns-3
-    put-frames-requires
-    mul-t7
-    same-length
+    (λ c κs. search needs)
+    (λ c. search needs)
+    (λ c. search needs)
     returns-4)

@@ -1,5 +1,4 @@
 -- `model::is_allowed` meets its contract: its three tests are those of `allowed`, in the same order.
--- Assumes nothing.
 use Prim.Native.Nat.{_%_}
 use native.Mathlib.Omega.{arith}
 use borrow.Author.Tests.{eq-eqb, ne-eqb, le-leb, lt-leb}

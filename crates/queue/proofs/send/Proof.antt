@@ -1,6 +1,5 @@
 -- `queue::send` meets its contract: first the lines of the queue, next those of a claim and of a release, both with the accounts as they came; after that
 -- the release takes the accounts of the claim.
--- Assumes nothing.
 use Prim.Native.Nat.{ℕ}
 use mathlib.Core.Path.{ap, sym, _∙_}
 use borrow.Author.Needs.{needs}
@@ -16,24 +15,12 @@ use Rattle.queue.proofs.Sending.{send-damaged, send-full, send-unclaime
 use Rattle.queue.proofs.send.Statement.{statement}
 use Rattle.queue.proofs.send.Tie as tie
 
-cast-if1 : tie.Need-cast-if1
-cast-if1 c = search needs
-
-not-sent-requires : tie.Need-not-sent-requires
-not-sent-requires c κs = search needs
-
 returns : tie.Need-returns
 unfolding send-number
 returns c =
     let a = c .before .before .before .before .args in
     ap (send-outcome (a .heap .now)) (c .not-sent .ensures)
     ∙ send-damaged (table (a .accounts .edition)) (a .heap .now) (a .accounts) (a .queue) (a .handle) (c .before .if1 .taken)
-
-cast-if2 : tie.Need-cast-if2
-cast-if2 c = search needs
-
-not-sent-requires-2 : tie.Need-not-sent-requires-2
-not-sent-requires-2 c κs = search needs
 
 returns-2 : tie.Need-returns-2
 unfolding send-number
@@ -42,18 +29,6 @@ returns-2 c =
     ap (send-outcome (a .heap .now)) (c .not-sent2 .ensures)
     ∙ send-full (table (a .accounts .edition)) (a .heap .now) (a .accounts) (a .queue) (a .handle) (c .before .before .before .if1 .left)
     (c .before .if2 .taken)
-
-claim-requires : tie.Need-claim-requires
-claim-requires c κs = search needs
-
-enum-known-answer : tie.Need-enum-known-answer
-enum-known-answer c = search needs
-
-not-sent-requires-3 : tie.Need-not-sent-requires-3
-not-sent-requires-3 c κs = search needs
-
-same-length : tie.Need-same-length
-same-length c = search needs
 
 returns-3 : tie.Need-returns-3
 unfolding send-number amount-values
@@ -71,18 +46,6 @@ returns-3 c =
 enum-told : tie.Need-enum-told
 enum-told c = search needs
 
-can-release-requires : tie.Need-can-release-requires
-can-release-requires c κs = search needs
-
-enum-known-refusal : tie.Need-enum-known-refusal
-enum-known-refusal c = search needs
-
-not-sent-requires-4 : tie.Need-not-sent-requires-4
-not-sent-requires-4 c κs = search needs
-
-same-length-2 : tie.Need-same-length-2
-same-length-2 c = search needs
-
 returns-4 : tie.Need-returns-4
 unfolding send-number amount-values verdict-values
 returns-4 c =
@@ -98,18 +61,6 @@ returns-4 c =
     (refusal-number (r .0 .0))
     (sym (ap (λ (t : Outcome). t .values .refusal) (v .can-release .ensures)) ∙ ap (λ (x : Verdict). verdict-values x .refusal) (r .1))
     (refusal-number-is (r .0 .0) .1)
-
-enum-told-2 : tie.Need-enum-told-2
-enum-told-2 c = search needs
-
-release-requires : tie.Need-release-requires
-release-requires c κs = search needs
-
-with-handle-requires : tie.Need-with-handle-requires
-with-handle-requires c κs = search needs
-
-same-length-3 : tie.Need-same-length-3
-same-length-3 c = search needs
 
 returns-5 : tie.Need-returns-5
 unfolding send-number amount-values verdict-values
@@ -137,25 +88,25 @@ pub send-spec : {M : Type 1} → statement M
 send-spec =
     tie.close
     (tie.spec
-    cast-if1
-    not-sent-requires
+    (λ c. search needs)
+    (λ c κs. search needs)
     returns
-    cast-if2
-    not-sent-requires-2
+    (λ c. search needs)
+    (λ c κs. search needs)
     returns-2
-    claim-requires
-    enum-known-answer
-    not-sent-requires-3
-    same-length
+    (λ c κs. search needs)
+    (λ c. search needs)
+    (λ c κs. search needs)
+    (λ c. search needs)
     returns-3
     enum-told
-    can-release-requires
-    enum-known-refusal
-    not-sent-requires-4
-    same-length-2
+    (λ c κs. search needs)
+    (λ c. search needs)
+    (λ c κs. search needs)
+    (λ c. search needs)
     returns-4
-    enum-told-2
-    release-requires
-    with-handle-requires
-    same-length-3
+    (λ c. search needs)
+    (λ c κs. search needs)
+    (λ c κs. search needs)
+    (λ c. search needs)
     returns-5)

@@ -1,5 +1,4 @@
 -- `replay_api::lokhazim_replay` meets its contract: the reply is that of the answer that the replay gives, and the output is the replay's (`replied`).
--- Assumes nothing.
 use borrow.Author.Needs.{needs}
 use Rattle.replay_text.specs.declared.Replayed.the-variants.{Written, TooShort}
 use Rattle.replay_api.specs.Replies.{reply-of}
@@ -7,17 +6,8 @@ use Rattle.replay_api.proofs.Replies.{replied}
 use Rattle.replay_api.proofs.lokhazim_replay.Statement.{statement}
 use Rattle.replay_api.proofs.lokhazim_replay.Tie as tie
 
-replay-requires : tie.Need-replay-requires
-replay-requires c κs = search needs
-
-enum-known-count : tie.Need-enum-known-count
-enum-known-count c = search needs
-
 enum-told : tie.Need-enum-told
 enum-told c = search needs
-
-same-length : tie.Need-same-length
-same-length c = search needs
 
 returns : tie.Need-returns
 unfolding reply-of
@@ -25,9 +15,6 @@ returns c =
     let r = c .before .before .before .before in
     let a = r .before .before .before .before .args in
     replied (a .input .now) (a .output .now) (r .replay .last .1 .0) _ TooShort (c .enum-told .given .1) (r .replay .ensures)
-
-same-length-2 : tie.Need-same-length-2
-same-length-2 c = search needs
 
 returns-2 : tie.Need-returns-2
 unfolding reply-of
@@ -41,10 +28,10 @@ pub lokhazim-replay-spec : {M : Type 1} → statement M
 lokhazim-replay-spec =
     tie.close
     (tie.spec
-    replay-requires
-    enum-known-count
+    (λ c κs. search needs)
+    (λ c. search needs)
     enum-told
-    same-length
+    (λ c. search needs)
     returns
-    same-length-2
+    (λ c. search needs)
     returns-2)

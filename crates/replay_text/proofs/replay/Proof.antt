@@ -1,5 +1,4 @@
 -- An output of OUTPUT bytes has room for every replay (`replay-fits`), so what is written is the replay: `bad` for too long an input, the run for another.
--- Assumes nothing.
 use borrow.Author.Needs.{needs}
 use native.Mathlib.Omega.{arith}
 use Prim.Native.Nat.{ℕ}
@@ -21,10 +20,8 @@ put-bad-requires c κs =
     let x = t .before in
     let e = x .before .before .before in
     let a = e .args in
-    subst (λ (y : List ℕ). Room 0 y (a .output .now)) (sym (replay-too-long (a .input .now) (omega arith))) (replay-room (a .input .now) (a .output .now) (search needs))
-
-same-length : tie.Need-same-length
-same-length c = search needs
+    subst (λ (y : List ℕ). Room 0 y (a .output .now)) (sym (replay-too-long (a .input .now) (omega arith)))
+    (replay-room (a .input .now) (a .output .now) (search needs))
 
 returns-2 : tie.Need-returns-2
 returns-2 c =
@@ -34,7 +31,8 @@ returns-2 c =
     let e = x .before .before .before in
     let a = e .args in
     replay-written (a .input .now) (a .output .now) (search needs) (p .put-bad .last .0) (p .put-bad .result)
-    (subst (λ (y : List ℕ). Put 0 y (a .output .now) (p .put-bad .last .0) (p .put-bad .result)) (replay-too-long (a .input .now) (omega arith)) (p .put-bad .ensures))
+    (subst (λ (y : List ℕ). Put 0 y (a .output .now) (p .put-bad .last .0) (p .put-bad .result)) (replay-too-long (a .input .now) (omega arith))
+    (p .put-bad .ensures))
 
 run-all-requires : tie.Need-run-all-requires
 run-all-requires c κs =
@@ -42,10 +40,8 @@ run-all-requires c κs =
     let x = t .before in
     let e = x .before .before .before in
     let a = e .args in
-    subst (λ (y : List ℕ). Room 0 y (a .output .now)) (sym (replay-runs (a .input .now) (search needs))) (replay-room (a .input .now) (a .output .now) (search needs))
-
-same-length-2 : tie.Need-same-length-2
-same-length-2 c = search needs
+    subst (λ (y : List ℕ). Room 0 y (a .output .now)) (sym (replay-runs (a .input .now) (search needs)))
+    (replay-room (a .input .now) (a .output .now) (search needs))
 
 returns-3 : tie.Need-returns-3
 returns-3 c =
@@ -55,7 +51,8 @@ returns-3 c =
     let e = x .before .before .before in
     let a = e .args in
     replay-written (a .input .now) (a .output .now) (search needs) (p .run-all .last .1 .0) (p .run-all .result)
-    (subst (λ (y : List ℕ). Put 0 y (a .output .now) (p .run-all .last .1 .0) (p .run-all .result)) (replay-runs (a .input .now) (search needs)) (p .run-all .ensures))
+    (subst (λ (y : List ℕ). Put 0 y (a .output .now) (p .run-all .last .1 .0) (p .run-all .result)) (replay-runs (a .input .now) (search needs))
+    (p .run-all .ensures))
 
 pub replay-spec : {M : Type 1} → statement M
 replay-spec =
@@ -63,8 +60,8 @@ replay-spec =
     (tie.spec
     returns
     put-bad-requires
-    same-length
+    (λ c. search needs)
     returns-2
     run-all-requires
-    same-length-2
+    (λ c. search needs)
     returns-3)

@@ -1,5 +1,4 @@
 -- `rounding::leading_zeros` meets its contract: the machine's count is the definition's.
--- Assumes nothing.
 use Rattle.rounding.proofs.Zeros.{counted}
 use Rattle.rounding.proofs.leading_zeros.Statement.{statement}
 use Rattle.rounding.proofs.leading_zeros.Tie as tie

@@ -1,6 +1,5 @@
 -- `rounding::object_length` meets its contract: the code is the definition, and no step wraps, since the unit is at least 1 and
 -- rounding down again gives no more than what was rounded.
--- Assumes nothing.
 use Prim.Native.Nat.{ℕ, _+_, _*_, _-_, _/_}
 use mathlib.Core.Path.{ap}
 use borrow.Author.Needs.{needs}
@@ -16,17 +15,8 @@ returns : tie.Need-returns
 unfolding object-length
 returns c = ap (λ (u : ℕ). (c .before .args .length + (u - 1)) / u * u) (c .unit .ensures)
 
-unit-requires : tie.Need-unit-requires
-unit-requires c κs = search needs
-
-cast-unit : tie.Need-cast-unit
-cast-unit c = search needs
-
 sub-result : tie.Need-sub-result
 sub-result c = omega (arith, table-is (c .before .args .edition) .positive (c .before .args .length))
-
-add-result : tie.Need-add-result
-add-result c = search needs
 
 div-result : tie.Need-div-result
 div-result c = omega (arith, table-is (c .before .args .edition) .positive (c .before .args .length))
@@ -37,4 +27,4 @@ mul-result c = record { fits = lt-of-le-of-lt (div-mul-le-self _ _) (search need
 pub object-length-spec : {M : Type 1} → statement M
 object-length-spec =
     tie.close
-    (tie.spec unit-requires cast-unit sub-result add-result div-result mul-result returns)
+    (tie.spec (λ c κs. search needs) (λ c. search needs) sub-result (λ c. search needs) div-result mul-result returns)

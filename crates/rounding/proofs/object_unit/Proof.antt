@@ -1,5 +1,4 @@
 -- `rounding::object_unit` meets its contract: 1, shifted by the power that goes with the length's leading zeros.
--- Assumes nothing.
 use borrow.Author.Needs.{needs}
 use native.Mathlib.Omega.{arith}
 use Rattle.rounding.proofs.Zeros.{zeros-fit}
@@ -14,12 +13,6 @@ returns c =
     let a = b .before .args in
     shifted (a .edition) (a .length) (b .leading-zeros .result) (c .power .result) (b .leading-zeros .ensures) (c .power .ensures)
 
-leading-zeros-requires : tie.Need-leading-zeros-requires
-leading-zeros-requires c κs = search needs
-
-cast-zeros : tie.Need-cast-zeros
-cast-zeros c = search needs
-
 power-requires : tie.Need-power-requires
 power-requires c κs =
     omega (arith, zeros-fit 32 (c .before .args .length) (c .before .fits .length .fits), c .leading-zeros .ensures)
@@ -31,4 +24,4 @@ shl-result : tie.Need-shl-result
 shl-result c = omega (arith, power-most (c .before .before .args .edition) (c .before .leading-zeros .result), c .power .ensures)
 
 pub object-unit-spec : {M : Type 1} → statement M
-object-unit-spec = tie.close (tie.spec leading-zeros-requires cast-zeros power-requires cast-power shl-result returns)
+object-unit-spec = tie.close (tie.spec (λ c κs. search needs) (λ c. search needs) power-requires cast-power shl-result returns)

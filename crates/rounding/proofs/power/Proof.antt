@@ -1,5 +1,4 @@
 -- `rounding::power` meets its contract: the code's tables have the power for each count from 0 to 32.
--- Assumes nothing.
 use borrow.Author.Needs.{needs}
 use Rattle.rounding.proofs.ByZeros.{powers-first, powers-second}
 use Rattle.rounding.proofs.power.Statement.{statement}
@@ -12,11 +11,5 @@ returns c = let e = c .before in powers-first (e .args .edition) (e .args .zeros
 returns-2 : tie.Need-returns-2
 returns-2 c = let e = c .before in powers-second (e .args .edition) (e .args .zeros) (e .pre) (c .if1 .left)
 
-array-read-result : tie.Need-array-read-result
-array-read-result c = search needs
-
-array-read-result-2 : tie.Need-array-read-result-2
-array-read-result-2 c = search needs
-
 pub power-spec : {M : Type 1} → statement M
-power-spec = tie.close (tie.spec array-read-result returns array-read-result-2 returns-2)
+power-spec = tie.close (tie.spec (λ c. search needs) returns (λ c. search needs) returns-2)

@@ -1,11 +1,7 @@
 -- `stats::no_figures` meets its contract: all but the refusal is 0.
--- Assumes nothing.
 use borrow.Author.Needs.{needs}
 use Rattle.stats.proofs.no_figures.Statement.{statement}
 use Rattle.stats.proofs.no_figures.Tie as tie
-
-no-part-requires : tie.Need-no-part-requires
-no-part-requires c κs = search needs
 
 returns : tie.Need-returns
 returns c = λ i. record {
@@ -25,4 +21,4 @@ returns c = λ i. record {
 
 pub no-figures-spec : {M : Type 1} → statement M
 no-figures-spec =
-    tie.close (tie.spec no-part-requires returns)
+    tie.close (tie.spec (λ c κs. search needs) returns)

@@ -1,5 +1,4 @@
 -- `stats::quota_stats` meets its contract: the check decides first, then the quota's number, and else the figures are those of the accounts.
--- Assumes nothing.
 use Prim.Native.Nat.{ℕ}
 use native.Mathlib.Omega.{arith}
 use borrow.Author.Needs.{needs}
@@ -17,18 +16,6 @@ use Rattle.stats.specs.Stats.{quota-stats, quota-figures, no-quota-figur
 use Rattle.stats.proofs.Laws.{quota-refused, quota-accepted, held-all}
 use Rattle.stats.proofs.quota_stats.Statement.{statement}
 use Rattle.stats.proofs.quota_stats.Tie as tie
-
-check-requires : tie.Need-check-requires
-check-requires c κs = search needs
-
-enum-known-refusal : tie.Need-enum-known-refusal
-enum-known-refusal c = search needs
-
-number-requires : tie.Need-number-requires
-number-requires c κs = search needs
-
-no-quota-figures-requires : tie.Need-no-quota-figures-requires
-no-quota-figures-requires c κs = search needs
 
 returns : tie.Need-returns
 unfolding quota-stats quota-lines
@@ -49,12 +36,6 @@ returns c =
 enum-told : tie.Need-enum-told
 enum-told c = search needs
 
-number-requires-2 : tie.Need-number-requires-2
-number-requires-2 c κs = search needs
-
-no-quota-figures-requires-2 : tie.Need-no-quota-figures-requires-2
-no-quota-figures-requires-2 c κs = search needs
-
 returns-2 : tie.Need-returns-2
 unfolding quota-stats quota-lines
 returns-2 c =
@@ -72,14 +53,8 @@ returns-2 c =
     (check-accepts u s k (e .check .result) (e .check .ensures) (line-3 (a .quota) ∷ []) (o .enum-told .given .1)
     ∙ line-3-refuses (a .quota) [] (i .if1 .taken))
 
-held-by-requires : tie.Need-held-by-requires
-held-by-requires c κs = search needs
-
 grant-in-requires : tie.Need-grant-in-requires
 grant-in-requires c κs = c .before .if1 .left
-
-remaining-requires : tie.Need-remaining-requires
-remaining-requires c κs = search needs
 
 returns-3 : tie.Need-returns-3
 unfolding quota-stats quota-figures quota-lines first-refusal
@@ -111,16 +86,16 @@ pub quota-stats-spec : {M : Type 1} → statement M
 quota-stats-spec =
     tie.close
     (tie.spec
-    check-requires
-    enum-known-refusal
-    number-requires
-    no-quota-figures-requires
+    (λ c κs. search needs)
+    (λ c. search needs)
+    (λ c κs. search needs)
+    (λ c κs. search needs)
     returns
     enum-told
-    number-requires-2
-    no-quota-figures-requires-2
+    (λ c κs. search needs)
+    (λ c κs. search needs)
     returns-2
-    held-by-requires
+    (λ c κs. search needs)
     grant-in-requires
-    remaining-requires
+    (λ c κs. search needs)
     returns-3)

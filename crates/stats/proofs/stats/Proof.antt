@@ -1,5 +1,4 @@
 -- `stats::stats` meets its contract: the check decides, and else each figure by the tally of the blocks, or by the pass over the records, is the definition's.
--- Assumes nothing.
 use Prim.Native.Nat.{ℕ, _-_, _≤_}
 use native.Mathlib.Omega.{arith}
 use borrow.Author.Needs.{needs}
@@ -25,18 +24,6 @@ use Rattle.stats.proofs.Parts.{free-part, live-part, quarantined-part, 
 use Rattle.stats.proofs.Laws.{figures-refused, figures-accepted, cut, largest-fits, largest-by-room}
 use Rattle.stats.proofs.stats.Statement.{statement}
 use Rattle.stats.proofs.stats.Tie as tie
-
-check-requires : tie.Need-check-requires
-check-requires c κs = search needs
-
-enum-known-refusal : tie.Need-enum-known-refusal
-enum-known-refusal c = search needs
-
-number-requires : tie.Need-number-requires
-number-requires c κs = search needs
-
-no-figures-requires : tie.Need-no-figures-requires
-no-figures-requires c κs = search needs
 
 returns : tie.Need-returns
 unfolding stats check-lines
@@ -82,18 +69,6 @@ fine c =
 
 walk-requires : tie.Need-walk-requires
 walk-requires c κs = short c
-
-edition-requires : tie.Need-edition-requires
-edition-requires c κs = search needs
-
-most-units-requires : tie.Need-most-units-requires
-most-units-requires c κs = search needs
-
-last-serial-requires : tie.Need-last-serial-requires
-last-serial-requires c κs = search needs
-
-used-records-requires : tie.Need-used-records-requires
-used-records-requires c κs = search needs
 
 -- the tally, where it is taken apart
 abbrev walked : tie.After-struct-known → tie.After-walk
@@ -168,17 +143,17 @@ pub stats-spec : {M : Type 1} → statement M
 stats-spec =
     tie.close
     (tie.spec
-    check-requires
-    enum-known-refusal
-    number-requires
-    no-figures-requires
+    (λ c κs. search needs)
+    (λ c. search needs)
+    (λ c κs. search needs)
+    (λ c κs. search needs)
     returns
     enum-told
     walk-requires
-    edition-requires
-    most-units-requires
-    last-serial-requires
-    used-records-requires
+    (λ c κs. search needs)
+    (λ c κs. search needs)
+    (λ c κs. search needs)
+    (λ c κs. search needs)
     sub-t15
     reach-requires
     reach-requires-2

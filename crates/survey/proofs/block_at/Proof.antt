@@ -1,5 +1,4 @@
 -- `survey::block_at` meets its contract.
--- Assumes nothing.
 use borrow.Author.Needs.{needs}
 use mathlib.Core.Path.{ap}
 use Rattle.lookup.specs.Walk.{headed}
@@ -7,15 +6,9 @@ use Rattle.survey.specs.Survey.{block-at}
 use Rattle.survey.proofs.block_at.Statement.{statement}
 use Rattle.survey.proofs.block_at.Tie as tie
 
-header-at-requires : tie.Need-header-at-requires
-header-at-requires c κs = search needs
-
-mul-t4 : tie.Need-mul-t4
-mul-t4 c = search needs
-
 returns : tie.Need-returns
 unfolding block-at
 returns c = ap (headed (c .before .before .before .args .at)) (c .before .header-at .ensures .0)
 
 pub block-at-spec : {M : Type 1} → statement M
-block-at-spec = tie.close (tie.spec header-at-requires mul-t4 returns)
+block-at-spec = tie.close (tie.spec (λ c κs. search needs) (λ c. search needs) returns)

@@ -1,5 +1,4 @@
 -- `survey::is_in_range` meets its contract: its three tests are the definition's, in the same order.
--- Assumes nothing.
 use native.Mathlib.Omega.{arith}
 use borrow.Author.Tests.{lt-leb, le-leb, lt-ltb, le-ltb}
 use mathlib.Core.Path.{_≡_, refl}

@@ -1,5 +1,4 @@
 -- `survey::numbers_in` meets its contract: each number is read as the definition reads it, and the test of the three is its test.
--- Assumes nothing.
 use borrow.Author.Needs.{needs}
 use mathlib.Core.Path.{_≡_, _∙_}
 use mathlib.Core.Bool.{_&&_}
@@ -7,18 +6,6 @@ use lib.Dec.{leb, ltb}
 use Rattle.model.specs.Consistent.{in-range, greatest-serial}
 use Rattle.survey.proofs.numbers_in.Statement.{statement}
 use Rattle.survey.proofs.numbers_in.Tie as tie
-
-last-serial-requires : tie.Need-last-serial-requires
-last-serial-requires c κs = search needs
-
-kind-requires : tie.Need-kind-requires
-kind-requires c κs = search needs
-
-edition-requires : tie.Need-edition-requires
-edition-requires c κs = search needs
-
-is-in-range-requires : tie.Need-is-in-range-requires
-is-in-range-requires c κs = search needs
 
 returns : tie.Need-returns
 unfolding in-range
@@ -32,8 +19,8 @@ pub numbers-in-spec : {M : Type 1} → statement M
 numbers-in-spec =
     tie.close
     (tie.spec
-    last-serial-requires
-    kind-requires
-    edition-requires
-    is-in-range-requires
+    (λ c κs. search needs)
+    (λ c κs. search needs)
+    (λ c κs. search needs)
+    (λ c κs. search needs)
     returns)

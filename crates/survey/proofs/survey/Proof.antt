@@ -3,7 +3,6 @@
 -- remainder above its grant, a walk that fails, a record that is still open or a debt is refused as inconsistent: together they are the definition's test.
 -- Where
 -- they pass, the paths give the serial's records, the walk's first part the object, and the walk the room.
--- Assumes nothing.
 use Prim.Native.Nat.{ℕ, _-_, _*_, _≤_}
 use native.Mathlib.Omega.{arith}
 use borrow.Author.Needs.{needs}
@@ -38,12 +37,6 @@ use Rattle.survey.proofs.Surveys.{refused-length, refused-state, allowe
 use Rattle.survey.proofs.survey.Statement.{statement}
 use Rattle.survey.proofs.survey.Tie as tie
 
-is-allowed-requires : tie.Need-is-allowed-requires
-is-allowed-requires c κs = search needs
-
-refused-requires : tie.Need-refused-requires
-refused-requires c κs = search needs
-
 returns : tie.Need-returns
 returns c =
     let t = c .before in
@@ -51,9 +44,6 @@ returns c =
     refused-length (c .refused .result) (c .refused .ensures)
     (verdict-length (table (edition-of (a .words .now))) (a .heap .now) (accounts-of (a .words .now))
     (sym (t .before .is-allowed .ensures) ∙ not-true _ (t .if1 .taken)))
-
-numbers-in-requires : tie.Need-numbers-in-requires
-numbers-in-requires c κs = search needs
 
 -- what came in, and that its length is allowed
 abbrev start : tie.After-numbers-in → tie.Start
@@ -67,9 +57,6 @@ allows c =
     let e = c .before in
     sym (e .before .is-allowed .ensures) ∙ not-false _ (e .if1 .left)
 
-refused-requires-2 : tie.Need-refused-requires-2
-refused-requires-2 c κs = search needs
-
 returns-2 : tie.Need-returns-2
 returns-2 c =
     let t = c .before in
@@ -77,12 +64,6 @@ returns-2 c =
     refused-state (c .refused2 .result) (c .refused2 .ensures)
     (verdict-range (table (edition-of (words r))) (start r .args .heap .now) (accounts-of (words r)) (allows r)
     (sym (r .numbers-in .ensures .0) ∙ not-true _ (t .if2 .taken)))
-
-cast-end : tie.Need-cast-end
-cast-end c = search needs
-
-used-top-requires : tie.Need-used-top-requires
-used-top-requires c κs = search needs
 
 index-requires : tie.Need-index-requires
 index-requires c κs = let t = c .before .before in (t .used-top .ensures .0, t .used-top .ensures .1, built-none (words (t .before .before .before)))
@@ -100,9 +81,6 @@ told c t e =
     subst (λ (x : Bool). Told (words (range c)) x (c .index .last .1 .1 .0) (c .index .last .1 .0) (c .index .result .low) (c .index .result .used)) e
     (c .index .ensures)
 
-refused-requires-3 : tie.Need-refused-requires-3
-refused-requires-3 c κs = search needs
-
 returns-3 : tie.Need-returns-3
 returns-3 c =
     let t = c .before in
@@ -112,18 +90,12 @@ returns-3 c =
     (verdict-ill (table (edition-of (words r))) (start r .args .heap .now) (accounts-of (words r)) (allows r) (ranged (i .before .before .before .before))
     (quotas-long (words r)) (told i false (not-true _ (t .if3 .taken))))
 
-owing-requires : tie.Need-owing-requires
-owing-requires c κs = search needs
-
 -- what the quotas owe, by the answer of `owing`
 abbrev indexed : tie.After-owing → tie.After-index
 indexed c = c .before .before .before .before
 
 owes-all : (c : tie.After-owing) (t : Bool) → c .owing .result ≡ t → Owing (quotas-of (words (range (indexed c)))) t (c .owing .last .1 .0)
 owes-all c t e = subst (λ (x : Bool). Owing (quotas-of (words (range (indexed c)))) x (c .owing .last .1 .0)) e (c .owing .ensures)
-
-refused-requires-4 : tie.Need-refused-requires-4
-refused-requires-4 c κs = search needs
 
 returns-4 : tie.Need-returns-4
 returns-4 c =
@@ -152,15 +124,6 @@ on-path-requires c κs = let e = entered (c .before .before) in (e .built, e .we
 
 on-path-requires-2 : tie.Need-on-path-requires-2
 on-path-requires-2 c κs = let e = entered (c .before .before .before .before .before) in (e .built, e .well)
-
-edge-of-requires : tie.Need-edge-of-requires
-edge-of-requires c κs = search needs
-
-unit-of-requires : tie.Need-unit-of-requires
-unit-of-requires c κs = search needs
-
-need-of-requires : tie.Need-need-of-requires
-need-of-requires c κs = search needs
 
 -- the walk: what is known before it
 abbrev needs-of : tie.After-left → tie.After-need-of
@@ -219,9 +182,6 @@ Says c t =
 walked : (c : tie.After-walk-parts) (t : Bool) → c .walk-parts .result .fine ≡ t → Says c t
 walked c t e = subst (Says c) e (c .walk-parts .ensures .0)
 
-refused-requires-5 : tie.Need-refused-requires-5
-refused-requires-5 c κs = search needs
-
 returns-5 : tie.Need-returns-5
 returns-5 c =
     let t = c .before in
@@ -247,9 +207,6 @@ decided : (c : tie.After-is-settled) → Whole (c .before .before .before .befor
 decided c =
     let f = c .before .before in
     ended (f .before .before) (not-false _ (f .if5 .left)) ∙ sym (c .is-settled .ensures)
-
-refused-requires-6 : tie.Need-refused-requires-6
-refused-requires-6 c κs = search needs
 
 returns-6 : tie.Need-returns-6
 returns-6 c =
@@ -292,9 +249,6 @@ mul-size c = let h = half-whole (c .before) in omega (arith, h .0, h .1)
 
 sub-at : tie.Need-sub-at
 sub-at c = half-whole (c .before .before) .0
-
-fit-of-requires : tie.Need-fit-of-requires
-fit-of-requires c κs = search needs
 
 is-named-requires : tie.Need-is-named-requires
 is-named-requires c κs = let h = half-whole (c .before .before .before) in omega (arith, h .0, h .1)
@@ -350,33 +304,33 @@ pub survey-spec : {M : Type 1} → statement M
 survey-spec =
     tie.close
     (tie.spec
-    is-allowed-requires
-    refused-requires
+    (λ c κs. search needs)
+    (λ c κs. search needs)
     returns
-    numbers-in-requires
-    refused-requires-2
+    (λ c κs. search needs)
+    (λ c κs. search needs)
     returns-2
-    cast-end
-    used-top-requires
+    (λ c. search needs)
+    (λ c κs. search needs)
     index-requires
-    refused-requires-3
+    (λ c κs. search needs)
     returns-3
-    owing-requires
-    refused-requires-4
+    (λ c κs. search needs)
+    (λ c κs. search needs)
     returns-4
     on-path-requires
     on-path-requires-2
-    edge-of-requires
-    unit-of-requires
-    need-of-requires
+    (λ c κs. search needs)
+    (λ c κs. search needs)
+    (λ c κs. search needs)
     walk-parts-requires
-    refused-requires-5
+    (λ c κs. search needs)
     returns-5
     is-settled-requires
-    refused-requires-6
+    (λ c κs. search needs)
     returns-6
     mul-size
     sub-at
-    fit-of-requires
+    (λ c κs. search needs)
     is-named-requires
     returns-7)

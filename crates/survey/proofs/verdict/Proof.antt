@@ -1,5 +1,4 @@
 -- `survey::verdict` meets its contract.
--- Assumes nothing.
 use mathlib.Core.Path.{refl}
 use borrow.Author.Tests.{eq-eqb, ne-eqb}
 use Rattle.survey.specs.Survey.{verdict-of}

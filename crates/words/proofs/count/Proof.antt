@@ -1,5 +1,4 @@
 -- `words::count` meets its contract: an array that is passed by value has its length, and each of its elements fits its type.
--- Assumes nothing.
 use Prim.Native.Nat.{ℕ, zero, suc, _<_, _^_}
 use native.Mathlib.Omega.{arith}
 use mathlib.Core.Path.{refl}

@@ -1,6 +1,5 @@
 -- `accounts::Accounts::begin` meets its contract. The loop's invariant: each quota before place `i` holds its grant whole. The rest is as
 -- `Accounts::zero` gives it. The measure is what is left of the table.
--- Assumes nothing.
 use Prim.Native.Nat.{ℕ, _≤_, _<_, _-_}
 use native.Mathlib.Omega.{arith}
 use borrow.Author.Needs.{needs}
@@ -22,29 +21,8 @@ Inv-loop grants accounts quotas₀ i₀ quotas i =
 abbrev μ-loop : tie.MeasureT-loop
 μ-loop grants accounts quotas₀ i₀ quotas i = QUOTAS - i
 
-zero-requires : tie.Need-zero-requires Inv-loop μ-loop
-zero-requires c κs = search needs
-
 loop-holds : tie.Need-loop-holds Inv-loop μ-loop
 loop-holds c = (search needs, ap (λ (k : Accounts). length (k .quotas)) (c .before .zero .ensures) ∙ sized-zero .quotas-long, below-none _)
-
-mul-grant : tie.Need-mul-grant Inv-loop μ-loop
-mul-grant c = search needs
-
-array-read-grant : tie.Need-array-read-grant Inv-loop μ-loop
-array-read-grant c = search needs
-
-mul-quotas : tie.Need-mul-quotas Inv-loop μ-loop
-mul-quotas c = search needs
-
-array-set-from-quotas : tie.Need-array-set-from-quotas Inv-loop μ-loop
-array-set-from-quotas c = search needs
-
-add-i : tie.Need-add-i Inv-loop μ-loop
-add-i c = search needs
-
-loop-less : tie.Need-loop-less Inv-loop μ-loop
-loop-less c = search needs
 
 loop-again : tie.Need-loop-again Inv-loop μ-loop
 loop-again c =
@@ -70,13 +48,13 @@ begin-spec =
     (tie.spec
     Inv-loop
     μ-loop
-    zero-requires
+    (λ c κs. search needs)
     loop-holds
-    mul-grant
-    array-read-grant
-    mul-quotas
-    array-set-from-quotas
-    add-i
-    loop-less
+    (λ c. search needs)
+    (λ c. search needs)
+    (λ c. search needs)
+    (λ c. search needs)
+    (λ c. search needs)
+    (λ c. search needs)
     loop-again
     returns)

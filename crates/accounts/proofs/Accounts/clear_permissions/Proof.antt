@@ -1,5 +1,4 @@
 -- `accounts::Accounts::clear_permissions` meets its contract: a quota that is there changes by itself.
--- Assumes nothing.
 use borrow.Author.Needs.{needs}
 use mathlib.Core.Path.{_∙_, ap, sym}
 use lib.ListN.{set}
@@ -9,24 +8,6 @@ use Rattle.accounts.specs.Accounts.{with-quotas, with-permissions, quota
 use Rattle.accounts.proofs.Permissions.{clear-there, clear-no-quota}
 use Rattle.accounts.proofs.Accounts.clear_permissions.Statement.{statement}
 use Rattle.accounts.proofs.Accounts.clear_permissions.Tie as tie
-
-mul-entry : tie.Need-mul-entry
-mul-entry c = search needs
-
-element-copy-out-entry : tie.Need-element-copy-out-entry
-element-copy-out-entry c = search needs
-
-cleared-requires : tie.Need-cleared-requires
-cleared-requires c κs = search needs
-
-with-permissions-requires : tie.Need-with-permissions-requires
-with-permissions-requires c κs = search needs
-
-mul-t9 : tie.Need-mul-t9
-mul-t9 c = search needs
-
-element-set-from-self : tie.Need-element-set-from-self
-element-set-from-self c = search needs
 
 returns : tie.Need-returns
 returns c =
@@ -44,11 +25,11 @@ pub clear-permissions-spec : {M : Type 1} → statement M
 clear-permissions-spec =
     tie.close
     (tie.spec
-    mul-entry
-    element-copy-out-entry
-    cleared-requires
-    with-permissions-requires
-    mul-t9
-    element-set-from-self
+    (λ c. search needs)
+    (λ c. search needs)
+    (λ c κs. search needs)
+    (λ c κs. search needs)
+    (λ c. search needs)
+    (λ c. search needs)
     returns
     returns-2)

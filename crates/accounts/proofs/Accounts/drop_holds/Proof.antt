@@ -1,6 +1,5 @@
 -- `accounts::Accounts::drop_holds` meets its contract. The loop's invariant: each record before place `i` is as it is left where the quota's are dropped. The
 -- measure is what is left of the table.
--- Assumes nothing.
 use Prim.Native.Nat.{ℕ, _≤_, _<_, _-_}
 use native.Mathlib.Omega.{arith}
 use borrow.Author.Needs.{needs}
@@ -28,27 +27,6 @@ long c = simp length-map at (c .good .0 .1 .1 .1 .1 .0 .1 .0 .1)
 loop-holds : tie.Need-loop-holds Inv-loop μ-loop
 loop-holds c = (search needs, long (c .before), below-none _)
 
-mul-hold : tie.Need-mul-hold Inv-loop μ-loop
-mul-hold c = search needs
-
-element-copy-out-hold : tie.Need-element-copy-out-hold Inv-loop μ-loop
-element-copy-out-hold c = search needs
-
-dropped-requires : tie.Need-dropped-requires Inv-loop μ-loop
-dropped-requires c κs = search needs
-
-mul-left : tie.Need-mul-left Inv-loop μ-loop
-mul-left c = search needs
-
-array-set-from-left : tie.Need-array-set-from-left Inv-loop μ-loop
-array-set-from-left c = search needs
-
-add-i : tie.Need-add-i Inv-loop μ-loop
-add-i c = search needs
-
-loop-less : tie.Need-loop-less Inv-loop μ-loop
-loop-less c = search needs
-
 loop-again : tie.Need-loop-again Inv-loop μ-loop
 unfolding used
 loop-again c =
@@ -56,7 +34,8 @@ loop-again c =
     let a = at .before .before .args in (
       search needs,
       simp length-set (at .loop .inv .1),
-      mapped-more (dropped (a .quota)) zero-hold zero-hold refl (a .t1 .holds) (at .loop .left) (at .loop .i) (at .loop .inv .2) (omega arith) (c .dropped .result) (c .dropped .ensures),
+      mapped-more (dropped (a .quota)) zero-hold zero-hold refl (a .t1 .holds) (at .loop .left) (at .loop .i) (at .loop .inv .2) (omega arith)
+          (c .dropped .result) (c .dropped .ensures),
     )
 
 returns : tie.Need-returns Inv-loop μ-loop
@@ -65,7 +44,8 @@ returns c =
     let at = c .before in
     let a = at .before .before .args in
     ap (λ (hs : List Hold). with-holds hs (a .t1))
-    (mapped-all (dropped (a .quota)) zero-hold zero-hold refl (a .t1 .holds) (at .loop .left) (at .loop .i) (at .loop .inv .2) (at .loop .inv .1 ∙ sym (long (at .before .before))) (omega arith))
+    (mapped-all (dropped (a .quota)) zero-hold zero-hold refl (a .t1 .holds) (at .loop .left) (at .loop .i) (at .loop .inv .2)
+    (at .loop .inv .1 ∙ sym (long (at .before .before))) (omega arith))
 
 pub drop-holds-spec : {M : Type 1} → statement M
 drop-holds-spec =
@@ -74,12 +54,12 @@ drop-holds-spec =
     Inv-loop
     μ-loop
     loop-holds
-    mul-hold
-    element-copy-out-hold
-    dropped-requires
-    mul-left
-    array-set-from-left
-    add-i
-    loop-less
+    (λ c. search needs)
+    (λ c. search needs)
+    (λ c κs. search needs)
+    (λ c. search needs)
+    (λ c. search needs)
+    (λ c. search needs)
+    (λ c. search needs)
     loop-again
     returns)

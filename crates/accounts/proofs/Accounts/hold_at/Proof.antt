@@ -1,5 +1,4 @@
 -- `accounts::Accounts::hold_at` meets its contract: past the table the definition gives a record of zeros.
--- Assumes nothing.
 use borrow.Author.Needs.{needs}
 use native.Mathlib.Omega.{arith}
 use mathlib.Core.Path.{_≡_, refl, sym, _∙_}
@@ -9,18 +8,9 @@ use Rattle.accounts.proofs.Laws.{hold-at-out}
 use Rattle.accounts.proofs.Accounts.hold_at.Statement.{statement}
 use Rattle.accounts.proofs.Accounts.hold_at.Tie as tie
 
-mul-result : tie.Need-mul-result
-mul-result c = search needs
-
-element-copy-out-result : tie.Need-element-copy-out-result
-element-copy-out-result c = search needs
-
 returns : tie.Need-returns
 unfolding hold-at
 returns c = refl
-
-zero-requires : tie.Need-zero-requires
-zero-requires c κs = search needs
 
 returns-2 : tie.Need-returns-2
 returns-2 c =
@@ -30,4 +20,4 @@ returns-2 c =
 
 pub hold-at-spec : {M : Type 1} → statement M
 hold-at-spec =
-    tie.close (tie.spec mul-result element-copy-out-result returns zero-requires returns-2)
+    tie.close (tie.spec (λ c. search needs) (λ c. search needs) returns (λ c κs. search needs) returns-2)

@@ -1,5 +1,4 @@
 -- `accounts::Accounts::left_permissions` meets its contract: past the table the definition gives zeros.
--- Assumes nothing.
 use borrow.Author.Needs.{needs}
 use native.Mathlib.Omega.{arith}
 use mathlib.Core.Path.{_≡_, sym}
@@ -8,15 +7,6 @@ use Rattle.accounts.specs.Accounts.{QUOTAS}
 use Rattle.accounts.proofs.Permissions.{left-out}
 use Rattle.accounts.proofs.Accounts.left_permissions.Statement.{statement}
 use Rattle.accounts.proofs.Accounts.left_permissions.Tie as tie
-
-mul-cleared : tie.Need-mul-cleared
-mul-cleared c = search needs
-
-element-copy-out-cleared : tie.Need-element-copy-out-cleared
-element-copy-out-cleared c = search needs
-
-cleared-requires : tie.Need-cleared-requires
-cleared-requires c κs = search needs
 
 returns : tie.Need-returns
 returns c = search needs
@@ -28,4 +18,4 @@ returns-2 c =
     sym (left-out (a .quota) (a .bits) (a .t1) (omega arith))
 
 pub left-permissions-spec : {M : Type 1} → statement M
-left-permissions-spec = tie.close (tie.spec mul-cleared element-copy-out-cleared cleared-requires returns returns-2)
+left-permissions-spec = tie.close (tie.spec (λ c. search needs) (λ c. search needs) (λ c κs. search needs) returns returns-2)

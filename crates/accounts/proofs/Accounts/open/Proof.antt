@@ -1,18 +1,8 @@
 -- `accounts::Accounts::open` meets its contract: the accounts of a plain heap of edition 1, with the numbers of the kind and the edition.
--- Assumes nothing.
 use borrow.Author.Needs.{needs}
 use Rattle.accounts.specs.Accounts.{opened}
 use Rattle.accounts.proofs.Accounts.open.Statement.{statement}
 use Rattle.accounts.proofs.Accounts.open.Tie as tie
-
-begin-requires : tie.Need-begin-requires
-begin-requires c κs = search needs
-
-number-requires : tie.Need-number-requires
-number-requires c κs = search needs
-
-number-requires-2 : tie.Need-number-requires-2
-number-requires-2 c κs = search needs
 
 returns : tie.Need-returns
 unfolding opened
@@ -28,4 +18,4 @@ returns c =
     }
 
 pub open-spec : {M : Type 1} → statement M
-open-spec = tie.close (tie.spec begin-requires number-requires number-requires-2 returns)
+open-spec = tie.close (tie.spec (λ c κs. search needs) (λ c κs. search needs) (λ c κs. search needs) returns)

@@ -1,5 +1,4 @@
 -- `accounts::Accounts::put_hold` meets its contract: past the table the definition stores nothing.
--- Assumes nothing.
 use borrow.Author.Needs.{needs}
 use native.Mathlib.Omega.{arith}
 use mathlib.Core.Path.{_≡_, refl, sym}
@@ -8,12 +7,6 @@ use Rattle.accounts.specs.Accounts.{HOLDS, put-hold}
 use Rattle.accounts.proofs.Laws.{put-out}
 use Rattle.accounts.proofs.Accounts.put_hold.Statement.{statement}
 use Rattle.accounts.proofs.Accounts.put_hold.Tie as tie
-
-mul-hold : tie.Need-mul-hold
-mul-hold c = search needs
-
-element-set-from-hold : tie.Need-element-set-from-hold
-element-set-from-hold c = search needs
 
 returns : tie.Need-returns
 unfolding put-hold
@@ -26,4 +19,4 @@ returns-2 c =
     sym (put-out (a .at) (a .hold) (a .t1) (omega arith))
 
 pub put-hold-spec : {M : Type 1} → statement M
-put-hold-spec = tie.close (tie.spec mul-hold element-set-from-hold returns returns-2)
+put-hold-spec = tie.close (tie.spec (λ c. search needs) (λ c. search needs) returns returns-2)

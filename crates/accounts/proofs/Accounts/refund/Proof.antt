@@ -1,5 +1,4 @@
 -- `accounts::Accounts::refund` meets its contract: a quota that is there changes by itself.
--- Assumes nothing.
 use borrow.Author.Needs.{needs}
 use mathlib.Core.Path.{_∙_, ap, sym}
 use Prim.Native.Nat.{_+_}
@@ -10,25 +9,11 @@ use Rattle.accounts.proofs.Laws.{refund-refunded, refund-no-quota}
 use Rattle.accounts.proofs.Accounts.refund.Statement.{statement}
 use Rattle.accounts.proofs.Accounts.refund.Tie as tie
 
-mul-entry : tie.Need-mul-entry
-mul-entry c = search needs
-
-element-copy-out-entry : tie.Need-element-copy-out-entry
-element-copy-out-entry c = search needs
-
-refunded-requires : tie.Need-refunded-requires
-refunded-requires c κs = search needs
-
-mul-t8 : tie.Need-mul-t8
-mul-t8 c = search needs
-
-element-set-from-self : tie.Need-element-set-from-self
-element-set-from-self c = search needs
-
 returns : tie.Need-returns
 returns c =
     let a = c .before .before .before .args in
-    ap (λ (x : Quota). with-quotas (set (a .t1 .quotas) (a .quota) x) (a .t1)) (c .refunded .ensures) ∙ sym (refund-refunded (a .quota) (a .amount) (a .t1) (search needs))
+    ap (λ (x : Quota). with-quotas (set (a .t1 .quotas) (a .quota) x) (a .t1)) (c .refunded .ensures)
+    ∙ sym (refund-refunded (a .quota) (a .amount) (a .t1) (search needs))
 
 returns-2 : tie.Need-returns-2
 returns-2 c =
@@ -38,4 +23,4 @@ returns-2 c =
 pub refund-spec : {M : Type 1} → statement M
 refund-spec =
     tie.close
-    (tie.spec mul-entry element-copy-out-entry refunded-requires mul-t8 element-set-from-self returns returns-2)
+    (tie.spec (λ c. search needs) (λ c. search needs) (λ c κs. search needs) (λ c. search needs) (λ c. search needs) returns returns-2)

@@ -1,5 +1,4 @@
 -- `accounts::Accounts::remaining` meets its contract: past the table the definition gives zeros.
--- Assumes nothing.
 use borrow.Author.Needs.{needs}
 use native.Mathlib.Omega.{arith}
 use mathlib.Core.Path.{_≡_, refl, sym}
@@ -8,12 +7,6 @@ use Rattle.accounts.specs.Accounts.{QUOTAS, remaining}
 use Rattle.accounts.proofs.Laws.{remaining-out}
 use Rattle.accounts.proofs.Accounts.remaining.Statement.{statement}
 use Rattle.accounts.proofs.Accounts.remaining.Tie as tie
-
-mul-result : tie.Need-mul-result
-mul-result c = search needs
-
-element-copy-out-result : tie.Need-element-copy-out-result
-element-copy-out-result c = search needs
 
 returns : tie.Need-returns
 unfolding remaining
@@ -26,4 +19,4 @@ returns-2 c =
     sym (remaining-out (c .before .args .quota) k (omega arith))
 
 pub remaining-spec : {M : Type 1} → statement M
-remaining-spec = tie.close (tie.spec mul-result element-copy-out-result returns returns-2)
+remaining-spec = tie.close (tie.spec (λ c. search needs) (λ c. search needs) returns returns-2)

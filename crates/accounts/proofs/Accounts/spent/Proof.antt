@@ -1,5 +1,4 @@
 -- `accounts::Accounts::spent` meets its contract: past the table the definition gives zeros, and a difference below 0 is 0.
--- Assumes nothing.
 use borrow.Author.Needs.{needs}
 use native.Mathlib.Omega.{arith}
 use mathlib.Core.Path.{_≡_, refl, sym}
@@ -15,12 +14,6 @@ returns c =
     let long : length (k .quotas) ≡ QUOTAS = simp length-map at (c .before .good .0 .1 .1 .0 .1 .0 .1) in
     sym (spent-out (c .before .args .quota) k (omega arith))
 
-mul-entry : tie.Need-mul-entry
-mul-entry c = search needs
-
-element-copy-out-entry : tie.Need-element-copy-out-entry
-element-copy-out-entry c = search needs
-
 returns-2 : tie.Need-returns-2
 unfolding spent remaining
 returns-2 c = omega arith
@@ -30,4 +23,4 @@ unfolding spent remaining
 returns-3 c = refl
 
 pub spent-spec : {M : Type 1} → statement M
-spent-spec = tie.close (tie.spec returns mul-entry element-copy-out-entry returns-2 returns-3)
+spent-spec = tie.close (tie.spec returns (λ c. search needs) (λ c. search needs) returns-2 returns-3)

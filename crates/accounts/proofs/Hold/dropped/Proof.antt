@@ -1,5 +1,4 @@
 -- `accounts::Hold::dropped` meets its contract: the two tests of the definition, in its order.
--- Assumes nothing.
 use borrow.Author.Needs.{needs}
 use mathlib.Core.Path.{_≡_, sym}
 use mathlib.Core.Bool.{true, false}
@@ -7,12 +6,6 @@ use borrow.Author.Tests.{ne-eqb, eq-eqb}
 use Rattle.accounts.specs.Accounts.{used}
 use Rattle.accounts.proofs.Hold.dropped.Statement.{statement}
 use Rattle.accounts.proofs.Hold.dropped.Tie as tie
-
-is-used-requires : tie.Need-is-used-requires
-is-used-requires c κs = search needs
-
-zero-requires : tie.Need-zero-requires
-zero-requires c κs = search needs
 
 returns : tie.Need-returns
 returns c =
@@ -30,4 +23,4 @@ returns-3 c =
     simp u
 
 pub dropped-spec : {M : Type 1} → statement M
-dropped-spec = tie.close (tie.spec is-used-requires zero-requires returns returns-2 returns-3)
+dropped-spec = tie.close (tie.spec (λ c κs. search needs) (λ c κs. search needs) returns returns-2 returns-3)

@@ -1,5 +1,4 @@
 -- `accounts::Hold::is_used` meets its contract: a record is used as soon as one of its three numbers is not 0.
--- Assumes nothing.
 use mathlib.Core.Path.{_≡_, refl}
 use mathlib.Core.Bool.{true, not}
 use lib.Dec.{eqb}

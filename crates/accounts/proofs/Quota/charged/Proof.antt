@@ -1,5 +1,4 @@
 -- `accounts::Quota::charged` meets its contract: the test is the definition's, and the amount is taken off only after it.
--- Assumes nothing.
 use borrow.Author.Needs.{needs}
 use mathlib.Core.Path.{refl}
 use borrow.Author.Tests.{le-leb, lt-leb}

@@ -1,5 +1,4 @@
 -- `accounts::Quota::refunded` meets its contract: the test is the definition's, and the sum is made only where it fits 32 bits.
--- Assumes nothing.
 use borrow.Author.Needs.{needs}
 use Prim.Native.Nat.{_+_, _^_}
 use mathlib.Core.Path.{refl}
@@ -8,17 +7,11 @@ use Rattle.accounts.specs.Accounts.{paid-back}
 use Rattle.accounts.proofs.Quota.refunded.Statement.{statement}
 use Rattle.accounts.proofs.Quota.refunded.Tie as tie
 
-sub-if1 : tie.Need-sub-if1
-sub-if1 c = search needs
-
 returns : tie.Need-returns
 unfolding paid-back
 returns c =
     let a = c .before .before .args in
     rw (le-ltb (a .self .remainder + a .amount) (2 ^ 32) (search needs)) refl
-
-add-t3 : tie.Need-add-t3
-add-t3 c = search needs
 
 returns-2 : tie.Need-returns-2
 unfolding paid-back
@@ -27,4 +20,4 @@ returns-2 c =
     rw (lt-ltb (a .self .remainder + a .amount) (2 ^ 32) (search needs)) refl
 
 pub refunded-spec : {M : Type 1} → statement M
-refunded-spec = tie.close (tie.spec sub-if1 returns add-t3 returns-2)
+refunded-spec = tie.close (tie.spec (λ c. search needs) returns (λ c. search needs) returns-2)

@@ -1,5 +1,4 @@
 -- `allocation::allocate_array` meets its contract: the product of two 32-bit numbers fits 64 bits, so it is the true one.
--- Assumes nothing.
 use mathlib.Core.Path.{subst⁻¹}
 use Prim.Native.Nat.{ℕ, _*_, _^_, _<_}
 use native.Mathlib.Nat.{le-of-lt, lt-of-le-of-lt, mul-le-mul-left, mul-lt-mul-of-pos-right}
@@ -18,16 +17,10 @@ product-fits a b ha hb =
 mul-allocate-wide : tie.Need-mul-allocate-wide
 mul-allocate-wide c = record { fits = product-fits _ _ (search needs) (search needs) }
 
-allocate-wide-requires : tie.Need-allocate-wide-requires
-allocate-wide-requires c κs = search needs
-
-same-length : tie.Need-same-length
-same-length c = search needs
-
 returns : tie.Need-returns
 unfolding allocate-array
 returns c = c .before .before .allocate-wide .ensures
 
 pub allocate-array-spec : {M : Type 1} → statement M
 allocate-array-spec =
-    tie.close (tie.spec mul-allocate-wide allocate-wide-requires same-length returns)
+    tie.close (tie.spec mul-allocate-wide (λ c κs. search needs) (λ c. search needs) returns)

@@ -1,6 +1,5 @@
 -- `allocation::allocate_wide` meets its contract: the survey, the quota's number, its permission and the length are the first lines of allocate, and past them
 -- `grant` gives the definition's outcome.
--- Assumes nothing.
 use borrow.Author.Needs.{needs}
 use Prim.Native.Nat.{ℕ, _/_, _%_}
 use native.Mathlib.Omega.{arith}
@@ -18,24 +17,6 @@ use Rattle.allocation.proofs.Grants.{rounded-by}
 use Rattle.allocation.proofs.Granted.{from-8, refused-check, refused-3, refused-12, refused-4}
 use Rattle.allocation.proofs.allocating.allocate_wide.Statement.{statement}
 use Rattle.allocation.proofs.allocating.allocate_wide.Tie as tie
-
-edition-requires : tie.Need-edition-requires
-edition-requires c κs = search needs
-
-request-requires : tie.Need-request-requires
-request-requires c κs = search needs
-
-survey-requires : tie.Need-survey-requires
-survey-requires c κs = search needs
-
-verdict-requires : tie.Need-verdict-requires
-verdict-requires c κs = search needs
-
-enum-known-refusal : tie.Need-enum-known-refusal
-enum-known-refusal c = search needs
-
-same-length : tie.Need-same-length
-same-length c = search needs
 
 returns : tie.Need-returns
 returns c =
@@ -55,9 +36,6 @@ returns c =
 
 enum-told : tie.Need-enum-told
 enum-told c = search needs
-
-same-length-2 : tie.Need-same-length-2
-same-length-2 c = search needs
 
 returns-2 : tie.Need-returns-2
 returns-2 c =
@@ -94,12 +72,6 @@ checked c =
     let ok = sym (at-verdict .verdict .ensures) ∙ at-enum-told .enum-told .given .1 in
     checked-is u s k v told ok (a .quota) (c .if1 .left)
 
-permissions-requires : tie.Need-permissions-requires
-permissions-requires c κs = search needs
-
-same-length-3 : tie.Need-same-length-3
-same-length-3 c = search needs
-
 returns-3 : tie.Need-returns-3
 returns-3 c =
     let at-permissions = c .before in
@@ -124,9 +96,6 @@ may c =
     let p = at-permissions .permissions .ensures in
     permitted ALLOCATE (a .quota) (accounts-of (a .words .now)) (λ z. c .if2 .left (ap (λ (x : ℕ). x / ALLOCATE % 2) p ∙ z))
 
-same-length-4 : tie.Need-same-length-4
-same-length-4 c = search needs
-
 returns-4 : tie.Need-returns-4
 returns-4 c =
     let else2 = c .before in
@@ -138,9 +107,6 @@ returns-4 c =
     let u = table (k .edition) in
     let zero = line-4-zero (a .length) (from-8 u s k (a .quota) (a .length)) (c .if3 .taken) in
     (refused-4 u s k (a .quota) (a .length) (checked else1) (may else2) zero _ refl, padded-same (a .words .now))
-
-same-length-5 : tie.Need-same-length-5
-same-length-5 c = search needs
 
 returns-5 : tie.Need-returns-5
 returns-5 c =
@@ -182,9 +148,6 @@ grant-requires c κs =
       room = g .known ok .fit;
     }
 
-same-length-6 : tie.Need-same-length-6
-same-length-6 c = search needs
-
 returns-6 : tie.Need-returns-6
 returns-6 c =
     let at-grant = c .before .before in
@@ -213,23 +176,23 @@ pub allocate-wide-spec : {M : Type 1} → statement M
 allocate-wide-spec =
     tie.close
     (tie.spec
-    edition-requires
-    request-requires
-    survey-requires
-    verdict-requires
-    enum-known-refusal
-    same-length
+    (λ c κs. search needs)
+    (λ c κs. search needs)
+    (λ c κs. search needs)
+    (λ c κs. search needs)
+    (λ c. search needs)
+    (λ c. search needs)
     returns
     enum-told
-    same-length-2
+    (λ c. search needs)
     returns-2
-    permissions-requires
-    same-length-3
+    (λ c κs. search needs)
+    (λ c. search needs)
     returns-3
-    same-length-4
+    (λ c. search needs)
     returns-4
-    same-length-5
+    (λ c. search needs)
     returns-5
     grant-requires
-    same-length-6
+    (λ c. search needs)
     returns-6)

@@ -1,20 +1,10 @@
 -- `allocation::book` meets its contract: its three calls are the contract's changes, in their order.
--- Assumes nothing.
 use borrow.Author.Needs.{needs}
 use mathlib.Core.Path.{ap, _∙_}
 use Rattle.accounts.specs.Accounts.{charge, put-hold}
 use Rattle.words.proofs.Padding.{padded-on}
 use Rattle.allocation.proofs.allocating.book.Statement.{statement}
 use Rattle.allocation.proofs.allocating.book.Tie as tie
-
-set-last-serial-requires : tie.Need-set-last-serial-requires
-set-last-serial-requires c κs = search needs
-
-put-hold-requires : tie.Need-put-hold-requires
-put-hold-requires c κs = search needs
-
-charge-requires : tie.Need-charge-requires
-charge-requires c κs = search needs
 
 returns : tie.Need-returns
 returns c =
@@ -31,7 +21,7 @@ pub book-spec : {M : Type 1} → statement M
 book-spec =
     tie.close
     (tie.spec
-    set-last-serial-requires
-    put-hold-requires
-    charge-requires
+    (λ c κs. search needs)
+    (λ c κs. search needs)
+    (λ c κs. search needs)
     returns)

@@ -1,6 +1,5 @@
 -- `allocation::grant` meets its contract: each test is a line of the definition behind the first four, in its order; past all of them the object is cut
 -- where the survey found room, and the accounts change as the definition says.
--- Assumes nothing.
 use borrow.Author.Needs.{needs}
 use Prim.Native.Nat.{ℕ, _+_}
 use native.Mathlib.Omega.{arith}
@@ -31,9 +30,6 @@ add-charge c =
     let start = c .before in
     omega (arith, size-small (start .pre .requested))
 
-remaining-requires : tie.Need-remaining-requires
-remaining-requires c κs = search needs
-
 returns : tie.Need-returns
 returns c =
     let at-remaining = c .before in
@@ -52,9 +48,6 @@ returns-2 c =
       (padded-same (a .words .now), λ t l. refl),
     )
 
-last-serial-requires : tie.Need-last-serial-requires
-last-serial-requires c κs = search needs
-
 returns-3 : tie.Need-returns-3
 returns-3 c =
     let at-last-serial = c .before in
@@ -69,17 +62,8 @@ returns-3 c =
       (padded-same (a .words .now), λ t l. refl),
     )
 
-room-requires : tie.Need-room-requires
-room-requires c κs = search needs
-
-enum-known-block : tie.Need-enum-known-block
-enum-known-block c = search needs
-
 enum-told : tie.Need-enum-told
 enum-told c = search needs
-
-same-length : tie.Need-same-length
-same-length c = search needs
 
 returns-4 : tie.Need-returns-4
 returns-4 c =
@@ -97,18 +81,6 @@ returns-4 c =
       (padded-same (a .words .now), λ t l. refl),
     )
 
-add-serial : tie.Need-add-serial
-add-serial c = search needs
-
-cast-book : tie.Need-cast-book
-cast-book c = search needs
-
-book-requires : tie.Need-book-requires
-book-requires c κs = search needs
-
-carve-requires : tie.Need-carve-requires
-carve-requires c κs = search needs
-
 given-requires : tie.Need-given-requires
 given-requires c κs =
     let at-block = c .before .before .before .before .before .before .before in
@@ -117,9 +89,6 @@ given-requires c κs =
     let b = at-block .block .given in
     let r = room-there (start .pre) (b .0 .0) (b .0 .1 .0) (sym (at-room .room .ensures) ∙ b .1) in
     omega (arith, r .high, r .inside)
-
-same-length-2 : tie.Need-same-length-2
-same-length-2 c = search needs
 
 returns-5 : tie.Need-returns-5
 returns-5 c =
@@ -162,20 +131,20 @@ grant-spec =
     (tie.spec
     cast-length
     add-charge
-    remaining-requires
+    (λ c κs. search needs)
     returns
     returns-2
-    last-serial-requires
+    (λ c κs. search needs)
     returns-3
-    room-requires
-    enum-known-block
+    (λ c κs. search needs)
+    (λ c. search needs)
     enum-told
-    same-length
+    (λ c. search needs)
     returns-4
-    add-serial
-    cast-book
-    book-requires
-    carve-requires
+    (λ c. search needs)
+    (λ c. search needs)
+    (λ c κs. search needs)
+    (λ c κs. search needs)
     given-requires
-    same-length-2
+    (λ c. search needs)
     returns-5)

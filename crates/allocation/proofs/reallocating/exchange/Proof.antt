@@ -1,6 +1,5 @@
 -- `allocation::exchange` meets its contract: lines 5 and 6 refuse as the survey says, what `grant` refuses is refused, and where it gives an object, the copy
 -- and the release that follow make up the definition's outcome.
--- Assumes nothing.
 use borrow.Author.Needs.{needs}
 use Prim.Native.Nat.{ℕ, _+_, _-_, min}
 use native.Mathlib.Omega.{arith}
@@ -24,9 +23,6 @@ use Rattle.allocation.proofs.reallocating.exchange.Tie as tie
 octets : (c : tie.After-slice-known) → Octets (c .before .args .heap .now)
 octets c i = c .slice-known .given i .fits
 
-count-requires : tie.Need-count-requires
-count-requires c κs = search needs
-
 returns : tie.Need-returns
 returns c =
     let start = c .before .before .before .before .before in
@@ -46,9 +42,6 @@ sub-length c =
     let y = start .pre in
     let f = found else1 in
     omega (arith, sized-old y f, located-old y f .header)
-
-cast-if2 : tie.Need-cast-if2
-cast-if2 c = search needs
 
 returns-2 : tie.Need-returns-2
 returns-2 c =
@@ -76,14 +69,8 @@ grant-requires c κs =
     let start = c .before .before .before .before .before .before .before .before .before .before .before in
     grantable (start .pre)
 
-enum-known-granted : tie.Need-enum-known-granted
-enum-known-granted c = search needs
-
 enum-told : tie.Need-enum-told
 enum-told c = search needs
-
-same-length : tie.Need-same-length
-same-length c = search needs
 
 returns-4 : tie.Need-returns-4
 returns-4 c =
@@ -104,12 +91,6 @@ returns-4 c =
       g .ensures .1 .0,
     )
 
-cast-shorter : tie.Need-cast-shorter
-cast-shorter c = search needs
-
-shorter-requires : tie.Need-shorter-requires
-shorter-requires c κs = search needs
-
 add-copy-part : tie.Need-add-copy-part
 add-copy-part c =
     let back = c .before .before .before .before .before .before .before .before .before .before .before .before .before .before in
@@ -119,12 +100,6 @@ add-copy-part c =
     let y = start .pre in
     let f = found else1 in
     omega (arith, located-old y f .end, block-place (a .known .at) (a .heap .now))
-
-cast-copy-part : tie.Need-cast-copy-part
-cast-copy-part c = search needs
-
-copy-part-requires : tie.Need-copy-part-requires
-copy-part-requires c κs = search needs
 
 -- the copy is of as many bytes as both objects have
 copied : (c : tie.After-copy-part) →
@@ -215,22 +190,22 @@ pub exchange-spec : {M : Type 1} → statement M
 exchange-spec =
     tie.close
     (tie.spec
-    count-requires
+    (λ c κs. search needs)
     returns
     sub-length
-    cast-if2
+    (λ c. search needs)
     returns-2
     returns-3
     grant-requires
-    enum-known-granted
+    (λ c. search needs)
     enum-told
-    same-length
+    (λ c. search needs)
     returns-4
-    cast-shorter
-    shorter-requires
+    (λ c. search needs)
+    (λ c κs. search needs)
     add-copy-part
-    cast-copy-part
-    copy-part-requires
+    (λ c. search needs)
+    (λ c κs. search needs)
     drop-claim-requires
     same-length-2
     returns-5)

@@ -1,6 +1,5 @@
 -- `allocation::reallocate` meets its contract: the survey, the quota's number, its permission and the length are the first lines of reallocate, and past them
 -- `exchange` gives the definition's outcome.
--- Assumes nothing.
 use borrow.Author.Needs.{needs}
 use Prim.Native.Nat.{ℕ, _/_, _%_}
 use native.Mathlib.Omega.{arith}
@@ -22,24 +21,6 @@ use Rattle.allocation.proofs.ReallocateAnswers.{from-5, refuses, by-che
 use Rattle.allocation.proofs.reallocating.reallocate.Statement.{statement}
 use Rattle.allocation.proofs.reallocating.reallocate.Tie as tie
 
-edition-requires : tie.Need-edition-requires
-edition-requires c κs = search needs
-
-request-requires : tie.Need-request-requires
-request-requires c κs = search needs
-
-survey-requires : tie.Need-survey-requires
-survey-requires c κs = search needs
-
-verdict-requires : tie.Need-verdict-requires
-verdict-requires c κs = search needs
-
-enum-known-refusal : tie.Need-enum-known-refusal
-enum-known-refusal c = search needs
-
-same-length : tie.Need-same-length
-same-length c = search needs
-
 returns : tie.Need-returns
 returns c =
     let at-refusal = c .before in
@@ -59,9 +40,6 @@ returns c =
 
 enum-told : tie.Need-enum-told
 enum-told c = search needs
-
-same-length-2 : tie.Need-same-length-2
-same-length-2 c = search needs
 
 returns-2 : tie.Need-returns-2
 returns-2 c =
@@ -99,12 +77,6 @@ checked c =
     let ok = sym (at-verdict .verdict .ensures) ∙ at-enum-told .enum-told .given .1 in
     checked-is u s k v told ok (a .quota) (c .if1 .left)
 
-permissions-requires : tie.Need-permissions-requires
-permissions-requires c κs = search needs
-
-same-length-3 : tie.Need-same-length-3
-same-length-3 c = search needs
-
 returns-3 : tie.Need-returns-3
 returns-3 c =
     let at-permissions = c .before in
@@ -130,9 +102,6 @@ may c =
     let p = at-permissions .permissions .ensures in
     permitted ALLOCATE (a .quota) (accounts-of (a .words .now)) (λ z. c .if2 .left (ap (λ (x : ℕ). x / ALLOCATE % 2) p ∙ z))
 
-same-length-4 : tie.Need-same-length-4
-same-length-4 c = search needs
-
 returns-4 : tie.Need-returns-4
 returns-4 c =
     let else2 = c .before in
@@ -145,9 +114,6 @@ returns-4 c =
     let zero = line-4-zero (a .length) (from-5 u s k (a .quota) (a .handle) (a .length)) (c .if3 .taken) in
     let by = by-length u s k (a .quota) (a .handle) (a .length) (checked else1) (may else2) zero in
     (refuses u s k (a .quota) (a .handle) (a .length) _ ObjectLength refl by, padded-same (a .words .now))
-
-same-length-5 : tie.Need-same-length-5
-same-length-5 c = search needs
 
 returns-5 : tie.Need-returns-5
 returns-5 c =
@@ -189,9 +155,6 @@ exchange-requires c κs =
     let z = subst (λ (q : ℕ). Requested s k q (w .result .need) (w .result .unit)) (sym (w .ensures .quota)) y in
     record { requested = z; survey = g; accepted = ok }
 
-same-length-6 : tie.Need-same-length-6
-same-length-6 c = search needs
-
 returns-6 : tie.Need-returns-6
 returns-6 c =
     let at-exchange = c .before .before in
@@ -220,23 +183,23 @@ pub reallocate-spec : {M : Type 1} → statement M
 reallocate-spec =
     tie.close
     (tie.spec
-    edition-requires
-    request-requires
-    survey-requires
-    verdict-requires
-    enum-known-refusal
-    same-length
+    (λ c κs. search needs)
+    (λ c κs. search needs)
+    (λ c κs. search needs)
+    (λ c κs. search needs)
+    (λ c. search needs)
+    (λ c. search needs)
     returns
     enum-told
-    same-length-2
+    (λ c. search needs)
     returns-2
-    permissions-requires
-    same-length-3
+    (λ c κs. search needs)
+    (λ c. search needs)
     returns-3
-    same-length-4
+    (λ c. search needs)
     returns-4
-    same-length-5
+    (λ c. search needs)
     returns-5
     exchange-requires
-    same-length-6
+    (λ c. search needs)
     returns-6)

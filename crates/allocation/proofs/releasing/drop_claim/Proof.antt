@@ -1,6 +1,5 @@
 -- `allocation::drop_claim` meets its contract: a count above 1 goes down, and the last hold is refunded and makes the record zero. The block is then vacated
 -- exactly where no other quota has a record for its object.
--- Assumes nothing.
 use borrow.Author.Needs.{needs}
 use Prim.Native.Nat.{_-_}
 use native.Mathlib.Omega.{arith}
@@ -25,15 +24,6 @@ use Rattle.allocation.proofs.releasing.drop_claim.Tie as tie
 octets : (c : tie.After-slice-known) → Octets (c .before .args .heap .now)
 octets c i = c .slice-known .given i .fits
 
-hold-at-requires : tie.Need-hold-at-requires
-hold-at-requires c κs = search needs
-
-sub-t14 : tie.Need-sub-t14
-sub-t14 c = search needs
-
-put-hold-requires : tie.Need-put-hold-requires
-put-hold-requires c κs = search needs
-
 returns : tie.Need-returns
 returns c =
     let then1 = c .before .before .before in
@@ -49,9 +39,6 @@ returns c =
           (p .ensures .0 ∙ ap (λ (x : Hold). put-hold (a .place) (with-count (x .count - 1) x) k) (h .ensures)) _ refl,
       p .ensures .1,
     )
-
-block-at-requires : tie.Need-block-at-requires
-block-at-requires c κs = search needs
 
 -- what is known of the block that was read
 droppable : (c : tie.After-block-at) →
@@ -87,15 +74,6 @@ add-charge c =
     let at-block-at = c .before in
     let l = lies at-block-at in omega (arith, l .end, l .allowed)
 
-refund-requires : tie.Need-refund-requires
-refund-requires c κs = search needs
-
-drop-hold-requires : tie.Need-drop-hold-requires
-drop-hold-requires c κs = search needs
-
-same-length : tie.Need-same-length
-same-length c = search needs
-
 returns-2 : tie.Need-returns-2
 returns-2 c =
     let at-drop-hold = c .before in
@@ -116,15 +94,6 @@ returns-2 c =
           ∙ ap (λ (x : Met). claim-dropped (a .heap .now) k (a .quota) (object-met x)) (at-block-at .block-at .ensures),
       padded-on (r .ensures .1) (z .ensures .1),
     )
-
-kind-requires : tie.Need-kind-requires
-kind-requires c κs = search needs
-
-vacate-block-requires : tie.Need-vacate-block-requires
-vacate-block-requires c κs = search needs
-
-same-length-2 : tie.Need-same-length-2
-same-length-2 c = search needs
 
 returns-3 : tie.Need-returns-3
 returns-3 c =
@@ -155,19 +124,19 @@ pub drop-claim-spec : {M : Type 1} → statement M
 drop-claim-spec =
     tie.close
     (tie.spec
-    hold-at-requires
-    sub-t14
-    put-hold-requires
+    (λ c κs. search needs)
+    (λ c. search needs)
+    (λ c κs. search needs)
     returns
-    block-at-requires
+    (λ c κs. search needs)
     sub-length
     cast-length
     add-charge
-    refund-requires
-    drop-hold-requires
-    same-length
+    (λ c κs. search needs)
+    (λ c κs. search needs)
+    (λ c. search needs)
     returns-2
-    kind-requires
-    vacate-block-requires
-    same-length-2
+    (λ c κs. search needs)
+    (λ c κs. search needs)
+    (λ c. search needs)
     returns-3)

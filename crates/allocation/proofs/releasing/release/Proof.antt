@@ -1,6 +1,5 @@
 -- `allocation::release` meets its contract: the survey, the quota's number, the object and the quota's record are the lines of release, and past them the hold
 -- that is dropped is the definition's.
--- Assumes nothing.
 use borrow.Author.Needs.{needs}
 use native.Mathlib.Omega.{arith}
 use mathlib.Core.Path.{refl, sym, _∙_}
@@ -11,21 +10,6 @@ use Rattle.survey.proofs.Told.{place-at, place-nothing}
 use Rattle.allocation.proofs.Releases.{released-checked, released-numbered, released-missed, released-unheld, released-droppable, released-is}
 use Rattle.allocation.proofs.releasing.release.Statement.{statement}
 use Rattle.allocation.proofs.releasing.release.Tie as tie
-
-asked-requires : tie.Need-asked-requires
-asked-requires c κs = search needs
-
-survey-requires : tie.Need-survey-requires
-survey-requires c κs = search needs
-
-verdict-requires : tie.Need-verdict-requires
-verdict-requires c κs = search needs
-
-enum-known-refusal : tie.Need-enum-known-refusal
-enum-known-refusal c = search needs
-
-same-length : tie.Need-same-length
-same-length c = search needs
 
 returns : tie.Need-returns
 returns c =
@@ -46,9 +30,6 @@ returns c =
 enum-told : tie.Need-enum-told
 enum-told c = search needs
 
-same-length-2 : tie.Need-same-length-2
-same-length-2 c = search needs
-
 returns-2 : tie.Need-returns-2
 returns-2 c =
     let at-enum-told = c .before in
@@ -66,9 +47,6 @@ returns-2 c =
           ok (c .if1 .taken) _ refl,
       padded-same (a .words .now),
     )
-
-same-length-3 : tie.Need-same-length-3
-same-length-3 c = search needs
 
 returns-3 : tie.Need-returns-3
 returns-3 c =
@@ -88,9 +66,6 @@ returns-3 c =
           ok (else1 .if1 .left) (not-true _ (c .if2 .taken)) _ refl,
       padded-same (a .words .now),
     )
-
-same-length-4 : tie.Need-same-length-4
-same-length-4 c = search needs
 
 returns-4 : tie.Need-returns-4
 returns-4 c =
@@ -133,9 +108,6 @@ drop-claim-requires c κs =
     released-droppable s k (a .quota) (a .handle) (asked .result) (r .result) (asked .ensures) (r .ensures)
     ok (else1 .if1 .left) (not-false _ (else2 .if2 .left)) i (place-at i (omega (arith, else3 .if3 .left)))
 
-same-length-5 : tie.Need-same-length-5
-same-length-5 c = search needs
-
 returns-5 : tie.Need-returns-5
 returns-5 c =
     let at-drop-claim = c .before .before in
@@ -163,19 +135,19 @@ pub release-spec : {M : Type 1} → statement M
 release-spec =
     tie.close
     (tie.spec
-    asked-requires
-    survey-requires
-    verdict-requires
-    enum-known-refusal
-    same-length
+    (λ c κs. search needs)
+    (λ c κs. search needs)
+    (λ c κs. search needs)
+    (λ c. search needs)
+    (λ c. search needs)
     returns
     enum-told
-    same-length-2
+    (λ c. search needs)
     returns-2
-    same-length-3
+    (λ c. search needs)
     returns-3
-    same-length-4
+    (λ c. search needs)
     returns-4
     drop-claim-requires
-    same-length-5
+    (λ c. search needs)
     returns-5)

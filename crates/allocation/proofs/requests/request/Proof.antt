@@ -1,5 +1,4 @@
 -- `allocation::request` meets its contract: a length that is not allowed asks for no room.
--- Assumes nothing.
 use borrow.Author.Needs.{needs}
 use native.Mathlib.Omega.{arith}
 use mathlib.Core.Path.{_≡_, refl, ap}
@@ -18,9 +17,6 @@ sized : (c : tie.After-object-length) →
     c .object-length .result ≡ object-length (table (a .edition)) (a .length)
 sized c = c .object-length .ensures
 
-asked-requires : tie.Need-asked-requires
-asked-requires c κs = search needs
-
 returns : tie.Need-returns
 returns c =
     let then1 = c .before in
@@ -29,9 +25,6 @@ returns c =
       quota = ap (λ (x : Wanted). x .quota) (c .asked .ensures);
       rounded = λ z l. absurd (omega (arith, z, then1 .if1 .taken));
     }
-
-asked-requires-2 : tie.Need-asked-requires-2
-asked-requires-2 c κs = search needs
 
 returns-2 : tie.Need-returns-2
 returns-2 c =
@@ -42,24 +35,12 @@ returns-2 c =
       rounded = λ z l. absurd (omega (arith, l, then2 .if2 .taken));
     }
 
-cast-asked : tie.Need-cast-asked
-cast-asked c = search needs
-
-object-length-requires : tie.Need-object-length-requires
-object-length-requires c κs = search needs
-
 cast-size : tie.Need-cast-size
 cast-size c =
     let else2 = c .before in
     let start = else2 .before .before in
     let a = start .args in
     omega (arith, sized c, within-heap (a .edition) (a .length) (omega (arith, else2 .if2 .left)))
-
-object-unit-requires : tie.Need-object-unit-requires
-object-unit-requires c κs = search needs
-
-cast-t10 : tie.Need-cast-t10
-cast-t10 c = search needs
 
 returns-3 : tie.Need-returns-3
 returns-3 c =
@@ -82,13 +63,13 @@ pub request-spec : {M : Type 1} → statement M
 request-spec =
     tie.close
     (tie.spec
-    asked-requires
+    (λ c κs. search needs)
     returns
-    asked-requires-2
+    (λ c κs. search needs)
     returns-2
-    cast-asked
-    object-length-requires
+    (λ c. search needs)
+    (λ c κs. search needs)
     cast-size
-    object-unit-requires
-    cast-t10
+    (λ c κs. search needs)
+    (λ c. search needs)
     returns-3)

@@ -1,5 +1,4 @@
 -- `c_api::kind_of` meets its contract: the test of the definition.
--- Assumes nothing.
 use mathlib.Core.Path.{refl}
 use borrow.Author.Tests.{eq-eqb, ne-eqb}
 use Rattle.c_api.specs.Replies.{kind-of}

@@ -1,23 +1,10 @@
 -- `c_api::lokhazim_open` meets its contract: the reply makes, with the heap at exit, the outcome that the result of the call makes.
--- Assumes nothing.
 use mathlib.Core.Path.{ap, _∙_}
 use borrow.Author.Needs.{needs}
 use Rattle.accounts.specs.declared.settings.Settings.{Settings}
 use Rattle.model.specs.Calls.{open-heap}
 use Rattle.c_api.proofs.changes.lokhazim_open.Statement.{statement}
 use Rattle.c_api.proofs.changes.lokhazim_open.Tie as tie
-
-settings-of-requires : tie.Need-settings-of-requires
-settings-of-requires c κs = search needs
-
-open-requires : tie.Need-open-requires
-open-requires c κs = search needs
-
-reply-of-opened-requires : tie.Need-reply-of-opened-requires
-reply-of-opened-requires c κs = search needs
-
-same-length : tie.Need-same-length
-same-length c = search needs
 
 returns : tie.Need-returns
 returns c =
@@ -29,4 +16,4 @@ returns c =
 
 pub lokhazim-open-spec : {M : Type 1} → statement M
 lokhazim-open-spec =
-    tie.close (tie.spec settings-of-requires open-requires reply-of-opened-requires same-length returns)
+    tie.close (tie.spec (λ c κs. search needs) (λ c κs. search needs) (λ c κs. search needs) (λ c. search needs) returns)

@@ -1,17 +1,10 @@
 -- `c_api::lokhazim_in_place_claim` meets its contract: the numbers are those of the call's answer, over the heap and the words that it leaves.
--- Assumes nothing.
 use mathlib.Core.Path.{ap, _∙_}
 use Rattle.results.specs.Results.{outcome}
 use Rattle.words.specs.Words.{accounts-of}
 use borrow.Author.Needs.{needs}
 use Rattle.c_api.proofs.in_place.lokhazim_in_place_claim.Statement.{statement}
 use Rattle.c_api.proofs.in_place.lokhazim_in_place_claim.Tie as tie
-
-claim-requires : tie.Need-claim-requires
-claim-requires c κs = search needs
-
-amount-of-requires : tie.Need-amount-of-requires
-amount-of-requires c κs = search needs
 
 returns : tie.Need-returns
 returns c =
@@ -20,4 +13,4 @@ returns c =
     (ap (outcome s (accounts-of (o .last .1 .0))) (c .amount-of .ensures) ∙ o .ensures .0, o .ensures .1)
 
 pub lokhazim-in-place-claim-spec : {M : Type 1} → statement M
-lokhazim-in-place-claim-spec = tie.close (tie.spec claim-requires amount-of-requires returns)
+lokhazim-in-place-claim-spec = tie.close (tie.spec (λ c κs. search needs) (λ c κs. search needs) returns)

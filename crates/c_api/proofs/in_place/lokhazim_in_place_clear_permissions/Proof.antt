@@ -1,17 +1,10 @@
 -- `c_api::lokhazim_in_place_clear_permissions` meets its contract: the numbers are those of the call's answer, over the heap and the words that it leaves.
--- Assumes nothing.
 use mathlib.Core.Path.{ap, _∙_}
 use Rattle.results.specs.Results.{outcome}
 use Rattle.words.specs.Words.{accounts-of}
 use borrow.Author.Needs.{needs}
 use Rattle.c_api.proofs.in_place.lokhazim_in_place_clear_permissions.Statement.{statement}
 use Rattle.c_api.proofs.in_place.lokhazim_in_place_clear_permissions.Tie as tie
-
-clear-permissions-requires : tie.Need-clear-permissions-requires
-clear-permissions-requires c κs = search needs
-
-amount-of-requires : tie.Need-amount-of-requires
-amount-of-requires c κs = search needs
 
 returns : tie.Need-returns
 returns c =
@@ -21,4 +14,4 @@ returns c =
 
 pub lokhazim-in-place-clear-permissions-spec : {M : Type 1} → statement M
 lokhazim-in-place-clear-permissions-spec =
-    tie.close (tie.spec clear-permissions-requires amount-of-requires returns)
+    tie.close (tie.spec (λ c κs. search needs) (λ c κs. search needs) returns)

@@ -1,5 +1,4 @@
 -- `c_api::lokhazim_in_place_open` meets its contract: the numbers are those of the call's answer, over the heap and the words that it leaves.
--- Assumes nothing.
 use mathlib.Core.Path.{ap, _∙_}
 use borrow.Author.Needs.{needs}
 use Rattle.accounts.specs.declared.settings.Settings.{Settings}
@@ -8,18 +7,6 @@ use Rattle.results.specs.Results.{outcome}
 use Rattle.words.specs.Words.{accounts-of}
 use Rattle.c_api.proofs.in_place.lokhazim_in_place_open.Statement.{statement}
 use Rattle.c_api.proofs.in_place.lokhazim_in_place_open.Tie as tie
-
-settings-of-requires : tie.Need-settings-of-requires
-settings-of-requires c κs = search needs
-
-open-requires : tie.Need-open-requires
-open-requires c κs = search needs
-
-number-of-requires : tie.Need-number-of-requires
-number-of-requires c κs = search needs
-
-same-length : tie.Need-same-length
-same-length c = search needs
 
 returns : tie.Need-returns
 returns c =
@@ -34,4 +21,4 @@ returns c =
 
 pub lokhazim-in-place-open-spec : {M : Type 1} → statement M
 lokhazim-in-place-open-spec =
-    tie.close (tie.spec settings-of-requires open-requires number-of-requires same-length returns)
+    tie.close (tie.spec (λ c κs. search needs) (λ c κs. search needs) (λ c κs. search needs) (λ c. search needs) returns)

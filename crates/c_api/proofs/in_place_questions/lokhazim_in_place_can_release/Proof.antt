@@ -1,17 +1,10 @@
 -- `c_api::lokhazim_in_place_can_release` meets its contract: the numbers are those of the call's answer, and no word changes.
--- Assumes nothing.
 use mathlib.Core.Path.{ap, _∙_}
 use Rattle.results.specs.Results.{outcome}
 use Rattle.words.specs.Words.{accounts-of}
 use borrow.Author.Needs.{needs}
 use Rattle.c_api.proofs.in_place_questions.lokhazim_in_place_can_release.Statement.{statement}
 use Rattle.c_api.proofs.in_place_questions.lokhazim_in_place_can_release.Tie as tie
-
-can-release-requires : tie.Need-can-release-requires
-can-release-requires c κs = search needs
-
-number-of-requires : tie.Need-number-of-requires
-number-of-requires c κs = search needs
 
 returns : tie.Need-returns
 returns c =
@@ -20,4 +13,4 @@ returns c =
 
 pub lokhazim-in-place-can-release-spec : {M : Type 1} → statement M
 lokhazim-in-place-can-release-spec =
-    tie.close (tie.spec can-release-requires number-of-requires returns)
+    tie.close (tie.spec (λ c κs. search needs) (λ c κs. search needs) returns)

@@ -1,5 +1,4 @@
 -- `c_api::lokhazim_in_place_check` meets its contract: the number is that of the check's verdict, and the check changes nothing.
--- Assumes nothing.
 use mathlib.Core.Path.{_∙_}
 use Rattle.rounding.specs.Rounding.{table}
 use Rattle.words.specs.Words.{edition-of, accounts-of}
@@ -8,12 +7,6 @@ use borrow.Author.Needs.{needs}
 use Rattle.c_api.proofs.in_place_questions.lokhazim_in_place_check.Statement.{statement}
 use Rattle.c_api.proofs.in_place_questions.lokhazim_in_place_check.Tie as tie
 
-check-requires : tie.Need-check-requires
-check-requires c κs = search needs
-
-number-of-requires : tie.Need-number-of-requires
-number-of-requires c κs = search needs
-
 returns : tie.Need-returns
 returns c =
     let a = c .before .before .before .args in
@@ -21,4 +14,4 @@ returns c =
     check-whole (table (edition-of w)) (a .heap .now) (accounts-of w) (c .number-of .result) (c .number-of .ensures ∙ c .before .check .ensures)
 
 pub lokhazim-in-place-check-spec : {M : Type 1} → statement M
-lokhazim-in-place-check-spec = tie.close (tie.spec check-requires number-of-requires returns)
+lokhazim-in-place-check-spec = tie.close (tie.spec (λ c κs. search needs) (λ c κs. search needs) returns)

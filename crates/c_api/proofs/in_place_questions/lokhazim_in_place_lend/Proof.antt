@@ -1,17 +1,10 @@
 -- `c_api::lokhazim_in_place_lend` meets its contract: the numbers are those of the call's answer, and no word changes.
--- Assumes nothing.
 use mathlib.Core.Path.{ap, _∙_}
 use Rattle.results.specs.Results.{outcome}
 use Rattle.words.specs.Words.{accounts-of}
 use borrow.Author.Needs.{needs}
 use Rattle.c_api.proofs.in_place_questions.lokhazim_in_place_lend.Statement.{statement}
 use Rattle.c_api.proofs.in_place_questions.lokhazim_in_place_lend.Tie as tie
-
-object-range-requires : tie.Need-object-range-requires
-object-range-requires c κs = search needs
-
-reply-of-range-requires : tie.Need-reply-of-range-requires
-reply-of-range-requires c κs = search needs
 
 returns : tie.Need-returns
 returns c =
@@ -20,4 +13,4 @@ returns c =
 
 pub lokhazim-in-place-lend-spec : {M : Type 1} → statement M
 lokhazim-in-place-lend-spec =
-    tie.close (tie.spec object-range-requires reply-of-range-requires returns)
+    tie.close (tie.spec (λ c κs. search needs) (λ c κs. search needs) returns)

@@ -1,17 +1,10 @@
 -- `c_api::lokhazim_in_place_list_block` meets its contract: the numbers are those of the call's answer and no others, and no word changes.
--- Assumes nothing.
 use mathlib.Core.Path.{ap, _∙_}
 use Rattle.results.specs.Results.{outcome}
 use Rattle.words.specs.Words.{accounts-of}
 use borrow.Author.Needs.{needs}
 use Rattle.c_api.proofs.in_place_questions.lokhazim_in_place_list_block.Statement.{statement}
 use Rattle.c_api.proofs.in_place_questions.lokhazim_in_place_list_block.Tie as tie
-
-list-block-requires : tie.Need-list-block-requires
-list-block-requires c κs = search needs
-
-reply-of-block-requires : tie.Need-reply-of-block-requires
-reply-of-block-requires c κs = search needs
 
 returns : tie.Need-returns
 returns c =
@@ -20,4 +13,4 @@ returns c =
 
 pub lokhazim-in-place-list-block-spec : {M : Type 1} → statement M
 lokhazim-in-place-list-block-spec =
-    tie.close (tie.spec list-block-requires reply-of-block-requires returns)
+    tie.close (tie.spec (λ c κs. search needs) (λ c κs. search needs) returns)

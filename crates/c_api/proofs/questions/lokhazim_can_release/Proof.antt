@@ -1,20 +1,13 @@
 -- `c_api::lokhazim_can_release` meets its contract: the reply has the values of the answer that the call gives.
--- Assumes nothing.
 use mathlib.Core.Path.{ap, _∙_}
 use Rattle.results.specs.Results.{outcome}
 use borrow.Author.Needs.{needs}
 use Rattle.c_api.proofs.questions.lokhazim_can_release.Statement.{statement}
 use Rattle.c_api.proofs.questions.lokhazim_can_release.Tie as tie
 
-can-release-requires : tie.Need-can-release-requires
-can-release-requires c κs = search needs
-
-number-of-requires : tie.Need-number-of-requires
-number-of-requires c κs = search needs
-
 returns : tie.Need-returns
 returns c = ap (outcome (c .before .before .before .args .heap .now) (c .before .before .before .args .accounts)) (c .number-of .ensures)
     ∙ c .before .can-release .ensures
 
 pub lokhazim-can-release-spec : {M : Type 1} → statement M
-lokhazim-can-release-spec = tie.close (tie.spec can-release-requires number-of-requires returns)
+lokhazim-can-release-spec = tie.close (tie.spec (λ c κs. search needs) (λ c κs. search needs) returns)

@@ -1,16 +1,9 @@
 -- `c_api::lokhazim_list_block` meets its contract: the reply has the values of the answer that the call gives, and no other numbers.
--- Assumes nothing.
 use mathlib.Core.Path.{ap, _∙_}
 use Rattle.results.specs.Results.{outcome}
 use borrow.Author.Needs.{needs}
 use Rattle.c_api.proofs.questions.lokhazim_list_block.Statement.{statement}
 use Rattle.c_api.proofs.questions.lokhazim_list_block.Tie as tie
-
-list-from-requires : tie.Need-list-from-requires
-list-from-requires c κs = search needs
-
-reply-of-block-requires : tie.Need-reply-of-block-requires
-reply-of-block-requires c κs = search needs
 
 returns : tie.Need-returns
 returns c =
@@ -18,4 +11,4 @@ returns c =
     (ap (outcome (a .heap .now) (a .accounts)) (c .reply-of-block .ensures .0) ∙ c .before .list-from .ensures, c .reply-of-block .ensures .1)
 
 pub lokhazim-list-block-spec : {M : Type 1} → statement M
-lokhazim-list-block-spec = tie.close (tie.spec list-from-requires reply-of-block-requires returns)
+lokhazim-list-block-spec = tie.close (tie.spec (λ c κs. search needs) (λ c κs. search needs) returns)

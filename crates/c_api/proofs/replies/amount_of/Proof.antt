@@ -1,19 +1,9 @@
 -- `c_api::amount_of` meets its contract: 0 and the amount, or the number of the refusal and 0.
--- Assumes nothing.
 use mathlib.Core.Path.{ap, sym, _∙_}
 use Rattle.model.specs.Answers.{refused, amount-values}
 use borrow.Author.Needs.{needs}
 use Rattle.c_api.proofs.replies.amount_of.Statement.{statement}
 use Rattle.c_api.proofs.replies.amount_of.Tie as tie
-
-enum-known-answer : tie.Need-enum-known-answer
-enum-known-answer c = search needs
-
-enum-known-answer-2 : tie.Need-enum-known-answer-2
-enum-known-answer-2 c = search needs
-
-number-requires : tie.Need-number-requires
-number-requires c κs = search needs
 
 returns : tie.Need-returns
 unfolding amount-values
@@ -25,4 +15,4 @@ returns-2 c = ap refused (c .number .ensures) ∙ sym (ap amount-values (c .befo
 
 pub amount-of-spec : {M : Type 1} → statement M
 amount-of-spec =
-    tie.close (tie.spec enum-known-answer enum-known-answer-2 number-requires returns returns-2)
+    tie.close (tie.spec (λ c. search needs) (λ c. search needs) (λ c κs. search needs) returns returns-2)

@@ -1,5 +1,4 @@
 -- `c_api::number_of` meets its contract: 0 for the accepted case, and the number of the refusal else.
--- Assumes nothing.
 use mathlib.Core.Path.{ap, sym, _∙_}
 use Rattle.model.specs.Answers.{refused, verdict-values}
 use borrow.Author.Needs.{needs}
@@ -8,12 +7,6 @@ use Rattle.c_api.proofs.replies.number_of.Tie as tie
 
 enum-told : tie.Need-enum-told
 enum-told c = search needs
-
-enum-known-verdict : tie.Need-enum-known-verdict
-enum-known-verdict c = search needs
-
-number-requires : tie.Need-number-requires
-number-requires c κs = search needs
 
 returns : tie.Need-returns
 unfolding verdict-values
@@ -25,4 +18,4 @@ returns-2 c = ap refused (c .number .ensures) ∙ sym (ap verdict-values (c .bef
 
 pub number-of-spec : {M : Type 1} → statement M
 number-of-spec =
-    tie.close (tie.spec enum-told enum-known-verdict number-requires returns returns-2)
+    tie.close (tie.spec enum-told (λ c. search needs) (λ c κs. search needs) returns returns-2)

@@ -1,16 +1,12 @@
 -- `c_api::reply_of_amount` meets its contract: the numbers are those of the answer, and the accounts those of the result.
--- Assumes nothing.
 use mathlib.Core.Path.{ap}
 use Rattle.results.specs.Results.{outcome}
 use borrow.Author.Needs.{needs}
 use Rattle.c_api.proofs.replies.reply_of_amount.Statement.{statement}
 use Rattle.c_api.proofs.replies.reply_of_amount.Tie as tie
 
-amount-of-requires : tie.Need-amount-of-requires
-amount-of-requires c κs = search needs
-
 returns : tie.Need-returns
 returns c s = ap (outcome s (c .before .before .args .result .accounts)) (c .amount-of .ensures)
 
 pub reply-of-amount-spec : {M : Type 1} → statement M
-reply-of-amount-spec = tie.close (tie.spec amount-of-requires returns)
+reply-of-amount-spec = tie.close (tie.spec (λ c κs. search needs) returns)

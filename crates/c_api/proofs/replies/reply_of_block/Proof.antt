@@ -1,5 +1,4 @@
 -- `c_api::reply_of_block` meets its contract: 1 and the block, or zeros beside the number of the refusal, 0 where there is none.
--- Assumes nothing.
 use mathlib.Core.Path.{refl, ap, sym, _∙_}
 use mathlib.Core.Option.{none}
 use Rattle.c_api.specs.Replies.{block-numbers, found-block, reply-with}
@@ -9,23 +8,8 @@ use borrow.Author.Needs.{needs}
 use Rattle.c_api.proofs.replies.reply_of_block.Statement.{statement}
 use Rattle.c_api.proofs.replies.reply_of_block.Tie as tie
 
-enum-known-answer : tie.Need-enum-known-answer
-enum-known-answer c = search needs
-
 enum-told : tie.Need-enum-told
 enum-told c = search needs
-
-no-block-requires : tie.Need-no-block-requires
-no-block-requires c κs = search needs
-
-enum-known-answer-2 : tie.Need-enum-known-answer-2
-enum-known-answer-2 c = search needs
-
-number-requires : tie.Need-number-requires
-number-requires c κs = search needs
-
-no-block-requires-2 : tie.Need-no-block-requires-2
-no-block-requires-2 c κs = search needs
 
 returns : tie.Need-returns
 unfolding block-values found-block reply-with
@@ -48,12 +32,12 @@ pub reply-of-block-spec : {M : Type 1} → statement M
 reply-of-block-spec =
     tie.close
     (tie.spec
-    enum-known-answer
+    (λ c. search needs)
     enum-told
-    no-block-requires
-    enum-known-answer-2
-    number-requires
-    no-block-requires-2
+    (λ c κs. search needs)
+    (λ c. search needs)
+    (λ c κs. search needs)
+    (λ c κs. search needs)
     returns
     returns-2
     returns-3)

@@ -1,16 +1,12 @@
 -- `c_api::reply_of_handle` meets its contract: the numbers are those of the answer, and the accounts those of the result.
--- Assumes nothing.
 use mathlib.Core.Path.{ap}
 use Rattle.results.specs.Results.{outcome}
 use borrow.Author.Needs.{needs}
 use Rattle.c_api.proofs.replies.reply_of_handle.Statement.{statement}
 use Rattle.c_api.proofs.replies.reply_of_handle.Tie as tie
 
-handle-of-requires : tie.Need-handle-of-requires
-handle-of-requires c κs = search needs
-
 returns : tie.Need-returns
 returns c s = ap (outcome s (c .before .before .before .args .result .accounts)) (c .before .handle-of .ensures)
 
 pub reply-of-handle-spec : {M : Type 1} → statement M
-reply-of-handle-spec = tie.close (tie.spec handle-of-requires returns)
+reply-of-handle-spec = tie.close (tie.spec (λ c κs. search needs) returns)

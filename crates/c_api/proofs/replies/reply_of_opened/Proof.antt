@@ -1,16 +1,12 @@
 -- `c_api::reply_of_opened` meets its contract: the number is that of the verdict, and the accounts those of the result.
--- Assumes nothing.
 use mathlib.Core.Path.{ap}
 use Rattle.results.specs.Results.{outcome}
 use borrow.Author.Needs.{needs}
 use Rattle.c_api.proofs.replies.reply_of_opened.Statement.{statement}
 use Rattle.c_api.proofs.replies.reply_of_opened.Tie as tie
 
-number-of-requires : tie.Need-number-of-requires
-number-of-requires c κs = search needs
-
 returns : tie.Need-returns
 returns c s = ap (outcome s (c .before .before .args .opened .accounts)) (c .number-of .ensures)
 
 pub reply-of-opened-spec : {M : Type 1} → statement M
-reply-of-opened-spec = tie.close (tie.spec number-of-requires returns)
+reply-of-opened-spec = tie.close (tie.spec (λ c κs. search needs) returns)

@@ -1,19 +1,9 @@
 -- `c_api::reply_of_range` meets its contract: 0 and the range, or the number of the refusal and zeros.
--- Assumes nothing.
 use mathlib.Core.Path.{ap, sym, _∙_}
 use Rattle.model.specs.Answers.{refused, range-values}
 use borrow.Author.Needs.{needs}
 use Rattle.c_api.proofs.replies.reply_of_range.Statement.{statement}
 use Rattle.c_api.proofs.replies.reply_of_range.Tie as tie
-
-enum-known-answer : tie.Need-enum-known-answer
-enum-known-answer c = search needs
-
-enum-known-answer-2 : tie.Need-enum-known-answer-2
-enum-known-answer-2 c = search needs
-
-number-requires : tie.Need-number-requires
-number-requires c κs = search needs
 
 returns : tie.Need-returns
 unfolding range-values
@@ -25,4 +15,4 @@ returns-2 c = ap refused (c .number .ensures) ∙ sym (ap range-values (c .befor
 
 pub reply-of-range-spec : {M : Type 1} → statement M
 reply-of-range-spec =
-    tie.close (tie.spec enum-known-answer enum-known-answer-2 number-requires returns returns-2)
+    tie.close (tie.spec (λ c. search needs) (λ c. search needs) (λ c κs. search needs) returns returns-2)

@@ -1,13 +1,9 @@
 -- The answer's case is the step's.
--- Assumes nothing.
 use mathlib.Core.Path.{ap, sym}
 use borrow.Author.Needs.{needs}
 use Rattle.comparison.specs.Compare.{stepped, advanced}
 use Rattle.comparison.proofs.comparing.answer_of.Statement.{statement}
 use Rattle.comparison.proofs.comparing.answer_of.Tie as tie
-
-enum-known-step : tie.Need-enum-known-step
-enum-known-step c = search needs
 
 enum-told : tie.Need-enum-told
 enum-told c = search needs
@@ -21,4 +17,4 @@ unfolding advanced
 returns-2 c = ap stepped (sym (c .enum-told .given .1))
 
 pub answer-of-spec : {M : Type 1} → statement M
-answer-of-spec = tie.close (tie.spec enum-known-step enum-told returns returns-2)
+answer-of-spec = tie.close (tie.spec (λ c. search needs) enum-told returns returns-2)

@@ -1,5 +1,4 @@
 -- Two images that are not compared, and the difference of two that are (`Compared`).
--- Assumes nothing.
 use mathlib.Core.Path.{ap, sym, _∙_}
 use borrow.Author.Needs.{needs}
 use Rattle.comparison.specs.Compare.{paired}
@@ -7,17 +6,8 @@ use Rattle.comparison.proofs.Compared.{compared-nth, compared-refused}
 use Rattle.comparison.proofs.comparing.compare.Statement.{statement}
 use Rattle.comparison.proofs.comparing.compare.Tie as tie
 
-pair-of-requires : tie.Need-pair-of-requires
-pair-of-requires c κs = search needs
-
 enum-told : tie.Need-enum-told
 enum-told c = search needs
-
-nth-difference-requires : tie.Need-nth-difference-requires
-nth-difference-requires c κs = search needs
-
-enum-known-refusal : tie.Need-enum-known-refusal
-enum-known-refusal c = search needs
 
 returns : tie.Need-returns
 returns c =
@@ -39,9 +29,9 @@ pub compare-spec : {M : Type 1} → statement M
 compare-spec =
     tie.close
     (tie.spec
-    pair-of-requires
+    (λ c κs. search needs)
     enum-told
-    nth-difference-requires
-    enum-known-refusal
+    (λ c κs. search needs)
+    (λ c. search needs)
     returns
     returns-2)

@@ -1,5 +1,4 @@
 -- Two images that are not compared, and the step of two that are (`Compared`).
--- Assumes nothing.
 use mathlib.Core.Path.{ap, sym, _∙_}
 use borrow.Author.Needs.{needs}
 use Rattle.comparison.specs.Compare.{paired, stepped}
@@ -7,20 +6,8 @@ use Rattle.comparison.proofs.Compared.{advanced-step, advanced-refused}
 use Rattle.comparison.proofs.comparing.next_difference.Statement.{statement}
 use Rattle.comparison.proofs.comparing.next_difference.Tie as tie
 
-pair-of-requires : tie.Need-pair-of-requires
-pair-of-requires c κs = search needs
-
 enum-told : tie.Need-enum-told
 enum-told c = search needs
-
-step-from-requires : tie.Need-step-from-requires
-step-from-requires c κs = search needs
-
-answer-of-requires : tie.Need-answer-of-requires
-answer-of-requires c κs = search needs
-
-enum-known-refusal : tie.Need-enum-known-refusal
-enum-known-refusal c = search needs
 
 returns : tie.Need-returns
 returns c =
@@ -44,10 +31,10 @@ pub next-difference-spec : {M : Type 1} → statement M
 next-difference-spec =
     tie.close
     (tie.spec
-    pair-of-requires
+    (λ c κs. search needs)
     enum-told
-    step-from-requires
-    answer-of-requires
-    enum-known-refusal
+    (λ c κs. search needs)
+    (λ c κs. search needs)
+    (λ c. search needs)
     returns
     returns-2)

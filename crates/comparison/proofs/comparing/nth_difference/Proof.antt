@@ -1,6 +1,5 @@
 -- The loop's invariant: what is still to be passed from the position on leads to the difference that was asked for. The measure is how many are to
 -- be passed.
--- Assumes nothing.
 use mathlib.Core.Path.{_≡_, refl, ap, sym, _∙_}
 use borrow.Author.Needs.{needs}
 use lib.ListN.{getElem?}
@@ -21,12 +20,6 @@ abbrev μ-loop : tie.MeasureT-loop
 loop-holds : tie.Need-loop-holds Inv-loop μ-loop
 unfolding differences-from
 loop-holds c = refl
-
-step-from-requires : tie.Need-step-from-requires Inv-loop μ-loop
-step-from-requires c κs = search needs
-
-enum-known-difference : tie.Need-enum-known-difference Inv-loop μ-loop
-enum-known-difference c = search needs
 
 enum-told : tie.Need-enum-told Inv-loop μ-loop
 enum-told c = search needs
@@ -55,12 +48,6 @@ returns-2 c =
     ∙ next-first s t (l .loop .from) (g .difference .given .0 .1 .0) (g .difference .given .0 .0)
     (sym (d .step-from .ensures) ∙ g .difference .given .1))
 
-sub-left : tie.Need-sub-left Inv-loop μ-loop
-sub-left c = search needs
-
-loop-less : tie.Need-loop-less Inv-loop μ-loop
-loop-less c = search needs
-
 loop-again : tie.Need-loop-again Inv-loop μ-loop
 loop-again c =
     let g = c .before .before in
@@ -82,11 +69,11 @@ nth-difference-spec =
     Inv-loop
     μ-loop
     loop-holds
-    step-from-requires
-    enum-known-difference
+    (λ c κs. search needs)
+    (λ c. search needs)
     enum-told
     returns
     returns-2
-    sub-left
-    loop-less
+    (λ c. search needs)
+    (λ c. search needs)
     loop-again)

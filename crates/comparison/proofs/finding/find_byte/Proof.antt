@@ -1,5 +1,4 @@
 -- The loop's invariant: no place passed gives what is wanted. The measure is what is left up to the end.
--- Assumes nothing.
 use native.Mathlib.Omega.{arith}
 use mathlib.Core.Path.{_≡_, sym, _∙_}
 use borrow.Author.Needs.{needs}
@@ -22,15 +21,6 @@ abbrev μ-loop : tie.MeasureT-loop
 loop-holds : tie.Need-loop-holds Inv-loop μ-loop
 loop-holds c = (omega arith, λ k l h. absurd (omega arith), λ h. h)
 
-add-is-equal : tie.Need-add-is-equal Inv-loop μ-loop
-add-is-equal c = search needs
-
-add-is-equal-2 : tie.Need-add-is-equal-2 Inv-loop μ-loop
-add-is-equal-2 c = search needs
-
-is-equal-requires : tie.Need-is-equal-requires Inv-loop μ-loop
-is-equal-requires c κs = search needs
-
 returns : tie.Need-returns Inv-loop μ-loop
 returns c =
     let l = c .before .before .before in
@@ -40,12 +30,6 @@ returns c =
       high = l .loop .inv .2;
       there = λ h. sym (c .before .is-equal .ensures) ∙ beq-true _ _ (c .if1 .taken);
     }
-
-add-at : tie.Need-add-at Inv-loop μ-loop
-add-at c = search needs
-
-loop-less : tie.Need-loop-less Inv-loop μ-loop
-loop-less c = search needs
 
 loop-again : tie.Need-loop-again Inv-loop μ-loop
 loop-again c =
@@ -69,11 +53,11 @@ find-byte-spec =
     Inv-loop
     μ-loop
     loop-holds
-    add-is-equal
-    add-is-equal-2
-    is-equal-requires
+    (λ c. search needs)
+    (λ c. search needs)
+    (λ c κs. search needs)
     returns
-    add-at
-    loop-less
+    (λ c. search needs)
+    (λ c. search needs)
     loop-again
     returns-2)

@@ -1,6 +1,5 @@
 -- The loop's invariant: the list from the number that was asked for is the list from `q` on, since all between are the same. The measure is what
 -- is left of the table.
--- Assumes nothing.
 use native.Mathlib.Omega.{arith}
 use mathlib.Core.Path.{_≡_, sym, _∙_}
 use borrow.Author.Needs.{needs}
@@ -27,32 +26,8 @@ long c = c .good .0 .1 .0 .1
 long-2 : (c : tie.Start Inv-loop μ-loop) → length (c .args .t2) ≡ QUOTAS
 long-2 c = c .good .1 .0 .1 .0 .1
 
-loop-holds : tie.Need-loop-holds Inv-loop μ-loop
-loop-holds c = search needs
-
-mul-is-same-quota : tie.Need-mul-is-same-quota Inv-loop μ-loop
-mul-is-same-quota c = search needs
-
-array-copy-out-is-same-quota : tie.Need-array-copy-out-is-same-quota Inv-loop μ-loop
-array-copy-out-is-same-quota c = search needs
-
-mul-is-same-quota-2 : tie.Need-mul-is-same-quota-2 Inv-loop μ-loop
-mul-is-same-quota-2 c = search needs
-
-array-copy-out-is-same-quota-2 : tie.Need-array-copy-out-is-same-quota-2 Inv-loop μ-loop
-array-copy-out-is-same-quota-2 c = search needs
-
-is-same-quota-requires : tie.Need-is-same-quota-requires Inv-loop μ-loop
-is-same-quota-requires c κs = search needs
-
 returns : tie.Need-returns Inv-loop μ-loop
 returns c = let l = c .before .before .before .before .before in (l .loop .inv, λ h. sym (c .before .is-same-quota .ensures) ∙ not-true _ (c .if1 .taken))
-
-add-q : tie.Need-add-q Inv-loop μ-loop
-add-q c = search needs
-
-loop-less : tie.Need-loop-less Inv-loop μ-loop
-loop-less c = search needs
 
 loop-again : tie.Need-loop-again Inv-loop μ-loop
 unfolding quota-part
@@ -72,14 +47,14 @@ find-quota-spec =
     (tie.spec
     Inv-loop
     μ-loop
-    loop-holds
-    mul-is-same-quota
-    array-copy-out-is-same-quota
-    mul-is-same-quota-2
-    array-copy-out-is-same-quota-2
-    is-same-quota-requires
+    (λ c. search needs)
+    (λ c. search needs)
+    (λ c. search needs)
+    (λ c. search needs)
+    (λ c. search needs)
+    (λ c κs. search needs)
     returns
-    add-q
-    loop-less
+    (λ c. search needs)
+    (λ c. search needs)
     loop-again
     returns-2)

@@ -1,6 +1,5 @@
 -- The loop's invariant: the list from the number that was asked for is the list from `p` on, since all between are the same. The measure is what
 -- is left of the table.
--- Assumes nothing.
 use native.Mathlib.Omega.{arith}
 use mathlib.Core.Path.{_≡_, sym, _∙_}
 use borrow.Author.Needs.{needs}
@@ -27,32 +26,8 @@ long c = c .good .0 .1 .0 .1
 long-2 : (c : tie.Start Inv-loop μ-loop) → length (c .args .t2) ≡ HOLDS
 long-2 c = c .good .1 .0 .1 .0 .1
 
-loop-holds : tie.Need-loop-holds Inv-loop μ-loop
-loop-holds c = search needs
-
-mul-is-same-record : tie.Need-mul-is-same-record Inv-loop μ-loop
-mul-is-same-record c = search needs
-
-array-copy-out-is-same-record : tie.Need-array-copy-out-is-same-record Inv-loop μ-loop
-array-copy-out-is-same-record c = search needs
-
-mul-is-same-record-2 : tie.Need-mul-is-same-record-2 Inv-loop μ-loop
-mul-is-same-record-2 c = search needs
-
-array-copy-out-is-same-record-2 : tie.Need-array-copy-out-is-same-record-2 Inv-loop μ-loop
-array-copy-out-is-same-record-2 c = search needs
-
-is-same-record-requires : tie.Need-is-same-record-requires Inv-loop μ-loop
-is-same-record-requires c κs = search needs
-
 returns : tie.Need-returns Inv-loop μ-loop
 returns c = let l = c .before .before .before .before .before in (l .loop .inv, λ h. sym (c .before .is-same-record .ensures) ∙ not-true _ (c .if1 .taken))
-
-add-p : tie.Need-add-p Inv-loop μ-loop
-add-p c = search needs
-
-loop-less : tie.Need-loop-less Inv-loop μ-loop
-loop-less c = search needs
 
 loop-again : tie.Need-loop-again Inv-loop μ-loop
 unfolding record-part
@@ -72,14 +47,14 @@ find-record-spec =
     (tie.spec
     Inv-loop
     μ-loop
-    loop-holds
-    mul-is-same-record
-    array-copy-out-is-same-record
-    mul-is-same-record-2
-    array-copy-out-is-same-record-2
-    is-same-record-requires
+    (λ c. search needs)
+    (λ c. search needs)
+    (λ c. search needs)
+    (λ c. search needs)
+    (λ c. search needs)
+    (λ c κs. search needs)
     returns
-    add-p
-    loop-less
+    (λ c. search needs)
+    (λ c. search needs)
     loop-again
     returns-2)

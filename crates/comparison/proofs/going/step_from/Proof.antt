@@ -1,5 +1,4 @@
 -- The list from a position on is by cases of the position.
--- Assumes nothing.
 use mathlib.Core.Path.{ap, sym, _∙_}
 use borrow.Author.Needs.{needs}
 use Rattle.comparison.specs.Differences.{state-in}
@@ -10,39 +9,6 @@ use Rattle.comparison.proofs.going.step_from.Tie as tie
 
 enum-told : tie.Need-enum-told
 enum-told c = search needs
-
-from-start-requires : tie.Need-from-start-requires
-from-start-requires c κs = search needs
-
-enum-told-2 : tie.Need-enum-told-2
-enum-told-2 c = search needs
-
-from-kind-requires : tie.Need-from-kind-requires
-from-kind-requires c κs = search needs
-
-enum-told-3 : tie.Need-enum-told-3
-enum-told-3 c = search needs
-
-from-edition-requires : tie.Need-from-edition-requires
-from-edition-requires c κs = search needs
-
-enum-known-from : tie.Need-enum-known-from
-enum-known-from c = search needs
-
-from-quota-requires : tie.Need-from-quota-requires
-from-quota-requires c κs = search needs
-
-enum-known-from-2 : tie.Need-enum-known-from-2
-enum-known-from-2 c = search needs
-
-from-record-requires : tie.Need-from-record-requires
-from-record-requires c κs = search needs
-
-enum-known-from-3 : tie.Need-enum-known-from-3
-enum-known-from-3 c = search needs
-
-from-byte-requires : tie.Need-from-byte-requires
-from-byte-requires c κs = search needs
 
 returns : tie.Need-returns
 unfolding next-of differences-from
@@ -85,17 +51,17 @@ step-from-spec =
     tie.close
     (tie.spec
     enum-told
-    from-start-requires
-    enum-told-2
-    from-kind-requires
-    enum-told-3
-    from-edition-requires
-    enum-known-from
-    from-quota-requires
-    enum-known-from-2
-    from-record-requires
-    enum-known-from-3
-    from-byte-requires
+    (λ c κs. search needs)
+    (λ c. search needs)
+    (λ c κs. search needs)
+    (λ c. search needs)
+    (λ c κs. search needs)
+    (λ c. search needs)
+    (λ c κs. search needs)
+    (λ c. search needs)
+    (λ c κs. search needs)
+    (λ c. search needs)
+    (λ c κs. search needs)
     returns
     returns-2
     returns-3

@@ -1,5 +1,4 @@
 -- The forms are tested, then the heaps' lengths (`Compared`).
--- Assumes nothing.
 use mathlib.Core.Path.{ap, sym, _∙_}
 use Prim.Native.Nat.{ℕ}
 use borrow.Author.Needs.{needs}
@@ -15,12 +14,6 @@ number-of f = f .number
 abbrev size-of : HeapPlace → ℕ
 size-of p = p .size
 
-form-of-requires : tie.Need-form-of-requires
-form-of-requires c κs = search needs
-
-form-of-requires-2 : tie.Need-form-of-requires-2
-form-of-requires-2 c κs = search needs
-
 returns : tie.Need-returns
 returns c =
     let t = c .before .before .before in
@@ -28,12 +21,6 @@ returns c =
     let a = o .before .before .before .args in
     other-form (a .first .now) (a .second .now)
     (λ q. c .if1 .taken (ap number-of (o .form-of .ensures) ∙ q ∙ sym (ap number-of (t .form-of2 .ensures))))
-
-heap-place-requires : tie.Need-heap-place-requires
-heap-place-requires c κs = search needs
-
-heap-place-requires-2 : tie.Need-heap-place-requires-2
-heap-place-requires-2 c κs = search needs
 
 returns-2 : tie.Need-returns-2
 returns-2 c =
@@ -61,10 +48,10 @@ pub both-spec : {M : Type 1} → statement M
 both-spec =
     tie.close
     (tie.spec
-    form-of-requires
-    form-of-requires-2
+    (λ c κs. search needs)
+    (λ c κs. search needs)
     returns
-    heap-place-requires
-    heap-place-requires-2
+    (λ c κs. search needs)
+    (λ c κs. search needs)
     returns-2
     returns-3)

@@ -1,22 +1,12 @@
 -- The first image's refusal comes before all (`Compared`).
--- Assumes nothing.
 use mathlib.Core.Path.{_∙_}
 use borrow.Author.Needs.{needs}
 use Rattle.comparison.proofs.Compared.{examined-image, examined-number, first-bad, first-good}
 use Rattle.comparison.proofs.pairing.pair_of.Statement.{statement}
 use Rattle.comparison.proofs.pairing.pair_of.Tie as tie
 
-examine-requires : tie.Need-examine-requires
-examine-requires c κs = search needs
-
 enum-told : tie.Need-enum-told
 enum-told c = search needs
-
-with-second-requires : tie.Need-with-second-requires
-with-second-requires c κs = search needs
-
-enum-known-shape : tie.Need-enum-known-shape
-enum-known-shape c = search needs
 
 returns : tie.Need-returns
 returns c =
@@ -38,4 +28,4 @@ returns-2 c =
 pub pair-of-spec : {M : Type 1} → statement M
 pair-of-spec =
     tie.close
-    (tie.spec examine-requires enum-told with-second-requires enum-known-shape returns returns-2)
+    (tie.spec (λ c κs. search needs) enum-told (λ c κs. search needs) (λ c. search needs) returns returns-2)

@@ -1,22 +1,12 @@
 -- The second image's refusal, then those of both (`Compared`).
--- Assumes nothing.
 use mathlib.Core.Path.{_∙_}
 use borrow.Author.Needs.{needs}
 use Rattle.comparison.proofs.Compared.{examined-image, examined-number, second-bad, second-good}
 use Rattle.comparison.proofs.pairing.with_second.Statement.{statement}
 use Rattle.comparison.proofs.pairing.with_second.Tie as tie
 
-examine-requires : tie.Need-examine-requires
-examine-requires c κs = search needs
-
 enum-told : tie.Need-enum-told
 enum-told c = search needs
-
-both-requires : tie.Need-both-requires
-both-requires c κs = search needs
-
-enum-known-shape : tie.Need-enum-known-shape
-enum-known-shape c = search needs
 
 returns : tie.Need-returns
 returns c =
@@ -38,4 +28,4 @@ returns-2 c =
 pub with-second-spec : {M : Type 1} → statement M
 with-second-spec =
     tie.close
-    (tie.spec examine-requires enum-told both-requires enum-known-shape returns returns-2)
+    (tie.spec (λ c κs. search needs) enum-told (λ c κs. search needs) (λ c. search needs) returns returns-2)

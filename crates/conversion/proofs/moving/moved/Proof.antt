@@ -1,5 +1,4 @@
 -- An image of the other form, one that its own bytes refuse, and one whose state is written (`Steps`).
--- Assumes nothing.
 use mathlib.Core.Path.{_≡_, ap, sym, _∙_}
 use Rattle.image_model.specs.declared.Form.{Form}
 use Rattle.image_model.specs.Reading.{form-of}
@@ -9,18 +8,6 @@ use Rattle.conversion.proofs.Steps.{own-refusal, move-other, move-refus
 use borrow.Author.Needs.{needs}
 use Rattle.conversion.proofs.moving.moved.Statement.{statement}
 use Rattle.conversion.proofs.moving.moved.Tie as tie
-
-parse-image-requires : tie.Need-parse-image-requires
-parse-image-requires c κs = search needs
-
-form-of-requires : tie.Need-form-of-requires
-form-of-requires c κs = search needs
-
-number-from-requires : tie.Need-number-from-requires
-number-from-requires c κs = search needs
-
-other-form-requires : tie.Need-other-form-requires
-other-form-requires c κs = search needs
 
 returns : tie.Need-returns
 returns c =
@@ -42,9 +29,6 @@ of-form c =
     let n = c .before .before in
     sym (ap (λ (x : Form). x .number) (n .before .form-of .ensures)) ∙ c .if1 .left ∙ n .number-from .ensures
 
-enum-known-shape : tie.Need-enum-known-shape
-enum-known-shape c = search needs
-
 -- what the image was found to be
 found : (c : tie.After-shape)
     → Found (c .before .before .before .before .before .before .before .before .before .before .args .image .now) (c .shape .given .0 .0)
@@ -56,12 +40,6 @@ found c =
 
 rewrite-requires : tie.Need-rewrite-requires
 rewrite-requires c κs = found-allowed _ _ _ _ (found (c .before .before))
-
-enum-known-shape-2 : tie.Need-enum-known-shape-2
-enum-known-shape-2 c = search needs
-
-same-length : tie.Need-same-length
-same-length c = search needs
 
 returns-2 : tie.Need-returns-2
 returns-2 c =
@@ -84,14 +62,14 @@ pub moved-spec : {M : Type 1} → statement M
 moved-spec =
     tie.close
     (tie.spec
-    parse-image-requires
-    form-of-requires
-    number-from-requires
-    other-form-requires
+    (λ c κs. search needs)
+    (λ c κs. search needs)
+    (λ c κs. search needs)
+    (λ c κs. search needs)
     returns
-    enum-known-shape
+    (λ c. search needs)
     rewrite-requires
-    enum-known-shape-2
-    same-length
+    (λ c. search needs)
+    (λ c. search needs)
     returns-2
     returns-3)

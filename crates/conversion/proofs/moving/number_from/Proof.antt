@@ -1,5 +1,4 @@
 -- Form 1 is moved up, form 2 down.
--- Assumes nothing.
 use borrow.Author.Needs.{needs}
 use Rattle.image_model.specs.Stream.{form-1, form-2}
 use Rattle.conversion.proofs.moving.number_from.Statement.{statement}

@@ -1,5 +1,4 @@
 -- 21 and 22 stay, all else is 23 (`Steps`).
--- Assumes nothing.
 use native.Mathlib.Omega.{arith}
 use mathlib.Core.Path.{ap, sym, _∙_}
 use Rattle.image_model.specs.Answers.{image-refusal-number}
@@ -12,18 +11,12 @@ use borrow.Author.Needs.{needs}
 use Rattle.conversion.proofs.moving.other_form.Statement.{statement}
 use Rattle.conversion.proofs.moving.other_form.Tie as tie
 
-enum-known-shape : tie.Need-enum-known-shape
-enum-known-shape c = search needs
-
 enum-told : tie.Need-enum-told
 enum-told c = search needs
 
 returns : tie.Need-returns
 unfolding shape-parts other-form
 returns c k = sym (ap (λ (x : Shape). other-form (shape-parts x k .refusal)) (c .enum-told .given .1))
-
-number-requires : tie.Need-number-requires
-number-requires c κs = search needs
 
 returns-2 : tie.Need-returns-2
 unfolding shape-parts
@@ -44,4 +37,4 @@ returns-3 c k =
 
 pub other-form-spec : {M : Type 1} → statement M
 other-form-spec =
-    tie.close (tie.spec enum-known-shape enum-told returns number-requires returns-2 returns-3)
+    tie.close (tie.spec (λ c. search needs) enum-told returns (λ c κs. search needs) returns-2 returns-3)

@@ -1,5 +1,4 @@
 -- The room is a part of an array, as long as the heap is to be.
--- Assumes nothing.
 use native.Mathlib.Omega.{arith}
 use mathlib.Core.Path.{_≡_, ap, sym, _∙_}
 use Prim.Native.Nat.{ℕ}
@@ -14,9 +13,6 @@ use Rattle.conversion.specs.Steps.{form-to, rewritten}
 use borrow.Author.Needs.{needs}
 use Rattle.conversion.proofs.moving.rewrite.Statement.{statement}
 use Rattle.conversion.proofs.moving.rewrite.Tie as tie
-
-heap-space-requires : tie.Need-heap-space-requires
-heap-space-requires c κs = search needs
 
 array-borrow-prefix-room : tie.Need-array-borrow-prefix-room
 array-borrow-prefix-room c =
@@ -42,9 +38,6 @@ slice-aggregate-rewrite-in c = sized c
 rewrite-in-requires : tie.Need-rewrite-in-requires
 rewrite-in-requires c κs = ap allowed (sym (sized c)) ∙ c .before .before .before .before .before .pre
 
-same-length : tie.Need-same-length
-same-length c = search needs
-
 returns : tie.Need-returns
 returns c =
     let r = c .before .before .before in
@@ -58,9 +51,9 @@ pub rewrite-spec : {M : Type 1} → statement M
 rewrite-spec =
     tie.close
     (tie.spec
-    heap-space-requires
+    (λ c κs. search needs)
     array-borrow-prefix-room
     slice-aggregate-rewrite-in
     rewrite-in-requires
-    same-length
+    (λ c. search needs)
     returns)

@@ -1,5 +1,4 @@
 -- The room holds the heap of the image, and the writer says what becomes of it (`Steps`).
--- Assumes nothing.
 use mathlib.Core.Path.{_≡_, ap, sym, _∙_}
 use mathlib.Core.List.{List}
 use mathlib.Core.Bool.{true}
@@ -17,26 +16,8 @@ use borrow.Author.Needs.{needs}
 use Rattle.conversion.proofs.moving.rewrite_in.Statement.{statement}
 use Rattle.conversion.proofs.moving.rewrite_in.Tie as tie
 
-heap-place-requires : tie.Need-heap-place-requires
-heap-place-requires c κs = search needs
-
-copy-stream-requires : tie.Need-copy-stream-requires
-copy-stream-requires c κs = search needs
-
-write-to-requires : tie.Need-write-to-requires
-write-to-requires c κs = search needs
-
-enum-known-answer : tie.Need-enum-known-answer
-enum-known-answer c = search needs
-
 enum-told : tie.Need-enum-told
 enum-told c = search needs
-
-same-length : tie.Need-same-length
-same-length c = search needs
-
-same-length-2 : tie.Need-same-length-2
-same-length-2 c = search needs
 
 -- the room holds the heap that the image says, of a length that is allowed
 copied : (c : tie.After-copy-stream)
@@ -63,15 +44,6 @@ returns c =
     (w .write-to .ensures) (c .enum-told .given .0 .0) (c .enum-told .given .1)
     ∙ ap (λ (s : List ℕ). rewritten (form-to (a .up)) (a .out .now) s (a .accounts)) (copied p)
 
-number-requires : tie.Need-number-requires
-number-requires c κs = search needs
-
-same-length-3 : tie.Need-same-length-3
-same-length-3 c = search needs
-
-same-length-4 : tie.Need-same-length-4
-same-length-4 c = search needs
-
 returns-2 : tie.Need-returns-2
 returns-2 c =
     let n = c .before in
@@ -82,12 +54,6 @@ returns-2 c =
     rewrite-unsound (form-to (a .up)) (a .out .now) (w .write-to .last .0) (p .copy-stream .last .1 .1 .0) (a .accounts) (w .write-to .result) (extent p)
     (w .write-to .ensures) (g .answer .given .0 .0) (g .answer .given .1) (sym (n .number .ensures) ∙ c .if1 .taken)
     ∙ ap (λ (s : List ℕ). rewritten (form-to (a .up)) (a .out .now) s (a .accounts)) (copied p)
-
-same-length-5 : tie.Need-same-length-5
-same-length-5 c = search needs
-
-same-length-6 : tie.Need-same-length-6
-same-length-6 c = search needs
 
 returns-3 : tie.Need-returns-3
 returns-3 c =
@@ -104,18 +70,18 @@ pub rewrite-in-spec : {M : Type 1} → statement M
 rewrite-in-spec =
     tie.close
     (tie.spec
-    heap-place-requires
-    copy-stream-requires
-    write-to-requires
-    enum-known-answer
+    (λ c κs. search needs)
+    (λ c κs. search needs)
+    (λ c κs. search needs)
+    (λ c. search needs)
     enum-told
-    same-length
-    same-length-2
+    (λ c. search needs)
+    (λ c. search needs)
     returns
-    number-requires
-    same-length-3
-    same-length-4
+    (λ c κs. search needs)
+    (λ c. search needs)
+    (λ c. search needs)
     returns-2
-    same-length-5
-    same-length-6
+    (λ c. search needs)
+    (λ c. search needs)
     returns-3)

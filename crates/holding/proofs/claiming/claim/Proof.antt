@@ -1,6 +1,5 @@
 -- `holding::claim` meets its contract: the survey, the quota, its permission and the object decide in the order of claim's lines, and then the place of the
 -- quota's record picks the way of the claim. The block lies in the heap, so its length is short and the charge fits.
--- Assumes nothing.
 use borrow.Author.Needs.{needs}
 use Prim.Native.Nat.{ℕ, _-_, _/_, _%_}
 use native.Mathlib.Omega.{arith}
@@ -72,18 +71,6 @@ size-is c = is-sized (surveyed (survey (told (able c)))) (accepts (told (able c)
 lies : (c : tie.After-struct-known2) → Located (entry (able c) .args .heap .now) (entry (able c) .args .handle) (object c)
 lies c = claim-located (surveyed (survey (told (able c)))) (accepts (told (able c))) (object c) (finds c)
 
-asked-requires : tie.Need-asked-requires
-asked-requires c κs = search needs
-
-survey-requires : tie.Need-survey-requires
-survey-requires c κs = search needs
-
-verdict-requires : tie.Need-verdict-requires
-verdict-requires c κs = search needs
-
-enum-known-refusal : tie.Need-enum-known-refusal
-enum-known-refusal c = search needs
-
 returns : tie.Need-returns
 returns c =
     let v = c .before .before .before in
@@ -97,9 +84,6 @@ returns-2 : tie.Need-returns-2
 returns-2 c =
     let t = c .before in
     (claim-numbered (surveyed (survey t)) (accepts t) (c .if1 .taken) _ refl, padded-same (start (survey t) .args .words .now))
-
-permissions-requires : tie.Need-permissions-requires
-permissions-requires c κs = search needs
 
 returns-3 : tie.Need-returns-3
 returns-3 c =
@@ -123,9 +107,6 @@ sub-length c = let l = lies c in let n = size-is c in omega (arith, l .header)
 cast-length : tie.Need-cast-length
 cast-length c = let l = lies c in let n = size-is c in record { fits = omega (arith, l .header, l .end) }
 
-claim-again-requires : tie.Need-claim-again-requires
-claim-again-requires c κs = search needs
-
 returns-5 : tie.Need-returns-5
 returns-5 c =
     let f = c .before .before .before in
@@ -139,9 +120,6 @@ returns-5 c =
           (d .0 ∙ ap (λ (n : ℕ). claim-again at (n - 8) (accounts-of (a .words .now))) (size-is f)),
       d .1,
     )
-
-cast-t16 : tie.Need-cast-t16
-cast-t16 c = search needs
 
 claim-first-requires : tie.Need-claim-first-requires
 claim-first-requires c κs =
@@ -171,20 +149,20 @@ pub claim-spec : {M : Type 1} → statement M
 claim-spec =
     tie.close
     (tie.spec
-    asked-requires
-    survey-requires
-    verdict-requires
-    enum-known-refusal
+    (λ c κs. search needs)
+    (λ c κs. search needs)
+    (λ c κs. search needs)
+    (λ c. search needs)
     returns
     enum-told
     returns-2
-    permissions-requires
+    (λ c κs. search needs)
     returns-3
     returns-4
     sub-length
     cast-length
-    claim-again-requires
+    (λ c κs. search needs)
     returns-5
-    cast-t16
+    (λ c. search needs)
     claim-first-requires
     returns-6)

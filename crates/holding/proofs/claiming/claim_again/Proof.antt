@@ -1,5 +1,4 @@
 -- `holding::claim_again` meets its contract: the test is on the count of the record at the place, and a count below 255 has room for one more.
--- Assumes nothing.
 use borrow.Author.Needs.{needs}
 use mathlib.Core.Path.{ap, _∙_}
 use Rattle.holding.specs.Claims.{claimed-length}
@@ -9,20 +8,11 @@ use Rattle.words.proofs.Padding.{padded-same}
 use Rattle.holding.proofs.claiming.claim_again.Statement.{statement}
 use Rattle.holding.proofs.claiming.claim_again.Tie as tie
 
-hold-at-requires : tie.Need-hold-at-requires
-hold-at-requires c κs = search needs
-
 returns : tie.Need-returns
 returns c =
     let a = c .before .before .before .before .args in
     let h = c .before .before .hold-at in
     (again-limit (a .at) (a .length) (accounts-of (a .words .now)) (h .result) (h .ensures) (c .if1 .taken), padded-same (a .words .now))
-
-add-t9 : tie.Need-add-t9
-add-t9 c = search needs
-
-put-hold-requires : tie.Need-put-hold-requires
-put-hold-requires c κs = search needs
 
 returns-2 : tie.Need-returns-2
 returns-2 c =
@@ -34,4 +24,4 @@ returns-2 c =
     )
 
 pub claim-again-spec : {M : Type 1} → statement M
-claim-again-spec = tie.close (tie.spec hold-at-requires returns add-t9 put-hold-requires returns-2)
+claim-again-spec = tie.close (tie.spec (λ c κs. search needs) returns (λ c. search needs) (λ c κs. search needs) returns-2)

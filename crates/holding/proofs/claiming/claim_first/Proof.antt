@@ -1,6 +1,5 @@
 -- `holding::claim_first` meets its contract: the charge is compared with the remainder, then the lowest unused record is asked for, and only then the quota
 -- pays and the record is stored.
--- Assumes nothing.
 use borrow.Author.Needs.{needs}
 use native.Mathlib.Omega.{arith}
 use mathlib.Core.Path.{ap, _∙_}
@@ -18,9 +17,6 @@ use Rattle.holding.proofs.claiming.claim_first.Tie as tie
 add-charge : tie.Need-add-charge
 add-charge c = omega (arith, c .pre .0)
 
-remaining-requires : tie.Need-remaining-requires
-remaining-requires c κs = search needs
-
 returns : tie.Need-returns
 returns c =
     let a = c .before .before .before .args in (
@@ -36,12 +32,6 @@ returns-2 c =
           (place-of (a .low)) (s .pre .1) (place-nothing (a .low) (c .if2 .taken)),
       padded-same (a .words .now),
     )
-
-charge-requires : tie.Need-charge-requires
-charge-requires c κs = search needs
-
-put-hold-requires : tie.Need-put-hold-requires
-put-hold-requires c κs = search needs
 
 returns-3 : tie.Need-returns-3
 returns-3 c =
@@ -61,9 +51,9 @@ claim-first-spec =
     tie.close
     (tie.spec
     add-charge
-    remaining-requires
+    (λ c κs. search needs)
     returns
     returns-2
-    charge-requires
-    put-hold-requires
+    (λ c κs. search needs)
+    (λ c κs. search needs)
     returns-3)

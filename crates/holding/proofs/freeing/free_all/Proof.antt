@@ -1,6 +1,5 @@
 -- `holding::free_all` meets its contract. Each refusal is the first line that holds: the survey's, the quota's number, and its permission. Past them the
 -- accounts are those that the definition leaves, and the blocks that the records left do not hold are freed (`all-freed`).
--- Assumes nothing.
 use borrow.Author.Needs.{needs}
 use Prim.Native.Nat.{ℕ, _/_, _%_}
 use mathlib.Core.Path.{_≡_, refl, ap, sym, _∙_}
@@ -43,21 +42,6 @@ survey c = c .before .before .before
 accepts : (c : tie.After-enum-told) → verdict-of (survey c .survey .result .refusal) ≡ Accepted
 accepts c = sym (c .before .before .verdict .ensures) ∙ c .enum-told .given .1
 
-unasked-requires : tie.Need-unasked-requires
-unasked-requires c κs = search needs
-
-survey-requires : tie.Need-survey-requires
-survey-requires c κs = search needs
-
-verdict-requires : tie.Need-verdict-requires
-verdict-requires c κs = search needs
-
-enum-known-refusal : tie.Need-enum-known-refusal
-enum-known-refusal c = search needs
-
-same-length : tie.Need-same-length
-same-length c = search needs
-
 returns : tie.Need-returns
 returns c =
     let v = c .before .before .before in
@@ -74,9 +58,6 @@ returns c =
 enum-told : tie.Need-enum-told
 enum-told c = search needs
 
-same-length-2 : tie.Need-same-length-2
-same-length-2 c = search needs
-
 returns-2 : tie.Need-returns-2
 returns-2 c =
     let t = c .before in
@@ -88,12 +69,6 @@ returns-2 c =
     let n = verdict-of (y .survey .result .refusal) in
     let by = all-by-quota u (a .heap .now) k (a .quota) n (y .survey .ensures .told) (accepts t) (c .if1 .taken) in
     (all-refuses u (a .heap .now) k (a .quota) _ QuotaNumber refl by, padded-same w)
-
-permissions-requires : tie.Need-permissions-requires
-permissions-requires c κs = search needs
-
-same-length-3 : tie.Need-same-length-3
-same-length-3 c = search needs
 
 returns-3 : tie.Need-returns-3
 returns-3 c =
@@ -109,21 +84,6 @@ returns-3 c =
     let no = ap (λ (z : ℕ). z / FREE-ALL % 2) (sym (p .permissions .ensures)) ∙ c .if2 .taken in
     let by = all-by-permission u (a .heap .now) k (a .quota) n (y .survey .ensures .told) (accepts t) (e .if1 .left) no in
     (all-refuses u (a .heap .now) k (a .quota) _ NotPermitted refl by, padded-same w)
-
-spent-requires : tie.Need-spent-requires
-spent-requires c κs = search needs
-
-refund-requires : tie.Need-refund-requires
-refund-requires c κs = search needs
-
-cast-drop-holds : tie.Need-cast-drop-holds
-cast-drop-holds c = search needs
-
-drop-holds-requires : tie.Need-drop-holds-requires
-drop-holds-requires c κs = search needs
-
-kind-requires : tie.Need-kind-requires
-kind-requires c κs = search needs
 
 -- what is done to the accounts before blocks are freed
 abbrev dropped : tie.After-kind → tie.After-drop-holds
@@ -175,9 +135,6 @@ walked c =
 free-unheld-requires : tie.Need-free-unheld-requires
 free-unheld-requires c κs = walked c .0
 
-same-length-4 : tie.Need-same-length-4
-same-length-4 c = search needs
-
 returns-4 : tie.Need-returns-4
 returns-4 c =
     let f = c .before .before in
@@ -188,23 +145,23 @@ pub free-all-spec : {M : Type 1} → statement M
 free-all-spec =
     tie.close
     (tie.spec
-    unasked-requires
-    survey-requires
-    verdict-requires
-    enum-known-refusal
-    same-length
+    (λ c κs. search needs)
+    (λ c κs. search needs)
+    (λ c κs. search needs)
+    (λ c. search needs)
+    (λ c. search needs)
     returns
     enum-told
-    same-length-2
+    (λ c. search needs)
     returns-2
-    permissions-requires
-    same-length-3
+    (λ c κs. search needs)
+    (λ c. search needs)
     returns-3
-    spent-requires
-    refund-requires
-    cast-drop-holds
-    drop-holds-requires
-    kind-requires
+    (λ c κs. search needs)
+    (λ c κs. search needs)
+    (λ c. search needs)
+    (λ c κs. search needs)
+    (λ c κs. search needs)
     free-unheld-requires
-    same-length-4
+    (λ c. search needs)
     returns-4)

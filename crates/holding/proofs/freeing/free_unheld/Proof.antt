@@ -1,5 +1,4 @@
 -- `holding::free_unheld` meets its contract: the flags are those that the walk asks for.
--- Assumes nothing.
 use borrow.Author.Needs.{needs}
 use mathlib.Core.Path.{sym, subst}
 use mathlib.Core.Bool.{Bool}
@@ -11,18 +10,12 @@ use Rattle.holding.proofs.freeing.free_unheld.Tie as tie
 abbrev start : tie.After-held-blocks → tie.Start
 start c = c .before .before .before .before
 
-held-blocks-requires : tie.Need-held-blocks-requires
-held-blocks-requires c κs = search needs
-
 free-unkept-requires : tie.Need-free-unkept-requires
 unfolding flags-of
 free-unkept-requires c κs =
     let f = c .before .before in
     let a = start f .args in
     subst (λ (x : List Bool). Emptiable (a .kind) x (a .heap .now)) (sym (f .held-blocks .ensures)) (start f .pre)
-
-same-length : tie.Need-same-length
-same-length c = search needs
 
 returns : tie.Need-returns
 unfolding flags-of
@@ -33,4 +26,4 @@ returns c =
     subst (λ (x : List Bool). Emptied (a .kind) x (a .heap .now) (w .free-unkept .last .0)) (f .held-blocks .ensures) (w .free-unkept .ensures)
 
 pub free-unheld-spec : {M : Type 1} → statement M
-free-unheld-spec = tie.close (tie.spec held-blocks-requires free-unkept-requires same-length returns)
+free-unheld-spec = tie.close (tie.spec (λ c κs. search needs) free-unkept-requires (λ c. search needs) returns)

@@ -1,6 +1,5 @@
 -- `holding::free_unkept` meets its contract. The loop's invariant: whatever records and blocks the flags were told for, the walk came to its place among
 -- them (`Emptying`). Each turn passes a block (`emptying-on`), so what is left of the heap's greatest length falls.
--- Assumes nothing.
 use Prim.Native.Nat.{ℕ, _+_, _*_, _-_, _≤_, _<_}
 use native.Mathlib.Omega.{arith}
 use borrow.Author.Needs.{needs}
@@ -53,17 +52,8 @@ passing c hs bs e =
 loop-holds : tie.Need-loop-holds Inv-loop μ-loop
 loop-holds c = (refl, λ hs bs e. e)
 
-start-at-requires : tie.Need-start-at-requires Inv-loop μ-loop
-start-at-requires c κs = search needs
-
-enum-known-header : tie.Need-enum-known-header Inv-loop μ-loop
-enum-known-header c = search needs
-
 enum-told : tie.Need-enum-told Inv-loop μ-loop
 enum-told c = search needs
-
-same-length : tie.Need-same-length Inv-loop μ-loop
-same-length c = search needs
 
 returns : tie.Need-returns Inv-loop μ-loop
 returns c hs bs e =
@@ -75,14 +65,8 @@ returns c hs bs e =
 mul-i : tie.Need-mul-i Inv-loop μ-loop
 mul-i c = let f = fits (c .before .before) in omega arith
 
-element-copy-out-pass-block : tie.Need-element-copy-out-pass-block Inv-loop μ-loop
-element-copy-out-pass-block c = search needs
-
 pass-block-requires : tie.Need-pass-block-requires Inv-loop μ-loop
 pass-block-requires c κs = let f = fits (c .before .before .before .before) in record { header = omega arith; end = omega arith }
-
-counted-requires : tie.Need-counted-requires Inv-loop μ-loop
-counted-requires c κs = search needs
 
 add-i : tie.Need-add-i Inv-loop μ-loop
 add-i c = omega (arith, c .counted .ensures, counted-few (c .before .before .before .before .before .before .before .before .header .given .0 .0 .serial))
@@ -106,9 +90,6 @@ loop-again c =
     let r = c .before .before .before .pass-block in
     (search needs, λ hs bs e. rw (c .counted .ensures, r .ensures .0, r .ensures .1) (passing h hs bs e .1))
 
-same-length-2 : tie.Need-same-length-2 Inv-loop μ-loop
-same-length-2 c = search needs
-
 returns-2 : tie.Need-returns-2 Inv-loop μ-loop
 returns-2 c hs bs e =
     let l = c .before in
@@ -123,17 +104,17 @@ free-unkept-spec =
     Inv-loop
     μ-loop
     loop-holds
-    start-at-requires
-    enum-known-header
+    (λ c κs. search needs)
+    (λ c. search needs)
     enum-told
-    same-length
+    (λ c. search needs)
     returns
     mul-i
-    element-copy-out-pass-block
+    (λ c. search needs)
     pass-block-requires
-    counted-requires
+    (λ c κs. search needs)
     add-i
     loop-less
     loop-again
-    same-length-2
+    (λ c. search needs)
     returns-2)

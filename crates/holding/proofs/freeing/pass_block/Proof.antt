@@ -1,5 +1,4 @@
 -- `holding::pass_block` meets its contract: a free block and a kept one are left as they are, and another one is freed.
--- Assumes nothing.
 use Prim.Native.Nat.{ℕ, _+_}
 use borrow.Author.Needs.{needs}
 use mathlib.Core.Path.{_≡_, _∙_}
@@ -32,9 +31,6 @@ module _ (kind : ℕ) (kept : Bool) (m : Met) (s : List ℕ) where
   unfolding passed passed-end
   by-freeing e q k = let t = ne-eqb (m .serial) 0 e in let u = ne-eqb (m .serial) QUARANTINED q in (rw (t, u, k), rw (t, u, k))
 
-add-end : tie.Need-add-end
-add-end c = search needs
-
 returns : tie.Need-returns
 returns c = let a = c .before .before .before .before .args in by-serial (a .kind) (a .kept) (a .block) (a .heap .now) (c .if1 .taken)
 
@@ -48,12 +44,6 @@ returns-3 c =
     let a = c .before .before .before .before .before .before .before .args in
     by-flag (a .kind) (a .kept) (a .block) (a .heap .now) (c .before .before .before .if1 .left) (c .before .if2 .left) (c .if3 .taken)
 
-vacate-block-requires : tie.Need-vacate-block-requires
-vacate-block-requires c κs = search needs
-
-same-length : tie.Need-same-length
-same-length c = search needs
-
 returns-4 : tie.Need-returns-4
 returns-4 c =
     let x = c .before .before .before .before in
@@ -63,4 +53,4 @@ returns-4 c =
 
 pub pass-block-spec : {M : Type 1} → statement M
 pass-block-spec =
-    tie.close (tie.spec add-end returns returns-2 returns-3 vacate-block-requires same-length returns-4)
+    tie.close (tie.spec (λ c. search needs) returns returns-2 returns-3 (λ c κs. search needs) (λ c. search needs) returns-4)

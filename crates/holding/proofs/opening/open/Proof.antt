@@ -1,5 +1,4 @@
 -- `holding::open` meets its contract: a length that is not allowed is refused, and else the cleared bytes are the definition's one block.
--- Assumes nothing.
 use borrow.Author.Needs.{needs}
 use mathlib.Core.Path.{sym, _∙_}
 use borrow.Author.Tests.{not-true, not-false}
@@ -7,27 +6,12 @@ use Rattle.holding.proofs.Cleared.{open-refused, open-accepted}
 use Rattle.holding.proofs.opening.open.Statement.{statement}
 use Rattle.holding.proofs.opening.open.Tie as tie
 
-is-allowed-requires : tie.Need-is-allowed-requires
-is-allowed-requires c κs = search needs
-
-clear-requires : tie.Need-clear-requires
-clear-requires c κs = search needs
-
 returns : tie.Need-returns
 returns c =
     let k = c .before .before .before .is-allowed in
     let a = c .before .before .before .before .before .args in
     let w = c .clear .ensures in
     (open-refused (a .settings) (a .heap .now) (a .grants) _ (w .0) (sym (k .ensures) ∙ not-true (k .result) (c .before .before .if1 .taken)), w .1)
-
-clear-requires-2 : tie.Need-clear-requires-2
-clear-requires-2 c κs = search needs
-
-open-requires : tie.Need-open-requires
-open-requires c κs = search needs
-
-same-length : tie.Need-same-length
-same-length c = search needs
 
 returns-2 : tie.Need-returns-2
 returns-2 c =
@@ -44,10 +28,10 @@ pub open-spec : {M : Type 1} → statement M
 open-spec =
     tie.close
     (tie.spec
-    is-allowed-requires
-    clear-requires
+    (λ c κs. search needs)
+    (λ c κs. search needs)
     returns
-    clear-requires-2
-    open-requires
-    same-length
+    (λ c κs. search needs)
+    (λ c κs. search needs)
+    (λ c. search needs)
     returns-2)

@@ -1,5 +1,4 @@
 -- `holding::clear_permissions` meets its contract: the survey decides first, then the quota's number, and else the accounts are the definition's.
--- Assumes nothing.
 use borrow.Author.Needs.{needs}
 use mathlib.Core.Path.{_≡_, refl, sym, _∙_}
 use Rattle.rounding.specs.Rounding.{table}
@@ -20,18 +19,6 @@ survey c = c .before .before .before
 
 accepts : (c : tie.After-enum-told) → verdict-of (survey c .survey .result .refusal) ≡ Accepted
 accepts c = sym (c .before .before .verdict .ensures) ∙ c .enum-told .given .1
-
-unasked-requires : tie.Need-unasked-requires
-unasked-requires c κs = search needs
-
-survey-requires : tie.Need-survey-requires
-survey-requires c κs = search needs
-
-verdict-requires : tie.Need-verdict-requires
-verdict-requires c κs = search needs
-
-enum-known-refusal : tie.Need-enum-known-refusal
-enum-known-refusal c = search needs
 
 returns : tie.Need-returns
 returns c =
@@ -59,15 +46,6 @@ returns-2 c =
       padded-same w,
     )
 
-left-permissions-requires : tie.Need-left-permissions-requires
-left-permissions-requires c κs = search needs
-
-clear-permissions-requires : tie.Need-clear-permissions-requires
-clear-permissions-requires c κs = search needs
-
-cast-t17 : tie.Need-cast-t17
-cast-t17 c = search needs
-
 returns-3 : tie.Need-returns-3
 returns-3 c =
     let p = c .before .before in
@@ -86,14 +64,14 @@ pub clear-permissions-spec : {M : Type 1} → statement M
 clear-permissions-spec =
     tie.close
     (tie.spec
-    unasked-requires
-    survey-requires
-    verdict-requires
-    enum-known-refusal
+    (λ c κs. search needs)
+    (λ c κs. search needs)
+    (λ c κs. search needs)
+    (λ c. search needs)
     returns
     enum-told
     returns-2
-    left-permissions-requires
-    clear-permissions-requires
-    cast-t17
+    (λ c κs. search needs)
+    (λ c κs. search needs)
+    (λ c. search needs)
     returns-3)

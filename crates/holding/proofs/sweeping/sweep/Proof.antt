@@ -1,5 +1,4 @@
 -- `holding::sweep` meets its contract. The refusal is the survey's. Past it the heap is that of its blocks, so the walk may start, and leaves the swept blocks.
--- Assumes nothing.
 use borrow.Author.Needs.{needs}
 use native.Mathlib.Omega.{arith}
 use mathlib.Core.Path.{_≡_, refl, sym, _∙_}
@@ -40,21 +39,6 @@ starts c =
     sweepable (table (edition-of w)) (a .heap .now) (accounts-of w) (octets (known y))
     (check-consistent (table (edition-of w)) (a .heap .now) (accounts-of w) (verdict-of (y .survey .result .refusal)) (y .survey .ensures .told) (accepts c))
 
-unasked-requires : tie.Need-unasked-requires
-unasked-requires c κs = search needs
-
-survey-requires : tie.Need-survey-requires
-survey-requires c κs = search needs
-
-verdict-requires : tie.Need-verdict-requires
-verdict-requires c κs = search needs
-
-enum-known-refusal : tie.Need-enum-known-refusal
-enum-known-refusal c = search needs
-
-same-length : tie.Need-same-length
-same-length c = search needs
-
 returns : tie.Need-returns
 returns c =
     let v = c .before .before .before in
@@ -77,9 +61,6 @@ cast-t12 c =
     let p = starts (b .before .before) in
     omega (arith, b .sweep-blocks .ensures (p .0) (p .1) .2)
 
-same-length-2 : tie.Need-same-length-2
-same-length-2 c = search needs
-
 returns-2 : tie.Need-returns-2
 returns-2 c =
     let b = c .before .before in
@@ -94,14 +75,14 @@ pub sweep-spec : {M : Type 1} → statement M
 sweep-spec =
     tie.close
     (tie.spec
-    unasked-requires
-    survey-requires
-    verdict-requires
-    enum-known-refusal
-    same-length
+    (λ c κs. search needs)
+    (λ c κs. search needs)
+    (λ c κs. search needs)
+    (λ c. search needs)
+    (λ c. search needs)
     returns
     enum-told
     sweep-blocks-requires
     cast-t12
-    same-length-2
+    (λ c. search needs)
     returns-2)

@@ -1,5 +1,4 @@
 -- `holding::sweep_block` meets its contract: a quarantined block is unquarantined, and any other left as it is.
--- Assumes nothing.
 use Prim.Native.Nat.{ℕ, _+_}
 use borrow.Author.Needs.{needs}
 use mathlib.Core.Path.{_≡_, _∙_}
@@ -21,17 +20,8 @@ module _ (m : Met) (s : List ℕ) where
   unfolding swept-bytes swept-end
   by-quarantine e = let t = eq-eqb (m .serial) QUARANTINED e in (rw t, rw t)
 
-add-end : tie.Need-add-end
-add-end c = search needs
-
 returns : tie.Need-returns
 returns c = let a = c .before .before .before .before .args in by-serial (a .block) (a .heap .now) (c .if1 .taken)
-
-unquarantine-block-requires : tie.Need-unquarantine-block-requires
-unquarantine-block-requires c κs = search needs
-
-same-length : tie.Need-same-length
-same-length c = search needs
 
 returns-2 : tie.Need-returns-2
 returns-2 c =
@@ -41,4 +31,4 @@ returns-2 c =
     (c .before .before .unquarantine-block .ensures .0 ∙ f .0, c .before .before .unquarantine-block .ensures .1 ∙ f .1)
 
 pub sweep-block-spec : {M : Type 1} → statement M
-sweep-block-spec = tie.close (tie.spec add-end returns unquarantine-block-requires same-length returns-2)
+sweep-block-spec = tie.close (tie.spec (λ c. search needs) returns (λ c κs. search needs) (λ c. search needs) returns-2)

@@ -1,6 +1,5 @@
 -- `holding::sweep_blocks` meets its contract. The loop's invariant: whatever blocks the heap is cut into, the walk came to its place among them (`Sweeping`).
 -- Each turn passes a block (`sweeping-on`), so what is left of the heap's greatest length falls.
--- Assumes nothing.
 use Prim.Native.Nat.{_+_, _*_, _-_, _≤_, _<_}
 use native.Mathlib.Omega.{arith}
 use borrow.Author.Needs.{needs}
@@ -49,17 +48,8 @@ passing c bs e = let l = turn c in sweeping-on bs (l .loop .sum) (l .loop .at) (
 loop-holds : tie.Need-loop-holds Inv-loop μ-loop
 loop-holds c = (refl, λ bs e. e)
 
-start-at-requires : tie.Need-start-at-requires Inv-loop μ-loop
-start-at-requires c κs = search needs
-
-enum-known-header : tie.Need-enum-known-header Inv-loop μ-loop
-enum-known-header c = search needs
-
 enum-told : tie.Need-enum-told Inv-loop μ-loop
 enum-told c = search needs
-
-same-length : tie.Need-same-length Inv-loop μ-loop
-same-length c = search needs
 
 returns : tie.Need-returns Inv-loop μ-loop
 returns c bs e =
@@ -74,9 +64,6 @@ sweep-block-requires c κs = let f = fits (c .before .before .before) in record 
 
 mul-quarantined-size : tie.Need-mul-quarantined-size Inv-loop μ-loop
 mul-quarantined-size c = let f = fits (c .before .before .before .before .before .before .before) in omega arith
-
-quarantined-size-requires : tie.Need-quarantined-size-requires Inv-loop μ-loop
-quarantined-size-requires c κs = search needs
 
 add-sum : tie.Need-add-sum Inv-loop μ-loop
 add-sum c =
@@ -106,15 +93,15 @@ sweep-blocks-spec =
     Inv-loop
     μ-loop
     loop-holds
-    start-at-requires
-    enum-known-header
+    (λ c κs. search needs)
+    (λ c. search needs)
     enum-told
-    same-length
+    (λ c. search needs)
     returns
     mul-sum
     sweep-block-requires
     mul-quarantined-size
-    quarantined-size-requires
+    (λ c κs. search needs)
     add-sum
     loop-less
     loop-again)

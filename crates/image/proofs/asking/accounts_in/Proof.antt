@@ -1,5 +1,4 @@
 -- The accounts of the form that the image is read as.
--- Assumes nothing.
 use mathlib.Core.Path.{ap, _∙_}
 use borrow.Author.Needs.{needs}
 use Rattle.framing.specs.Frames.{stream-of}
@@ -8,9 +7,6 @@ use Rattle.image_model.specs.Reading.{accounts-of, accounts-in}
 use Rattle.image.proofs.Parses.{form-of-fits}
 use Rattle.image.proofs.asking.accounts_in.Statement.{statement}
 use Rattle.image.proofs.asking.accounts_in.Tie as tie
-
-form-of-requires : tie.Need-form-of-requires
-form-of-requires c κs = search needs
 
 read-accounts-requires : tie.Need-read-accounts-requires
 read-accounts-requires c κs = rw (c .form-of .ensures) (form-of-fits (c .before .before .args .image .now))
@@ -22,4 +18,4 @@ returns c =
     ∙ ap (λ (f : Form). accounts-of f (stream-of (c .before .before .before .args .image .now))) (c .before .form-of .ensures)
 
 pub accounts-in-spec : {M : Type 1} → statement M
-accounts-in-spec = tie.close (tie.spec form-of-requires read-accounts-requires returns)
+accounts-in-spec = tie.close (tie.spec (λ c κs. search needs) read-accounts-requires returns)

@@ -1,17 +1,10 @@
 -- An image that its own bytes refuse is refused so; of another the state decides (`Examined`).
--- Assumes nothing.
 use borrow.Author.Needs.{needs}
 use borrow.Author.Tests.{not-true, not-false}
 use Rattle.image.proofs.Parses.{Found, image-found, found-allowed, found-fits}
 use Rattle.image.proofs.Examined.{examined-refused, examined-unsound, examined-sound}
 use Rattle.image.proofs.asking.examine.Statement.{statement}
 use Rattle.image.proofs.asking.examine.Tie as tie
-
-parse-image-requires : tie.Need-parse-image-requires
-parse-image-requires c κs = search needs
-
-enum-known-shape : tie.Need-enum-known-shape
-enum-known-shape c = search needs
 
 enum-told : tie.Need-enum-told
 enum-told c = search needs
@@ -34,14 +27,8 @@ found c =
 heap-at-requires : tie.Need-heap-at-requires
 heap-at-requires c κs = found-fits _ _ _ _ (found (c .before))
 
-cast-from : tie.Need-cast-from
-cast-from c = search needs
-
 is-sound-requires : tie.Need-is-sound-requires
 is-sound-requires c κs = found-allowed _ _ _ _ (found (c .before .before))
-
-refused-requires : tie.Need-refused-requires
-refused-requires c κs = search needs
 
 returns-2 : tie.Need-returns-2
 returns-2 c =
@@ -66,13 +53,13 @@ pub examine-spec : {M : Type 1} → statement M
 examine-spec =
     tie.close
     (tie.spec
-    parse-image-requires
-    enum-known-shape
+    (λ c κs. search needs)
+    (λ c. search needs)
     enum-told
     returns
     heap-at-requires
-    cast-from
+    (λ c. search needs)
     is-sound-requires
-    refused-requires
+    (λ c κs. search needs)
     returns-2
     returns-3)

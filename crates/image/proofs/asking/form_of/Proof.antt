@@ -1,5 +1,4 @@
 -- The form with the number of the first two stream bytes, or form 1 (`Examined`).
--- Assumes nothing.
 use mathlib.Core.Path.{ap, sym, _∙_}
 use borrow.Author.Needs.{needs}
 use Rattle.image_model.specs.Stream.{form-numbered}
@@ -8,20 +7,8 @@ use Rattle.image.proofs.Examined.{form-known, form-unknown}
 use Rattle.image.proofs.asking.form_of.Statement.{statement}
 use Rattle.image.proofs.asking.form_of.Tie as tie
 
-read-pair-requires : tie.Need-read-pair-requires
-read-pair-requires c κs = search needs
-
-form-numbered-requires : tie.Need-form-numbered-requires
-form-numbered-requires c κs = search needs
-
-enum-known-form : tie.Need-enum-known-form
-enum-known-form c = search needs
-
 enum-told : tie.Need-enum-told
 enum-told c = search needs
-
-form-1-requires : tie.Need-form-1-requires
-form-1-requires c κs = search needs
 
 returns : tie.Need-returns
 returns c =
@@ -41,10 +28,10 @@ pub form-of-spec : {M : Type 1} → statement M
 form-of-spec =
     tie.close
     (tie.spec
-    read-pair-requires
-    form-numbered-requires
-    enum-known-form
+    (λ c κs. search needs)
+    (λ c κs. search needs)
+    (λ c. search needs)
     enum-told
-    form-1-requires
+    (λ c κs. search needs)
     returns
     returns-2)

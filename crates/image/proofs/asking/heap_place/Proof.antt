@@ -1,5 +1,4 @@
 -- The heap begins behind the head of the form.
--- Assumes nothing.
 use mathlib.Core.Path.{ap, _∙_}
 use borrow.Author.Needs.{needs}
 use Rattle.image_model.specs.Stream.{head-length}
@@ -8,17 +7,8 @@ use Rattle.image.proofs.Parses.{form-of-fits}
 use Rattle.image.proofs.asking.heap_place.Statement.{statement}
 use Rattle.image.proofs.asking.heap_place.Tie as tie
 
-form-of-requires : tie.Need-form-of-requires
-form-of-requires c κs = search needs
-
 heap-at-requires : tie.Need-heap-at-requires
 heap-at-requires c κs = rw (c .form-of .ensures) (form-of-fits (c .before .before .args .image .now))
-
-read-quad-requires : tie.Need-read-quad-requires
-read-quad-requires c κs = search needs
-
-cast-t4 : tie.Need-cast-t4
-cast-t4 c = search needs
 
 returns : tie.Need-returns
 unfolding size-in
@@ -29,4 +19,4 @@ returns c =
     λ i. record { start = start i; size = c .read-quad .ensures i }
 
 pub heap-place-spec : {M : Type 1} → statement M
-heap-place-spec = tie.close (tie.spec form-of-requires heap-at-requires cast-t4 read-quad-requires returns)
+heap-place-spec = tie.close (tie.spec (λ c κs. search needs) heap-at-requires (λ c. search needs) (λ c κs. search needs) returns)

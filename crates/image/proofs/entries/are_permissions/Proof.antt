@@ -1,5 +1,4 @@
 -- As one number the four bytes are at most 7 exactly if the first is, and the others are zero (`number-small`).
--- Assumes nothing.
 use mathlib.Core.Path.{ap, _∙_}
 use Prim.Native.Nat.{ℕ}
 use borrow.Author.Needs.{needs}
@@ -11,9 +10,6 @@ use Rattle.image.proofs.Zeros.{number-small}
 use Rattle.image.proofs.entries.are_permissions.Statement.{statement}
 use Rattle.image.proofs.entries.are_permissions.Tie as tie
 
-read-quad-requires : tie.Need-read-quad-requires
-read-quad-requires c κs = search needs
-
 returns : tie.Need-returns
 unfolding form-2 tail-right
 returns c =
@@ -21,4 +17,4 @@ returns c =
     ap (λ (n : ℕ). leb n 7) (c .read-quad .ensures) ∙ number-small (take 4 (drop (a .at) (stream-of (a .image .now))))
 
 pub are-permissions-spec : {M : Type 1} → statement M
-are-permissions-spec = tie.close (tie.spec read-quad-requires returns)
+are-permissions-spec = tie.close (tie.spec (λ c κs. search needs) returns)

@@ -1,6 +1,5 @@
 -- The invariant: the quotas before place `i` have every permission. So one that lacks a permission fails the test, and at the end it holds of all.
 -- The measure is what is left of the table.
--- Assumes nothing.
 use Prim.Native.Nat.{ℕ, _≤_, _<_, _-_}
 use native.Mathlib.Omega.{arith}
 use borrow.Author.Needs.{needs}
@@ -27,9 +26,6 @@ abbrev μ-loop : tie.MeasureT-loop
 loop-holds : tie.Need-loop-holds Inv-loop μ-loop
 loop-holds c = (search needs, below-none _)
 
-quota-at-requires : tie.Need-quota-at-requires Inv-loop μ-loop
-quota-at-requires c κs = search needs
-
 returns : tie.Need-returns Inv-loop μ-loop
 returns c =
     let q = c .before .before in
@@ -37,12 +33,6 @@ returns c =
     let words = l .before .args .words .now in
     sym (all-fails all-permitted zero-quota (quotas-of words) (l .loop .i) (omega (arith, quotas-long words))
     (ap all-permitted (sym (q .quota-at .ensures)) ∙ ne-eqb _ _ (c .if1 .taken)))
-
-add-i : tie.Need-add-i Inv-loop μ-loop
-add-i c = search needs
-
-loop-less : tie.Need-loop-less Inv-loop μ-loop
-loop-less c = search needs
 
 loop-again : tie.Need-loop-again Inv-loop μ-loop
 loop-again c =
@@ -63,9 +53,9 @@ are-permitted-spec =
     Inv-loop
     μ-loop
     loop-holds
-    quota-at-requires
+    (λ c κs. search needs)
     returns
-    add-i
-    loop-less
+    (λ c. search needs)
+    (λ c. search needs)
     loop-again
     returns-2)

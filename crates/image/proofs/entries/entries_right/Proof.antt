@@ -1,6 +1,5 @@
 -- In a form that is not full an entry has nothing to test. In another, the invariant: what is found of the entries from `i` on is found of all (`Items`).
 -- The measure is what is left of them.
--- Assumes nothing.
 use native.Mathlib.Omega.{arith}
 use mathlib.Core.Path.{_≡_, sym, _∙_}
 use mathlib.Core.Bool.{true}
@@ -40,18 +39,6 @@ loop-holds c =
     let t = stream-of (a .image .now) in
     (omega arith, not-false _ (c .if1 .left), λ (f : Form) e. every-all (entry-right f) (entry-width f) (a .count) (drop entries-at t))
 
-mul-are-permissions : tie.Need-mul-are-permissions Inv-loop μ-loop
-mul-are-permissions c = search needs
-
-add-are-permissions : tie.Need-add-are-permissions Inv-loop μ-loop
-add-are-permissions c = search needs
-
-add-are-permissions-2 : tie.Need-add-are-permissions-2 Inv-loop μ-loop
-add-are-permissions-2 c = search needs
-
-are-permissions-requires : tie.Need-are-permissions-requires Inv-loop μ-loop
-are-permissions-requires c κs = search needs
-
 returns-2 : tie.Need-returns-2 Inv-loop μ-loop
 returns-2 c =
     let r = c .before in
@@ -60,9 +47,6 @@ returns-2 c =
     let t = stream-of (a .image .now) in
     λ (f : Form) e. every-stops (entry-right f) (entry-width f) (at .loop .i) (a .count) (drop entries-at t) (omega arith) (at .loop .inv .2 f e)
     (tail-here f t (at .loop .i) (e ∙ at .loop .inv .1) ∙ sym (r .are-permissions .ensures) ∙ not-true _ (c .if2 .taken))
-
-add-i : tie.Need-add-i Inv-loop μ-loop
-add-i c = search needs
 
 loop-less : tie.Need-loop-less Inv-loop μ-loop
 loop-less c = omega arith
@@ -94,12 +78,12 @@ entries-right-spec =
     μ-loop
     returns
     loop-holds
-    mul-are-permissions
-    add-are-permissions
-    add-are-permissions-2
-    are-permissions-requires
+    (λ c. search needs)
+    (λ c. search needs)
+    (λ c. search needs)
+    (λ c κs. search needs)
     returns-2
-    add-i
+    (λ c. search needs)
     loop-less
     loop-again
     returns-3)

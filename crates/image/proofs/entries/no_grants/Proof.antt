@@ -1,5 +1,4 @@
 -- The invariant: what is found of the quotas from `i` on is found of all from the first one on (`Zeros`). The measure is what is left of the table.
--- Assumes nothing.
 use Prim.Native.Nat.{_-_}
 use native.Mathlib.Omega.{arith}
 use borrow.Author.Needs.{needs}
@@ -24,9 +23,6 @@ abbrev μ-loop : tie.MeasureT-loop
 loop-holds : tie.Need-loop-holds Inv-loop μ-loop
 loop-holds c = refl
 
-quota-at-requires : tie.Need-quota-at-requires Inv-loop μ-loop
-quota-at-requires c κs = search needs
-
 returns : tie.Need-returns Inv-loop μ-loop
 returns c =
     let q = c .before .before in
@@ -34,12 +30,6 @@ returns c =
     let a = l .before .args in
     all-stop no-grant zero-quota (quotas-of (a .words .now)) (a .from) (l .loop .i) (l .loop .inv) (omega (arith, quotas-long (a .words .now)))
     (ap no-grant (sym (q .quota-at .ensures)) ∙ ne-eqb _ 0 (c .if1 .taken))
-
-add-i : tie.Need-add-i Inv-loop μ-loop
-add-i c = search needs
-
-loop-less : tie.Need-loop-less Inv-loop μ-loop
-loop-less c = search needs
 
 loop-again : tie.Need-loop-again Inv-loop μ-loop
 loop-again c =
@@ -62,9 +52,9 @@ no-grants-spec =
     Inv-loop
     μ-loop
     loop-holds
-    quota-at-requires
+    (λ c κs. search needs)
     returns
-    add-i
-    loop-less
+    (λ c. search needs)
+    (λ c. search needs)
     loop-again
     returns-2)

@@ -1,5 +1,4 @@
 -- The invariant: the first `i` items are read and the others blank (`read-more`). The measure is what is left of them.
--- Assumes nothing.
 use native.Mathlib.Omega.{arith}
 use mathlib.Core.Path.{_≡_, refl, ap, _∙_}
 use Prim.Native.Nat.{ℕ, _-_, _≤_}
@@ -29,20 +28,8 @@ loop-holds : tie.Need-loop-holds Inv-loop μ-loop
 unfolding each blank opened
 loop-holds c = (omega arith, refl, λ (f : Form) e. refl)
 
-entry-at-requires : tie.Need-entry-at-requires Inv-loop μ-loop
-entry-at-requires c κs = search needs
-
 read-entry-requires : tie.Need-read-entry-requires Inv-loop μ-loop
 read-entry-requires c κs = omega (arith, c .entry-at .ensures .1)
-
-mul-quotas : tie.Need-mul-quotas Inv-loop μ-loop
-mul-quotas c = search needs
-
-array-set-from-quotas : tie.Need-array-set-from-quotas Inv-loop μ-loop
-array-set-from-quotas c = search needs
-
-add-i : tie.Need-add-i Inv-loop μ-loop
-add-i c = search needs
 
 loop-less : tie.Need-loop-less Inv-loop μ-loop
 loop-less c = omega arith
@@ -78,11 +65,11 @@ read-entries-spec =
     Inv-loop
     μ-loop
     loop-holds
-    entry-at-requires
+    (λ c κs. search needs)
     read-entry-requires
-    mul-quotas
-    array-set-from-quotas
-    add-i
+    (λ c. search needs)
+    (λ c. search needs)
+    (λ c. search needs)
     loop-less
     loop-again
     returns)

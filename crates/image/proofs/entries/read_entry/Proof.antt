@@ -1,26 +1,10 @@
 -- Grant and remainder stand at 0 and 4 of an entry, and the permissions at 8 (`entry-read`).
--- Assumes nothing.
 use borrow.Author.Needs.{needs}
 use Rattle.framing.specs.Frames.{stream-of}
 use Rattle.image_model.specs.declared.Form.{Form}
 use Rattle.image.proofs.Decoding.{entry-read}
 use Rattle.image.proofs.entries.read_entry.Statement.{statement}
 use Rattle.image.proofs.entries.read_entry.Tie as tie
-
-read-quad-requires : tie.Need-read-quad-requires
-read-quad-requires c κs = search needs
-
-add-read-quad : tie.Need-add-read-quad
-add-read-quad c = search needs
-
-read-quad-requires-2 : tie.Need-read-quad-requires-2
-read-quad-requires-2 c κs = search needs
-
-add-read-permissions : tie.Need-add-read-permissions
-add-read-permissions c = search needs
-
-read-permissions-requires : tie.Need-read-permissions-requires
-read-permissions-requires c κs = search needs
 
 returns : tie.Need-returns
 returns c =
@@ -33,9 +17,9 @@ pub read-entry-spec : {M : Type 1} → statement M
 read-entry-spec =
     tie.close
     (tie.spec
-    read-quad-requires
-    add-read-quad
-    read-quad-requires-2
-    add-read-permissions
-    read-permissions-requires
+    (λ c κs. search needs)
+    (λ c. search needs)
+    (λ c κs. search needs)
+    (λ c. search needs)
+    (λ c κs. search needs)
     returns)

@@ -1,5 +1,4 @@
 -- The invariant: the first `i` items stand behind each other (`written-more`). The measure is what is left of them.
--- Assumes nothing.
 use native.Mathlib.Omega.{arith}
 use mathlib.Core.Path.{_≡_, refl, ap, sym, _∙_}
 use Prim.Native.Nat.{ℕ, _+_, _*_, _-_, _≤_}
@@ -41,12 +40,6 @@ loop-holds c =
     let a = c .before .args in
     (omega arith, λ (f : Form) e. written-none (entry-bytes f) (entry-width f) (entry-length f) 12 (quotas-of (a .words .now)) (a .head .now))
 
-quota-at-requires : tie.Need-quota-at-requires Inv-loop μ-loop
-quota-at-requires c κs = search needs
-
-entry-at-requires : tie.Need-entry-at-requires Inv-loop μ-loop
-entry-at-requires c κs = search needs
-
 write-entry-requires : tie.Need-write-entry-requires Inv-loop μ-loop
 write-entry-requires c κs =
     let at = c .before .before .before .before in
@@ -54,9 +47,6 @@ write-entry-requires c κs =
     let a = start .args in
     let n = entry-inside (at .loop .i) (a .count) (width-of (a .full)) (length (a .head .now)) (omega arith) (start .pre .1) in
     omega (arith, n, len at, c .entry-at .ensures .0)
-
-add-i : tie.Need-add-i Inv-loop μ-loop
-add-i c = search needs
 
 loop-less : tie.Need-loop-less Inv-loop μ-loop
 loop-less c = omega arith
@@ -101,10 +91,10 @@ write-entries-spec =
     Inv-loop
     μ-loop
     loop-holds
-    quota-at-requires
-    entry-at-requires
+    (λ c κs. search needs)
+    (λ c κs. search needs)
     write-entry-requires
-    add-i
+    (λ c. search needs)
     loop-less
     loop-again
     same-length

@@ -1,5 +1,4 @@
 -- Grant and remainder are written side by side, and in a full form the permissions behind them (`entry-written`, `full-entry-written`).
--- Assumes nothing.
 use native.Mathlib.Omega.{arith}
 use mathlib.Core.Path.{_∙_}
 use borrow.Author.Needs.{needs}
@@ -10,18 +9,6 @@ use Rattle.image.proofs.Heads.{entry-written, full-entry-written}
 use Rattle.image.proofs.entries.write_entry.Statement.{statement}
 use Rattle.image.proofs.entries.write_entry.Tie as tie
 
-write-u32-requires : tie.Need-write-u32-requires
-write-u32-requires c κs = search needs
-
-add-write-u32 : tie.Need-add-write-u32
-add-write-u32 c = search needs
-
-write-u32-requires-2 : tie.Need-write-u32-requires-2
-write-u32-requires-2 c κs = search needs
-
-add-write-permissions : tie.Need-add-write-permissions
-add-write-permissions c = search needs
-
 write-permissions-requires : tie.Need-write-permissions-requires
 write-permissions-requires c κs =
     let t = c .before in
@@ -30,9 +17,6 @@ write-permissions-requires c κs =
     let start = w₁ .before .before .before in
     let l : start .args .at + 12 ≤ length (start .args .head .now) = rw (t .if1 .taken) at (start .pre) in
     search needs
-
-same-length : tie.Need-same-length
-same-length c = search needs
 
 returns : tie.Need-returns
 returns c =
@@ -45,9 +29,6 @@ returns c =
     let l : a .at + 12 ≤ length (a .head .now) = rw (t .if1 .taken) at (start .pre) in
     λ (f : Form) e. full-entry-written (a .at) (a .head .now) (w₁ .write-u32 .last .0) (w₂ .write-u322 .last .0) (omega (arith, l)) f (a .quota)
     (w₁ .write-u32 .ensures) (w₂ .write-u322 .ensures) (w₃ .write-permissions .last .0) (e ∙ t .if1 .taken) l (w₃ .write-permissions .ensures)
-
-same-length-2 : tie.Need-same-length-2
-same-length-2 c = search needs
 
 returns-2 : tie.Need-returns-2
 returns-2 c =
@@ -62,12 +43,12 @@ pub write-entry-spec : {M : Type 1} → statement M
 write-entry-spec =
     tie.close
     (tie.spec
-    write-u32-requires
-    add-write-u32
-    write-u32-requires-2
-    add-write-permissions
+    (λ c κs. search needs)
+    (λ c. search needs)
+    (λ c κs. search needs)
+    (λ c. search needs)
     write-permissions-requires
-    same-length
+    (λ c. search needs)
     returns
-    same-length-2
+    (λ c. search needs)
     returns-2)

@@ -1,5 +1,4 @@
 -- A byte as a number of four bytes is the byte and three zeros (`four-of-one`).
--- Assumes nothing.
 use mathlib.Core.Path.{ap, _∙_}
 use mathlib.Core.List.{List}
 use borrow.Author.Needs.{needs}
@@ -8,15 +7,6 @@ use Rattle.layout.specs.Bytes.{bytes, overwrite, write-number}
 use Rattle.image.proofs.Heads.{four-of-one}
 use Rattle.image.proofs.entries.write_permissions.Statement.{statement}
 use Rattle.image.proofs.entries.write_permissions.Tie as tie
-
-wide-requires : tie.Need-wide-requires
-wide-requires c κs = search needs
-
-write-u32-requires : tie.Need-write-u32-requires
-write-u32-requires c κs = search needs
-
-same-length : tie.Need-same-length
-same-length c = search needs
 
 returns : tie.Need-returns
 unfolding write-number
@@ -29,4 +19,4 @@ returns c =
     ∙ ap (λ (s : List ℕ). overwrite (a .at) s (a .head .now)) (four-of-one (a .permissions) (rw (b .wide .ensures .0) at (b .wide .ensures .1)))
 
 pub write-permissions-spec : {M : Type 1} → statement M
-write-permissions-spec = tie.close (tie.spec wide-requires write-u32-requires same-length returns)
+write-permissions-spec = tie.close (tie.spec (λ c κs. search needs) (λ c κs. search needs) (λ c. search needs) returns)

@@ -1,20 +1,13 @@
 -- Two numbers have a form.
--- Assumes nothing.
 use borrow.Author.Needs.{needs}
 use borrow.Author.Tests.{eq-eqb, ne-eqb}
 use Rattle.image_model.specs.Stream.{form-numbered}
 use Rattle.image.proofs.forms.form_numbered.Statement.{statement}
 use Rattle.image.proofs.forms.form_numbered.Tie as tie
 
-form-1-requires : tie.Need-form-1-requires
-form-1-requires c κs = search needs
-
 returns : tie.Need-returns
 unfolding form-numbered
 returns c = rw (eq-eqb (c .before .before .args .number) 1 (c .before .if1 .taken), c .form-1 .ensures)
-
-form-2-requires : tie.Need-form-2-requires
-form-2-requires c κs = search needs
 
 returns-2 : tie.Need-returns-2
 unfolding form-numbered
@@ -28,4 +21,4 @@ unfolding form-numbered
 returns-3 c = let a = c .before .before .args in rw (ne-eqb (a .number) 1 (c .before .if1 .left), ne-eqb (a .number) 2 (c .if2 .left))
 
 pub form-numbered-spec : {M : Type 1} → statement M
-form-numbered-spec = tie.close (tie.spec form-1-requires returns form-2-requires returns-2 returns-3)
+form-numbered-spec = tie.close (tie.spec (λ c κs. search needs) returns (λ c κs. search needs) returns-2 returns-3)

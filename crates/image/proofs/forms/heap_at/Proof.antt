@@ -1,5 +1,4 @@
 -- The heap begins behind the entries and the records.
--- Assumes nothing.
 use native.Mathlib.Omega.{arith}
 use mathlib.Core.Path.{ap}
 use Prim.Native.Nat.{ℕ, _+_, _*_}
@@ -7,15 +6,6 @@ use borrow.Author.Needs.{needs}
 use Rattle.image_model.specs.Stream.{tail-width, head-length}
 use Rattle.image.proofs.forms.heap_at.Statement.{statement}
 use Rattle.image.proofs.forms.heap_at.Tie as tie
-
-entry-at-requires : tie.Need-entry-at-requires
-entry-at-requires c κs = search needs
-
-mul-result : tie.Need-mul-result
-mul-result c = search needs
-
-add-result : tie.Need-add-result
-add-result c = search needs
 
 returns : tie.Need-returns
 unfolding tail-width head-length
@@ -25,4 +15,4 @@ returns c =
     (ap (λ (n : ℕ). n + w .args .form .records * 8) (e .0), omega (arith, e .1, w .pre .quotas, w .pre .records))
 
 pub heap-at-spec : {M : Type 1} → statement M
-heap-at-spec = tie.close (tie.spec entry-at-requires mul-result add-result returns)
+heap-at-spec = tie.close (tie.spec (λ c κs. search needs) (λ c. search needs) (λ c. search needs) returns)

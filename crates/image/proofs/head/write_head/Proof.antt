@@ -1,5 +1,4 @@
 -- The parts are written one behind the other (`head-written`).
--- Assumes nothing.
 use native.Mathlib.Omega.{arith}
 use mathlib.Core.Path.{_≡_, refl, ap, _∙_}
 use borrow.Author.Needs.{needs}
@@ -16,36 +15,9 @@ use Rattle.image.proofs.Heads.{head-written}
 use Rattle.image.proofs.head.write_head.Statement.{statement}
 use Rattle.image.proofs.head.write_head.Tie as tie
 
-write-u16-requires : tie.Need-write-u16-requires
-write-u16-requires c κs = search needs
-
-kind-requires : tie.Need-kind-requires
-kind-requires c κs = search needs
-
-edition-requires : tie.Need-edition-requires
-edition-requires c κs = search needs
-
-marks-requires : tie.Need-marks-requires
-marks-requires c κs = search needs
-
-write-u16-requires-2 : tie.Need-write-u16-requires-2
-write-u16-requires-2 c κs = search needs
-
-write-u32-requires : tie.Need-write-u32-requires
-write-u32-requires c κs = search needs
-
-last-serial-requires : tie.Need-last-serial-requires
-last-serial-requires c κs = search needs
-
-write-u32-requires-2 : tie.Need-write-u32-requires-2
-write-u32-requires-2 c κs = search needs
-
 write-entries-requires : tie.Need-write-entries-requires
 unfolding head-length tail-width
 write-entries-requires c κs = (search needs, omega arith)
-
-entry-at-requires : tie.Need-entry-at-requires
-entry-at-requires c κs = search needs
 
 write-records-requires : tie.Need-write-records-requires
 unfolding head-length tail-width
@@ -55,9 +27,6 @@ write-records-requires c κs =
     let w₁ = w₂ .before .before .before .before .before .before .before in
     let start = w₁ .before .before .before in
     (start .pre .0 .records, omega arith)
-
-same-length : tie.Need-same-length
-same-length c = search needs
 
 returns : tie.Need-returns
 unfolding tail-width marks-of
@@ -92,16 +61,16 @@ pub write-head-spec : {M : Type 1} → statement M
 write-head-spec =
     tie.close
     (tie.spec
-    write-u16-requires
-    kind-requires
-    edition-requires
-    marks-requires
-    write-u16-requires-2
-    write-u32-requires
-    last-serial-requires
-    write-u32-requires-2
+    (λ c κs. search needs)
+    (λ c κs. search needs)
+    (λ c κs. search needs)
+    (λ c κs. search needs)
+    (λ c κs. search needs)
+    (λ c κs. search needs)
+    (λ c κs. search needs)
+    (λ c κs. search needs)
     write-entries-requires
-    entry-at-requires
+    (λ c κs. search needs)
     write-records-requires
-    same-length
+    (λ c. search needs)
     returns)

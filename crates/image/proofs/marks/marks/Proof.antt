@@ -1,5 +1,4 @@
 -- The edition is the first byte and the kind the second; a form that is not full has neither (`Marked`).
--- Assumes nothing.
 use native.Mathlib.Omega.{arith}
 use mathlib.Core.Path.{_≡_, refl, sym, _∙_}
 use mathlib.Core.List.{_++_}
@@ -14,18 +13,6 @@ returns : tie.Need-returns
 unfolding bytes
 returns c = (rw (not-true (c .before .args .full) (c .if1 .taken)), omega arith)
 
-wide-requires : tie.Need-wide-requires
-wide-requires c κs = search needs
-
-wide-requires-2 : tie.Need-wide-requires-2
-wide-requires-2 c κs = search needs
-
-mul-result : tie.Need-mul-result
-mul-result c = search needs
-
-add-result : tie.Need-add-result
-add-result c = search needs
-
 returns-2 : tie.Need-returns-2
 returns-2 c =
     let d = c .wide2 in
@@ -36,4 +23,4 @@ returns-2 c =
     )
 
 pub marks-spec : {M : Type 1} → statement M
-marks-spec = tie.close (tie.spec returns wide-requires wide-requires-2 mul-result add-result returns-2)
+marks-spec = tie.close (tie.spec returns (λ c κs. search needs) (λ c κs. search needs) (λ c. search needs) (λ c. search needs) returns-2)

@@ -1,26 +1,10 @@
 -- Two numbers of two bytes are the number of four (`quad-at`).
--- Assumes nothing.
 use native.Mathlib.Omega.{arith}
 use borrow.Author.Needs.{needs}
 use Rattle.framing.specs.Frames.{stream-of}
 use Rattle.image.proofs.Decoding.{quad-at}
 use Rattle.image.proofs.numbers.read_quad.Statement.{statement}
 use Rattle.image.proofs.numbers.read_quad.Tie as tie
-
-read-pair-requires : tie.Need-read-pair-requires
-read-pair-requires c κs = search needs
-
-add-read-pair : tie.Need-add-read-pair
-add-read-pair c = search needs
-
-read-pair-requires-2 : tie.Need-read-pair-requires-2
-read-pair-requires-2 c κs = search needs
-
-mul-result : tie.Need-mul-result
-mul-result c = search needs
-
-add-result : tie.Need-add-result
-add-result c = search needs
 
 returns : tie.Need-returns
 returns c =
@@ -31,4 +15,4 @@ returns c =
 pub read-quad-spec : {M : Type 1} → statement M
 read-quad-spec =
     tie.close
-    (tie.spec read-pair-requires add-read-pair read-pair-requires-2 mul-result add-result returns)
+    (tie.spec (λ c κs. search needs) (λ c. search needs) (λ c κs. search needs) (λ c. search needs) (λ c. search needs) returns)

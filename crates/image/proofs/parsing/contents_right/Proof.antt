@@ -1,5 +1,4 @@
 -- The tests are the definition's, in its order (`Parses`).
--- Assumes nothing.
 use native.Mathlib.Omega.{arith}
 use mathlib.Core.Path.{refl, ap, sym, _∙_}
 use borrow.Author.Needs.{needs}
@@ -11,18 +10,12 @@ use Rattle.image.proofs.Parses.{not-allowed, other-count, not-padded, w
 use Rattle.image.proofs.parsing.contents_right.Statement.{statement}
 use Rattle.image.proofs.parsing.contents_right.Tie as tie
 
-is-allowed-requires : tie.Need-is-allowed-requires
-is-allowed-requires c κs = search needs
-
 returns : tie.Need-returns
 returns c =
     let k = c .before in
     let start = k .before .before in
     let a = start .args in
     not-allowed (a .image .now) (a .form) (a .size) (start .pre .1) (start .pre .2) (sym (k .is-allowed .ensures) ∙ not-true _ (c .if1 .taken))
-
-heap-at-requires : tie.Need-heap-at-requires
-heap-at-requires c κs = search needs
 
 add-end : tie.Need-add-end
 add-end c =
@@ -45,9 +38,6 @@ returns-2 c =
     other-count (a .image .now) (a .form) (a .size) (start .pre .1) (start .pre .2) (sym (k .is-allowed .ensures) ∙ not-false _ (h .before .if1 .left)) _
     (ap (λ (n : ℕ). n + a .size) (h .heap-at .ensures .0)) (c .if2 .taken)
 
-zero-from-requires : tie.Need-zero-from-requires
-zero-from-requires c κs = search needs
-
 returns-3 : tie.Need-returns-3
 returns-3 c =
     let z = c .before in
@@ -58,9 +48,6 @@ returns-3 c =
     not-padded (a .image .now) (a .form) (a .size) (start .pre .1) (start .pre .2) (sym (k .is-allowed .ensures) ∙ not-false _ (h .before .if1 .left)) _
     (ap (λ (n : ℕ). n + a .size) (h .heap-at .ensures .0)) (z .before .if2 .left)
     (z .zero-from .result) (z .zero-from .ensures) (not-true _ (c .if3 .taken))
-
-entries-right-requires : tie.Need-entries-right-requires
-entries-right-requires c κs = search needs
 
 returns-4 : tie.Need-returns-4
 returns-4 c =
@@ -74,12 +61,6 @@ returns-4 c =
     (ap (λ (n : ℕ). n + a .size) (h .heap-at .ensures .0)) (z .before .if2 .left)
     (z .zero-from .result) (z .zero-from .ensures) (not-false _ (t .before .if3 .left))
     (t .entries-right .result) (t .entries-right .ensures (a .form) refl) (not-true _ (c .if4 .taken))
-
-entry-at-requires : tie.Need-entry-at-requires
-entry-at-requires c κs = search needs
-
-spares-right-requires : tie.Need-spares-right-requires
-spares-right-requires c κs = search needs
 
 returns-5 : tie.Need-returns-5
 unfolding tail-width
@@ -100,16 +81,16 @@ pub contents-right-spec : {M : Type 1} → statement M
 contents-right-spec =
     tie.close
     (tie.spec
-    is-allowed-requires
+    (λ c κs. search needs)
     returns
-    heap-at-requires
+    (λ c κs. search needs)
     add-end
     add-if2
     returns-2
-    zero-from-requires
+    (λ c κs. search needs)
     returns-3
-    entries-right-requires
+    (λ c κs. search needs)
     returns-4
-    entry-at-requires
-    spares-right-requires
+    (λ c κs. search needs)
+    (λ c κs. search needs)
     returns-5)

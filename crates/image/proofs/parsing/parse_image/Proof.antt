@@ -1,5 +1,4 @@
 -- The shape, and the accounts that an image of its form says (`Parses`).
--- Assumes nothing.
 use mathlib.Core.Path.{ap, _∙_}
 use borrow.Author.Needs.{needs}
 use Rattle.framing.specs.Frames.{stream-of}
@@ -9,12 +8,6 @@ use Rattle.image.specs.Parsing.{shape-parts}
 use Rattle.image.proofs.Parses.{Found, shape-found, shape-refused, found-fits, found-parts, refused-parts}
 use Rattle.image.proofs.parsing.parse_image.Statement.{statement}
 use Rattle.image.proofs.parsing.parse_image.Tie as tie
-
-shape-of-requires : tie.Need-shape-of-requires
-shape-of-requires c κs = search needs
-
-enum-known-shape : tie.Need-enum-known-shape
-enum-known-shape c = search needs
 
 -- what the image was found to be
 found : (c : tie.After-shape)
@@ -27,12 +20,6 @@ found c =
 
 read-accounts-requires : tie.Need-read-accounts-requires
 read-accounts-requires c κs = found-fits _ _ _ _ (found (c .before))
-
-enum-known-shape-2 : tie.Need-enum-known-shape-2
-enum-known-shape-2 c = search needs
-
-refused-requires : tie.Need-refused-requires
-refused-requires c κs = search needs
 
 returns : tie.Need-returns
 unfolding shape-parts
@@ -51,4 +38,4 @@ returns-2 c =
 
 pub parse-image-spec : {M : Type 1} → statement M
 parse-image-spec =
-    tie.close (tie.spec shape-of-requires enum-known-shape read-accounts-requires enum-known-shape-2 refused-requires returns returns-2)
+    tie.close (tie.spec (λ c κs. search needs) (λ c. search needs) read-accounts-requires (λ c. search needs) (λ c κs. search needs) returns returns-2)

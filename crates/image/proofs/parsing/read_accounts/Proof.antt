@@ -1,5 +1,4 @@
 -- The quotas, the last serial, the records, the kind and the edition stand where the definition reads them.
--- Assumes nothing.
 use mathlib.Core.Path.{refl}
 use borrow.Author.Needs.{needs}
 use Rattle.framing.specs.Frames.{stream-of}
@@ -7,24 +6,6 @@ use Rattle.image_model.specs.Stream.{tail-width}
 use Rattle.image.proofs.Said.{accounts-read}
 use Rattle.image.proofs.parsing.read_accounts.Statement.{statement}
 use Rattle.image.proofs.parsing.read_accounts.Tie as tie
-
-read-entries-requires : tie.Need-read-entries-requires
-read-entries-requires c κs = search needs
-
-read-quad-requires : tie.Need-read-quad-requires
-read-quad-requires c κs = search needs
-
-entry-at-requires : tie.Need-entry-at-requires
-entry-at-requires c κs = search needs
-
-read-records-requires : tie.Need-read-records-requires
-read-records-requires c κs = search needs
-
-read-kind-requires : tie.Need-read-kind-requires
-read-kind-requires c κs = search needs
-
-read-edition-requires : tie.Need-read-edition-requires
-read-edition-requires c κs = search needs
 
 returns : tie.Need-returns
 unfolding tail-width
@@ -41,10 +22,10 @@ pub read-accounts-spec : {M : Type 1} → statement M
 read-accounts-spec =
     tie.close
     (tie.spec
-    read-entries-requires
-    read-quad-requires
-    entry-at-requires
-    read-records-requires
-    read-kind-requires
-    read-edition-requires
+    (λ c κs. search needs)
+    (λ c κs. search needs)
+    (λ c κs. search needs)
+    (λ c κs. search needs)
+    (λ c κs. search needs)
+    (λ c κs. search needs)
     returns)

@@ -1,5 +1,4 @@
 -- The tests are the lines, in their order; what they leave is the shape (`Parses`).
--- Assumes nothing.
 use mathlib.Core.Path.{_≡_, refl, ap, sym, _∙_}
 use borrow.Author.Needs.{needs}
 use mathlib.Core.Option.{some}
@@ -47,24 +46,12 @@ returns-2 c =
     let i = c .before .before .before .args .image .now in
     refused-shape i ImageLength (refused-part i (c .before .if1 .left) (c .if2 .taken))
 
-all-right-requires : tie.Need-all-right-requires
-all-right-requires c κs = search needs
-
 returns-3 : tie.Need-returns-3
 returns-3 c =
     let r = c .before in
     let i = r .before .before .before .before .args .image .now in
     refused-shape i FrameWrong
     (refused-frames i (r .before .before .if1 .left) (r .before .if2 .left) (r .all-right .result) (r .all-right .ensures) (not-true _ (c .if3 .taken)))
-
-read-pair-requires : tie.Need-read-pair-requires
-read-pair-requires c κs = search needs
-
-form-numbered-requires : tie.Need-form-numbered-requires
-form-numbered-requires c κs = search needs
-
-enum-known-form : tie.Need-enum-known-form
-enum-known-form c = search needs
 
 enum-told : tie.Need-enum-told
 enum-told c = search needs
@@ -79,9 +66,6 @@ returns-4 c =
     (not-false _ (n .before .before .if3 .left))
     (sym (ap form-numbered (n .before .read-pair .ensures .0)) ∙ sym (n .form-numbered .ensures) ∙ ap known-form (c .enum-told .given .1)))
 
-marks-right-requires : tie.Need-marks-right-requires
-marks-right-requires c κs = search needs
-
 returns-5 : tie.Need-returns-5
 returns-5 c =
     let m = c .before in
@@ -92,12 +76,6 @@ returns-5 c =
     (refused-marks i (r .before .before .if1 .left) (r .before .if2 .left) (r .all-right .result) (r .all-right .ensures)
     (not-false _ (f .before .before .before .before .if3 .left)) (f .form .given .0 .0) (known f)
     (m .marks-right .result) (m .marks-right .ensures (f .form .given .0 .0) refl) (not-true _ (c .if4 .taken)))
-
-read-quad-requires : tie.Need-read-quad-requires
-read-quad-requires c κs = search needs
-
-cast-size : tie.Need-cast-size
-cast-size c = search needs
 
 contents-right-requires : tie.Need-contents-right-requires
 contents-right-requires c κs =
@@ -140,17 +118,17 @@ shape-of-spec =
     (tie.spec
     returns
     returns-2
-    all-right-requires
+    (λ c κs. search needs)
     returns-3
-    read-pair-requires
-    form-numbered-requires
-    enum-known-form
+    (λ c κs. search needs)
+    (λ c κs. search needs)
+    (λ c. search needs)
     enum-told
     returns-4
-    marks-right-requires
+    (λ c κs. search needs)
     returns-5
-    read-quad-requires
-    cast-size
+    (λ c κs. search needs)
+    (λ c. search needs)
     contents-right-requires
     returns-6
     returns-7)

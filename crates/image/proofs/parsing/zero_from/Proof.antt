@@ -1,5 +1,4 @@
 -- The invariant: what is found from `at` on is found of all (`Zeros`). The measure is what is left of the stream.
--- Assumes nothing.
 use native.Mathlib.Omega.{arith}
 use mathlib.Core.Path.{_≡_, refl, sym, _∙_}
 use Prim.Native.Nat.{_-_}
@@ -18,14 +17,8 @@ Inv-loop image from end at₀ at = (end ≡ length (stream-of image)) × (all-ze
 abbrev μ-loop : tie.MeasureT-loop
 μ-loop image from end at₀ at = end - at
 
-mul-end : tie.Need-mul-end Inv-loop μ-loop
-mul-end c = search needs
-
 loop-holds : tie.Need-loop-holds Inv-loop μ-loop
 loop-holds c = let l = stream-length (c .before .args .image .now) in (omega arith, refl)
-
-stream-at-requires : tie.Need-stream-at-requires Inv-loop μ-loop
-stream-at-requires c κs = search needs
 
 returns : tie.Need-returns Inv-loop μ-loop
 returns c =
@@ -33,9 +26,6 @@ returns c =
     let at = r .before .before in
     let a = at .before .before .args in
     zeros-stop (stream-of (a .image .now)) (a .from) (at .loop .at) (at .loop .inv .1) (omega arith) (λ e. c .if1 .taken (r .stream-at .ensures ∙ e))
-
-add-at : tie.Need-add-at Inv-loop μ-loop
-add-at c = search needs
 
 loop-less : tie.Need-loop-less Inv-loop μ-loop
 loop-less c = omega arith
@@ -62,11 +52,11 @@ zero-from-spec =
     (tie.spec
     Inv-loop
     μ-loop
-    mul-end
+    (λ c. search needs)
     loop-holds
-    stream-at-requires
+    (λ c κs. search needs)
     returns
-    add-at
+    (λ c. search needs)
     loop-less
     loop-again
     returns-2)

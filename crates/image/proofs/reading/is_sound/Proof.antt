@@ -1,5 +1,4 @@
 -- The words hold the accounts.
--- Assumes nothing.
 use mathlib.Core.Path.{ap, _∙_}
 use lib.ListN.{drop}
 use borrow.Author.Needs.{needs}
@@ -9,12 +8,6 @@ use Rattle.image_model.specs.Images.{own-sound}
 use Rattle.image.proofs.reading.is_sound.Statement.{statement}
 use Rattle.image.proofs.reading.is_sound.Tie as tie
 
-words-of-requires : tie.Need-words-of-requires
-words-of-requires c κs = search needs
-
-is-sound-in-requires : tie.Need-is-sound-in-requires
-is-sound-in-requires c κs = search needs
-
 returns : tie.Need-returns
 returns c =
     let w = c .before .before in
@@ -22,4 +15,4 @@ returns c =
     c .is-sound-in .ensures ∙ ap (λ (k : Accounts). own-sound (padded (a .size) (drop (a .from) (stream-of (a .image .now)))) k) (w .words-of .ensures .1)
 
 pub is-sound-spec : {M : Type 1} → statement M
-is-sound-spec = tie.close (tie.spec words-of-requires is-sound-in-requires returns)
+is-sound-spec = tie.close (tie.spec (λ c κs. search needs) (λ c κs. search needs) returns)

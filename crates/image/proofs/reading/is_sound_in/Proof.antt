@@ -1,5 +1,4 @@
 -- The check in the frames says whether the heap is consistent (`Restores`).
--- Assumes nothing.
 use mathlib.Core.Path.{refl, ap, _∙_}
 use mathlib.Core.List.{List}
 use Prim.Native.Nat.{ℕ}
@@ -20,14 +19,8 @@ stream c = drop (c .args .from) (stream-of (c .args .image .now))
 abbrev heap : tie.Start → List ℕ
 heap c = padded (c .args .size) (stream c)
 
-check-in-frames-requires : tie.Need-check-in-frames-requires
-check-in-frames-requires c κs = search needs
-
 enum-told : tie.Need-enum-told
 enum-told c = search needs
-
-enum-told-2 : tie.Need-enum-told-2
-enum-told-2 c = search needs
 
 returns : tie.Need-returns
 returns c =
@@ -43,4 +36,4 @@ returns-2 c =
     check-sound (heap s) (heap s) (accounts-of (s .args .words .now)) (k .check-in-frames .result) (k .check-in-frames .ensures) refl (c .enum-told .given .1)
 
 pub is-sound-in-spec : {M : Type 1} → statement M
-is-sound-in-spec = tie.close (tie.spec check-in-frames-requires enum-told enum-told-2 returns returns-2)
+is-sound-in-spec = tie.close (tie.spec (λ c κs. search needs) enum-told (λ c. search needs) returns returns-2)

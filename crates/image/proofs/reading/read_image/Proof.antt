@@ -1,5 +1,4 @@
 -- `image::read_image` meets its contract: the accounts are those that the words hold.
--- Assumes nothing.
 use mathlib.Core.Path.{ap, _∙_}
 use borrow.Author.Needs.{needs}
 use Rattle.accounts.specs.declared.Accounts.{Accounts}
@@ -7,19 +6,10 @@ use Rattle.image_model.specs.Answers.{restored-to}
 use Rattle.image.proofs.reading.read_image.Statement.{statement}
 use Rattle.image.proofs.reading.read_image.Tie as tie
 
-read-image-requires : tie.Need-read-image-requires
-read-image-requires c κs = search needs
-
-accounts-of-requires : tie.Need-accounts-of-requires
-accounts-of-requires c κs = search needs
-
-same-length : tie.Need-same-length
-same-length c = search needs
-
 returns : tie.Need-returns
 returns c =
     let r = c .before .before .before .before in
     ap (λ (k : Accounts). restored-to (r .read-image .last .1 .0) k (r .read-image .result)) (c .accounts-of .ensures) ∙ r .read-image .ensures .0
 
 pub read-image-spec : {M : Type 1} → statement M
-read-image-spec = tie.close (tie.spec read-image-requires accounts-of-requires same-length returns)
+read-image-spec = tie.close (tie.spec (λ c κs. search needs) (λ c κs. search needs) (λ c. search needs) returns)

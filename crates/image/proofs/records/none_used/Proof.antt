@@ -1,5 +1,4 @@
 -- The invariant: what is found of the records from `i` on is found of all from the first one on (`Zeros`). The measure is what is left of the table.
--- Assumes nothing.
 use Prim.Native.Nat.{_-_}
 use native.Mathlib.Omega.{arith}
 use borrow.Author.Needs.{needs}
@@ -24,12 +23,6 @@ abbrev μ-loop : tie.MeasureT-loop
 loop-holds : tie.Need-loop-holds Inv-loop μ-loop
 loop-holds c = refl
 
-hold-at-requires : tie.Need-hold-at-requires Inv-loop μ-loop
-hold-at-requires c κs = search needs
-
-is-used-requires : tie.Need-is-used-requires Inv-loop μ-loop
-is-used-requires c κs = search needs
-
 returns : tie.Need-returns Inv-loop μ-loop
 unfolding unused hold-at
 returns c =
@@ -39,12 +32,6 @@ returns c =
     let a = l .before .args in
     all-stop unused zero-hold (holds-of (a .words .now)) (a .from) (l .loop .i) (l .loop .inv) (omega (arith, holds-long (a .words .now)))
     (ap unused (sym (h .hold-at .ensures)) ∙ ap not (sym (u .is-used .ensures) ∙ c .if1 .taken))
-
-add-i : tie.Need-add-i Inv-loop μ-loop
-add-i c = search needs
-
-loop-less : tie.Need-loop-less Inv-loop μ-loop
-loop-less c = search needs
 
 loop-again : tie.Need-loop-again Inv-loop μ-loop
 unfolding unused hold-at
@@ -69,10 +56,10 @@ none-used-spec =
     Inv-loop
     μ-loop
     loop-holds
-    hold-at-requires
-    is-used-requires
+    (λ c κs. search needs)
+    (λ c κs. search needs)
     returns
-    add-i
-    loop-less
+    (λ c. search needs)
+    (λ c. search needs)
     loop-again
     returns-2)

@@ -1,5 +1,4 @@
 -- The invariant: the first `i` items are read and the others blank (`read-more`). The measure is what is left of them.
--- Assumes nothing.
 use native.Mathlib.Omega.{arith}
 use mathlib.Core.Path.{_≡_, refl, ap, sym, _∙_}
 use Prim.Native.Nat.{ℕ, _*_, _-_, _≤_}
@@ -25,30 +24,9 @@ Inv-loop image at count holds₀ i₀ holds i =
 abbrev μ-loop : tie.MeasureT-loop
 μ-loop image at count holds₀ i₀ holds i = count - i
 
-zero-requires : tie.Need-zero-requires Inv-loop μ-loop
-zero-requires c κs = search needs
-
 loop-holds : tie.Need-loop-holds Inv-loop μ-loop
 unfolding each blank opened
 loop-holds c = (omega arith, refl, λ (f : Form). ap (λ (h : Hold). replicate HOLDS h) (c .zero .ensures))
-
-mul-read-record : tie.Need-mul-read-record Inv-loop μ-loop
-mul-read-record c = search needs
-
-add-read-record : tie.Need-add-read-record Inv-loop μ-loop
-add-read-record c = search needs
-
-read-record-requires : tie.Need-read-record-requires Inv-loop μ-loop
-read-record-requires c κs = search needs
-
-mul-holds : tie.Need-mul-holds Inv-loop μ-loop
-mul-holds c = search needs
-
-array-set-from-holds : tie.Need-array-set-from-holds Inv-loop μ-loop
-array-set-from-holds c = search needs
-
-add-i : tie.Need-add-i Inv-loop μ-loop
-add-i c = search needs
 
 loop-less : tie.Need-loop-less Inv-loop μ-loop
 loop-less c = omega arith
@@ -80,14 +58,14 @@ read-records-spec =
     (tie.spec
     Inv-loop
     μ-loop
-    zero-requires
+    (λ c κs. search needs)
     loop-holds
-    mul-read-record
-    add-read-record
-    read-record-requires
-    mul-holds
-    array-set-from-holds
-    add-i
+    (λ c. search needs)
+    (λ c. search needs)
+    (λ c κs. search needs)
+    (λ c. search needs)
+    (λ c. search needs)
+    (λ c. search needs)
     loop-less
     loop-again
     returns)

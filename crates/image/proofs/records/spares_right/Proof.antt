@@ -1,5 +1,4 @@
 -- The invariant: what is found of the records from `i` on is found of all (`Items`). The measure is what is left of them.
--- Assumes nothing.
 use native.Mathlib.Omega.{arith}
 use mathlib.Core.Path.{_≡_, _∙_}
 use Prim.Native.Nat.{_-_, _≤_}
@@ -25,18 +24,6 @@ abbrev μ-loop : tie.MeasureT-loop
 loop-holds : tie.Need-loop-holds Inv-loop μ-loop
 loop-holds c = let a = c .before .args in (omega arith, every-all record-right record-width (a .count) (drop (a .at) (stream-of (a .image .now))))
 
-mul-read-pair : tie.Need-mul-read-pair Inv-loop μ-loop
-mul-read-pair c = search needs
-
-add-read-pair : tie.Need-add-read-pair Inv-loop μ-loop
-add-read-pair c = search needs
-
-add-read-pair-2 : tie.Need-add-read-pair-2 Inv-loop μ-loop
-add-read-pair-2 c = search needs
-
-read-pair-requires : tie.Need-read-pair-requires Inv-loop μ-loop
-read-pair-requires c κs = search needs
-
 returns : tie.Need-returns Inv-loop μ-loop
 returns c =
     let r = c .before in
@@ -45,9 +32,6 @@ returns c =
     let t = stream-of (a .image .now) in
     every-stops record-right record-width (at .loop .i) (a .count) (drop (a .at) t) (omega arith) (at .loop .inv .1)
     (spare-wrong (a .at) t (at .loop .i) (r .read-pair .result) (r .read-pair .ensures .0) (c .if1 .taken))
-
-add-i : tie.Need-add-i Inv-loop μ-loop
-add-i c = search needs
 
 loop-less : tie.Need-loop-less Inv-loop μ-loop
 loop-less c = omega arith
@@ -76,12 +60,12 @@ spares-right-spec =
     Inv-loop
     μ-loop
     loop-holds
-    mul-read-pair
-    add-read-pair
-    add-read-pair-2
-    read-pair-requires
+    (λ c. search needs)
+    (λ c. search needs)
+    (λ c. search needs)
+    (λ c κs. search needs)
     returns
-    add-i
+    (λ c. search needs)
     loop-less
     loop-again
     returns-2)

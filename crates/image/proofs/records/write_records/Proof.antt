@@ -1,5 +1,4 @@
 -- The invariant: the first `i` items stand behind each other (`written-more`). The measure is what is left of them.
--- Assumes nothing.
 use native.Mathlib.Omega.{arith}
 use mathlib.Core.Path.{_≡_, ap, _∙_}
 use Prim.Native.Nat.{ℕ, _+_, _*_, _-_, _≤_}
@@ -32,20 +31,8 @@ len c =
 loop-holds : tie.Need-loop-holds Inv-loop μ-loop
 loop-holds c = let a = c .before .args in (omega arith, written-none record-bytes 8 record-length (a .at) (holds-of (a .words .now)) (a .head .now))
 
-hold-at-requires : tie.Need-hold-at-requires Inv-loop μ-loop
-hold-at-requires c κs = search needs
-
-mul-write-record : tie.Need-mul-write-record Inv-loop μ-loop
-mul-write-record c = search needs
-
-add-write-record : tie.Need-add-write-record Inv-loop μ-loop
-add-write-record c = search needs
-
 write-record-requires : tie.Need-write-record-requires Inv-loop μ-loop
 write-record-requires c κs = let l = len (c .before .before .before) in omega arith
-
-add-i : tie.Need-add-i Inv-loop μ-loop
-add-i c = search needs
 
 loop-less : tie.Need-loop-less Inv-loop μ-loop
 loop-less c = omega arith
@@ -82,11 +69,11 @@ write-records-spec =
     Inv-loop
     μ-loop
     loop-holds
-    hold-at-requires
-    mul-write-record
-    add-write-record
+    (λ c κs. search needs)
+    (λ c. search needs)
+    (λ c. search needs)
     write-record-requires
-    add-i
+    (λ c. search needs)
     loop-less
     loop-again
     same-length

@@ -1,5 +1,4 @@
 -- The length in form 1.
--- Assumes nothing.
 use mathlib.Core.Path.{ap, _∙_}
 use borrow.Author.Needs.{needs}
 use Rattle.image_model.specs.declared.Form.{Form}
@@ -8,9 +7,6 @@ use Rattle.image.proofs.Parses.{form-1-fits}
 use Rattle.image.proofs.writing.form_1_length.Statement.{statement}
 use Rattle.image.proofs.writing.form_1_length.Tie as tie
 
-form-1-requires : tie.Need-form-1-requires
-form-1-requires c κs = search needs
-
 length-in-requires : tie.Need-length-in-requires
 length-in-requires c κs = form-1-fits (c .form-1 .result) (c .form-1 .ensures)
 
@@ -18,4 +14,4 @@ returns : tie.Need-returns
 returns c = c .length-in .ensures ∙ ap (λ (f : Form). length-for f (c .before .before .args .size)) (c .before .form-1 .ensures)
 
 pub form-1-length-spec : {M : Type 1} → statement M
-form-1-length-spec = tie.close (tie.spec form-1-requires length-in-requires returns)
+form-1-length-spec = tie.close (tie.spec (λ c κs. search needs) length-in-requires returns)

@@ -1,5 +1,4 @@
 -- The length in form 2.
--- Assumes nothing.
 use mathlib.Core.Path.{ap, _∙_}
 use borrow.Author.Needs.{needs}
 use Rattle.image_model.specs.declared.Form.{Form}
@@ -8,9 +7,6 @@ use Rattle.image.proofs.Parses.{form-2-fits}
 use Rattle.image.proofs.writing.image_length.Statement.{statement}
 use Rattle.image.proofs.writing.image_length.Tie as tie
 
-form-2-requires : tie.Need-form-2-requires
-form-2-requires c κs = search needs
-
 length-in-requires : tie.Need-length-in-requires
 length-in-requires c κs = form-2-fits (c .form-2 .result) (c .form-2 .ensures)
 
@@ -18,4 +14,4 @@ returns : tie.Need-returns
 returns c = c .length-in .ensures ∙ ap (λ (f : Form). length-for f (c .before .before .args .size)) (c .before .form-2 .ensures)
 
 pub image-length-spec : {M : Type 1} → statement M
-image-length-spec = tie.close (tie.spec form-2-requires length-in-requires returns)
+image-length-spec = tie.close (tie.spec (λ c κs. search needs) length-in-requires returns)

@@ -1,5 +1,4 @@
 -- The bytes in front of the heap and the heap, in whole frames (`length-some`).
--- Assumes nothing.
 use native.Mathlib.Omega.{arith}
 use mathlib.Core.Path.{sym, _∙_}
 use borrow.Author.Needs.{needs}
@@ -10,16 +9,10 @@ use Rattle.image.proofs.Puts.{length-none, length-some}
 use Rattle.image.proofs.writing.length_in.Statement.{statement}
 use Rattle.image.proofs.writing.length_in.Tie as tie
 
-is-allowed-requires : tie.Need-is-allowed-requires
-is-allowed-requires c κs = search needs
-
 returns : tie.Need-returns
 returns c =
     let a = c .before .before .args in
     length-none (a .form) (a .size) (sym (c .before .is-allowed .ensures) ∙ not-true _ (c .if1 .taken))
-
-heap-at-requires : tie.Need-heap-at-requires
-heap-at-requires c κs = search needs
 
 -- the heap is short
 short : (c : tie.After-heap-at) → c .before .before .before .args .size ≤ 32768
@@ -45,4 +38,4 @@ returns-2 c =
 pub length-in-spec : {M : Type 1} → statement M
 length-in-spec =
     tie.close
-    (tie.spec is-allowed-requires returns heap-at-requires add-end add-result mul-result returns-2)
+    (tie.spec (λ c κs. search needs) returns (λ c κs. search needs) add-end add-result mul-result returns-2)

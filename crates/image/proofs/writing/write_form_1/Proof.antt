@@ -1,20 +1,10 @@
 -- `image::write_form_1` meets its contract: the words hold the accounts.
--- Assumes nothing.
 use mathlib.Core.Path.{ap, _∙_}
 use borrow.Author.Needs.{needs}
 use Rattle.image_model.specs.Stream.{form-1}
 use Rattle.image_model.specs.Images.{write-image}
 use Rattle.image.proofs.writing.write_form_1.Statement.{statement}
 use Rattle.image.proofs.writing.write_form_1.Tie as tie
-
-words-of-requires : tie.Need-words-of-requires
-words-of-requires c κs = search needs
-
-write-form-1-requires : tie.Need-write-form-1-requires
-write-form-1-requires c κs = search needs
-
-same-length : tie.Need-same-length
-same-length c = search needs
 
 returns : tie.Need-returns
 returns c =
@@ -24,4 +14,4 @@ returns c =
     w .write-form-1 .ensures ∙ ap (write-image form-1 (a .image .now) (a .heap .now)) (n .words-of .ensures .1)
 
 pub write-form-1-spec : {M : Type 1} → statement M
-write-form-1-spec = tie.close (tie.spec words-of-requires write-form-1-requires same-length returns)
+write-form-1-spec = tie.close (tie.spec (λ c κs. search needs) (λ c κs. search needs) (λ c. search needs) returns)

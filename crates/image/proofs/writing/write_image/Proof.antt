@@ -1,20 +1,10 @@
 -- `image::write_image` meets its contract: the words hold the accounts.
--- Assumes nothing.
 use mathlib.Core.Path.{ap, _∙_}
 use borrow.Author.Needs.{needs}
 use Rattle.image_model.specs.Stream.{form-2}
 use Rattle.image_model.specs.Images.{write-image}
 use Rattle.image.proofs.writing.write_image.Statement.{statement}
 use Rattle.image.proofs.writing.write_image.Tie as tie
-
-words-of-requires : tie.Need-words-of-requires
-words-of-requires c κs = search needs
-
-write-image-requires : tie.Need-write-image-requires
-write-image-requires c κs = search needs
-
-same-length : tie.Need-same-length
-same-length c = search needs
 
 returns : tie.Need-returns
 returns c =
@@ -24,4 +14,4 @@ returns c =
     w .write-image .ensures ∙ ap (write-image form-2 (a .image .now) (a .heap .now)) (n .words-of .ensures .1)
 
 pub write-image-spec : {M : Type 1} → statement M
-write-image-spec = tie.close (tie.spec words-of-requires write-image-requires same-length returns)
+write-image-spec = tie.close (tie.spec (λ c κs. search needs) (λ c κs. search needs) (λ c. search needs) returns)

@@ -1,17 +1,10 @@
 -- The reply is of the parts that the image has.
--- Assumes nothing.
 use mathlib.Core.Path.{ap, _∙_}
 use Rattle.image.specs.Parsing.{parts-in}
 use Rattle.image_api.specs.Replies.{examine-reply}
 use borrow.Author.Needs.{needs}
 use Rattle.image_api.proofs.exports.lokhazim_image_examine.Statement.{statement}
 use Rattle.image_api.proofs.exports.lokhazim_image_examine.Tie as tie
-
-shape-of-requires : tie.Need-shape-of-requires
-shape-of-requires c κs = search needs
-
-reply-of-shape-requires : tie.Need-reply-of-shape-requires
-reply-of-shape-requires c κs = search needs
 
 returns : tie.Need-returns
 returns c =
@@ -20,4 +13,4 @@ returns c =
 
 pub lokhazim-image-examine-spec : {M : Type 1} → statement M
 lokhazim-image-examine-spec =
-    tie.close (tie.spec shape-of-requires reply-of-shape-requires returns)
+    tie.close (tie.spec (λ c κs. search needs) (λ c κs. search needs) returns)

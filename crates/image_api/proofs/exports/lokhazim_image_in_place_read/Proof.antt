@@ -1,19 +1,9 @@
 -- The number makes, with the heap and the words at exit, what the answer makes.
--- Assumes nothing.
 use mathlib.Core.Path.{_∙_}
 use borrow.Author.Needs.{needs}
 use Rattle.words.specs.Words.{accounts-of}
 use Rattle.image_api.proofs.exports.lokhazim_image_in_place_read.Statement.{statement}
 use Rattle.image_api.proofs.exports.lokhazim_image_in_place_read.Tie as tie
-
-read-image-requires : tie.Need-read-image-requires
-read-image-requires c κs = search needs
-
-number-of-requires : tie.Need-number-of-requires
-number-of-requires c κs = search needs
-
-same-length : tie.Need-same-length
-same-length c = search needs
 
 returns : tie.Need-returns
 returns c =
@@ -22,4 +12,4 @@ returns c =
 
 pub lokhazim-image-in-place-read-spec : {M : Type 1} → statement M
 lokhazim-image-in-place-read-spec =
-    tie.close (tie.spec read-image-requires number-of-requires same-length returns)
+    tie.close (tie.spec (λ c κs. search needs) (λ c κs. search needs) (λ c. search needs) returns)

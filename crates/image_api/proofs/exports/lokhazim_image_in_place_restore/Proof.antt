@@ -1,5 +1,4 @@
 -- The number makes, with the heap and the words at exit, what the answer makes.
--- Assumes nothing.
 use Prim.Native.Nat.{ℕ}
 use mathlib.Core.Path.{ap, sym, _∙_, subst}
 use borrow.Author.Needs.{needs}
@@ -8,15 +7,6 @@ use Rattle.image_model.specs.Answers.{Restored-to}
 use Rattle.image.specs.Restoring.{Left}
 use Rattle.image_api.proofs.exports.lokhazim_image_in_place_restore.Statement.{statement}
 use Rattle.image_api.proofs.exports.lokhazim_image_in_place_restore.Tie as tie
-
-restore-image-requires : tie.Need-restore-image-requires
-restore-image-requires c κs = search needs
-
-number-of-requires : tie.Need-number-of-requires
-number-of-requires c κs = search needs
-
-same-length : tie.Need-same-length
-same-length c = search needs
 
 returns : tie.Need-returns
 returns c =
@@ -31,4 +21,4 @@ returns c =
 
 pub lokhazim-image-in-place-restore-spec : {M : Type 1} → statement M
 lokhazim-image-in-place-restore-spec =
-    tie.close (tie.spec restore-image-requires number-of-requires same-length returns)
+    tie.close (tie.spec (λ c κs. search needs) (λ c κs. search needs) (λ c. search needs) returns)

@@ -1,14 +1,10 @@
 -- The length that `form_1_length` gives.
--- Assumes nothing.
 use borrow.Author.Needs.{needs}
 use Rattle.image_api.proofs.exports.lokhazim_image_length_form_1.Statement.{statement}
 use Rattle.image_api.proofs.exports.lokhazim_image_length_form_1.Tie as tie
-
-form-1-length-requires : tie.Need-form-1-length-requires
-form-1-length-requires c κs = search needs
 
 returns : tie.Need-returns
 returns c = c .form-1-length .ensures
 
 pub lokhazim-image-length-form-1-spec : {M : Type 1} → statement M
-lokhazim-image-length-form-1-spec = tie.close (tie.spec form-1-length-requires returns)
+lokhazim-image-length-form-1-spec = tie.close (tie.spec (λ c κs. search needs) returns)

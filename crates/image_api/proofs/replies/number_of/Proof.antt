@@ -1,5 +1,4 @@
 -- 0, or the number of the refusal.
--- Assumes nothing.
 use mathlib.Core.Path.{ap, sym, _∙_}
 use Rattle.image_model.specs.Answers.{restored-to}
 use borrow.Author.Needs.{needs}
@@ -8,12 +7,6 @@ use Rattle.image_api.proofs.replies.number_of.Tie as tie
 
 enum-told : tie.Need-enum-told
 enum-told c = search needs
-
-enum-known-answer : tie.Need-enum-known-answer
-enum-known-answer c = search needs
-
-number-requires : tie.Need-number-requires
-number-requires c κs = search needs
 
 returns : tie.Need-returns
 unfolding restored-to
@@ -26,4 +19,4 @@ returns-2 c s k =
 
 pub number-of-spec : {M : Type 1} → statement M
 number-of-spec =
-    tie.close (tie.spec enum-told enum-known-answer number-requires returns returns-2)
+    tie.close (tie.spec enum-told (λ c. search needs) (λ c κs. search needs) returns returns-2)

@@ -1,5 +1,4 @@
 -- The numbers of the form and the heap, or the number of the refusal and zeros.
--- Assumes nothing.
 use mathlib.Core.Path.{ap, sym, _∙_}
 use Rattle.accounts.specs.declared.Accounts.{Accounts}
 use Rattle.image_model.specs.Stream.{form-1}
@@ -12,15 +11,6 @@ use Rattle.image_api.proofs.Told.{numbers-refused}
 use borrow.Author.Needs.{needs}
 use Rattle.image_api.proofs.replies.reply_of_shape.Statement.{statement}
 use Rattle.image_api.proofs.replies.reply_of_shape.Tie as tie
-
-enum-known-shape : tie.Need-enum-known-shape
-enum-known-shape c = search needs
-
-enum-known-shape-2 : tie.Need-enum-known-shape-2
-enum-known-shape-2 c = search needs
-
-number-requires : tie.Need-number-requires
-number-requires c κs = search needs
 
 returns : tie.Need-returns
 unfolding shape-parts numbers-unless
@@ -37,4 +27,4 @@ returns-2 c = λ (k : Accounts).
 
 pub reply-of-shape-spec : {M : Type 1} → statement M
 reply-of-shape-spec =
-    tie.close (tie.spec enum-known-shape enum-known-shape-2 number-requires returns returns-2)
+    tie.close (tie.spec (λ c. search needs) (λ c. search needs) (λ c κs. search needs) returns returns-2)

@@ -1,19 +1,9 @@
 -- 0 and the length, or the number of the refusal and 0.
--- Assumes nothing.
 use mathlib.Core.Path.{ap, sym, _∙_}
 use Rattle.image_model.specs.Answers.{imaged}
 use borrow.Author.Needs.{needs}
 use Rattle.image_api.proofs.replies.reply_of_write.Statement.{statement}
 use Rattle.image_api.proofs.replies.reply_of_write.Tie as tie
-
-enum-known-answer : tie.Need-enum-known-answer
-enum-known-answer c = search needs
-
-enum-known-answer-2 : tie.Need-enum-known-answer-2
-enum-known-answer-2 c = search needs
-
-number-requires : tie.Need-number-requires
-number-requires c κs = search needs
 
 returns : tie.Need-returns
 unfolding imaged
@@ -25,4 +15,4 @@ returns-2 c o = (λ i. record { image = o; refusal = c .number .ensures i; lengt
 
 pub reply-of-write-spec : {M : Type 1} → statement M
 reply-of-write-spec =
-    tie.close (tie.spec enum-known-answer enum-known-answer-2 number-requires returns returns-2)
+    tie.close (tie.spec (λ c. search needs) (λ c. search needs) (λ c κs. search needs) returns returns-2)

@@ -1,5 +1,4 @@
 -- `queries::can_claim` meets its contract: it decides as claim does, by the same lines, and the refusal that a claim would give is its answer.
--- Assumes nothing.
 use borrow.Author.Needs.{needs}
 use Prim.Native.Nat.{ℕ, _-_, _/_, _%_}
 use native.Mathlib.Omega.{arith}
@@ -75,18 +74,6 @@ size-is c = is-sized (surveyed (survey (told (able c)))) (accepts (told (able c)
 lies : (c : tie.After-struct-known2) → Located (entry (able c) .args .heap .now) (entry (able c) .args .handle) (object c)
 lies c = claim-located (surveyed (survey (told (able c)))) (accepts (told (able c))) (object c) (finds c)
 
-asked-requires : tie.Need-asked-requires
-asked-requires c κs = search needs
-
-survey-requires : tie.Need-survey-requires
-survey-requires c κs = search needs
-
-verdict-requires : tie.Need-verdict-requires
-verdict-requires c κs = search needs
-
-enum-known-refusal : tie.Need-enum-known-refusal
-enum-known-refusal c = search needs
-
 returns : tie.Need-returns
 returns c =
     let v = c .before .before .before in
@@ -102,9 +89,6 @@ returns-2 c =
     let t = c .before in
     let k = accounts-of (start (survey t) .args .words .now) in
     claim-refuses QuotaNumber (claim-numbered (surveyed (survey t)) (accepts t) (c .if1 .taken) (not-claimed QuotaNumber k) refl)
-
-permissions-requires : tie.Need-permissions-requires
-permissions-requires c κs = search needs
 
 returns-3 : tie.Need-returns-3
 returns-3 c =
@@ -129,9 +113,6 @@ sub-length c = let l = lies c in let n = size-is c in omega (arith, l .header)
 
 cast-length : tie.Need-cast-length
 cast-length c = let l = lies c in let n = size-is c in record { fits = omega (arith, l .header, l .end) }
-
-can-count-requires : tie.Need-can-count-requires
-can-count-requires c κs = search needs
 
 returns-5 : tie.Need-returns-5
 returns-5 c =
@@ -174,19 +155,19 @@ pub can-claim-spec : {M : Type 1} → statement M
 can-claim-spec =
     tie.close
     (tie.spec
-    asked-requires
-    survey-requires
-    verdict-requires
-    enum-known-refusal
+    (λ c κs. search needs)
+    (λ c κs. search needs)
+    (λ c κs. search needs)
+    (λ c. search needs)
     returns
     enum-told
     returns-2
-    permissions-requires
+    (λ c κs. search needs)
     returns-3
     returns-4
     sub-length
     cast-length
-    can-count-requires
+    (λ c κs. search needs)
     returns-5
     can-pay-requires
     returns-6)

@@ -1,5 +1,4 @@
 -- `queries::can_count` meets its contract: the test is on the count of the record at the place, as in a claim.
--- Assumes nothing.
 use borrow.Author.Needs.{needs}
 use mathlib.Core.Path.{ap}
 use Rattle.model.specs.Answers.{verdict-values, amount-values}
@@ -8,9 +7,6 @@ use Rattle.words.specs.Words.{accounts-of}
 use Rattle.queries.specs.Claimable.{refusal-in}
 use Rattle.queries.proofs.claiming.can_count.Statement.{statement}
 use Rattle.queries.proofs.claiming.can_count.Tie as tie
-
-hold-at-requires : tie.Need-hold-at-requires
-hold-at-requires c κs = search needs
 
 returns : tie.Need-returns
 unfolding verdict-values amount-values
@@ -27,4 +23,4 @@ returns-2 c n =
     ap refusal-in (again-raises (a .at) n (accounts-of (a .words .now)) (h .result) (h .ensures) (c .if1 .left))
 
 pub can-count-spec : {M : Type 1} → statement M
-can-count-spec = tie.close (tie.spec hold-at-requires returns returns-2)
+can-count-spec = tie.close (tie.spec (λ c κs. search needs) returns returns-2)

@@ -1,5 +1,4 @@
 -- `queries::can_pay` meets its contract: the charge is compared with the remainder, and then the lowest unused record is asked for, as in a claim.
--- Assumes nothing.
 use borrow.Author.Needs.{needs}
 use Prim.Native.Nat.{_≤_}
 use native.Mathlib.Omega.{arith}
@@ -17,9 +16,6 @@ use Rattle.queries.proofs.claiming.can_pay.Tie as tie
 
 add-charge : tie.Need-add-charge
 add-charge c = omega (arith, c .pre .0)
-
-remaining-requires : tie.Need-remaining-requires
-remaining-requires c κs = search needs
 
 returns : tie.Need-returns
 unfolding verdict-values amount-values
@@ -49,4 +45,4 @@ returns-3 c h =
     (first-takes (a .quota) h (a .length) k enough (place-of (a .low)) (s .pre .1) (a .low) at)
 
 pub can-pay-spec : {M : Type 1} → statement M
-can-pay-spec = tie.close (tie.spec add-charge remaining-requires returns returns-2 returns-3)
+can-pay-spec = tie.close (tie.spec add-charge (λ c κs. search needs) returns returns-2 returns-3)

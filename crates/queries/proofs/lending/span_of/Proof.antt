@@ -1,5 +1,4 @@
 -- `queries::span_of` meets its contract: the refusals are those of lend, and where it is accepted, the range is the handle's, which lies in the heap.
--- Assumes nothing.
 use borrow.Author.Needs.{needs}
 use mathlib.Core.Path.{sym, subst, _∙_}
 use borrow.Author.Tests.{not-true, not-false}
@@ -12,21 +11,6 @@ use Rattle.survey.specs.Survey.{verdict-of, block-at, Survey}
 use Rattle.survey.proofs.Told.{is-missing, is-found}
 use Rattle.queries.proofs.lending.span_of.Statement.{statement}
 use Rattle.queries.proofs.lending.span_of.Tie as tie
-
-asked-requires : tie.Need-asked-requires
-asked-requires c κs = search needs
-
-survey-requires : tie.Need-survey-requires
-survey-requires c κs = search needs
-
-verdict-requires : tie.Need-verdict-requires
-verdict-requires c κs = search needs
-
-enum-known-refusal : tie.Need-enum-known-refusal
-enum-known-refusal c = search needs
-
-number-requires : tie.Need-number-requires
-number-requires c κs = search needs
 
 returns : tie.Need-returns
 returns c =
@@ -46,9 +30,6 @@ returns c =
 enum-told : tie.Need-enum-told
 enum-told c = search needs
 
-number-requires-2 : tie.Need-number-requires-2
-number-requires-2 c κs = search needs
-
 returns-2 : tie.Need-returns-2
 returns-2 c =
     let a = c .before .before .before .before .before .before .before .before .before .args in
@@ -63,15 +44,6 @@ returns-2 c =
     spans-refused u s k (a .handle) (c .number2 .result) NoSuchObject (c .number2 .ensures)
     (lend-missing u s k (a .handle) (verdict-of (c .before .before .before .before .before .before .survey .result .refusal)) (g .told) ok
     (is-missing g ok (not-true _ (c .before .if1 .taken))))
-
-cast-start : tie.Need-cast-start
-cast-start c = search needs
-
-cast-t13 : tie.Need-cast-t13
-cast-t13 c = search needs
-
-add-t14 : tie.Need-add-t14
-add-t14 c = search needs
 
 returns-3 : tie.Need-returns-3
 returns-3 c =
@@ -97,16 +69,16 @@ pub span-of-spec : {M : Type 1} → statement M
 span-of-spec =
     tie.close
     (tie.spec
-    asked-requires
-    survey-requires
-    verdict-requires
-    enum-known-refusal
-    number-requires
+    (λ c κs. search needs)
+    (λ c κs. search needs)
+    (λ c κs. search needs)
+    (λ c. search needs)
+    (λ c κs. search needs)
     returns
     enum-told
-    number-requires-2
+    (λ c κs. search needs)
     returns-2
-    cast-start
-    cast-t13
-    add-t14
+    (λ c. search needs)
+    (λ c. search needs)
+    (λ c. search needs)
     returns-3)

@@ -1,5 +1,4 @@
 -- `queries::write_object` meets its contract: the refusals are those of lend, and a place in the handle's range lies in the heap.
--- Assumes nothing.
 use borrow.Author.Needs.{needs}
 use Prim.Native.Nat.{_+_, _≤_}
 use native.Mathlib.Omega.{arith}
@@ -20,21 +19,6 @@ use Rattle.survey.proofs.Told.{is-missing, is-found}
 use Rattle.queries.proofs.lending.write_object.Statement.{statement}
 use Rattle.queries.proofs.lending.write_object.Tie as tie
 
-asked-requires : tie.Need-asked-requires
-asked-requires c κs = search needs
-
-survey-requires : tie.Need-survey-requires
-survey-requires c κs = search needs
-
-verdict-requires : tie.Need-verdict-requires
-verdict-requires c κs = search needs
-
-enum-known-refusal : tie.Need-enum-known-refusal
-enum-known-refusal c = search needs
-
-same-length : tie.Need-same-length
-same-length c = search needs
-
 returns : tie.Need-returns
 unfolding write-object verdict-values
 returns c =
@@ -53,9 +37,6 @@ returns c =
 
 enum-told : tie.Need-enum-told
 enum-told c = search needs
-
-same-length-2 : tie.Need-same-length-2
-same-length-2 c = search needs
 
 returns-2 : tie.Need-returns-2
 unfolding write-object verdict-values
@@ -100,19 +81,10 @@ known c =
           (block-at (c .before .before .before .before .before .survey .result .at) s) f,
     )
 
-cast-index : tie.Need-cast-index
-cast-index c = search needs
-
-add-index : tie.Need-add-index
-add-index c = search needs
-
 slice-write-heap : tie.Need-slice-write-heap
 slice-write-heap c =
     let l = known (c .before .before .before) .1 in
     omega (arith, l, c .before .if2 .taken)
-
-same-length-3 : tie.Need-same-length-3
-same-length-3 c = search needs
 
 returns-3 : tie.Need-returns-3
 unfolding verdict-values
@@ -123,9 +95,6 @@ returns-3 c =
     let k = accounts-of w in
     let u = table (edition-of w) in
     writes u s k (a .handle) (known (c .before .before .before) .0) (a .at) (a .byte) (c .before .if2 .taken)
-
-same-length-4 : tie.Need-same-length-4
-same-length-4 c = search needs
 
 returns-4 : tie.Need-returns-4
 unfolding verdict-values
@@ -141,19 +110,19 @@ pub write-object-spec : {M : Type 1} → statement M
 write-object-spec =
     tie.close
     (tie.spec
-    asked-requires
-    survey-requires
-    verdict-requires
-    enum-known-refusal
-    same-length
+    (λ c κs. search needs)
+    (λ c κs. search needs)
+    (λ c κs. search needs)
+    (λ c. search needs)
+    (λ c. search needs)
     returns
     enum-told
-    same-length-2
+    (λ c. search needs)
     returns-2
-    cast-index
-    add-index
+    (λ c. search needs)
+    (λ c. search needs)
     slice-write-heap
-    same-length-3
+    (λ c. search needs)
     returns-3
-    same-length-4
+    (λ c. search needs)
     returns-4)

@@ -1,6 +1,5 @@
 -- `queries::find_block` meets its contract. The loop's invariant: the search came to `place` (finder's `Searching`). Each turn meets a block that ends
 -- in the heap, so the rest of the heap gets shorter.
--- Assumes nothing.
 use borrow.Author.Needs.{needs}
 use borrow.Author.Tests.{eq-eqb, ne-eqb}
 use native.Mathlib.Omega.{arith}
@@ -24,12 +23,6 @@ abbrev μ-loop : tie.MeasureT-loop
 
 loop-holds : tie.Need-loop-holds Inv-loop μ-loop
 loop-holds c = search-start (stands-at (c .before .args .at)) (c .before .args .heap .now)
-
-start-at-requires : tie.Need-start-at-requires Inv-loop μ-loop
-start-at-requires c κs = search needs
-
-enum-known-header : tie.Need-enum-known-header Inv-loop μ-loop
-enum-known-header c = search needs
 
 enum-told : tie.Need-enum-told Inv-loop μ-loop
 enum-told c = search needs
@@ -96,8 +89,8 @@ find-block-spec =
     Inv-loop
     μ-loop
     loop-holds
-    start-at-requires
-    enum-known-header
+    (λ c κs. search needs)
+    (λ c. search needs)
     enum-told
     returns
     mul-size

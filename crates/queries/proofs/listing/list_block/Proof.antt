@@ -1,5 +1,4 @@
 -- `queries::list_block` meets its contract: the check decides, and else the block that the walk meets at the place is the definition's.
--- Assumes nothing.
 use borrow.Author.Needs.{needs}
 use mathlib.Core.Path.{ap, _∙_}
 use mathlib.Core.List.{[], _∷_}
@@ -13,12 +12,6 @@ use Rattle.results.proofs.Lines.{check-refuses, check-accepts, check-consistent
 use Rattle.queries.proofs.Listed.{find-block-is}
 use Rattle.queries.proofs.listing.list_block.Statement.{statement}
 use Rattle.queries.proofs.listing.list_block.Tie as tie
-
-check-requires : tie.Need-check-requires
-check-requires c κs = search needs
-
-enum-known-refusal : tie.Need-enum-known-refusal
-enum-known-refusal c = search needs
 
 returns : tie.Need-returns
 unfolding list-block block-values check-lines
@@ -34,9 +27,6 @@ returns c =
 
 enum-told : tie.Need-enum-told
 enum-told c = search needs
-
-find-block-requires : tie.Need-find-block-requires
-find-block-requires c κs = search needs
 
 returns-2 : tie.Need-returns-2
 unfolding list-block check-lines first-refusal
@@ -56,9 +46,9 @@ pub list-block-spec : {M : Type 1} → statement M
 list-block-spec =
     tie.close
     (tie.spec
-    check-requires
-    enum-known-refusal
+    (λ c κs. search needs)
+    (λ c. search needs)
     returns
     enum-told
-    find-block-requires
+    (λ c κs. search needs)
     returns-2)

@@ -1,5 +1,4 @@
 -- `queries::can_release` meets its contract: it decides as release does, by the same lines.
--- Assumes nothing.
 use borrow.Author.Needs.{needs}
 use native.Mathlib.Omega.{arith}
 use mathlib.Core.Path.{_≡_, ap, sym, subst, _∙_}
@@ -20,18 +19,6 @@ use Rattle.survey.specs.Survey.{verdict-of, block-at, Survey}
 use Rattle.survey.proofs.Told.{is-missing, is-found, is-holder, no-holder}
 use Rattle.queries.proofs.query.can_release.Statement.{statement}
 use Rattle.queries.proofs.query.can_release.Tie as tie
-
-asked-requires : tie.Need-asked-requires
-asked-requires c κs = search needs
-
-survey-requires : tie.Need-survey-requires
-survey-requires c κs = search needs
-
-verdict-requires : tie.Need-verdict-requires
-verdict-requires c κs = search needs
-
-enum-known-refusal : tie.Need-enum-known-refusal
-enum-known-refusal c = search needs
 
 returns : tie.Need-returns
 unfolding can-release verdict-values
@@ -130,10 +117,10 @@ pub can-release-spec : {M : Type 1} → statement M
 can-release-spec =
     tie.close
     (tie.spec
-    asked-requires
-    survey-requires
-    verdict-requires
-    enum-known-refusal
+    (λ c κs. search needs)
+    (λ c κs. search needs)
+    (λ c κs. search needs)
+    (λ c. search needs)
     returns
     enum-told
     returns-2

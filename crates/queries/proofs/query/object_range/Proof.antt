@@ -1,5 +1,4 @@
 -- `queries::object_range` meets its contract: the check decides first, then the object, and else the range is the handle's.
--- Assumes nothing.
 use borrow.Author.Needs.{needs}
 use mathlib.Core.Path.{sym, subst, _∙_}
 use borrow.Author.Tests.{not-true, not-false}
@@ -16,18 +15,6 @@ use Rattle.survey.specs.Survey.{verdict-of, block-at, Survey}
 use Rattle.survey.proofs.Told.{is-missing, is-found}
 use Rattle.queries.proofs.query.object_range.Statement.{statement}
 use Rattle.queries.proofs.query.object_range.Tie as tie
-
-asked-requires : tie.Need-asked-requires
-asked-requires c κs = search needs
-
-survey-requires : tie.Need-survey-requires
-survey-requires c κs = search needs
-
-verdict-requires : tie.Need-verdict-requires
-verdict-requires c κs = search needs
-
-enum-known-refusal : tie.Need-enum-known-refusal
-enum-known-refusal c = search needs
 
 returns : tie.Need-returns
 unfolding lend range-values
@@ -63,15 +50,6 @@ returns-2 c =
     refused-is _ s k _ NoSuchObject (lend-missing u s k (a .handle) (verdict-of (c .before .before .before .before .before .survey .result .refusal)) (g .told)
     ok (is-missing g ok (not-true _ (c .if1 .taken))))
 
-cast-start : tie.Need-cast-start
-cast-start c = search needs
-
-cast-t11 : tie.Need-cast-t11
-cast-t11 c = search needs
-
-add-t12 : tie.Need-add-t12
-add-t12 c = search needs
-
 returns-3 : tie.Need-returns-3
 unfolding range-values
 returns-3 c =
@@ -93,14 +71,14 @@ pub object-range-spec : {M : Type 1} → statement M
 object-range-spec =
     tie.close
     (tie.spec
-    asked-requires
-    survey-requires
-    verdict-requires
-    enum-known-refusal
+    (λ c κs. search needs)
+    (λ c κs. search needs)
+    (λ c κs. search needs)
+    (λ c. search needs)
     returns
     enum-told
     returns-2
-    cast-start
-    cast-t11
-    add-t12
+    (λ c. search needs)
+    (λ c. search needs)
+    (λ c. search needs)
     returns-3)

@@ -1,5 +1,4 @@
 -- `queries::remaining` meets its contract: the check decides first, then the quota's number, and else the accounts' remainder is the definition's.
--- Assumes nothing.
 use borrow.Author.Needs.{needs}
 use Prim.Native.Nat.{ℕ}
 use mathlib.Core.Path.{ap, _∙_}
@@ -13,12 +12,6 @@ use Rattle.model.specs.declared.Refusal.the-variants.{QuotaNumber}
 use Rattle.results.proofs.Lines.{check-refuses, check-accepts, refused-is, accepted-is, line-3-refuses, line-3-passes}
 use Rattle.queries.proofs.query.remaining.Statement.{statement}
 use Rattle.queries.proofs.query.remaining.Tie as tie
-
-check-requires : tie.Need-check-requires
-check-requires c κs = search needs
-
-enum-known-refusal : tie.Need-enum-known-refusal
-enum-known-refusal c = search needs
 
 returns : tie.Need-returns
 unfolding remaining-of amount-values quota-lines
@@ -47,9 +40,6 @@ returns-2 c =
     let t = c .before .enum-told .given .1 in
     refused-is _ s k _ QuotaNumber (check-accepts u s k (e .result) (e .ensures) (line-3 (a .quota) ∷ []) t ∙ line-3-refuses (a .quota) [] (c .if1 .taken))
 
-remaining-requires : tie.Need-remaining-requires
-remaining-requires c κs = search needs
-
 returns-3 : tie.Need-returns-3
 unfolding remaining-of amount-values quota-lines first-refusal
 returns-3 c =
@@ -67,10 +57,10 @@ pub remaining-spec : {M : Type 1} → statement M
 remaining-spec =
     tie.close
     (tie.spec
-    check-requires
-    enum-known-refusal
+    (λ c κs. search needs)
+    (λ c. search needs)
     returns
     enum-told
     returns-2
-    remaining-requires
+    (λ c κs. search needs)
     returns-3)

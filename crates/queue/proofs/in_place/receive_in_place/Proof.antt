@@ -1,5 +1,4 @@
 -- `queue::receive_in_place` meets its contract: its two lines come first, and then the first place holds the oldest handle.
--- Assumes nothing.
 use native.Mathlib.Omega.{arith}
 use mathlib.Core.Path.{sym, _∙_}
 use borrow.Author.Needs.{needs}
@@ -8,12 +7,6 @@ use Rattle.queue.specs.Results.{receive-number, receive-handle}
 use Rattle.queue.proofs.Sending.{receive-damaged, receive-empty, receive-done}
 use Rattle.queue.proofs.in_place.receive_in_place.Statement.{statement}
 use Rattle.queue.proofs.in_place.receive_in_place.Tie as tie
-
-word-at-requires : tie.Need-word-at-requires
-word-at-requires c κs = search needs
-
-cast-count : tie.Need-cast-count
-cast-count c = search needs
 
 returns : tie.Need-returns
 unfolding receive-number receive-handle
@@ -27,12 +20,6 @@ returns-2 c =
     let w = c .before .before in
     receive-empty (queue-of (w .before .before .args .queue .now)) (omega (arith, c .before .if1 .left, w .word-at .ensures))
     (sym (w .word-at .ensures) ∙ c .if2 .taken)
-
-oldest-requires : tie.Need-oldest-requires
-oldest-requires c κs = search needs
-
-drop-oldest-requires : tie.Need-drop-oldest-requires
-drop-oldest-requires c κs = search needs
 
 returns-3 : tie.Need-returns-3
 unfolding receive-number receive-handle
@@ -48,10 +35,10 @@ pub receive-in-place-spec : {M : Type 1} → statement M
 receive-in-place-spec =
     tie.close
     (tie.spec
-    word-at-requires
-    cast-count
+    (λ c κs. search needs)
+    (λ c. search needs)
     returns
     returns-2
-    oldest-requires
-    drop-oldest-requires
+    (λ c κs. search needs)
+    (λ c κs. search needs)
     returns-3)

@@ -1,6 +1,5 @@
 -- `queue::send_in_place` meets its contract: first the lines of the queue, next the release and the claim, both with the words as they came in; after that the
 -- release takes the words that the claim leaves.
--- Assumes nothing.
 use Prim.Native.Nat.{ℕ, _≤_}
 use native.Mathlib.Omega.{arith}
 use mathlib.Core.Path.{_≡_, ap, sym, _∙_}
@@ -44,12 +43,6 @@ whole e = omega (arith, e .before .if1 .left, e .before .before .word-at .ensure
 not-full : (e : tie.Else2) → queue-of (start e .args .queue .now) .count ≡ PLACES → ⊥
 not-full e z = e .if2 .left (e .before .before .word-at .ensures ∙ z)
 
-word-at-requires : tie.Need-word-at-requires
-word-at-requires c κs = search needs
-
-cast-count : tie.Need-cast-count
-cast-count c = search needs
-
 returns : tie.Need-returns
 unfolding send-number
 returns c =
@@ -70,27 +63,6 @@ returns-2 c =
           (omega (arith, c .before .if1 .left, f .word-at .ensures)) (sym (f .word-at .ensures) ∙ c .if2 .taken),
       padded-same w,
     )
-
-word-at-requires-2 : tie.Need-word-at-requires-2
-word-at-requires-2 c κs = search needs
-
-word-at-requires-3 : tie.Need-word-at-requires-3
-word-at-requires-3 c κs = search needs
-
-can-release-requires : tie.Need-can-release-requires
-can-release-requires c κs = search needs
-
-enum-known-refusal : tie.Need-enum-known-refusal
-enum-known-refusal c = search needs
-
-can-claim-requires : tie.Need-can-claim-requires
-can-claim-requires c κs = search needs
-
-enum-known-first : tie.Need-enum-known-first
-enum-known-first c = search needs
-
-same-length : tie.Need-same-length
-same-length c = search needs
 
 returns-3 : tie.Need-returns-3
 unfolding send-number verdict-values
@@ -113,9 +85,6 @@ returns-3 c =
 
 enum-told : tie.Need-enum-told
 enum-told c = search needs
-
-same-length-2 : tie.Need-same-length-2
-same-length-2 c = search needs
 
 returns-4 : tie.Need-returns-4
 unfolding send-number verdict-values
@@ -141,18 +110,6 @@ returns-4 c =
       padded-same w,
     )
 
-enum-told-2 : tie.Need-enum-told-2
-enum-told-2 c = search needs
-
-claim-requires : tie.Need-claim-requires
-claim-requires c κs = search needs
-
-enum-known-refusal-2 : tie.Need-enum-known-refusal-2
-enum-known-refusal-2 c = search needs
-
-same-length-3 : tie.Need-same-length-3
-same-length-3 c = search needs
-
 returns-5 : tie.Need-returns-5
 unfolding send-number amount-values
 returns-5 c =
@@ -175,18 +132,6 @@ returns-5 c =
           (omega (arith, n, refusal-number-is (x .0 .0) .1)),
       d .claim .ensures .1,
     )
-
-enum-told-3 : tie.Need-enum-told-3
-enum-told-3 c = search needs
-
-release-requires : tie.Need-release-requires
-release-requires c κs = search needs
-
-put-handle-requires : tie.Need-put-handle-requires
-put-handle-requires c κs = search needs
-
-same-length-4 : tie.Need-same-length-4
-same-length-4 c = search needs
 
 returns-6 : tie.Need-returns-6
 unfolding send-number verdict-values amount-values
@@ -226,28 +171,28 @@ pub send-in-place-spec : {M : Type 1} → statement M
 send-in-place-spec =
     tie.close
     (tie.spec
-    word-at-requires
-    cast-count
+    (λ c κs. search needs)
+    (λ c. search needs)
     returns
     returns-2
-    word-at-requires-2
-    word-at-requires-3
-    can-release-requires
-    enum-known-refusal
-    can-claim-requires
-    enum-known-first
-    same-length
+    (λ c κs. search needs)
+    (λ c κs. search needs)
+    (λ c κs. search needs)
+    (λ c. search needs)
+    (λ c κs. search needs)
+    (λ c. search needs)
+    (λ c. search needs)
     returns-3
     enum-told
-    same-length-2
+    (λ c. search needs)
     returns-4
-    enum-told-2
-    claim-requires
-    enum-known-refusal-2
-    same-length-3
+    (λ c. search needs)
+    (λ c κs. search needs)
+    (λ c. search needs)
+    (λ c. search needs)
     returns-5
-    enum-told-3
-    release-requires
-    put-handle-requires
-    same-length-4
+    (λ c. search needs)
+    (λ c κs. search needs)
+    (λ c κs. search needs)
+    (λ c. search needs)
     returns-6)

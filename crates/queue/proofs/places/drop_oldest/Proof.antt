@@ -1,26 +1,10 @@
 -- `queue::drop_oldest` meets its contract: every place moves up by one, and the count is written.
--- Assumes nothing.
 use Prim.Native.Nat.{ℕ, _-_}
 use mathlib.Core.Path.{ap}
 use borrow.Author.Needs.{needs}
 use Rattle.queue.proofs.InWords.{dropped-is}
 use Rattle.queue.proofs.places.drop_oldest.Statement.{statement}
 use Rattle.queue.proofs.places.drop_oldest.Tie as tie
-
-size-requires : tie.Need-size-requires
-size-requires c κs = search needs
-
-word-at-requires : tie.Need-word-at-requires
-word-at-requires c κs = search needs
-
-move-up-requires : tie.Need-move-up-requires
-move-up-requires c κs = search needs
-
-sub-queue : tie.Need-sub-queue
-sub-queue c = search needs
-
-element-write-queue : tie.Need-element-write-queue
-element-write-queue c = search needs
 
 returns : tie.Need-returns
 returns c =
@@ -33,9 +17,9 @@ pub drop-oldest-spec : {M : Type 1} → statement M
 drop-oldest-spec =
     tie.close
     (tie.spec
-    size-requires
-    word-at-requires
-    move-up-requires
-    sub-queue
-    element-write-queue
+    (λ c κs. search needs)
+    (λ c κs. search needs)
+    (λ c κs. search needs)
+    (λ c. search needs)
+    (λ c. search needs)
     returns)

@@ -1,6 +1,5 @@
 -- `queue::move_up` meets its contract. The loop's invariant: the words from the first place up to `i` are those that stood three words behind, and the
 -- others are as they were. The measure is what is left up to the last place.
--- Assumes nothing.
 use Prim.Native.Nat.{ℕ, _+_, _-_, _≤_, _<_}
 use native.Mathlib.Omega.{arith}
 use mathlib.Core.Path.{_≡_, refl, ap, sym, _∙_}
@@ -21,29 +20,8 @@ Inv-loop queue₀ i₀ queue i =
 abbrev μ-loop : tie.MeasureT-loop
 μ-loop queue₀ i₀ queue i = LAST - i
 
-size-requires : tie.Need-size-requires Inv-loop μ-loop
-size-requires c κs = search needs
-
 loop-holds : tie.Need-loop-holds Inv-loop μ-loop
 loop-holds c = (omega arith, omega arith, c .size .ensures, λ j l. refl, λ j f l. absurd (omega arith), λ j l. refl)
-
-add-word-at : tie.Need-add-word-at Inv-loop μ-loop
-add-word-at c = search needs
-
-word-at-requires : tie.Need-word-at-requires Inv-loop μ-loop
-word-at-requires c κs = search needs
-
-mul-queue : tie.Need-mul-queue Inv-loop μ-loop
-mul-queue c = search needs
-
-element-write-queue : tie.Need-element-write-queue Inv-loop μ-loop
-element-write-queue c = search needs
-
-add-i : tie.Need-add-i Inv-loop μ-loop
-add-i c = search needs
-
-loop-less : tie.Need-loop-less Inv-loop μ-loop
-loop-less c = search needs
 
 loop-again : tie.Need-loop-again Inv-loop μ-loop
 loop-again c =
@@ -62,27 +40,6 @@ loop-again c =
       λ j b. getD-set-other (l .queue) (l .i) j v 0 (λ e. omega arith) ∙ l .inv .5 j (omega arith),
     )
 
-element-write-queue-2 : tie.Need-element-write-queue-2 Inv-loop μ-loop
-element-write-queue-2 c = search needs
-
-add-queue : tie.Need-add-queue Inv-loop μ-loop
-add-queue c = search needs
-
-mul-queue-2 : tie.Need-mul-queue-2 Inv-loop μ-loop
-mul-queue-2 c = search needs
-
-element-write-queue-3 : tie.Need-element-write-queue-3 Inv-loop μ-loop
-element-write-queue-3 c = search needs
-
-add-queue-2 : tie.Need-add-queue-2 Inv-loop μ-loop
-add-queue-2 c = search needs
-
-mul-queue-3 : tie.Need-mul-queue-3 Inv-loop μ-loop
-mul-queue-3 c = search needs
-
-element-write-queue-4 : tie.Need-element-write-queue-4 Inv-loop μ-loop
-element-write-queue-4 c = search needs
-
 returns : tie.Need-returns Inv-loop μ-loop
 returns c =
     let l = c .before .loop in
@@ -95,20 +52,20 @@ move-up-spec =
     (tie.spec
     Inv-loop
     μ-loop
-    size-requires
+    (λ c κs. search needs)
     loop-holds
-    add-word-at
-    word-at-requires
-    mul-queue
-    element-write-queue
-    add-i
-    loop-less
+    (λ c. search needs)
+    (λ c κs. search needs)
+    (λ c. search needs)
+    (λ c. search needs)
+    (λ c. search needs)
+    (λ c. search needs)
     loop-again
-    element-write-queue-2
-    add-queue
-    mul-queue-2
-    element-write-queue-3
-    add-queue-2
-    mul-queue-3
-    element-write-queue-4
+    (λ c. search needs)
+    (λ c. search needs)
+    (λ c. search needs)
+    (λ c. search needs)
+    (λ c. search needs)
+    (λ c. search needs)
+    (λ c. search needs)
     returns)

@@ -1,17 +1,10 @@
 -- The reply says, with the queue at exit, what the answer of the call says.
--- Assumes nothing.
 use mathlib.Core.Path.{ap, _∙_}
 use borrow.Author.Needs.{needs}
 use Rattle.queue_api.specs.declared.OldestReply.{OldestReply}
 use Rattle.queue_api.specs.Replies.{receive-reply, received-in}
 use Rattle.queue_api.proofs.exports.lokhazim_queue_in_place_receive.Statement.{statement}
 use Rattle.queue_api.proofs.exports.lokhazim_queue_in_place_receive.Tie as tie
-
-receive-in-place-requires : tie.Need-receive-in-place-requires
-receive-in-place-requires c κs = search needs
-
-oldest-of-requires : tie.Need-oldest-of-requires
-oldest-of-requires c κs = search needs
 
 returns : tie.Need-returns
 returns c =
@@ -20,4 +13,4 @@ returns c =
 
 pub lokhazim-queue-in-place-receive-spec : {M : Type 1} → statement M
 lokhazim-queue-in-place-receive-spec =
-    tie.close (tie.spec receive-in-place-requires oldest-of-requires returns)
+    tie.close (tie.spec (λ c κs. search needs) (λ c κs. search needs) returns)

@@ -1,18 +1,8 @@
 -- The reply makes, with the heap at exit, what the result of the call makes.
--- Assumes nothing.
 use mathlib.Core.Path.{_∙_}
 use borrow.Author.Needs.{needs}
 use Rattle.queue_api.proofs.exports.lokhazim_queue_send.Statement.{statement}
 use Rattle.queue_api.proofs.exports.lokhazim_queue_send.Tie as tie
-
-send-requires : tie.Need-send-requires
-send-requires c κs = search needs
-
-reply-of-send-requires : tie.Need-reply-of-send-requires
-reply-of-send-requires c κs = search needs
-
-same-length : tie.Need-same-length
-same-length c = search needs
 
 returns : tie.Need-returns
 returns c =
@@ -21,4 +11,4 @@ returns c =
 
 pub lokhazim-queue-send-spec : {M : Type 1} → statement M
 lokhazim-queue-send-spec =
-    tie.close (tie.spec send-requires reply-of-send-requires same-length returns)
+    tie.close (tie.spec (λ c κs. search needs) (λ c κs. search needs) (λ c. search needs) returns)

@@ -1,5 +1,4 @@
 -- The number of the answer's case.
--- Assumes nothing.
 use mathlib.Core.Path.{ap, sym, _∙_}
 use Rattle.queue.specs.Results.{send-number}
 use borrow.Author.Needs.{needs}
@@ -8,12 +7,6 @@ use Rattle.queue_api.proofs.replies.number_of.Tie as tie
 
 enum-told : tie.Need-enum-told
 enum-told c = search needs
-
-enum-known-answer : tie.Need-enum-known-answer
-enum-known-answer c = search needs
-
-number-requires : tie.Need-number-requires
-number-requires c κs = search needs
 
 returns : tie.Need-returns
 unfolding send-number
@@ -24,4 +17,4 @@ unfolding send-number
 returns-2 c = c .number .ensures ∙ sym (ap send-number (c .before .before .answer .given .1))
 
 pub number-of-spec : {M : Type 1} → statement M
-number-of-spec = tie.close (tie.spec enum-told enum-known-answer number-requires returns returns-2)
+number-of-spec = tie.close (tie.spec enum-told (λ c. search needs) (λ c κs. search needs) returns returns-2)

@@ -1,5 +1,4 @@
 -- 0 and the handle, or the number of the refusal and a handle of zeros.
--- Assumes nothing.
 use Prim.Native.Nat.{ℕ}
 use mathlib.Core.Path.{ap, sym, _∙_}
 use borrow.Author.Needs.{needs}
@@ -13,15 +12,6 @@ use Rattle.queue_api.proofs.replies.oldest_of.Tie as tie
 abbrev told : ReceiveAnswer → OldestReply
 told a = record { refusal = receive-number a; handle = receive-handle a }
 
-enum-known-answer : tie.Need-enum-known-answer
-enum-known-answer c = search needs
-
-enum-known-answer-2 : tie.Need-enum-known-answer-2
-enum-known-answer-2 c = search needs
-
-number-requires : tie.Need-number-requires
-number-requires c κs = search needs
-
 returns : tie.Need-returns
 unfolding receive-number receive-handle
 returns c = ap told (sym (c .before .answer .given .1))
@@ -32,4 +22,4 @@ returns-2 c = ap (λ (n : ℕ). record { refusal = n; handle = zero-handle }) (c
 
 pub oldest-of-spec : {M : Type 1} → statement M
 oldest-of-spec =
-    tie.close (tie.spec enum-known-answer enum-known-answer-2 number-requires returns returns-2)
+    tie.close (tie.spec (λ c. search needs) (λ c. search needs) (λ c κs. search needs) returns returns-2)

@@ -1,13 +1,9 @@
 -- The queue is that of the result, and the numbers are those of its answer.
--- Assumes nothing.
 use mathlib.Core.Path.{ap}
 use borrow.Author.Needs.{needs}
 use Rattle.queue_api.specs.declared.OldestReply.{OldestReply}
 use Rattle.queue_api.proofs.replies.reply_of_receive.Statement.{statement}
 use Rattle.queue_api.proofs.replies.reply_of_receive.Tie as tie
-
-oldest-of-requires : tie.Need-oldest-of-requires
-oldest-of-requires c κs = search needs
 
 returns : tie.Need-returns
 returns c =
@@ -15,4 +11,4 @@ returns c =
     ap (λ (r : OldestReply). record { queue = u; refusal = r .refusal; handle = r .handle }) (c .before .oldest-of .ensures)
 
 pub reply-of-receive-spec : {M : Type 1} → statement M
-reply-of-receive-spec = tie.close (tie.spec oldest-of-requires returns)
+reply-of-receive-spec = tie.close (tie.spec (λ c κs. search needs) returns)

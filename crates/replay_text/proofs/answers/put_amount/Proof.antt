@@ -1,5 +1,4 @@
 -- The word, and behind it the amount.
--- Assumes nothing.
 use borrow.Author.Needs.{needs}
 use mathlib.Core.List.{[], _∷_}
 use Rattle.replay_model.specs.Text.{text}
@@ -7,9 +6,6 @@ use Rattle.replay_model.specs.Replay.{ok-line, tail-of}
 use Rattle.replay_text.proofs.Puts.{room-first, room-next, put-two}
 use Rattle.replay_text.proofs.answers.put_amount.Statement.{statement}
 use Rattle.replay_text.proofs.answers.put_amount.Tie as tie
-
-slice-aggregate-put-text : tie.Need-slice-aggregate-put-text
-slice-aggregate-put-text c = search needs
 
 put-text-requires : tie.Need-put-text-requires
 unfolding ok-line tail-of
@@ -24,10 +20,8 @@ put-last-requires c κs =
     let p = c .before .before .before in
     let e = p .before .before .before .before in
     let a = e .args in
-    room-next (a .at) (text "ok") (tail-of (a .amount ∷ [])) (a .output .now) (p .put-text .last .0) (p .put-text .result) (e .pre) (p .put-text .ensures)
-
-same-length : tie.Need-same-length
-same-length c = search needs
+    room-next (a .at) (text "ok") (tail-of (a .amount ∷ [])) (a .output .now) (p .put-text .last .0) (p .put-text .result) (e .pre)
+    (p .put-text .ensures)
 
 returns : tie.Need-returns
 unfolding ok-line tail-of
@@ -36,9 +30,10 @@ returns c =
     let p = q .before .before .before .before in
     let e = p .before .before .before .before in
     let a = e .args in
-    put-two (a .at) (text "ok") (tail-of (a .amount ∷ [])) (a .output .now) (p .put-text .last .0) (q .put-last .last .0) (p .put-text .result) (q .put-last .result) (e .pre) (p .put-text .ensures) (q .put-last .ensures)
+    put-two (a .at) (text "ok") (tail-of (a .amount ∷ [])) (a .output .now) (p .put-text .last .0) (q .put-last .last .0) (p .put-text .result)
+    (q .put-last .result) (e .pre) (p .put-text .ensures) (q .put-last .ensures)
 
 pub put-amount-spec : {M : Type 1} → statement M
 put-amount-spec =
     tie.close
-    (tie.spec slice-aggregate-put-text put-text-requires put-last-requires same-length returns)
+    (tie.spec (λ c. search needs) put-text-requires put-last-requires (λ c. search needs) returns)

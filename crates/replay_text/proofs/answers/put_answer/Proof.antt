@@ -1,5 +1,4 @@
 -- A refused call's line has its refusal, and an accepted one's the numbers that the call answers.
--- Assumes nothing.
 use borrow.Author.Needs.{needs}
 use Prim.Native.Nat.{ℕ}
 use mathlib.Core.Path.{sym, subst, _∙_}
@@ -9,19 +8,14 @@ use Rattle.replay_text.proofs.Answering.{line-refused, line-handle, lin
 use Rattle.replay_text.proofs.answers.put_answer.Statement.{statement}
 use Rattle.replay_text.proofs.answers.put_answer.Tie as tie
 
-refusal-in-requires : tie.Need-refusal-in-requires
-refusal-in-requires c κs = search needs
-
 put-refusal-requires : tie.Need-put-refusal-requires
 put-refusal-requires c κs =
     let t = c .before in
     let r = t .before in
     let e = r .before .before in
     let a = e .args in
-    subst (λ (x : List ℕ). Room (a .at) x (a .output .now)) (sym (line-refused (a .call) (a .answer) (r .refusal-in .result) (r .refusal-in .ensures) (t .if1 .taken))) (e .pre)
-
-same-length : tie.Need-same-length
-same-length c = search needs
+    subst (λ (x : List ℕ). Room (a .at) x (a .output .now)) (sym (line-refused (a .call) (a .answer) (r .refusal-in .result) (r .refusal-in .ensures)
+    (t .if1 .taken))) (e .pre)
 
 returns : tie.Need-returns
 returns c =
@@ -30,13 +24,8 @@ returns c =
     let r = t .before in
     let e = r .before .before in
     let a = e .args in
-    subst (λ (x : List ℕ). Put (a .at) x (a .output .now) (p .put-refusal .last .0) (p .put-refusal .result)) (line-refused (a .call) (a .answer) (r .refusal-in .result) (r .refusal-in .ensures) (t .if1 .taken)) (p .put-refusal .ensures)
-
-answers-handle-requires : tie.Need-answers-handle-requires
-answers-handle-requires c κs = search needs
-
-handle-in-requires : tie.Need-handle-in-requires
-handle-in-requires c κs = search needs
+    subst (λ (x : List ℕ). Put (a .at) x (a .output .now) (p .put-refusal .last .0) (p .put-refusal .result))
+    (line-refused (a .call) (a .answer) (r .refusal-in .result) (r .refusal-in .ensures) (t .if1 .taken)) (p .put-refusal .ensures)
 
 put-handle-requires : tie.Need-put-handle-requires
 put-handle-requires c κs =
@@ -47,10 +36,8 @@ put-handle-requires c κs =
     let r = l .before in
     let e = r .before .before in
     let a = e .args in
-    subst (λ (x : List ℕ). Room (a .at) x (a .output .now)) (sym (line-handle (a .call) (a .answer) (r .refusal-in .result) (r .refusal-in .ensures) (l .if1 .left) (sym (h .answers-handle .ensures) ∙ t .if2 .taken) (m .handle-in .result) (m .handle-in .ensures))) (e .pre)
-
-same-length-2 : tie.Need-same-length-2
-same-length-2 c = search needs
+    subst (λ (x : List ℕ). Room (a .at) x (a .output .now)) (sym (line-handle (a .call) (a .answer) (r .refusal-in .result) (r .refusal-in .ensures)
+    (l .if1 .left) (sym (h .answers-handle .ensures) ∙ t .if2 .taken) (m .handle-in .result) (m .handle-in .ensures))) (e .pre)
 
 returns-2 : tie.Need-returns-2
 returns-2 c =
@@ -62,10 +49,9 @@ returns-2 c =
     let r = l .before in
     let e = r .before .before in
     let a = e .args in
-    subst (λ (x : List ℕ). Put (a .at) x (a .output .now) (p .put-handle .last .0) (p .put-handle .result)) (line-handle (a .call) (a .answer) (r .refusal-in .result) (r .refusal-in .ensures) (l .if1 .left) (sym (h .answers-handle .ensures) ∙ t .if2 .taken) (m .handle-in .result) (m .handle-in .ensures)) (p .put-handle .ensures)
-
-amount-in-requires : tie.Need-amount-in-requires
-amount-in-requires c κs = search needs
+    subst (λ (x : List ℕ). Put (a .at) x (a .output .now) (p .put-handle .last .0) (p .put-handle .result))
+    (line-handle (a .call) (a .answer) (r .refusal-in .result) (r .refusal-in .ensures) (l .if1 .left)
+    (sym (h .answers-handle .ensures) ∙ t .if2 .taken) (m .handle-in .result) (m .handle-in .ensures)) (p .put-handle .ensures)
 
 put-amount-requires : tie.Need-put-amount-requires
 put-amount-requires c κs =
@@ -76,10 +62,8 @@ put-amount-requires c κs =
     let r = l .before in
     let e = r .before .before in
     let a = e .args in
-    subst (λ (x : List ℕ). Room (a .at) x (a .output .now)) (sym (line-amount (a .call) (a .answer) (r .refusal-in .result) (r .refusal-in .ensures) (l .if1 .left) (sym (h .answers-handle .ensures) ∙ t .if2 .left) (m .amount-in .result) (m .amount-in .ensures))) (e .pre)
-
-same-length-3 : tie.Need-same-length-3
-same-length-3 c = search needs
+    subst (λ (x : List ℕ). Room (a .at) x (a .output .now)) (sym (line-amount (a .call) (a .answer) (r .refusal-in .result) (r .refusal-in .ensures)
+    (l .if1 .left) (sym (h .answers-handle .ensures) ∙ t .if2 .left) (m .amount-in .result) (m .amount-in .ensures))) (e .pre)
 
 returns-3 : tie.Need-returns-3
 returns-3 c =
@@ -91,22 +75,24 @@ returns-3 c =
     let r = l .before in
     let e = r .before .before in
     let a = e .args in
-    subst (λ (x : List ℕ). Put (a .at) x (a .output .now) (p .put-amount .last .0) (p .put-amount .result)) (line-amount (a .call) (a .answer) (r .refusal-in .result) (r .refusal-in .ensures) (l .if1 .left) (sym (h .answers-handle .ensures) ∙ t .if2 .left) (m .amount-in .result) (m .amount-in .ensures)) (p .put-amount .ensures)
+    subst (λ (x : List ℕ). Put (a .at) x (a .output .now) (p .put-amount .last .0) (p .put-amount .result))
+    (line-amount (a .call) (a .answer) (r .refusal-in .result) (r .refusal-in .ensures) (l .if1 .left)
+    (sym (h .answers-handle .ensures) ∙ t .if2 .left) (m .amount-in .result) (m .amount-in .ensures)) (p .put-amount .ensures)
 
 pub put-answer-spec : {M : Type 1} → statement M
 put-answer-spec =
     tie.close
     (tie.spec
-    refusal-in-requires
+    (λ c κs. search needs)
     put-refusal-requires
-    same-length
+    (λ c. search needs)
     returns
-    answers-handle-requires
-    handle-in-requires
+    (λ c κs. search needs)
+    (λ c κs. search needs)
     put-handle-requires
-    same-length-2
+    (λ c. search needs)
     returns-2
-    amount-in-requires
+    (λ c κs. search needs)
     put-amount-requires
-    same-length-3
+    (λ c. search needs)
     returns-3)

@@ -1,5 +1,4 @@
 -- The offset, and behind it the two other numbers.
--- Assumes nothing.
 use borrow.Author.Needs.{needs}
 use mathlib.Core.List.{[], _∷_}
 use Rattle.replay_model.specs.Text.{decimal}
@@ -8,9 +7,6 @@ use Rattle.replay_text.proofs.Puts.{room-first, room-next, put-two}
 use Rattle.replay_text.proofs.answers.put_block.Statement.{statement}
 use Rattle.replay_text.proofs.answers.put_block.Tie as tie
 
-cast-put-number : tie.Need-cast-put-number
-cast-put-number c = search needs
-
 put-number-requires : tie.Need-put-number-requires
 unfolding block-line tail-of
 put-number-requires c κs =
@@ -18,19 +14,14 @@ put-number-requires c κs =
     let a = e .args in
     room-first (a .at) (decimal (a .block .offset)) (tail-of (a .block .size ∷ (a .block .serial ∷ []))) (a .output .now) (e .pre .1)
 
-cast-put-pair : tie.Need-cast-put-pair
-cast-put-pair c = search needs
-
 put-pair-requires : tie.Need-put-pair-requires
 unfolding block-line tail-of
 put-pair-requires c κs =
     let p = c .before .before .before .before in
     let e = p .before .before .before .before in
     let a = e .args in
-    room-next (a .at) (decimal (a .block .offset)) (tail-of (a .block .size ∷ (a .block .serial ∷ []))) (a .output .now) (p .put-number .last .0) (p .put-number .result) (e .pre .1) (p .put-number .ensures)
-
-same-length : tie.Need-same-length
-same-length c = search needs
+    room-next (a .at) (decimal (a .block .offset)) (tail-of (a .block .size ∷ (a .block .serial ∷ []))) (a .output .now) (p .put-number .last .0)
+    (p .put-number .result) (e .pre .1) (p .put-number .ensures)
 
 returns : tie.Need-returns
 unfolding block-line tail-of
@@ -39,15 +30,16 @@ returns c =
     let p = q .before .before .before .before .before in
     let e = p .before .before .before .before in
     let a = e .args in
-    put-two (a .at) (decimal (a .block .offset)) (tail-of (a .block .size ∷ (a .block .serial ∷ []))) (a .output .now) (p .put-number .last .0) (q .put-pair .last .0) (p .put-number .result) (q .put-pair .result) (e .pre .1) (p .put-number .ensures) (q .put-pair .ensures)
+    put-two (a .at) (decimal (a .block .offset)) (tail-of (a .block .size ∷ (a .block .serial ∷ []))) (a .output .now) (p .put-number .last .0)
+    (q .put-pair .last .0) (p .put-number .result) (q .put-pair .result) (e .pre .1) (p .put-number .ensures) (q .put-pair .ensures)
 
 pub put-block-spec : {M : Type 1} → statement M
 put-block-spec =
     tie.close
     (tie.spec
-    cast-put-number
+    (λ c. search needs)
     put-number-requires
-    cast-put-pair
+    (λ c. search needs)
     put-pair-requires
-    same-length
+    (λ c. search needs)
     returns)

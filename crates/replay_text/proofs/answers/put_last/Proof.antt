@@ -1,5 +1,4 @@
 -- A space and the number, and behind them the line feed.
--- Assumes nothing.
 use borrow.Author.Needs.{needs}
 use mathlib.Core.List.{[], _∷_}
 use Rattle.replay_model.specs.Text.{SPACE, LINE-FEED, decimal}
@@ -21,10 +20,8 @@ put-byte-requires c κs =
     let p = c .before .before .before in
     let e = p .before .before .before in
     let a = e .args in
-    room-next (a .at) (SPACE ∷ decimal (a .n)) (LINE-FEED ∷ []) (a .output .now) (p .put-spaced .last .0) (p .put-spaced .result) (e .pre) (p .put-spaced .ensures)
-
-same-length : tie.Need-same-length
-same-length c = search needs
+    room-next (a .at) (SPACE ∷ decimal (a .n)) (LINE-FEED ∷ []) (a .output .now) (p .put-spaced .last .0) (p .put-spaced .result) (e .pre)
+    (p .put-spaced .ensures)
 
 returns : tie.Need-returns
 unfolding tail-of
@@ -33,7 +30,8 @@ returns c =
     let p = q .before .before .before .before in
     let e = p .before .before .before in
     let a = e .args in
-    put-two (a .at) (SPACE ∷ decimal (a .n)) (LINE-FEED ∷ []) (a .output .now) (p .put-spaced .last .0) (q .put-byte .last .0) (p .put-spaced .result) (q .put-byte .result) (e .pre) (p .put-spaced .ensures) (q .put-byte .ensures)
+    put-two (a .at) (SPACE ∷ decimal (a .n)) (LINE-FEED ∷ []) (a .output .now) (p .put-spaced .last .0) (q .put-byte .last .0)
+    (p .put-spaced .result) (q .put-byte .result) (e .pre) (p .put-spaced .ensures) (q .put-byte .ensures)
 
 pub put-last-spec : {M : Type 1} → statement M
-put-last-spec = tie.close (tie.spec put-spaced-requires put-byte-requires same-length returns)
+put-last-spec = tie.close (tie.spec put-spaced-requires put-byte-requires (λ c. search needs) returns)

@@ -1,5 +1,4 @@
 -- A space and the first number, and behind them the rest of the line.
--- Assumes nothing.
 use borrow.Author.Needs.{needs}
 use mathlib.Core.List.{[], _∷_}
 use Rattle.replay_model.specs.Text.{SPACE, decimal}
@@ -21,10 +20,8 @@ put-last-requires c κs =
     let p = c .before .before .before in
     let e = p .before .before .before in
     let a = e .args in
-    room-next (a .at) (SPACE ∷ decimal (a .m)) (tail-of (a .n ∷ [])) (a .output .now) (p .put-spaced .last .0) (p .put-spaced .result) (e .pre) (p .put-spaced .ensures)
-
-same-length : tie.Need-same-length
-same-length c = search needs
+    room-next (a .at) (SPACE ∷ decimal (a .m)) (tail-of (a .n ∷ [])) (a .output .now) (p .put-spaced .last .0) (p .put-spaced .result) (e .pre)
+    (p .put-spaced .ensures)
 
 returns : tie.Need-returns
 unfolding tail-of
@@ -33,7 +30,8 @@ returns c =
     let p = q .before .before .before .before in
     let e = p .before .before .before in
     let a = e .args in
-    put-two (a .at) (SPACE ∷ decimal (a .m)) (tail-of (a .n ∷ [])) (a .output .now) (p .put-spaced .last .0) (q .put-last .last .0) (p .put-spaced .result) (q .put-last .result) (e .pre) (p .put-spaced .ensures) (q .put-last .ensures)
+    put-two (a .at) (SPACE ∷ decimal (a .m)) (tail-of (a .n ∷ [])) (a .output .now) (p .put-spaced .last .0) (q .put-last .last .0)
+    (p .put-spaced .result) (q .put-last .result) (e .pre) (p .put-spaced .ensures) (q .put-last .ensures)
 
 pub put-pair-spec : {M : Type 1} → statement M
-put-pair-spec = tie.close (tie.spec put-spaced-requires put-last-requires same-length returns)
+put-pair-spec = tie.close (tie.spec put-spaced-requires put-last-requires (λ c. search needs) returns)

@@ -1,5 +1,4 @@
 -- The invariant: the first i numbers are those behind the first of the array (`tail-more`). The measure is how many are left.
--- Assumes nothing.
 use borrow.Author.Needs.{needs}
 use native.Mathlib.Omega.{arith}
 use Prim.Native.Nat.{_+_, _-_, _≤_}
@@ -19,32 +18,16 @@ abbrev μ-loop : tie.MeasureT-loop
 loop-holds : tie.Need-loop-holds Inv-loop μ-loop
 loop-holds c = (search needs, refl, refl)
 
-add-rest : tie.Need-add-rest Inv-loop μ-loop
-add-rest c = search needs
-
-mul-rest : tie.Need-mul-rest Inv-loop μ-loop
-mul-rest c = search needs
-
-array-read-rest : tie.Need-array-read-rest Inv-loop μ-loop
-array-read-rest c = search needs
-
-mul-rest-2 : tie.Need-mul-rest-2 Inv-loop μ-loop
-mul-rest-2 c = search needs
-
-array-write-rest : tie.Need-array-write-rest Inv-loop μ-loop
-array-write-rest c = search needs
-
-add-i : tie.Need-add-i Inv-loop μ-loop
-add-i c = search needs
-
-loop-less : tie.Need-loop-less Inv-loop μ-loop
-loop-less c = search needs
-
 loop-again : tie.Need-loop-again Inv-loop μ-loop
 loop-again c =
     let l = c .before in
-    let a = l .before .args in
-    (omega arith, length-set (l .loop .rest) (l .loop .i) (getD (a .t1) (l .loop .i + 1) 0) ∙ l .loop .inv .1, tail-more (a .t1) (l .loop .rest) (l .loop .i) (omega arith) (omega (arith, l .before .good .0 .1 .0 .1)) (l .loop .inv .2))
+    let a = l .before .args in (
+      omega arith,
+      length-set (l .loop .rest) (l .loop .i) (getD (a .t1) (l .loop .i + 1) 0)
+          ∙ l .loop .inv .1,
+      tail-more (a .t1) (l .loop .rest) (l .loop .i) (omega arith) (omega (arith, l .before .good .0 .1 .0 .1))
+          (l .loop .inv .2),
+    )
 
 returns : tie.Need-returns Inv-loop μ-loop
 returns c =
@@ -59,12 +42,12 @@ behind-first-spec =
     Inv-loop
     μ-loop
     loop-holds
-    add-rest
-    mul-rest
-    array-read-rest
-    mul-rest-2
-    array-write-rest
-    add-i
-    loop-less
+    (λ c. search needs)
+    (λ c. search needs)
+    (λ c. search needs)
+    (λ c. search needs)
+    (λ c. search needs)
+    (λ c. search needs)
+    (λ c. search needs)
     loop-again
     returns)

@@ -1,5 +1,4 @@
 -- Each name's call takes the first numbers of the array, where there are exactly as many.
--- Assumes nothing.
 use borrow.Author.Needs.{needs}
 use native.Mathlib.Omega.{arith}
 use mathlib.Core.Path.{ap, sym, _∙_}
@@ -10,101 +9,50 @@ use Rattle.replay_text.proofs.Asking.{call-alloc, call-array, call-clai
 use Rattle.replay_text.proofs.commands.call_of.Statement.{statement}
 use Rattle.replay_text.proofs.commands.call_of.Tie as tie
 
-array-read-quota : tie.Need-array-read-quota
-array-read-quota c = search needs
-
-array-read-second : tie.Need-array-read-second
-array-read-second c = search needs
-
-array-read-t10 : tie.Need-array-read-t10
-array-read-t10 c = search needs
-
-array-read-t17 : tie.Need-array-read-t17
-array-read-t17 c = search needs
-
 enum-told : tie.Need-enum-told
 enum-told c = search needs
-
-taking-requires : tie.Need-taking-requires
-taking-requires c κs = search needs
-
-enum-told-2 : tie.Need-enum-told-2
-enum-told-2 c = search needs
-
-array-read-t22 : tie.Need-array-read-t22
-array-read-t22 c = search needs
-
-taking-requires-2 : tie.Need-taking-requires-2
-taking-requires-2 c κs = search needs
-
-enum-told-3 : tie.Need-enum-told-3
-enum-told-3 c = search needs
-
-taking-requires-3 : tie.Need-taking-requires-3
-taking-requires-3 c κs = search needs
-
-enum-told-4 : tie.Need-enum-told-4
-enum-told-4 c = search needs
-
-taking-requires-4 : tie.Need-taking-requires-4
-taking-requires-4 c κs = search needs
-
-enum-told-5 : tie.Need-enum-told-5
-enum-told-5 c = search needs
-
-taking-requires-5 : tie.Need-taking-requires-5
-taking-requires-5 c κs = search needs
-
-enum-told-6 : tie.Need-enum-told-6
-enum-told-6 c = search needs
-
-array-read-t29 : tie.Need-array-read-t29
-array-read-t29 c = search needs
-
-taking-requires-6 : tie.Need-taking-requires-6
-taking-requires-6 c κs = search needs
-
-enum-told-7 : tie.Need-enum-told-7
-enum-told-7 c = search needs
-
-enum-told-8 : tie.Need-enum-told-8
-enum-told-8 c = search needs
 
 returns : tie.Need-returns
 returns c =
     let e = c .before .before .before in
     let a = e .args in
-    c .taking .ensures ∙ call-alloc (a .count) (a .t3) (omega (arith, e .pre, e .good .1 .1 .0 .1 .0 .1)) ∙ ap (λ (x : Word). call-of x (take (a .count) (a .t3))) (sym (c .before .enum-told .given .1))
+    c .taking .ensures ∙ call-alloc (a .count) (a .t3) (omega (arith, e .pre, e .good .1 .1 .0 .1 .0 .1))
+    ∙ ap (λ (x : Word). call-of x (take (a .count) (a .t3))) (sym (c .before .enum-told .given .1))
 
 returns-2 : tie.Need-returns-2
 returns-2 c =
     let e = c .before .before .before in
     let a = e .args in
-    c .taking2 .ensures ∙ call-array (a .count) (a .t3) (omega (arith, e .pre, e .good .1 .1 .0 .1 .0 .1)) ∙ ap (λ (x : Word). call-of x (take (a .count) (a .t3))) (sym (c .before .enum-told2 .given .1))
+    c .taking2 .ensures ∙ call-array (a .count) (a .t3) (omega (arith, e .pre, e .good .1 .1 .0 .1 .0 .1))
+    ∙ ap (λ (x : Word). call-of x (take (a .count) (a .t3))) (sym (c .before .enum-told2 .given .1))
 
 returns-3 : tie.Need-returns-3
 returns-3 c =
     let e = c .before .before .before in
     let a = e .args in
-    c .taking3 .ensures ∙ call-claim (a .count) (a .t3) (omega (arith, e .pre, e .good .1 .1 .0 .1 .0 .1)) ∙ ap (λ (x : Word). call-of x (take (a .count) (a .t3))) (sym (c .before .enum-told3 .given .1))
+    c .taking3 .ensures ∙ call-claim (a .count) (a .t3) (omega (arith, e .pre, e .good .1 .1 .0 .1 .0 .1))
+    ∙ ap (λ (x : Word). call-of x (take (a .count) (a .t3))) (sym (c .before .enum-told3 .given .1))
 
 returns-4 : tie.Need-returns-4
 returns-4 c =
     let e = c .before .before .before in
     let a = e .args in
-    c .taking4 .ensures ∙ call-free (a .count) (a .t3) (omega (arith, e .pre, e .good .1 .1 .0 .1 .0 .1)) ∙ ap (λ (x : Word). call-of x (take (a .count) (a .t3))) (sym (c .before .enum-told4 .given .1))
+    c .taking4 .ensures ∙ call-free (a .count) (a .t3) (omega (arith, e .pre, e .good .1 .1 .0 .1 .0 .1))
+    ∙ ap (λ (x : Word). call-of x (take (a .count) (a .t3))) (sym (c .before .enum-told4 .given .1))
 
 returns-5 : tie.Need-returns-5
 returns-5 c =
     let e = c .before .before .before in
     let a = e .args in
-    c .taking5 .ensures ∙ call-all (a .count) (a .t3) (omega (arith, e .pre, e .good .1 .1 .0 .1 .0 .1)) ∙ ap (λ (x : Word). call-of x (take (a .count) (a .t3))) (sym (c .before .enum-told5 .given .1))
+    c .taking5 .ensures ∙ call-all (a .count) (a .t3) (omega (arith, e .pre, e .good .1 .1 .0 .1 .0 .1))
+    ∙ ap (λ (x : Word). call-of x (take (a .count) (a .t3))) (sym (c .before .enum-told5 .given .1))
 
 returns-6 : tie.Need-returns-6
 returns-6 c =
     let e = c .before .before .before in
     let a = e .args in
-    c .taking6 .ensures ∙ call-realloc (a .count) (a .t3) (omega (arith, e .pre, e .good .1 .1 .0 .1 .0 .1)) ∙ ap (λ (x : Word). call-of x (take (a .count) (a .t3))) (sym (c .before .enum-told6 .given .1))
+    c .taking6 .ensures ∙ call-realloc (a .count) (a .t3) (omega (arith, e .pre, e .good .1 .1 .0 .1 .0 .1))
+    ∙ ap (λ (x : Word). call-of x (take (a .count) (a .t3))) (sym (c .before .enum-told6 .given .1))
 
 returns-7 : tie.Need-returns-7
 unfolding call-of
@@ -118,26 +66,26 @@ pub call-of-spec : {M : Type 1} → statement M
 call-of-spec =
     tie.close
     (tie.spec
-    array-read-quota
-    array-read-second
-    array-read-t10
-    array-read-t17
+    (λ c. search needs)
+    (λ c. search needs)
+    (λ c. search needs)
+    (λ c. search needs)
     enum-told
-    taking-requires
-    enum-told-2
-    array-read-t22
-    taking-requires-2
-    enum-told-3
-    taking-requires-3
-    enum-told-4
-    taking-requires-4
-    enum-told-5
-    taking-requires-5
-    enum-told-6
-    array-read-t29
-    taking-requires-6
-    enum-told-7
-    enum-told-8
+    (λ c κs. search needs)
+    (λ c. search needs)
+    (λ c. search needs)
+    (λ c κs. search needs)
+    (λ c. search needs)
+    (λ c κs. search needs)
+    (λ c. search needs)
+    (λ c κs. search needs)
+    (λ c. search needs)
+    (λ c κs. search needs)
+    (λ c. search needs)
+    (λ c. search needs)
+    (λ c κs. search needs)
+    (λ c. search needs)
+    (λ c. search needs)
     returns
     returns-2
     returns-3

@@ -1,5 +1,4 @@
 -- The line's name and numbers as a call; it does not matter that no more numbers are read than any line has.
--- Assumes nothing.
 use borrow.Author.Needs.{needs}
 use borrow.Author.Tests.{not-true, not-false}
 use mathlib.Core.Path.{_∙_}
@@ -8,24 +7,20 @@ use Rattle.replay_text.proofs.Phrases.{call-not, call-is}
 use Rattle.replay_text.proofs.commands.read_call.Statement.{statement}
 use Rattle.replay_text.proofs.commands.read_call.Tie as tie
 
-read-line-requires : tie.Need-read-line-requires
-read-line-requires c κs = search needs
-
 returns : tie.Need-returns
 returns c =
     let r = c .before .before in
     let a = r .before .before .args in
-    call-not (slice (a .from) (a .to) (a .input .now)) (r .read-line .result) (r .read-line .ensures) (not-true (r .read-line .result .ok) (c .if1 .taken))
-
-call-of-requires : tie.Need-call-of-requires
-call-of-requires c κs = search needs
+    call-not (slice (a .from) (a .to) (a .input .now)) (r .read-line .result) (r .read-line .ensures)
+    (not-true (r .read-line .result .ok) (c .if1 .taken))
 
 returns-2 : tie.Need-returns-2
 returns-2 c =
     let t = c .before .before in
     let r = t .before .before in
     let a = r .before .before .args in
-    c .call-of .ensures ∙ call-is (slice (a .from) (a .to) (a .input .now)) (r .read-line .result) (r .read-line .ensures) (not-false (r .read-line .result .ok) (t .if1 .left))
+    c .call-of .ensures ∙ call-is (slice (a .from) (a .to) (a .input .now)) (r .read-line .result) (r .read-line .ensures)
+    (not-false (r .read-line .result .ok) (t .if1 .left))
 
 pub read-call-spec : {M : Type 1} → statement M
-read-call-spec = tie.close (tie.spec read-line-requires returns call-of-requires returns-2)
+read-call-spec = tie.close (tie.spec (λ c κs. search needs) returns (λ c κs. search needs) returns-2)

@@ -1,5 +1,4 @@
 -- The first word is the name, and what stands behind it are the numbers; where nothing stands behind it there are none.
--- Assumes nothing.
 use borrow.Author.Needs.{needs}
 use native.Mathlib.Omega.{arith}
 use Prim.Native.Nat.{_+_}
@@ -12,28 +11,14 @@ use Rattle.replay_text.proofs.Phrases.{line-alone, line-numbers, line-n
 use Rattle.replay_text.proofs.commands.read_line.Statement.{statement}
 use Rattle.replay_text.proofs.commands.read_line.Tie as tie
 
-find-mark-requires : tie.Need-find-mark-requires
-find-mark-requires c κs = search needs
-
-read-word-requires : tie.Need-read-word-requires
-read-word-requires c κs = search needs
-
 returns : tie.Need-returns
 returns c =
     let w = c .before in
     let f = w .before in
     let e = f .before .before in
     let a = e .args in
-    line-alone (a .from) (a .to) (a .input .now) (f .find-mark .result) (w .read-word .result) (replicate MOST 0) (e .pre .inside) (f .find-mark .ensures) (w .read-word .ensures) (c .if1 .taken) refl
-
-add-read-numbers : tie.Need-add-read-numbers
-add-read-numbers c = search needs
-
-read-numbers-requires : tie.Need-read-numbers-requires
-read-numbers-requires c κs = search needs
-
-enum-known-count : tie.Need-enum-known-count
-enum-known-count c = search needs
+    line-alone (a .from) (a .to) (a .input .now) (f .find-mark .result) (w .read-word .result) (replicate MOST 0) (e .pre .inside)
+    (f .find-mark .ensures) (w .read-word .ensures) (c .if1 .taken) refl
 
 enum-told : tie.Need-enum-told
 enum-told c = search needs
@@ -46,8 +31,10 @@ returns-2 c =
     let e = f .before .before in
     let a = e .args in
     let h = f .find-mark .ensures .high in
-    line-nothing (a .from) (a .to) (a .input .now) (f .find-mark .result) (w .read-word .result) (n .read-numbers .last .1 .1 .1 .0) (e .pre .inside) (f .find-mark .ensures) (w .read-word .ensures)
-    (omega arith) (subst (Counted (words (slice (f .find-mark .result + 1) (a .to) (a .input .now))) (n .read-numbers .last .1 .1 .1 .0)) (c .enum-told .given .1) (n .read-numbers .ensures))
+    line-nothing (a .from) (a .to) (a .input .now) (f .find-mark .result) (w .read-word .result) (n .read-numbers .last .1 .1 .1 .0) (e .pre .inside)
+    (f .find-mark .ensures) (w .read-word .ensures)
+    (omega arith) (subst (Counted (words (slice (f .find-mark .result + 1) (a .to) (a .input .now))) (n .read-numbers .last .1 .1 .1 .0))
+    (c .enum-told .given .1) (n .read-numbers .ensures))
 
 returns-3 : tie.Need-returns-3
 returns-3 c =
@@ -58,19 +45,21 @@ returns-3 c =
     let e = f .before .before in
     let a = e .args in
     let h = f .find-mark .ensures .high in
-    line-numbers (a .from) (a .to) (a .input .now) (f .find-mark .result) (w .read-word .result) (n .read-numbers .last .1 .1 .1 .0) (e .pre .inside) (f .find-mark .ensures) (w .read-word .ensures)
-    (omega arith) (k .count .given .0 .0) (subst (Counted (words (slice (f .find-mark .result + 1) (a .to) (a .input .now))) (n .read-numbers .last .1 .1 .1 .0)) (k .count .given .1) (n .read-numbers .ensures))
+    line-numbers (a .from) (a .to) (a .input .now) (f .find-mark .result) (w .read-word .result) (n .read-numbers .last .1 .1 .1 .0) (e .pre .inside)
+    (f .find-mark .ensures) (w .read-word .ensures)
+    (omega arith) (k .count .given .0 .0) (subst (Counted (words (slice (f .find-mark .result + 1) (a .to) (a .input .now)))
+    (n .read-numbers .last .1 .1 .1 .0)) (k .count .given .1) (n .read-numbers .ensures))
 
 pub read-line-spec : {M : Type 1} → statement M
 read-line-spec =
     tie.close
     (tie.spec
-    find-mark-requires
-    read-word-requires
+    (λ c κs. search needs)
+    (λ c κs. search needs)
     returns
-    add-read-numbers
-    read-numbers-requires
-    enum-known-count
+    (λ c. search needs)
+    (λ c κs. search needs)
+    (λ c. search needs)
     enum-told
     returns-2
     returns-3)

@@ -1,6 +1,5 @@
 -- The invariant: the numbers that were read and those of the words that are left are all numbers of the line (`Gathering`). Each turn reads a word, which
 -- ends at the next space or at the line's end. The measure is how much of the line is left.
--- Assumes nothing.
 use borrow.Author.Needs.{needs}
 use native.Mathlib.Omega.{arith}
 use Prim.Native.Nat.{ℕ, _+_, _-_, _≤_}
@@ -17,7 +16,8 @@ use Rattle.replay_text.proofs.commands.read_numbers.Statement.{statemen
 use Rattle.replay_text.proofs.commands.read_numbers.Tie as tie
 
 abbrev Inv-loop : tie.InvT-loop
-Inv-loop input from to values₀ count₀ start₀ values count start = (from ≤ start) × (start ≤ to) × Gathering (words (slice from to input)) (words (slice start to input)) values count
+Inv-loop input from to values₀ count₀ start₀ values count start = (from ≤ start) × (start ≤ to)
+    × Gathering (words (slice from to input)) (words (slice start to input)) values count
 
 abbrev μ-loop : tie.MeasureT-loop
 μ-loop input from to values₀ count₀ start₀ values count start = to - start
@@ -27,15 +27,6 @@ loop-holds c =
     let e = c .before in
     let a = e .args in
     (search needs, e .pre .0 .ordered, gather-start (words (slice (a .from) (a .to) (a .input .now))) (a .values .now) (e .pre .1))
-
-find-mark-requires : tie.Need-find-mark-requires Inv-loop μ-loop
-find-mark-requires c κs = search needs
-
-read-number-requires : tie.Need-read-number-requires Inv-loop μ-loop
-read-number-requires c κs = search needs
-
-enum-known-value : tie.Need-enum-known-value Inv-loop μ-loop
-enum-known-value c = search needs
 
 enum-told : tie.Need-enum-told Inv-loop μ-loop
 enum-told c = search needs
@@ -65,16 +56,8 @@ returns-2 c =
     let all = words (slice (a .from) (a .to) (a .input .now)) in
     let word = slice (l .loop .start) (f .find-mark .result) (a .input .now) in
     let g = subst (λ (ws : List (List ℕ)). Gathering all ws (l .loop .values) (l .loop .count)) (w .1) (l .loop .inv .2) in
-    gather-nothing all (word ∷ w .0) (l .loop .values) (l .loop .count) g (gather-full all (w .0) (l .loop .values) (l .loop .count) word g (c .if1 .taken))
-
-mul-values : tie.Need-mul-values Inv-loop μ-loop
-mul-values c = search needs
-
-element-write-values : tie.Need-element-write-values Inv-loop μ-loop
-element-write-values c = search needs
-
-add-count : tie.Need-add-count Inv-loop μ-loop
-add-count c = search needs
+    gather-nothing all (word ∷ w .0) (l .loop .values) (l .loop .count) g
+    (gather-full all (w .0) (l .loop .values) (l .loop .count) word g (c .if1 .taken))
 
 returns-3 : tie.Need-returns-3 Inv-loop μ-loop
 returns-3 c =
@@ -86,17 +69,13 @@ returns-3 c =
     let v = c .before .before .before in
     let all = words (slice (a .from) (a .to) (a .input .now)) in
     let word = slice (l .loop .start) (f .find-mark .result) (a .input .now) in
-    let last = split-last SPACE (a .to) (a .input .now) (e .pre .0 .inside) (l .loop .start) (f .find-mark .result) (c .if2 .taken) (f .find-mark .ensures) in
+    let last = split-last SPACE (a .to) (a .input .now) (e .pre .0 .inside) (l .loop .start) (f .find-mark .result) (c .if2 .taken)
+    (f .find-mark .ensures) in
     let g = subst (λ (ws : List (List ℕ)). Gathering all ws (l .loop .values) (l .loop .count)) last (l .loop .inv .2) in
     let x = v .value .given .0 .0 in
     gather-end all (set (l .loop .values) (l .loop .count) x) (l .loop .count + 1)
-    (gather-more all [] (l .loop .values) (l .loop .count) word x g (search needs) (sym (n .read-number .ensures) ∙ ap number-value (v .value .given .1)))
-
-add-start : tie.Need-add-start Inv-loop μ-loop
-add-start c = search needs
-
-loop-less : tie.Need-loop-less Inv-loop μ-loop
-loop-less c = search needs
+    (gather-more all [] (l .loop .values) (l .loop .count) word x g (search needs)
+    (sym (n .read-number .ensures) ∙ ap number-value (v .value .given .1)))
 
 loop-again : tie.Need-loop-again Inv-loop μ-loop
 loop-again c =
@@ -110,10 +89,15 @@ loop-again c =
     let word = slice (l .loop .start) (f .find-mark .result) (a .input .now) in
     let h = f .find-mark .ensures .high in
     let q = f .find-mark .ensures .low in
-    let more = split-more SPACE (a .to) (a .input .now) (e .pre .0 .inside) (l .loop .start) (f .find-mark .result) (omega arith) (f .find-mark .ensures) in
+    let more = split-more SPACE (a .to) (a .input .now) (e .pre .0 .inside) (l .loop .start) (f .find-mark .result) (omega arith)
+    (f .find-mark .ensures) in
     let g = subst (λ (ws : List (List ℕ)). Gathering all ws (l .loop .values) (l .loop .count)) more (l .loop .inv .2) in
-    let x = v .value .given .0 .0 in
-    (omega arith, omega arith, gather-more all (words (slice (f .find-mark .result + 1) (a .to) (a .input .now))) (l .loop .values) (l .loop .count) word x g (search needs) (sym (n .read-number .ensures) ∙ ap number-value (v .value .given .1)))
+    let x = v .value .given .0 .0 in (
+      omega arith,
+      omega arith,
+      gather-more all (words (slice (f .find-mark .result + 1) (a .to) (a .input .now))) (l .loop .values) (l .loop .count)
+          word x g (search needs) (sym (n .read-number .ensures) ∙ ap number-value (v .value .given .1)),
+    )
 
 pub read-numbers-spec : {M : Type 1} → statement M
 read-numbers-spec =
@@ -122,16 +106,16 @@ read-numbers-spec =
     Inv-loop
     μ-loop
     loop-holds
-    find-mark-requires
-    read-number-requires
-    enum-known-value
+    (λ c κs. search needs)
+    (λ c κs. search needs)
+    (λ c. search needs)
     enum-told
     returns
     returns-2
-    mul-values
-    element-write-values
-    add-count
+    (λ c. search needs)
+    (λ c. search needs)
+    (λ c. search needs)
     returns-3
-    add-start
-    loop-less
+    (λ c. search needs)
+    (λ c. search needs)
     loop-again)

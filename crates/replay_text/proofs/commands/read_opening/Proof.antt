@@ -1,5 +1,4 @@
 -- The line's name and numbers as an opening: the name, and exactly as many numbers.
--- Assumes nothing.
 use borrow.Author.Needs.{needs}
 use native.Mathlib.Omega.{arith}
 use borrow.Author.Tests.{not-true, not-false}
@@ -12,12 +11,6 @@ use Rattle.replay_text.proofs.Phrases.{opening-not, opening-is, opens-n
 use Rattle.replay_text.proofs.commands.read_opening.Statement.{statement}
 use Rattle.replay_text.proofs.commands.read_opening.Tie as tie
 
-read-line-requires : tie.Need-read-line-requires
-read-line-requires c κs = search needs
-
-no-opening-requires : tie.Need-no-opening-requires
-no-opening-requires c κs = search needs
-
 returns : tie.Need-returns
 returns c =
     let t = c .before in
@@ -25,10 +18,8 @@ returns c =
     let a = r .before .before .args in
     c .no-opening .ensures
     ∙ ap opening-line
-    (opening-not (slice (a .from) (a .to) (a .input .now)) (r .read-line .result) (r .read-line .ensures) (not-true (r .read-line .result .ok) (t .if1 .taken)))
-
-no-opening-requires-2 : tie.Need-no-opening-requires-2
-no-opening-requires-2 c κs = search needs
+    (opening-not (slice (a .from) (a .to) (a .input .now)) (r .read-line .result) (r .read-line .ensures)
+    (not-true (r .read-line .result .ok) (t .if1 .taken)))
 
 returns-2 : tie.Need-returns-2
 returns-2 c =
@@ -38,14 +29,9 @@ returns-2 c =
     let a = r .before .before .args in
     let l = r .read-line .result in
     c .no-opening2 .ensures
-    ∙ ap opening-line (opens-fewer (l .count) (l .values) (l .name) (omega (arith, r .read-line .ensures .small, r .read-line .ensures .kept)) (t .if2 .taken)
+    ∙ ap opening-line (opens-fewer (l .count) (l .values) (l .name) (omega (arith, r .read-line .ensures .small, r .read-line .ensures .kept))
+    (t .if2 .taken)
     ∙ opening-is (slice (a .from) (a .to) (a .input .now)) l (r .read-line .ensures) (not-false (l .ok) (o .if1 .left)))
-
-opens-requires : tie.Need-opens-requires
-opens-requires c κs = search needs
-
-no-opening-requires-3 : tie.Need-no-opening-requires-3
-no-opening-requires-3 c κs = search needs
 
 returns-3 : tie.Need-returns-3
 returns-3 c =
@@ -59,12 +45,6 @@ returns-3 c =
     ∙ ap opening-line (opens-not (l .name) (take (l .count) (l .values)) (sym (n .opens .ensures) ∙ not-true (n .opens .result) (t .if3 .taken))
     ∙ opening-is (slice (a .from) (a .to) (a .input .now)) l (r .read-line .ensures) (not-false (l .ok) (o .if1 .left)))
 
-array-read-t11 : tie.Need-array-read-t11
-array-read-t11 c = search needs
-
-behind-first-requires : tie.Need-behind-first-requires
-behind-first-requires c κs = search needs
-
 returns-4 : tie.Need-returns-4
 returns-4 c =
     let t = c .before in
@@ -75,21 +55,22 @@ returns-4 c =
     let a = r .before .before .args in
     let l = r .read-line .result in
     let named = sym (n .opens .ensures) ∙ not-false (n .opens .result) (t .if3 .left) in
-    ap opening-line (opens-is (l .name) (l .count) (l .values) (c .behind-first .result) named (m .if2 .left) (r .read-line .ensures .kept) (c .behind-first .ensures)
+    ap opening-line (opens-is (l .name) (l .count) (l .values) (c .behind-first .result) named (m .if2 .left) (r .read-line .ensures .kept)
+    (c .behind-first .ensures)
     ∙ opening-is (slice (a .from) (a .to) (a .input .now)) l (r .read-line .ensures) (not-false (l .ok) (o .if1 .left)))
 
 pub read-opening-spec : {M : Type 1} → statement M
 read-opening-spec =
     tie.close
     (tie.spec
-    read-line-requires
-    no-opening-requires
+    (λ c κs. search needs)
+    (λ c κs. search needs)
     returns
-    no-opening-requires-2
+    (λ c κs. search needs)
     returns-2
-    opens-requires
-    no-opening-requires-3
+    (λ c κs. search needs)
+    (λ c κs. search needs)
     returns-3
-    array-read-t11
-    behind-first-requires
+    (λ c. search needs)
+    (λ c κs. search needs)
     returns-4)

@@ -1,5 +1,4 @@
 -- The test is the definition's.
--- Assumes nothing.
 use borrow.Author.Tests.{eq-eqb, ne-eqb}
 use Rattle.replay_text.proofs.commands.taking.Statement.{statement}
 use Rattle.replay_text.proofs.commands.taking.Tie as tie

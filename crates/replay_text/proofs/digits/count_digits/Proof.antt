@@ -1,6 +1,5 @@
 -- The invariant: what was counted and the digits of what is left are together one more than all digits (`Counting`). Each turn counts one digit and
 -- leaves a tenth, which is less.
--- Assumes nothing.
 use borrow.Author.Needs.{needs}
 use native.Mathlib.Omega.{arith}
 use Rattle.replay_text.proofs.Spelling.{Counting, count-start, count-more, count-end, count-most}
@@ -21,9 +20,6 @@ add-count c =
     let l = c .before in
     omega (arith, count-most (l .before .args .n) (l .loop .count) (l .loop .rest) (l .loop .inv))
 
-loop-less : tie.Need-loop-less Inv-loop μ-loop
-loop-less c = search needs
-
 loop-again : tie.Need-loop-again Inv-loop μ-loop
 loop-again c =
     let l = c .before in
@@ -36,4 +32,4 @@ returns c =
 
 pub count-digits-spec : {M : Type 1} → statement M
 count-digits-spec =
-    tie.close (tie.spec Inv-loop μ-loop loop-holds add-count loop-less loop-again returns)
+    tie.close (tie.spec Inv-loop μ-loop loop-holds add-count (λ c. search needs) loop-again returns)

@@ -1,6 +1,5 @@
 -- The invariant: the digits of what is left and those that are written behind their place are all of them (`Spelling`). Each turn writes the last
 -- digit of what is left, in front of those that are written. The measure is how many are left.
--- Assumes nothing.
 use borrow.Author.Needs.{needs}
 use native.Mathlib.Omega.{arith}
 use Prim.Native.Nat.{_≤_}
@@ -17,32 +16,20 @@ abbrev μ-loop : tie.MeasureT-loop
 loop-holds : tie.Need-loop-holds Inv-loop μ-loop
 loop-holds c = (search needs, spell-start (c .args .at) (c .args .count) (c .args .n) (c .args .output .now))
 
-sub-left : tie.Need-sub-left Inv-loop μ-loop
-sub-left c = search needs
-
-add-digit : tie.Need-add-digit Inv-loop μ-loop
-add-digit c = search needs
-
-cast-output : tie.Need-cast-output Inv-loop μ-loop
-cast-output c = search needs
-
-add-output : tie.Need-add-output Inv-loop μ-loop
-add-output c = search needs
-
 slice-write-output : tie.Need-slice-write-output Inv-loop μ-loop
 slice-write-output c =
     let l = c .before in
     let a = l .before .args in
     omega (arith, spell-length (a .at) (a .count) (a .n) (a .output .now) (l .loop .left) (l .loop .rest) (l .loop .output) (l .loop .inv .1))
 
-loop-less : tie.Need-loop-less Inv-loop μ-loop
-loop-less c = search needs
-
 loop-again : tie.Need-loop-again Inv-loop μ-loop
 loop-again c =
     let l = c .before in
-    let a = l .before .args in
-    (omega arith, spell-more (a .at) (a .count) (a .n) (a .output .now) (l .loop .left) (l .loop .rest) (l .loop .output) (l .before .pre) (c .loop-test .taken) (l .loop .inv .1))
+    let a = l .before .args in (
+      omega arith,
+      spell-more (a .at) (a .count) (a .n) (a .output .now) (l .loop .left) (l .loop .rest) (l .loop .output) (l .before .pre)
+          (c .loop-test .taken) (l .loop .inv .1),
+    )
 
 same-length : tie.Need-same-length Inv-loop μ-loop
 same-length c =
@@ -63,12 +50,12 @@ put-digits-spec =
     Inv-loop
     μ-loop
     loop-holds
-    sub-left
-    add-digit
-    cast-output
-    add-output
+    (λ c. search needs)
+    (λ c. search needs)
+    (λ c. search needs)
+    (λ c. search needs)
     slice-write-output
-    loop-less
+    (λ c. search needs)
     loop-again
     same-length
     returns)

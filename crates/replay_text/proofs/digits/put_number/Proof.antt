@@ -1,14 +1,10 @@
 -- As many digits as the number has are its decimal.
--- Assumes nothing.
 use borrow.Author.Needs.{needs}
 use native.Mathlib.Omega.{arith}
 use Rattle.replay_model.proofs.Decimals.{length-decimal}
 use Rattle.replay_text.proofs.Spelling.{put-decimal}
 use Rattle.replay_text.proofs.digits.put_number.Statement.{statement}
 use Rattle.replay_text.proofs.digits.put_number.Tie as tie
-
-count-digits-requires : tie.Need-count-digits-requires
-count-digits-requires c κs = search needs
 
 put-digits-requires : tie.Need-put-digits-requires
 put-digits-requires c κs =
@@ -24,9 +20,6 @@ add-result c =
     let f = k .before .before .pre .fits in
     omega (arith, length-decimal (a .n), k .count-digits .ensures)
 
-same-length : tie.Need-same-length
-same-length c = search needs
-
 returns : tie.Need-returns
 returns c =
     let d = c .before .before in
@@ -36,4 +29,4 @@ returns c =
 
 pub put-number-spec : {M : Type 1} → statement M
 put-number-spec =
-    tie.close (tie.spec count-digits-requires put-digits-requires add-result same-length returns)
+    tie.close (tie.spec (λ c κs. search needs) put-digits-requires add-result (λ c. search needs) returns)

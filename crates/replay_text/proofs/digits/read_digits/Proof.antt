@@ -1,6 +1,5 @@
 -- The invariant: the digits from `at` on, behind the number that was read, give what all digits give. Each turn reads one digit (`digit-more`).
 -- The measure is how many bytes are left.
--- Assumes nothing.
 use borrow.Author.Needs.{needs}
 use native.Mathlib.Omega.{arith}
 use Prim.Native.Nat.{_-_, _≤_}
@@ -12,7 +11,8 @@ use Rattle.replay_text.proofs.digits.read_digits.Statement.{statement}
 use Rattle.replay_text.proofs.digits.read_digits.Tie as tie
 
 abbrev Inv-loop : tie.InvT-loop
-Inv-loop input from to value₀ at₀ value at = (from ≤ at) × (at ≤ to) × (value ≤ greatest-number) × (read-on value (slice at to input) ≡ read-on 0 (slice from to input))
+Inv-loop input from to value₀ at₀ value at = (from ≤ at) × (at ≤ to) × (value ≤ greatest-number)
+    × (read-on value (slice at to input) ≡ read-on 0 (slice from to input))
 
 abbrev μ-loop : tie.MeasureT-loop
 μ-loop input from to value₀ at₀ value at = to - at
@@ -20,25 +20,21 @@ abbrev μ-loop : tie.MeasureT-loop
 loop-holds : tie.Need-loop-holds Inv-loop μ-loop
 loop-holds c = (search needs, c .before .pre .ordered, search needs, refl)
 
-shared-slice-read-wide : tie.Need-shared-slice-read-wide Inv-loop μ-loop
-shared-slice-read-wide c = search needs
-
-wide-requires : tie.Need-wide-requires Inv-loop μ-loop
-wide-requires c κs = search needs
-
 returns : tie.Need-returns Inv-loop μ-loop
 returns c =
     let w = c .before in
     let l = w .before .before .before in
     let a = l .before .before .args in
-    sym (sym (l .loop .inv .3) ∙ digit-low (l .loop .value) (l .loop .at) (a .to) (a .input .now) (w .wide .result) (w .before .before .loop-test .taken) (l .before .before .pre .inside) (w .wide .ensures) (c .if1 .taken))
+    sym (sym (l .loop .inv .3) ∙ digit-low (l .loop .value) (l .loop .at) (a .to) (a .input .now) (w .wide .result)
+    (w .before .before .loop-test .taken) (l .before .before .pre .inside) (w .wide .ensures) (c .if1 .taken))
 
 returns-2 : tie.Need-returns-2 Inv-loop μ-loop
 returns-2 c =
     let w = c .before .before in
     let l = w .before .before .before in
     let a = l .before .before .args in
-    sym (sym (l .loop .inv .3) ∙ digit-high (l .loop .value) (l .loop .at) (a .to) (a .input .now) (w .wide .result) (w .before .before .loop-test .taken) (l .before .before .pre .inside) (w .wide .ensures) (omega arith) (c .if2 .taken))
+    sym (sym (l .loop .inv .3) ∙ digit-high (l .loop .value) (l .loop .at) (a .to) (a .input .now) (w .wide .result)
+    (w .before .before .loop-test .taken) (l .before .before .pre .inside) (w .wide .ensures) (omega arith) (c .if2 .taken))
 
 mul-next : tie.Need-mul-next Inv-loop μ-loop
 mul-next c = omega arith
@@ -51,10 +47,8 @@ returns-3 c =
     let w = c .before .before .before in
     let l = w .before .before .before in
     let a = l .before .before .args in
-    sym (sym (l .loop .inv .3) ∙ digit-large (l .loop .value) (l .loop .at) (a .to) (a .input .now) (w .wide .result) (w .before .before .loop-test .taken) (l .before .before .pre .inside) (w .wide .ensures) (omega arith) (omega arith) (omega arith))
-
-add-at : tie.Need-add-at Inv-loop μ-loop
-add-at c = search needs
+    sym (sym (l .loop .inv .3) ∙ digit-large (l .loop .value) (l .loop .at) (a .to) (a .input .now) (w .wide .result)
+    (w .before .before .loop-test .taken) (l .before .before .pre .inside) (w .wide .ensures) (omega arith) (omega arith) (omega arith))
 
 loop-less : tie.Need-loop-less Inv-loop μ-loop
 loop-less c = omega arith
@@ -64,7 +58,8 @@ loop-again c =
     let w = c .before .before .before in
     let l = w .before .before .before in
     let a = l .before .before .args in
-    let more = digit-more (l .loop .value) (l .loop .at) (a .to) (a .input .now) (w .wide .result) (w .before .before .loop-test .taken) (l .before .before .pre .inside) (w .wide .ensures) (omega arith) (omega arith) (omega arith) in
+    let more = digit-more (l .loop .value) (l .loop .at) (a .to) (a .input .now) (w .wide .result) (w .before .before .loop-test .taken)
+    (l .before .before .pre .inside) (w .wide .ensures) (omega arith) (omega arith) (omega arith) in
     (omega arith, omega arith, omega arith, sym more ∙ l .loop .inv .3)
 
 cast-t13 : tie.Need-cast-t13 Inv-loop μ-loop
@@ -83,14 +78,14 @@ read-digits-spec =
     Inv-loop
     μ-loop
     loop-holds
-    shared-slice-read-wide
-    wide-requires
+    (λ c. search needs)
+    (λ c κs. search needs)
     returns
     returns-2
     mul-next
     add-next
     returns-3
-    add-at
+    (λ c. search needs)
     loop-less
     loop-again
     cast-t13

@@ -1,5 +1,4 @@
 -- A word of no bytes is no number, nor is one with a zero in front of others; any other is what its digits give.
--- Assumes nothing.
 use borrow.Author.Needs.{needs}
 use native.Mathlib.Omega.{arith}
 use mathlib.Core.Path.{sym, _∙_}
@@ -12,12 +11,6 @@ returns c =
     let a = c .before .before .args in
     sym (number-none (a .from) (a .to) (a .input .now) (c .if1 .taken))
 
-shared-slice-read-if2 : tie.Need-shared-slice-read-if2
-shared-slice-read-if2 c = search needs
-
-read-digits-requires : tie.Need-read-digits-requires
-read-digits-requires c κs = search needs
-
 returns-2 : tie.Need-returns-2
 returns-2 c =
     let t = c .before in
@@ -25,18 +18,12 @@ returns-2 c =
     let a = e .args in
     c .read-digits .ensures ∙ sym (number-plain (a .from) (a .to) (a .input .now) (omega arith) (e .pre .inside) (t .if2 .taken))
 
-sub-if3 : tie.Need-sub-if3
-sub-if3 c = search needs
-
 returns-3 : tie.Need-returns-3
 returns-3 c =
     let t = c .before in
     let e = t .before .before .before .before in
     let a = e .args in
     sym (number-zero (a .from) (a .to) (a .input .now) (e .pre .inside) (t .if2 .left) (c .if3 .taken))
-
-read-digits-requires-2 : tie.Need-read-digits-requires-2
-read-digits-requires-2 c κs = search needs
 
 returns-4 : tie.Need-returns-4
 returns-4 c =
@@ -50,10 +37,10 @@ read-number-spec =
     tie.close
     (tie.spec
     returns
-    shared-slice-read-if2
-    read-digits-requires
+    (λ c. search needs)
+    (λ c κs. search needs)
     returns-2
-    sub-if3
+    (λ c. search needs)
     returns-3
-    read-digits-requires-2
+    (λ c κs. search needs)
     returns-4)

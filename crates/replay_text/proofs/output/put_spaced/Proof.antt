@@ -1,5 +1,4 @@
 -- A space, and behind it the number.
--- Assumes nothing.
 use borrow.Author.Needs.{needs}
 use mathlib.Core.List.{[], _∷_}
 use Rattle.replay_model.specs.Text.{SPACE, decimal}
@@ -19,16 +18,14 @@ put-number-requires c κs =
     let a = e .args in
     room-next (a .at) (SPACE ∷ []) (decimal (a .n)) (a .output .now) (b .put-byte .last .0) (b .put-byte .result) (e .pre) (b .put-byte .ensures)
 
-same-length : tie.Need-same-length
-same-length c = search needs
-
 returns : tie.Need-returns
 returns c =
     let n = c .before .before in
     let b = n .before .before .before .before in
     let e = b .before .before .before in
     let a = e .args in
-    put-two (a .at) (SPACE ∷ []) (decimal (a .n)) (a .output .now) (b .put-byte .last .0) (n .put-number .last .0) (b .put-byte .result) (n .put-number .result) (e .pre) (b .put-byte .ensures) (n .put-number .ensures)
+    put-two (a .at) (SPACE ∷ []) (decimal (a .n)) (a .output .now) (b .put-byte .last .0) (n .put-number .last .0) (b .put-byte .result)
+    (n .put-number .result) (e .pre) (b .put-byte .ensures) (n .put-number .ensures)
 
 pub put-spaced-spec : {M : Type 1} → statement M
-put-spaced-spec = tie.close (tie.spec put-byte-requires put-number-requires same-length returns)
+put-spaced-spec = tie.close (tie.spec put-byte-requires put-number-requires (λ c. search needs) returns)

@@ -1,5 +1,4 @@
 -- The invariant: the first i bytes of the text are written, and nothing else has changed (`put-more`). The measure is how many are left.
--- Assumes nothing.
 use borrow.Author.Needs.{needs}
 use native.Mathlib.Omega.{arith}
 use Prim.Native.Nat.{_-_, _≤_}
@@ -19,12 +18,6 @@ abbrev μ-loop : tie.MeasureT-loop
 loop-holds : tie.Need-loop-holds Inv-loop μ-loop
 loop-holds c = (search needs, text-start (c .args .at) (c .args .text .now) (c .args .output .now))
 
-shared-slice-read-output : tie.Need-shared-slice-read-output Inv-loop μ-loop
-shared-slice-read-output c = search needs
-
-add-output : tie.Need-add-output Inv-loop μ-loop
-add-output c = search needs
-
 slice-write-output : tie.Need-slice-write-output Inv-loop μ-loop
 slice-write-output c =
     let l = c .before .before in
@@ -32,20 +25,14 @@ slice-write-output c =
     let f = l .before .pre .fits in
     omega (arith, text-length (a .at) (l .loop .i) (a .text .now) (a .output .now) (l .loop .output) (l .loop .inv .1))
 
-add-i : tie.Need-add-i Inv-loop μ-loop
-add-i c = search needs
-
-loop-less : tie.Need-loop-less Inv-loop μ-loop
-loop-less c = search needs
-
 loop-again : tie.Need-loop-again Inv-loop μ-loop
 loop-again c =
     let l = c .before .before in
-    let a = l .before .args in
-    (omega arith, text-more (a .at) (l .loop .i) (a .text .now) (a .output .now) (l .loop .output) (l .before .pre) (c .before .loop-test .taken) (l .loop .inv .1))
-
-add-result : tie.Need-add-result Inv-loop μ-loop
-add-result c = search needs
+    let a = l .before .args in (
+      omega arith,
+      text-more (a .at) (l .loop .i) (a .text .now) (a .output .now) (l .loop .output) (l .before .pre) (c .before .loop-test .taken)
+          (l .loop .inv .1),
+    )
 
 same-length : tie.Need-same-length Inv-loop μ-loop
 same-length c =
@@ -66,12 +53,12 @@ put-text-spec =
     Inv-loop
     μ-loop
     loop-holds
-    shared-slice-read-output
-    add-output
+    (λ c. search needs)
+    (λ c. search needs)
     slice-write-output
-    add-i
-    loop-less
+    (λ c. search needs)
+    (λ c. search needs)
     loop-again
-    add-result
+    (λ c. search needs)
     same-length
     returns)

@@ -1,6 +1,5 @@
 -- The invariant: the blocks that are left begin at the place, and the lines of the others are written. Each turn writes the line of the next block. The
 -- measure is how much of the heap is left.
--- Assumes nothing.
 use borrow.Author.Needs.{needs}
 use types.Run.{OneOf}
 use denote.Enum.Declared.{tagOf}
@@ -22,12 +21,14 @@ use Rattle.replay_model.specs.Replay.{block-line, block-lines, heap-lines}
 use Rattle.replay_text.proofs.Puts.{room-first}
 use Rattle.replay_text.proofs.Running.{Running, run-start, run-length, run-room, run-more, run-done}
 use Rattle.replay_model.proofs.Reaching.{reached-length}
-use Rattle.replay_text.proofs.Listings.{Passing, Next, given-at, given-ends, passing-start, passing-none, passing-some, next-place, next-size, next-lines, next-passing}
+use Rattle.replay_text.proofs.Listings.{Passing, Next, given-at, given-ends, passing-start, passing-none, passing-some, next-place, next-size}
+use Rattle.replay_text.proofs.Listings.{next-lines, next-passing}
 use Rattle.replay_text.proofs.run.put_blocks.Statement.{statement}
 use Rattle.replay_text.proofs.run.put_blocks.Tie as tie
 
 abbrev Inv-loop : tie.InvT-loop
-Inv-loop heap accounts output₀ at place₀ next₀ output place next = (bs : List Block) × Passing (blocks-of heap) place bs × Running (heap-lines heap) at output₀ output next (block-lines (listing-from place bs))
+Inv-loop heap accounts output₀ at place₀ next₀ output place next = (bs : List Block) × Passing (blocks-of heap) place bs
+    × Running (heap-lines heap) at output₀ output next (block-lines (listing-from place bs))
 
 abbrev μ-loop : tie.MeasureT-loop
 μ-loop heap accounts output₀ at place₀ next₀ output place next = length heap - place
@@ -50,7 +51,8 @@ next-block k =
     let e = l .before .before .before in
     let a = e .args in
     passing-some (blocks-of (a .heap .now)) (l .loop .place) (l .loop .inv .0) (k .block .given .0 .0) (l .loop .inv .1)
-    (sym (given-at (a .heap .now) (a .accounts) (e .pre .0) (l .loop .place) (g .list-from .result) (g .list-from .ensures)) ∙ ap (λ (x : BlockAnswer). block-values x .block) (k .block .given .1))
+    (sym (given-at (a .heap .now) (a .accounts) (e .pre .0) (l .loop .place) (g .list-from .result) (g .list-from .ensures))
+    ∙ ap (λ (x : BlockAnswer). block-values x .block) (k .block .given .1))
 
 -- it ends in the heap
 ends : (k : tie.After-block Inv-loop μ-loop)
@@ -60,7 +62,8 @@ ends k =
     let l = g .before in
     let e = l .before .before .before in
     let a = e .args in
-    given-ends (a .heap .now) (a .accounts) (e .pre .0) (l .loop .place) (g .list-from .result) (g .list-from .ensures) (k .block .given .0 .0) (k .block .given .1)
+    given-ends (a .heap .now) (a .accounts) (e .pre .0) (l .loop .place) (g .list-from .result) (g .list-from .ensures) (k .block .given .0 .0)
+    (k .block .given .1)
 
 -- the lines of the blocks behind it, and that with its own line they are what is left
 rest-lines : tie.After-block Inv-loop μ-loop → List ℕ
@@ -69,7 +72,8 @@ rest-lines k = block-lines (listing-from (k .block .given .0 .0 .offset + k .blo
 running : (k : tie.After-block Inv-loop μ-loop)
     → let l = k .before .before .before in
     let a = l .before .before .before .args in
-    Running (heap-lines (a .heap .now)) (a .at) (a .output .now) (l .loop .output) (l .loop .next) (block-line (k .block .given .0 .0) ++ rest-lines k)
+    Running (heap-lines (a .heap .now)) (a .at) (a .output .now) (l .loop .output) (l .loop .next)
+    (block-line (k .block .given .0 .0) ++ rest-lines k)
 unfolding rest-lines
 running k =
     let l = k .before .before .before in
@@ -83,19 +87,14 @@ loop-holds c =
     let a = c .before .before .args in
     (blocks-of (a .heap .now), passing-start (blocks-of (a .heap .now)), run-start (heap-lines (a .heap .now)) (a .at) (a .output .now))
 
-list-from-requires : tie.Need-list-from-requires Inv-loop μ-loop
-list-from-requires c κs = search needs
-
-enum-known-block : tie.Need-enum-known-block Inv-loop μ-loop
-enum-known-block c = search needs
-
 same-length : tie.Need-same-length Inv-loop μ-loop
 same-length c =
     let g = c .before in
     let l = g .before in
     let e = l .before .before .before in
     let a = e .args in
-    run-length (heap-lines (a .heap .now)) (a .at) (a .output .now) (l .loop .output) (l .loop .next) (block-lines (listing-from (l .loop .place) (l .loop .inv .0))) (l .loop .inv .2)
+    run-length (heap-lines (a .heap .now)) (a .at) (a .output .now) (l .loop .output) (l .loop .next)
+    (block-lines (listing-from (l .loop .place) (l .loop .inv .0))) (l .loop .inv .2)
 
 returns : tie.Need-returns Inv-loop μ-loop
 unfolding block-lines listing-from
@@ -105,9 +104,11 @@ returns c =
     let e = l .before .before .before in
     let a = e .args in
     let none-left = passing-none (blocks-of (a .heap .now)) (l .loop .place) (l .loop .inv .0) (l .loop .inv .1)
-    (sym (given-at (a .heap .now) (a .accounts) (e .pre .0) (l .loop .place) (g .list-from .result) (g .list-from .ensures)) ∙ unlisted (g .list-from .result) (c .match .keys2)) in
+    (sym (given-at (a .heap .now) (a .accounts) (e .pre .0) (l .loop .place) (g .list-from .result) (g .list-from .ensures))
+    ∙ unlisted (g .list-from .result) (c .match .keys2)) in
     run-done (heap-lines (a .heap .now)) (a .at) (a .output .now) (l .loop .output) (l .loop .next)
-    (subst (λ (bs : List Block). Running (heap-lines (a .heap .now)) (a .at) (a .output .now) (l .loop .output) (l .loop .next) (block-lines (listing-from (l .loop .place) bs))) none-left (l .loop .inv .2))
+    (subst (λ (bs : List Block). Running (heap-lines (a .heap .now)) (a .at) (a .output .now) (l .loop .output) (l .loop .next)
+    (block-lines (listing-from (l .loop .place) bs))) none-left (l .loop .inv .2))
 
 put-block-requires : tie.Need-put-block-requires Inv-loop μ-loop
 put-block-requires c κs =
@@ -120,7 +121,8 @@ put-block-requires c κs =
     let n = next-block k in (
       omega (arith, ends k, reached-length (a .heap .now) (a .accounts) (e .pre .0)),
       room-first (l .loop .next) (block-line b) (rest-lines k) (l .loop .output)
-          (run-room (heap-lines (a .heap .now)) (a .at) (a .output .now) (l .loop .output) (l .loop .next) (block-line b ++ rest-lines k) (e .pre .1) (running k)),
+          (run-room (heap-lines (a .heap .now)) (a .at) (a .output .now) (l .loop .output) (l .loop .next) (block-line b ++ rest-lines k) (e .pre .1)
+          (running k)),
     )
 
 add-place : tie.Need-add-place Inv-loop μ-loop
@@ -161,7 +163,8 @@ loop-again c =
     let n = next-block k in (
       n .behind,
       next-passing (l .loop .inv .0) (l .loop .place) b n (blocks-of (a .heap .now)) (l .loop .inv .1),
-      run-more (heap-lines (a .heap .now)) (a .at) (a .output .now) (l .loop .output) (q .put-block .last .0) (l .loop .next) (q .put-block .result) (block-line b) (rest-lines k) (e .pre .1) (running k) (q .put-block .ensures),
+      run-more (heap-lines (a .heap .now)) (a .at) (a .output .now) (l .loop .output) (q .put-block .last .0) (l .loop .next) (q .put-block .result)
+          (block-line b) (rest-lines k) (e .pre .1) (running k) (q .put-block .ensures),
     )
 
 pub put-blocks-spec : {M : Type 1} → statement M
@@ -171,8 +174,8 @@ put-blocks-spec =
     Inv-loop
     μ-loop
     loop-holds
-    list-from-requires
-    enum-known-block
+    (λ c κs. search needs)
+    (λ c. search needs)
     same-length
     returns
     put-block-requires

@@ -1,5 +1,4 @@
 -- No line ends, the first asks for no opening, or it opens a heap and the others are run on it.
--- Assumes nothing.
 use borrow.Author.Needs.{needs}
 use native.Mathlib.Omega.{arith}
 use borrow.Author.Tests.{not-true, not-false}
@@ -14,19 +13,14 @@ use Rattle.replay_text.proofs.InputRuns.{input-unended, input-bad, inpu
 use Rattle.replay_text.proofs.run.run_all.Statement.{statement}
 use Rattle.replay_text.proofs.run.run_all.Tie as tie
 
-find-mark-requires : tie.Need-find-mark-requires
-find-mark-requires c κs = search needs
-
 put-bad-requires : tie.Need-put-bad-requires
 put-bad-requires c κs =
     let t = c .before in
     let f = t .before in
     let e = f .before .before .before in
     let a = e .args in
-    subst (λ (x : List ℕ). Room 0 x (a .output .now)) (sym (input-unended (a .input .now) (f .find-mark .result) (f .find-mark .ensures) (t .if1 .taken))) (e .pre)
-
-same-length : tie.Need-same-length
-same-length c = search needs
+    subst (λ (x : List ℕ). Room 0 x (a .output .now)) (sym (input-unended (a .input .now) (f .find-mark .result) (f .find-mark .ensures)
+    (t .if1 .taken))) (e .pre)
 
 returns : tie.Need-returns
 returns c =
@@ -35,10 +29,8 @@ returns c =
     let f = t .before in
     let e = f .before .before .before in
     let a = e .args in
-    subst (λ (x : List ℕ). Put 0 x (a .output .now) (p .put-bad .last .0) (p .put-bad .result)) (input-unended (a .input .now) (f .find-mark .result) (f .find-mark .ensures) (t .if1 .taken)) (p .put-bad .ensures)
-
-read-opening-requires : tie.Need-read-opening-requires
-read-opening-requires c κs = search needs
+    subst (λ (x : List ℕ). Put 0 x (a .output .now) (p .put-bad .last .0) (p .put-bad .result))
+    (input-unended (a .input .now) (f .find-mark .result) (f .find-mark .ensures) (t .if1 .taken)) (p .put-bad .ensures)
 
 put-bad-requires-2 : tie.Need-put-bad-requires-2
 put-bad-requires-2 c κs =
@@ -53,9 +45,6 @@ put-bad-requires-2 c κs =
     let is-bad = input-bad (a .input .now) (f .find-mark .result) (f .find-mark .ensures) (omega arith)
     (no-opening (r .read-opening .result) _ (r .read-opening .ensures) (not-true (r .read-opening .result .ok) (t .if2 .taken))) in
     subst (λ (x : List ℕ). Room 0 x (a .output .now)) (sym is-bad) (e .pre)
-
-same-length-2 : tie.Need-same-length-2
-same-length-2 c = search needs
 
 returns-2 : tie.Need-returns-2
 returns-2 c =
@@ -72,9 +61,6 @@ returns-2 c =
     (no-opening (r .read-opening .result) _ (r .read-opening .ensures) (not-true (r .read-opening .result .ok) (t .if2 .taken))) in
     subst (λ (x : List ℕ). Put 0 x (a .output .now) (p .put-bad2 .last .0) (p .put-bad2 .result)) is-bad (p .put-bad2 .ensures)
 
-add-run-opening : tie.Need-add-run-opening
-add-run-opening c = search needs
-
 run-opening-requires : tie.Need-run-opening-requires
 run-opening-requires c κs =
     let y = c .before .before in
@@ -87,14 +73,12 @@ run-opening-requires c κs =
     let n = x .if1 .left in
     let l = r .read-opening .result in
     let asked = some-opening l _ (r .read-opening .ensures) (not-false (l .ok) (y .if2 .left)) in
-    let opens = input-opens (a .input .now) (f .find-mark .result) (f .find-mark .ensures) (omega arith) (record { heap = l .heap; grants = l .grants }) asked in (
+    let opens = input-opens (a .input .now) (f .find-mark .result) (f .find-mark .ensures) (omega arith)
+    (record { heap = l .heap; grants = l .grants }) asked in (
       omega arith,
       opening-granted (slice 0 (f .find-mark .result) (a .input .now)) (record { heap = l .heap; grants = l .grants }) asked,
       subst (λ (x : List ℕ). Room 0 x (a .output .now)) (sym opens) (e .pre),
     )
-
-same-length-3 : tie.Need-same-length-3
-same-length-3 c = search needs
 
 returns-3 : tie.Need-returns-3
 returns-3 c =
@@ -109,22 +93,23 @@ returns-3 c =
     let n = x .if1 .left in
     let l = r .read-opening .result in
     let asked = some-opening l _ (r .read-opening .ensures) (not-false (l .ok) (y .if2 .left)) in
-    let opens = input-opens (a .input .now) (f .find-mark .result) (f .find-mark .ensures) (omega arith) (record { heap = l .heap; grants = l .grants }) asked in
+    let opens = input-opens (a .input .now) (f .find-mark .result) (f .find-mark .ensures) (omega arith)
+    (record { heap = l .heap; grants = l .grants }) asked in
     subst (λ (x : List ℕ). Put 0 x (a .output .now) (q .run-opening .last .1 .1 .1 .1 .0) (q .run-opening .result)) opens (q .run-opening .ensures)
 
 pub run-all-spec : {M : Type 1} → statement M
 run-all-spec =
     tie.close
     (tie.spec
-    find-mark-requires
+    (λ c κs. search needs)
     put-bad-requires
-    same-length
+    (λ c. search needs)
     returns
-    read-opening-requires
+    (λ c κs. search needs)
     put-bad-requires-2
-    same-length-2
+    (λ c. search needs)
     returns-2
-    add-run-opening
+    (λ c. search needs)
     run-opening-requires
-    same-length-3
+    (λ c. search needs)
     returns-3)

@@ -1,6 +1,5 @@
 -- The invariant: the state is reached by a history, the answers so far are written, and what is left to write is the run of the lines that are left.
 -- The measure is how much of the input is left.
--- Assumes nothing.
 use borrow.Author.Needs.{needs}
 use native.Mathlib.Omega.{arith}
 use Prim.Native.Nat.{ℕ, _+_, _-_, _≤_, _<_}
@@ -27,7 +26,8 @@ use Rattle.replay_text.proofs.run.run_calls.Tie as tie
 abbrev Inv-loop : tie.InvT-loop
 Inv-loop input from heap₀ output₀ at len start₀ place₀ current₀ heap output start place current =
     (start ≤ length input) × (length heap ≡ length heap₀) × Reached heap current
-    × Running (run-lines (lines (slice from (length input) input)) heap₀ current₀) at output₀ output place (run-lines (lines (slice start (length input) input)) heap current)
+    × Running (run-lines (lines (slice from (length input) input)) heap₀ current₀) at output₀ output place
+    (run-lines (lines (slice start (length input) input)) heap current)
 
 abbrev μ-loop : tie.MeasureT-loop
 μ-loop input from heap₀ output₀ at len start₀ place₀ current₀ heap output start place current = length input - start
@@ -55,7 +55,8 @@ there-is-room l rest r =
     run-room (whole l) (e .args .at) (e .args .output .now) (l .loop .output) (l .loop .place) rest (e .pre .2) r
 
 -- the last piece is written, and the length stays
-last-piece : (l : tie.At-loop Inv-loop μ-loop) (piece after : List ℕ) (next : ℕ) → so-far l piece → Put (l .loop .place) piece (l .loop .output) after next
+last-piece : (l : tie.At-loop Inv-loop μ-loop) (piece after : List ℕ) (next : ℕ) → so-far l piece
+    → Put (l .loop .place) piece (l .loop .output) after next
     → let a = l .before .before .before .before .args in
     Put (a .at) (whole l) (a .output .now) after next
 last-piece l piece after next r p =
@@ -81,7 +82,8 @@ ended t =
     run-ends (l .loop .start) (a .input .now) (l .loop .heap) (l .loop .current) (f .find-mark .result) (f .find-mark .ensures) (t .if1 .taken)
 
 -- the line ends before the input does
-before-end : (x : tie.Else1 Inv-loop μ-loop) → x .before .find-mark .result < length (x .before .before .before .before .before .before .args .input .now)
+before-end : (x : tie.Else1 Inv-loop μ-loop) → x .before .find-mark .result < length
+    (x .before .before .before .before .before .before .args .input .now)
 before-end x =
     let h = x .before .find-mark .ensures .high in
     let n = x .if1 .left in
@@ -96,7 +98,8 @@ not-a-call t =
     let f = r .before .before in
     let l = f .before in
     let a = l .before .before .before .before .args in
-    run-bad (l .loop .start) (a .input .now) (l .loop .heap) (l .loop .current) (f .find-mark .result) (f .find-mark .ensures) (before-end (r .before))
+    run-bad (l .loop .start) (a .input .now) (l .loop .heap) (l .loop .current) (f .find-mark .result) (f .find-mark .ensures)
+    (before-end (r .before))
     (sym (r .read-call .ensures) ∙ ap asked-call (t .enum-told .given .1))
 
 -- a call that was made, as a step
@@ -106,7 +109,8 @@ stepped : (q : tie.After-perform Inv-loop μ-loop)
     ≡ own-step (q .before .before .before .call .given .0 .0) (l .loop .heap) (l .loop .current)
 stepped q =
     let l = q .before .before .before .before .before .before .before .before in
-    performed-step (table (l .loop .current .edition)) (q .before .before .before .call .given .0 .0) (l .loop .heap) (l .loop .current) _ (q .perform .ensures)
+    performed-step (table (l .loop .current .edition)) (q .before .before .before .call .given .0 .0) (l .loop .heap) (l .loop .current) _
+    (q .perform .ensures)
 
 -- its answer and the run of the lines behind it are what is left
 answer-of : tie.After-perform Inv-loop μ-loop → List ℕ
@@ -128,15 +132,21 @@ made q =
     let f = r .before .before in
     let l = f .before in
     let a = l .before .before .before .before .args in
-    run-next (l .loop .start) (a .input .now) (l .loop .heap) (l .loop .current) (f .find-mark .result) (f .find-mark .ensures) (before-end (r .before)) (v .call .given .0 .0)
+    run-next (l .loop .start) (a .input .now) (l .loop .heap) (l .loop .current) (f .find-mark .result) (f .find-mark .ensures)
+    (before-end (r .before)) (v .call .given .0 .0)
     (q .perform .last .0) (q .perform .result .accounts) (answer-values (q .perform .result .answer))
     (sym (r .read-call .ensures) ∙ ap asked-call (v .call .given .1)) (stepped q)
 
 loop-holds : tie.Need-loop-holds Inv-loop μ-loop
 loop-holds c =
     let e = c .before .before .before in
-    let a = e .args in
-    (e .pre .0, refl, e .pre .1, run-start (run-lines (lines (slice (a .from) (length (a .input .now)) (a .input .now))) (a .heap .now) (a .accounts)) (a .at) (a .output .now))
+    let a = e .args in (
+      e .pre .0,
+      refl,
+      e .pre .1,
+      run-start (run-lines (lines (slice (a .from) (length (a .input .now)) (a .input .now))) (a .heap .now)
+          (a .accounts)) (a .at) (a .output .now),
+    )
 
 find-mark-requires : tie.Need-find-mark-requires Inv-loop μ-loop
 find-mark-requires c κs = record { ordered = c .loop .inv .0; inside = search needs }
@@ -145,8 +155,12 @@ put-ending-requires : tie.Need-put-ending-requires Inv-loop μ-loop
 put-ending-requires c κs =
     let t = c .before .before in
     let l = t .before .before in
-    let a = l .before .before .before .before .args in
-    (l .loop .inv .0, l .loop .inv .2, there-is-room l (ending (slice (l .loop .start) (length (a .input .now)) (a .input .now)) (l .loop .heap)) (subst (so-far l) (ended t) (l .loop .inv .3)))
+    let a = l .before .before .before .before .args in (
+      l .loop .inv .0,
+      l .loop .inv .2,
+      there-is-room l (ending (slice (l .loop .start) (length (a .input .now)) (a .input .now)) (l .loop .heap))
+          (subst (so-far l) (ended t) (l .loop .inv .3)),
+    )
 
 same-length : tie.Need-same-length Inv-loop μ-loop
 same-length c = c .before .before .before .before .before .before .before .loop .inv .1
@@ -156,7 +170,8 @@ same-length-2 c =
     let p = c .before .before in
     let l = p .before .before .before .before .before in
     let a = l .before .before .before .before .args in
-    kept-length l (ending (slice (l .loop .start) (length (a .input .now)) (a .input .now)) (l .loop .heap)) (p .put-ending .last .1 .1 .1 .1 .0) (p .put-ending .result) (p .put-ending .ensures)
+    kept-length l (ending (slice (l .loop .start) (length (a .input .now)) (a .input .now)) (l .loop .heap)) (p .put-ending .last .1 .1 .1 .1 .0)
+    (p .put-ending .result) (p .put-ending .ensures)
 
 returns : tie.Need-returns Inv-loop μ-loop
 returns c =
@@ -164,14 +179,12 @@ returns c =
     let t = p .before .before .before in
     let l = t .before .before in
     let a = l .before .before .before .before .args in
-    last-piece l (ending (slice (l .loop .start) (length (a .input .now)) (a .input .now)) (l .loop .heap)) (p .put-ending .last .1 .1 .1 .1 .0) (p .put-ending .result)
+    last-piece l (ending (slice (l .loop .start) (length (a .input .now)) (a .input .now)) (l .loop .heap)) (p .put-ending .last .1 .1 .1 .1 .0)
+    (p .put-ending .result)
     (subst (so-far l) (ended t) (l .loop .inv .3)) (p .put-ending .ensures)
 
 read-call-requires : tie.Need-read-call-requires Inv-loop μ-loop
 read-call-requires c κs = record { ordered = c .before .find-mark .ensures .low; inside = c .before .find-mark .ensures .high }
-
-enum-known-call : tie.Need-enum-known-call Inv-loop μ-loop
-enum-known-call c = search needs
 
 enum-told : tie.Need-enum-told Inv-loop μ-loop
 enum-told c = search needs
@@ -206,7 +219,8 @@ unfolding answer-of
 put-answer-requires c κs =
     let q = c .before .before .before in
     let l = q .before .before .before .before .before .before .before .before in
-    room-first (l .loop .place) (answer-of q) (behind q) (l .loop .output) (there-is-room l (answer-of q ++ behind q) (subst (so-far l) (made q) (l .loop .inv .3)))
+    room-first (l .loop .place) (answer-of q) (behind q) (l .loop .output)
+    (there-is-room l (answer-of q ++ behind q) (subst (so-far l) (made q) (l .loop .inv .3)))
 
 add-start : tie.Need-add-start Inv-loop μ-loop
 add-start c =
@@ -232,8 +246,10 @@ loop-again c =
     let a = e .args in (
       omega (arith, before-end x),
       q .perform .kept .0 ∙ l .loop .inv .1,
-      reached-next (l .loop .heap) (l .loop .current) (q .before .before .before .call .given .0 .0) (q .perform .last .0) (q .perform .result .accounts) (answer-values (q .perform .result .answer)) (l .loop .inv .2) (stepped q),
-      run-more (whole l) (a .at) (a .output .now) (l .loop .output) (p .put-answer .last .0) (l .loop .place) (p .put-answer .result) (answer-of q) (behind q) (e .pre .2)
+      reached-next (l .loop .heap) (l .loop .current) (q .before .before .before .call .given .0 .0) (q .perform .last .0)
+          (q .perform .result .accounts) (answer-values (q .perform .result .answer)) (l .loop .inv .2) (stepped q),
+      run-more (whole l) (a .at) (a .output .now) (l .loop .output) (p .put-answer .last .0) (l .loop .place) (p .put-answer .result) (answer-of q)
+          (behind q) (e .pre .2)
           (subst (so-far l) (made q) (l .loop .inv .3)) (p .put-answer .ensures),
     )
 
@@ -250,7 +266,7 @@ run-calls-spec =
     same-length-2
     returns
     read-call-requires
-    enum-known-call
+    (λ c. search needs)
     enum-told
     put-bad-requires
     same-length-3

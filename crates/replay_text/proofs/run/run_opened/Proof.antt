@@ -1,5 +1,4 @@
 -- A refused opening's line is its refusal. An accepted one is answered, and the lines behind it are run on a state that a history reaches.
--- Assumes nothing.
 use borrow.Author.Needs.{needs}
 use Prim.Native.Nat.{ℕ}
 use mathlib.Core.Path.{sym, subst}
@@ -14,12 +13,6 @@ use Rattle.replay_text.proofs.Openings.{opened-refused, opened-runs, op
 use Rattle.replay_text.proofs.run.run_opened.Statement.{statement}
 use Rattle.replay_text.proofs.run.run_opened.Tie as tie
 
-open-plain-requires : tie.Need-open-plain-requires
-open-plain-requires c κs = search needs
-
-verdict-refusal-requires : tie.Need-verdict-refusal-requires
-verdict-refusal-requires c κs = search needs
-
 put-refusal-requires : tie.Need-put-refusal-requires
 put-refusal-requires c κs =
     let t = c .before in
@@ -31,12 +24,6 @@ put-refusal-requires c κs =
     subst (λ (x : List ℕ). Room 0 x (a .output .now))
     (sym (opened-refused (a .heap .now) (a .grants) (o .open-plain .last .0) (o .open-plain .result .accounts) (o .open-plain .result .verdict)
     (o .open-plain .ensures) (v .verdict-refusal .result) (v .verdict-refusal .ensures) ls (t .if1 .taken))) (e .pre .2)
-
-same-length : tie.Need-same-length
-same-length c = search needs
-
-same-length-2 : tie.Need-same-length-2
-same-length-2 c = search needs
 
 returns : tie.Need-returns
 returns c =
@@ -83,12 +70,6 @@ run-calls-requires c κs =
           (o .open-plain .ensures) (v .verdict-refusal .result) (v .verdict-refusal .ensures) ls (x .if1 .left))) (e .pre .2)) (p .put-ok .ensures),
     )
 
-same-length-3 : tie.Need-same-length-3
-same-length-3 c = search needs
-
-same-length-4 : tie.Need-same-length-4
-same-length-4 c = search needs
-
 returns-2 : tie.Need-returns-2
 returns-2 c =
     let q = c .before .before .before .before in
@@ -111,14 +92,14 @@ pub run-opened-spec : {M : Type 1} → statement M
 run-opened-spec =
     tie.close
     (tie.spec
-    open-plain-requires
-    verdict-refusal-requires
+    (λ c κs. search needs)
+    (λ c κs. search needs)
     put-refusal-requires
-    same-length
-    same-length-2
+    (λ c. search needs)
+    (λ c. search needs)
     returns
     put-ok-requires
     run-calls-requires
-    same-length-3
-    same-length-4
+    (λ c. search needs)
+    (λ c. search needs)
     returns-2)

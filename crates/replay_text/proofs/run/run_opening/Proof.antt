@@ -1,5 +1,4 @@
 -- Too long a heap is refused. Another is the front of 32,768 zeros, which is as many zeros as the heap is long.
--- Assumes nothing.
 use borrow.Author.Needs.{needs}
 use Prim.Native.Nat.{ℕ}
 use mathlib.Core.Path.{sym, subst}
@@ -23,9 +22,6 @@ put-refusal-requires c κs =
     let ls = lines (slice (a .from) (length (a .input .now)) (a .input .now)) in
     subst (λ (x : List ℕ). Room 0 x (a .output .now)) (sym (opening-too-long (a .size) (a .grants) ls (t .if1 .taken))) (e .pre .2)
 
-same-length : tie.Need-same-length
-same-length c = search needs
-
 returns : tie.Need-returns
 returns c =
     let p = c .before .before in
@@ -33,13 +29,8 @@ returns c =
     let e = t .before .before .before in
     let a = e .args in
     let ls = lines (slice (a .from) (length (a .input .now)) (a .input .now)) in
-    subst (λ (x : List ℕ). Put 0 x (a .output .now) (p .put-refusal .last .0) (p .put-refusal .result)) (opening-too-long (a .size) (a .grants) ls (t .if1 .taken)) (p .put-refusal .ensures)
-
-zero-bytes-requires : tie.Need-zero-bytes-requires
-zero-bytes-requires c κs = search needs
-
-array-borrow-prefix-store : tie.Need-array-borrow-prefix-store
-array-borrow-prefix-store c = search needs
+    subst (λ (x : List ℕ). Put 0 x (a .output .now) (p .put-refusal .last .0) (p .put-refusal .result))
+    (opening-too-long (a .size) (a .grants) ls (t .if1 .taken)) (p .put-refusal .ensures)
 
 slice-aggregate-run-opened : tie.Need-slice-aggregate-run-opened
 slice-aggregate-run-opened c =
@@ -56,9 +47,6 @@ run-opened-requires c κs =
     let ls = lines (slice (a .from) (length (a .input .now)) (a .input .now)) in
     let front = zeros-front (a .size) 32768 (z .zero-bytes .result) (search needs) (z .zero-bytes .ensures) in
     (e .pre .0, e .pre .1, subst (λ (s : List ℕ). Room 0 (run-opened (open-heap plain s (a .grants)) ls) (a .output .now)) (sym front) (e .pre .2))
-
-same-length-2 : tie.Need-same-length-2
-same-length-2 c = search needs
 
 returns-2 : tie.Need-returns-2
 returns-2 c =
@@ -77,11 +65,11 @@ run-opening-spec =
     tie.close
     (tie.spec
     put-refusal-requires
-    same-length
+    (λ c. search needs)
     returns
-    zero-bytes-requires
-    array-borrow-prefix-store
+    (λ c κs. search needs)
+    (λ c. search needs)
     slice-aggregate-run-opened
     run-opened-requires
-    same-length-2
+    (λ c. search needs)
     returns-2)

@@ -1,5 +1,4 @@
 -- The invariant: the mark is at no place that was passed (`Absent`). The measure is how many bytes are left.
--- Assumes nothing.
 use borrow.Author.Needs.{needs}
 use native.Mathlib.Omega.{arith}
 use Prim.Native.Nat.{_-_, _≤_}

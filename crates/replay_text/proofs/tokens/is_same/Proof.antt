@@ -1,5 +1,4 @@
 -- The invariant: the bytes from i on are the same in both words exactly if the words are. The measure is how many bytes are left.
--- Assumes nothing.
 use borrow.Author.Needs.{needs}
 use native.Mathlib.Omega.{arith}
 use Prim.Native.Nat.{_+_, _-_, _≤_}
@@ -12,13 +11,11 @@ use Rattle.replay_text.proofs.tokens.is_same.Statement.{statement}
 use Rattle.replay_text.proofs.tokens.is_same.Tie as tie
 
 abbrev Inv-loop : tie.InvT-loop
-Inv-loop input from to word len i₀ i = (i ≤ len) × (len ≡ length word) × (from + len ≡ to) × (same (slice from to input) word ≡ same (slice (from + i) to input) (drop i word))
+Inv-loop input from to word len i₀ i = (i ≤ len) × (len ≡ length word) × (from + len ≡ to)
+    × (same (slice from to input) word ≡ same (slice (from + i) to input) (drop i word))
 
 abbrev μ-loop : tie.MeasureT-loop
 μ-loop input from to word len i₀ i = len - i
-
-sub-if1 : tie.Need-sub-if1 Inv-loop μ-loop
-sub-if1 c = search needs
 
 returns : tie.Need-returns Inv-loop μ-loop
 returns c =
@@ -38,18 +35,13 @@ add-if2 c = omega arith
 shared-slice-read-if2 : tie.Need-shared-slice-read-if2 Inv-loop μ-loop
 shared-slice-read-if2 c = omega arith
 
-shared-slice-read-if2-2 : tie.Need-shared-slice-read-if2-2 Inv-loop μ-loop
-shared-slice-read-if2-2 c = search needs
-
 returns-2 : tie.Need-returns-2 Inv-loop μ-loop
 returns-2 c =
     let l = c .before .before .before .before in
     let e = l .before .before in
     let a = e .args in
-    sym (l .loop .inv .3 ∙ same-differ (a .from + l .loop .i) (a .to) (a .input .now) (l .loop .i) (a .word .now) (omega arith) (e .pre .inside) (omega arith) (c .if2 .taken))
-
-add-i : tie.Need-add-i Inv-loop μ-loop
-add-i c = search needs
+    sym (l .loop .inv .3 ∙ same-differ (a .from + l .loop .i) (a .to) (a .input .now) (l .loop .i) (a .word .now) (omega arith) (e .pre .inside)
+    (omega arith) (c .if2 .taken))
 
 loop-less : tie.Need-loop-less Inv-loop μ-loop
 loop-less c = omega arith
@@ -58,8 +50,13 @@ loop-again : tie.Need-loop-again Inv-loop μ-loop
 loop-again c =
     let l = c .before .before .before .before in
     let e = l .before .before in
-    let a = e .args in
-    (omega arith, refl, l .loop .inv .2, l .loop .inv .3 ∙ same-turn (a .from) (a .to) (a .input .now) (l .loop .i) (a .word .now) (omega arith) (e .pre .inside) (omega arith) (c .if2 .left))
+    let a = e .args in (
+      omega arith,
+      refl,
+      l .loop .inv .2,
+      l .loop .inv .3 ∙ same-turn (a .from) (a .to) (a .input .now) (l .loop .i) (a .word .now) (omega arith)
+          (e .pre .inside) (omega arith) (c .if2 .left),
+    )
 
 returns-3 : tie.Need-returns-3 Inv-loop μ-loop
 returns-3 c =
@@ -74,14 +71,14 @@ is-same-spec =
     (tie.spec
     Inv-loop
     μ-loop
-    sub-if1
+    (λ c. search needs)
     returns
     loop-holds
     add-if2
     shared-slice-read-if2
-    shared-slice-read-if2-2
+    (λ c. search needs)
     returns-2
-    add-i
+    (λ c. search needs)
     loop-less
     loop-again
     returns-3)

@@ -1,28 +1,15 @@
 -- The names are tried one after the other, as in the definition.
--- Assumes nothing.
 use borrow.Author.Needs.{needs}
 use mathlib.Core.Path.{sym, _∙_}
 use Rattle.replay_model.specs.Commands.{word-of}
 use Rattle.replay_text.proofs.tokens.read_word.Statement.{statement}
 use Rattle.replay_text.proofs.tokens.read_word.Tie as tie
 
-slice-aggregate-is-same : tie.Need-slice-aggregate-is-same
-slice-aggregate-is-same c = search needs
-
-is-same-requires : tie.Need-is-same-requires
-is-same-requires c κs = search needs
-
 returns : tie.Need-returns
 unfolding word-of
 returns c =
     let t1 = c .before in
     rw (sym (t1 .is-same .ensures) ∙ c .if1 .taken)
-
-slice-aggregate-is-same-2 : tie.Need-slice-aggregate-is-same-2
-slice-aggregate-is-same-2 c = search needs
-
-is-same-requires-2 : tie.Need-is-same-requires-2
-is-same-requires-2 c κs = search needs
 
 returns-2 : tie.Need-returns-2
 unfolding word-of
@@ -31,12 +18,6 @@ returns-2 c =
     let e1 = t2 .before .before in
     let t1 = e1 .before in
     rw (sym (t1 .is-same .ensures) ∙ e1 .if1 .left, sym (t2 .is-same2 .ensures) ∙ c .if2 .taken)
-
-slice-aggregate-is-same-3 : tie.Need-slice-aggregate-is-same-3
-slice-aggregate-is-same-3 c = search needs
-
-is-same-requires-3 : tie.Need-is-same-requires-3
-is-same-requires-3 c κs = search needs
 
 returns-3 : tie.Need-returns-3
 unfolding word-of
@@ -48,12 +29,6 @@ returns-3 c =
     let t1 = e1 .before in
     rw (sym (t1 .is-same .ensures) ∙ e1 .if1 .left, sym (t2 .is-same2 .ensures) ∙ e2 .if2 .left, sym (t3 .is-same3 .ensures) ∙ c .if3 .taken)
 
-slice-aggregate-is-same-4 : tie.Need-slice-aggregate-is-same-4
-slice-aggregate-is-same-4 c = search needs
-
-is-same-requires-4 : tie.Need-is-same-requires-4
-is-same-requires-4 c κs = search needs
-
 returns-4 : tie.Need-returns-4
 unfolding word-of
 returns-4 c =
@@ -64,13 +39,13 @@ returns-4 c =
     let t2 = e2 .before in
     let e1 = t2 .before .before in
     let t1 = e1 .before in
-    rw (sym (t1 .is-same .ensures) ∙ e1 .if1 .left, sym (t2 .is-same2 .ensures) ∙ e2 .if2 .left, sym (t3 .is-same3 .ensures) ∙ e3 .if3 .left, sym (t4 .is-same4 .ensures) ∙ c .if4 .taken)
-
-slice-aggregate-is-same-5 : tie.Need-slice-aggregate-is-same-5
-slice-aggregate-is-same-5 c = search needs
-
-is-same-requires-5 : tie.Need-is-same-requires-5
-is-same-requires-5 c κs = search needs
+    rw (
+      sym (t1 .is-same .ensures) ∙ e1 .if1 .left,
+      sym (t2 .is-same2 .ensures) ∙ e2 .if2 .left,
+      sym (t3 .is-same3 .ensures)
+          ∙ e3 .if3 .left,
+      sym (t4 .is-same4 .ensures) ∙ c .if4 .taken,
+    )
 
 returns-5 : tie.Need-returns-5
 unfolding word-of
@@ -84,13 +59,14 @@ returns-5 c =
     let t2 = e2 .before in
     let e1 = t2 .before .before in
     let t1 = e1 .before in
-    rw (sym (t1 .is-same .ensures) ∙ e1 .if1 .left, sym (t2 .is-same2 .ensures) ∙ e2 .if2 .left, sym (t3 .is-same3 .ensures) ∙ e3 .if3 .left, sym (t4 .is-same4 .ensures) ∙ e4 .if4 .left, sym (t5 .is-same5 .ensures) ∙ c .if5 .taken)
-
-slice-aggregate-is-same-6 : tie.Need-slice-aggregate-is-same-6
-slice-aggregate-is-same-6 c = search needs
-
-is-same-requires-6 : tie.Need-is-same-requires-6
-is-same-requires-6 c κs = search needs
+    rw (
+      sym (t1 .is-same .ensures) ∙ e1 .if1 .left,
+      sym (t2 .is-same2 .ensures) ∙ e2 .if2 .left,
+      sym (t3 .is-same3 .ensures)
+          ∙ e3 .if3 .left,
+      sym (t4 .is-same4 .ensures) ∙ e4 .if4 .left,
+      sym (t5 .is-same5 .ensures) ∙ c .if5 .taken,
+    )
 
 returns-6 : tie.Need-returns-6
 unfolding word-of
@@ -106,13 +82,16 @@ returns-6 c =
     let t2 = e2 .before in
     let e1 = t2 .before .before in
     let t1 = e1 .before in
-    rw (sym (t1 .is-same .ensures) ∙ e1 .if1 .left, sym (t2 .is-same2 .ensures) ∙ e2 .if2 .left, sym (t3 .is-same3 .ensures) ∙ e3 .if3 .left, sym (t4 .is-same4 .ensures) ∙ e4 .if4 .left, sym (t5 .is-same5 .ensures) ∙ e5 .if5 .left, sym (t6 .is-same6 .ensures) ∙ c .if6 .taken)
-
-slice-aggregate-is-same-7 : tie.Need-slice-aggregate-is-same-7
-slice-aggregate-is-same-7 c = search needs
-
-is-same-requires-7 : tie.Need-is-same-requires-7
-is-same-requires-7 c κs = search needs
+    rw (
+      sym (t1 .is-same .ensures) ∙ e1 .if1 .left,
+      sym (t2 .is-same2 .ensures) ∙ e2 .if2 .left,
+      sym (t3 .is-same3 .ensures)
+          ∙ e3 .if3 .left,
+      sym (t4 .is-same4 .ensures) ∙ e4 .if4 .left,
+      sym (t5 .is-same5 .ensures) ∙ e5 .if5 .left,
+      sym (t6 .is-same6 .ensures)
+          ∙ c .if6 .taken,
+    )
 
 returns-7 : tie.Need-returns-7
 unfolding word-of
@@ -130,7 +109,17 @@ returns-7 c =
     let t2 = e2 .before in
     let e1 = t2 .before .before in
     let t1 = e1 .before in
-    rw (sym (t1 .is-same .ensures) ∙ e1 .if1 .left, sym (t2 .is-same2 .ensures) ∙ e2 .if2 .left, sym (t3 .is-same3 .ensures) ∙ e3 .if3 .left, sym (t4 .is-same4 .ensures) ∙ e4 .if4 .left, sym (t5 .is-same5 .ensures) ∙ e5 .if5 .left, sym (t6 .is-same6 .ensures) ∙ e6 .if6 .left, sym (t7 .is-same7 .ensures) ∙ c .if7 .taken)
+    rw (
+      sym (t1 .is-same .ensures) ∙ e1 .if1 .left,
+      sym (t2 .is-same2 .ensures) ∙ e2 .if2 .left,
+      sym (t3 .is-same3 .ensures)
+          ∙ e3 .if3 .left,
+      sym (t4 .is-same4 .ensures) ∙ e4 .if4 .left,
+      sym (t5 .is-same5 .ensures) ∙ e5 .if5 .left,
+      sym (t6 .is-same6 .ensures)
+          ∙ e6 .if6 .left,
+      sym (t7 .is-same7 .ensures) ∙ c .if7 .taken,
+    )
 
 returns-8 : tie.Need-returns-8
 unfolding word-of
@@ -148,31 +137,41 @@ returns-8 c =
     let t2 = e2 .before in
     let e1 = t2 .before .before in
     let t1 = e1 .before in
-    rw (sym (t1 .is-same .ensures) ∙ e1 .if1 .left, sym (t2 .is-same2 .ensures) ∙ e2 .if2 .left, sym (t3 .is-same3 .ensures) ∙ e3 .if3 .left, sym (t4 .is-same4 .ensures) ∙ e4 .if4 .left, sym (t5 .is-same5 .ensures) ∙ e5 .if5 .left, sym (t6 .is-same6 .ensures) ∙ e6 .if6 .left, sym (t7 .is-same7 .ensures) ∙ c .if7 .left)
+    rw (
+      sym (t1 .is-same .ensures) ∙ e1 .if1 .left,
+      sym (t2 .is-same2 .ensures) ∙ e2 .if2 .left,
+      sym (t3 .is-same3 .ensures)
+          ∙ e3 .if3 .left,
+      sym (t4 .is-same4 .ensures) ∙ e4 .if4 .left,
+      sym (t5 .is-same5 .ensures) ∙ e5 .if5 .left,
+      sym (t6 .is-same6 .ensures)
+          ∙ e6 .if6 .left,
+      sym (t7 .is-same7 .ensures) ∙ c .if7 .left,
+    )
 
 pub read-word-spec : {M : Type 1} → statement M
 read-word-spec =
     tie.close
     (tie.spec
-    slice-aggregate-is-same
-    is-same-requires
+    (λ c. search needs)
+    (λ c κs. search needs)
     returns
-    slice-aggregate-is-same-2
-    is-same-requires-2
+    (λ c. search needs)
+    (λ c κs. search needs)
     returns-2
-    slice-aggregate-is-same-3
-    is-same-requires-3
+    (λ c. search needs)
+    (λ c κs. search needs)
     returns-3
-    slice-aggregate-is-same-4
-    is-same-requires-4
+    (λ c. search needs)
+    (λ c κs. search needs)
     returns-4
-    slice-aggregate-is-same-5
-    is-same-requires-5
+    (λ c. search needs)
+    (λ c κs. search needs)
     returns-5
-    slice-aggregate-is-same-6
-    is-same-requires-6
+    (λ c. search needs)
+    (λ c κs. search needs)
     returns-6
-    slice-aggregate-is-same-7
-    is-same-requires-7
+    (λ c. search needs)
+    (λ c κs. search needs)
     returns-7
     returns-8)

@@ -1,26 +1,13 @@
 -- A digit's character by the definition's test.
--- Assumes nothing.
 use borrow.Author.Tests.{lt-ltb, le-ltb}
 use Rattle.report.specs.Words.{digit}
 use borrow.Author.Needs.{needs}
 use Rattle.report.proofs.digits.digit_of.Statement.{statement}
 use Rattle.report.proofs.digits.digit_of.Tie as tie
 
-add-result : tie.Need-add-result
-add-result c = search needs
-
-cast-result : tie.Need-cast-result
-cast-result c = search needs
-
 returns : tie.Need-returns
 unfolding digit
 returns c = rw (lt-ltb (c .before .args .value) 10 (c .if1 .taken))
-
-add-result-2 : tie.Need-add-result-2
-add-result-2 c = search needs
-
-cast-result-2 : tie.Need-cast-result-2
-cast-result-2 c = search needs
 
 returns-2 : tie.Need-returns-2
 unfolding digit
@@ -28,4 +15,4 @@ returns-2 c = rw (le-ltb (c .before .args .value) 10 (c .if1 .left))
 
 pub digit-of-spec : {M : Type 1} → statement M
 digit-of-spec =
-    tie.close (tie.spec add-result cast-result returns add-result-2 cast-result-2 returns-2)
+    tie.close (tie.spec (λ c. search needs) (λ c. search needs) returns (λ c. search needs) (λ c. search needs) returns-2)

@@ -1,5 +1,4 @@
 -- The test of the value that `value_of` gives.
--- Assumes nothing.
 use mathlib.Core.Path.{ap}
 use Prim.Native.Nat.{ℕ}
 use lib.Dec.{ltb}
@@ -8,12 +7,9 @@ use borrow.Author.Needs.{needs}
 use Rattle.report.proofs.digits.is_digit.Statement.{statement}
 use Rattle.report.proofs.digits.is_digit.Tie as tie
 
-value-of-requires : tie.Need-value-of-requires
-value-of-requires c κs = search needs
-
 returns : tie.Need-returns
 unfolding is-digit
 returns c = ap (λ (n : ℕ). ltb n 16) (c .value-of .ensures)
 
 pub is-digit-spec : {M : Type 1} → statement M
-is-digit-spec = tie.close (tie.spec value-of-requires returns)
+is-digit-spec = tie.close (tie.spec (λ c κs. search needs) returns)

@@ -1,5 +1,4 @@
 -- The invariant: the first `i` digits stand at the place (`put-more`), each by its shift (`shifted`). The measure is how many are left.
--- Assumes nothing.
 use native.Mathlib.Omega.{arith}
 use mathlib.Core.Path.{_≡_, ap, sym, _∙_}
 use mathlib.Core.List.{List}
@@ -32,32 +31,8 @@ loop-holds c =
     let a = c .before .args in
     (omega arith, sym (overwrite-nil (a .at) (a .text .now)))
 
-mul-digit-of : tie.Need-mul-digit-of Inv-loop μ-loop
-mul-digit-of c = search needs
-
-sub-digit-of : tie.Need-sub-digit-of Inv-loop μ-loop
-sub-digit-of c = search needs
-
-cast-digit-of : tie.Need-cast-digit-of Inv-loop μ-loop
-cast-digit-of c = search needs
-
-shr-digit-of : tie.Need-shr-digit-of Inv-loop μ-loop
-shr-digit-of c = search needs
-
-digit-of-requires : tie.Need-digit-of-requires Inv-loop μ-loop
-digit-of-requires c κs = search needs
-
-add-text : tie.Need-add-text Inv-loop μ-loop
-add-text c = search needs
-
 slice-write-text : tie.Need-slice-write-text Inv-loop μ-loop
 slice-write-text c = omega (arith, len (c .before .before))
-
-add-i : tie.Need-add-i Inv-loop μ-loop
-add-i c = search needs
-
-loop-less : tie.Need-loop-less Inv-loop μ-loop
-loop-less c = search needs
 
 loop-again : tie.Need-loop-again Inv-loop μ-loop
 loop-again c =
@@ -89,15 +64,15 @@ put-word-spec =
     Inv-loop
     μ-loop
     loop-holds
-    mul-digit-of
-    sub-digit-of
-    cast-digit-of
-    shr-digit-of
-    digit-of-requires
-    add-text
+    (λ c. search needs)
+    (λ c. search needs)
+    (λ c. search needs)
+    (λ c. search needs)
+    (λ c κs. search needs)
+    (λ c. search needs)
     slice-write-text
-    add-i
-    loop-less
+    (λ c. search needs)
+    (λ c. search needs)
     loop-again
     same-length
     returns)

@@ -1,5 +1,4 @@
 -- The invariant: `n` is the number of the first `i` digits (`read-more`). The measure is how many are left.
--- Assumes nothing.
 use native.Mathlib.Omega.{arith}
 use mathlib.Core.Path.{_≡_, refl, ap, _∙_}
 use Prim.Native.Nat.{ℕ, _+_, _-_, _≤_}
@@ -29,15 +28,6 @@ mul-n c =
     (omega arith) (l .loop .inv .1) refl in
     omega (arith, e .1)
 
-add-value-of : tie.Need-add-value-of Inv-loop μ-loop
-add-value-of c = search needs
-
-shared-slice-read-value-of : tie.Need-shared-slice-read-value-of Inv-loop μ-loop
-shared-slice-read-value-of c = search needs
-
-value-of-requires : tie.Need-value-of-requires Inv-loop μ-loop
-value-of-requires c κs = search needs
-
 add-n : tie.Need-add-n Inv-loop μ-loop
 add-n c =
     let l = c .before .before .before in
@@ -46,12 +36,6 @@ add-n c =
     let e = read-more (a .text .now) (a .at) (s .pre .0) (s .pre .1) (l .loop .i) (l .loop .n) (c .value-of .result) (omega arith) (l .loop .inv .1)
     (c .value-of .ensures) in
     omega (arith, e .1)
-
-add-i : tie.Need-add-i Inv-loop μ-loop
-add-i c = search needs
-
-loop-less : tie.Need-loop-less Inv-loop μ-loop
-loop-less c = search needs
 
 loop-again : tie.Need-loop-again Inv-loop μ-loop
 loop-again c =
@@ -77,11 +61,11 @@ read-word-spec =
     μ-loop
     loop-holds
     mul-n
-    add-value-of
-    shared-slice-read-value-of
-    value-of-requires
+    (λ c. search needs)
+    (λ c. search needs)
+    (λ c κs. search needs)
     add-n
-    add-i
-    loop-less
+    (λ c. search needs)
+    (λ c. search needs)
     loop-again
     returns)

@@ -1,5 +1,4 @@
 -- The value of each kind of character (`value-decimal`, `value-letter`, and 16 for the others).
--- Assumes nothing.
 use native.Mathlib.Omega.{arith}
 use mathlib.Core.Path.{ap, sym, _∙_}
 use Prim.Native.Nat.{ℕ, _-_}
@@ -7,9 +6,6 @@ use Rattle.report.proofs.Hex.{value-low, value-decimal, value-between, 
 use borrow.Author.Needs.{needs}
 use Rattle.report.proofs.digits.value_of.Statement.{statement}
 use Rattle.report.proofs.digits.value_of.Tie as tie
-
-wide-requires : tie.Need-wide-requires
-wide-requires c κs = search needs
 
 returns : tie.Need-returns
 returns c = sym (value-low (c .before .before .args .character) (omega arith))
@@ -23,9 +19,6 @@ returns-2 c =
 returns-3 : tie.Need-returns-3
 returns-3 c = sym (value-between (c .before .before .before .before .args .character) (omega arith) (omega arith))
 
-sub-result : tie.Need-sub-result
-sub-result c = search needs
-
 returns-4 : tie.Need-returns-4
 returns-4 c =
     let w = c .before .before .before .before in
@@ -37,4 +30,4 @@ returns-5 c = sym (value-high (c .before .before .before .before .before .args .
 
 pub value-of-spec : {M : Type 1} → statement M
 value-of-spec =
-    tie.close (tie.spec wide-requires returns returns-2 returns-3 sub-result returns-4 returns-5)
+    tie.close (tie.spec (λ c κs. search needs) returns returns-2 returns-3 (λ c. search needs) returns-4 returns-5)

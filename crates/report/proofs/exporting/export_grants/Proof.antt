@@ -1,5 +1,4 @@
 -- Without room nothing is written (`export-room`), else all lines are (`export-put`).
--- Assumes nothing.
 use native.Mathlib.Omega.{arith}
 use mathlib.Core.Path.{ap}
 use Rattle.report.specs.Export.{export-told}
@@ -13,12 +12,6 @@ returns c =
     let a = c .before .before .args in
     ap export-told (export-room (a .text .now) (a .grants) (omega arith))
 
-put-lines-requires : tie.Need-put-lines-requires
-put-lines-requires c κs = search needs
-
-same-length : tie.Need-same-length
-same-length c = search needs
-
 returns-2 : tie.Need-returns-2
 returns-2 c =
     let p = c .before .before in
@@ -30,4 +23,4 @@ returns-2 c =
     (p .put-lines .ensures))
 
 pub export-grants-spec : {M : Type 1} → statement M
-export-grants-spec = tie.close (tie.spec returns put-lines-requires same-length returns-2)
+export-grants-spec = tie.close (tie.spec returns (λ c κs. search needs) (λ c. search needs) returns-2)

@@ -1,6 +1,5 @@
 -- The invariant: the first `i` lines are read (`Importing`). A turn reads one more (`import-more`), or ends at a bad line (`import-bad`) or at one too
 -- many (`import-over`). The measure is how many quotas have no line yet.
--- Assumes nothing.
 use native.Mathlib.Omega.{arith}
 use mathlib.Core.Path.{ap, sym, _∙_}
 use Prim.Native.Nat.{_-_, _≤_}
@@ -20,18 +19,6 @@ abbrev μ-loop : tie.MeasureT-loop
 loop-holds : tie.Need-loop-holds Inv-loop μ-loop
 loop-holds c = (omega arith, import-start (c .before .args .text .now))
 
-mul-loop : tie.Need-mul-loop Inv-loop μ-loop
-mul-loop c = search needs
-
-cast-number : tie.Need-cast-number Inv-loop μ-loop
-cast-number c = search needs
-
-add-number : tie.Need-add-number Inv-loop μ-loop
-add-number c = search needs
-
-refused-requires : tie.Need-refused-requires Inv-loop μ-loop
-refused-requires c κs = search needs
-
 returns : tie.Need-returns Inv-loop μ-loop
 returns c =
     let l = c .before .before .before in
@@ -39,27 +26,6 @@ returns c =
     (c .refused .ensures
     ∙ import-over (l .before .before .args .text .now) (l .loop .grants) (l .loop .i) (l .loop .inv .1)
     (c .before .before .loop-test .taken) (omega arith))
-
-mul-read-line : tie.Need-mul-read-line Inv-loop μ-loop
-mul-read-line c = search needs
-
-read-line-requires : tie.Need-read-line-requires Inv-loop μ-loop
-read-line-requires c κs = search needs
-
-enum-known-line : tie.Need-enum-known-line Inv-loop μ-loop
-enum-known-line c = search needs
-
-mul-grants : tie.Need-mul-grants Inv-loop μ-loop
-mul-grants c = search needs
-
-array-write-grants : tie.Need-array-write-grants Inv-loop μ-loop
-array-write-grants c = search needs
-
-enum-known-line-2 : tie.Need-enum-known-line-2 Inv-loop μ-loop
-enum-known-line-2 c = search needs
-
-refused-requires-2 : tie.Need-refused-requires-2 Inv-loop μ-loop
-refused-requires-2 c κs = search needs
 
 returns-2 : tie.Need-returns-2 Inv-loop μ-loop
 returns-2 c =
@@ -71,12 +37,6 @@ returns-2 c =
     ∙ import-bad (l .before .before .args .text .now) (l .loop .grants) (l .loop .i) (l .loop .inv .1)
     (r .before .before .loop-test .taken) (m .line2 .given .0 .0) (r .before .if1 .left)
     (sym (m .line2 .given .1) ∙ r .read-line .ensures))
-
-add-i : tie.Need-add-i Inv-loop μ-loop
-add-i c = search needs
-
-loop-less : tie.Need-loop-less Inv-loop μ-loop
-loop-less c = search needs
 
 loop-again : tie.Need-loop-again Inv-loop μ-loop
 loop-again c =
@@ -102,20 +62,20 @@ import-grants-spec =
     Inv-loop
     μ-loop
     loop-holds
-    mul-loop
-    cast-number
-    add-number
-    refused-requires
+    (λ c. search needs)
+    (λ c. search needs)
+    (λ c. search needs)
+    (λ c κs. search needs)
     returns
-    mul-read-line
-    read-line-requires
-    enum-known-line
-    mul-grants
-    array-write-grants
-    enum-known-line-2
-    refused-requires-2
+    (λ c. search needs)
+    (λ c κs. search needs)
+    (λ c. search needs)
+    (λ c. search needs)
+    (λ c. search needs)
+    (λ c. search needs)
+    (λ c κs. search needs)
     returns-2
-    add-i
-    loop-less
+    (λ c. search needs)
+    (λ c. search needs)
     loop-again
     returns-3)

@@ -1,6 +1,5 @@
 -- The invariant: whether the words from the `k`-th on are right is whether all are. A turn stops (`right-stops`) or passes one more
 -- (`right-goes-on`). The measure is how many are left before the last.
--- Assumes nothing.
 use native.Mathlib.Omega.{arith}
 use mathlib.Core.Path.{_≡_, sym, _∙_}
 use Prim.Native.Nat.{_-_, _≤_}
@@ -23,27 +22,12 @@ loop-holds c =
     let a = c .before .args in
     (omega arith, right-start (a .text .now) (a .at))
 
-mul-is-word : tie.Need-mul-is-word Inv-loop μ-loop
-mul-is-word c = search needs
-
-add-is-word : tie.Need-add-is-word Inv-loop μ-loop
-add-is-word c = search needs
-
-is-word-requires : tie.Need-is-word-requires Inv-loop μ-loop
-is-word-requires c κs = search needs
-
 returns : tie.Need-returns Inv-loop μ-loop
 returns c =
     let l = c .before .before .before in
     let a = l .before .before .args in
     right-stops (a .text .now) (a .at) (l .loop .k) (omega arith) (l .loop .inv .1)
     (sym (c .before .is-word .ensures) ∙ not-true (c .before .is-word .result) (c .if1 .taken))
-
-add-k : tie.Need-add-k Inv-loop μ-loop
-add-k c = search needs
-
-loop-less : tie.Need-loop-less Inv-loop μ-loop
-loop-less c = search needs
 
 loop-again : tie.Need-loop-again Inv-loop μ-loop
 loop-again c =
@@ -53,12 +37,6 @@ loop-again c =
       right-goes-on (a .text .now) (a .at) (l .loop .k) (omega arith) (l .loop .inv .1)
           (sym (c .before .is-word .ensures) ∙ not-false (c .before .is-word .result) (c .if1 .left)),
     )
-
-add-is-word-2 : tie.Need-add-is-word-2 Inv-loop μ-loop
-add-is-word-2 c = search needs
-
-is-word-requires-2 : tie.Need-is-word-requires-2 Inv-loop μ-loop
-is-word-requires-2 c κs = search needs
 
 returns-2 : tie.Need-returns-2 Inv-loop μ-loop
 returns-2 c =
@@ -73,13 +51,13 @@ is-line-spec =
     Inv-loop
     μ-loop
     loop-holds
-    mul-is-word
-    add-is-word
-    is-word-requires
+    (λ c. search needs)
+    (λ c. search needs)
+    (λ c κs. search needs)
     returns
-    add-k
-    loop-less
+    (λ c. search needs)
+    (λ c. search needs)
     loop-again
-    add-is-word-2
-    is-word-requires-2
+    (λ c. search needs)
+    (λ c κs. search needs)
     returns-2)

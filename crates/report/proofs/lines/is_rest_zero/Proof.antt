@@ -1,6 +1,5 @@
 -- The invariant: whether the words from the `k`-th on are zero is whether all behind the first are. A turn stops (`zero-stops`) or passes one more
 -- (`zero-goes-on`). The measure is how many are left.
--- Assumes nothing.
 use native.Mathlib.Omega.{arith}
 use mathlib.Core.Path.{_≡_, refl}
 use Prim.Native.Nat.{_+_, _-_, _≤_}
@@ -20,12 +19,6 @@ abbrev μ-loop : tie.MeasureT-loop
 loop-holds : tie.Need-loop-holds Inv-loop μ-loop
 loop-holds c = (omega arith, refl)
 
-mul-read-word : tie.Need-mul-read-word Inv-loop μ-loop
-mul-read-word c = search needs
-
-add-read-word : tie.Need-add-read-word Inv-loop μ-loop
-add-read-word c = search needs
-
 read-word-requires : tie.Need-read-word-requires Inv-loop μ-loop
 read-word-requires c κs =
     let l = c .before in
@@ -39,12 +32,6 @@ returns c =
     let a = l .before .before .args in
     zero-stops (a .text .now) (a .at) (l .loop .k) (c .before .read-word .result) (omega arith) (l .loop .inv .1) (c .before .read-word .ensures)
     (c .if1 .taken)
-
-add-k : tie.Need-add-k Inv-loop μ-loop
-add-k c = search needs
-
-loop-less : tie.Need-loop-less Inv-loop μ-loop
-loop-less c = search needs
 
 loop-again : tie.Need-loop-again Inv-loop μ-loop
 loop-again c =
@@ -68,11 +55,11 @@ is-rest-zero-spec =
     Inv-loop
     μ-loop
     loop-holds
-    mul-read-word
-    add-read-word
+    (λ c. search needs)
+    (λ c. search needs)
     read-word-requires
     returns
-    add-k
-    loop-less
+    (λ c. search needs)
+    (λ c. search needs)
     loop-again
     returns-2)

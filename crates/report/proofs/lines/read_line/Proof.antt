@@ -1,5 +1,4 @@
 -- The tests in the definition's order (`line-short`, `line-wrong`, `line-reserved`, `line-right`).
--- Assumes nothing.
 use native.Mathlib.Omega.{arith}
 use mathlib.Core.Path.{_≡_, ap, sym, _∙_}
 use mathlib.Core.Bool.{Bool, true}
@@ -23,16 +22,10 @@ right c = sym (c .before .is-line .ensures) ∙ not-false (c .before .is-line .r
 rest : (t : List ℕ) (at : ℕ) (r : Bool) → r ≡ all-zero (words 5 (drop (at + 9) t)) → all-zero (words 5 (drop 9 (drop at t))) ≡ r
 rest t at r e = ap (λ (s : List ℕ). all-zero (words 5 s)) (drop-drop 9 at t) ∙ sym e
 
-sub-if1 : tie.Need-sub-if1
-sub-if1 c = search needs
-
 returns : tie.Need-returns
 returns c =
     let a = c .before .before .args in
     line-short (drop (a .at) (a .text .now)) (omega (arith, length-drop (a .at) (a .text .now)))
-
-is-line-requires : tie.Need-is-line-requires
-is-line-requires c κs = search needs
 
 returns-2 : tie.Need-returns-2
 returns-2 c =
@@ -67,9 +60,9 @@ pub read-line-spec : {M : Type 1} → statement M
 read-line-spec =
     tie.close
     (tie.spec
-    sub-if1
+    (λ c. search needs)
     returns
-    is-line-requires
+    (λ c κs. search needs)
     returns-2
     is-rest-zero-requires
     returns-3

@@ -1,5 +1,4 @@
 -- The reply, with the text at exit, is that of what export leaves and answers.
--- Assumes nothing.
 use mathlib.Core.Path.{ap, _∙_}
 use Rattle.report.specs.Export.{Written}
 use Rattle.report.proofs.Answers.{export-told-injective}
@@ -7,15 +6,6 @@ use Rattle.report_api.specs.Replies.{export-reply}
 use borrow.Author.Needs.{needs}
 use Rattle.report_api.proofs.exports.lokhazim_report_export.Statement.{statement}
 use Rattle.report_api.proofs.exports.lokhazim_report_export.Tie as tie
-
-export-grants-requires : tie.Need-export-grants-requires
-export-grants-requires c κs = search needs
-
-reply-of-export-requires : tie.Need-reply-of-export-requires
-reply-of-export-requires c κs = search needs
-
-same-length : tie.Need-same-length
-same-length c = search needs
 
 returns : tie.Need-returns
 returns c =
@@ -27,4 +17,4 @@ returns c =
 
 pub lokhazim-report-export-spec : {M : Type 1} → statement M
 lokhazim-report-export-spec =
-    tie.close (tie.spec export-grants-requires reply-of-export-requires same-length returns)
+    tie.close (tie.spec (λ c κs. search needs) (λ c κs. search needs) (λ c. search needs) returns)

@@ -1,5 +1,4 @@
 -- The numbers of the answer's case.
--- Assumes nothing.
 use mathlib.Core.Path.{ap, sym, _∙_}
 use Rattle.report.specs.declared.ExportAnswer.{ExportAnswer}
 use Rattle.report.specs.Export.{text-told}
@@ -7,15 +6,6 @@ use Rattle.report_api.specs.Replies.{export-reply}
 use borrow.Author.Needs.{needs}
 use Rattle.report_api.proofs.replies.reply_of_export.Statement.{statement}
 use Rattle.report_api.proofs.replies.reply_of_export.Tie as tie
-
-enum-known-answer : tie.Need-enum-known-answer
-enum-known-answer c = search needs
-
-enum-known-answer-2 : tie.Need-enum-known-answer-2
-enum-known-answer-2 c = search needs
-
-number-requires : tie.Need-number-requires
-number-requires c κs = search needs
 
 returns : tie.Need-returns
 unfolding text-told
@@ -29,4 +19,4 @@ returns-2 c = λ t.
 
 pub reply-of-export-spec : {M : Type 1} → statement M
 reply-of-export-spec =
-    tie.close (tie.spec enum-known-answer enum-known-answer-2 number-requires returns returns-2)
+    tie.close (tie.spec (λ c. search needs) (λ c. search needs) (λ c κs. search needs) returns returns-2)

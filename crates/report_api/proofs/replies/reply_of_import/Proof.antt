@@ -1,5 +1,4 @@
 -- The numbers of the answer's case, with the grants as they are.
--- Assumes nothing.
 use mathlib.Core.Path.{ap, sym, _∙_}
 use Rattle.report.specs.declared.ImportAnswer.{ImportAnswer}
 use Rattle.report.specs.Import.{grants-told}
@@ -10,12 +9,6 @@ use Rattle.report_api.proofs.replies.reply_of_import.Tie as tie
 
 enum-told : tie.Need-enum-told
 enum-told c = search needs
-
-enum-known-answer : tie.Need-enum-known-answer
-enum-known-answer c = search needs
-
-number-requires : tie.Need-number-requires
-number-requires c κs = search needs
 
 returns : tie.Need-returns
 unfolding grants-told
@@ -34,4 +27,4 @@ returns-2 c =
 
 pub reply-of-import-spec : {M : Type 1} → statement M
 reply-of-import-spec =
-    tie.close (tie.spec enum-told enum-known-answer number-requires returns returns-2)
+    tie.close (tie.spec enum-told (λ c. search needs) (λ c κs. search needs) returns returns-2)

@@ -1,5 +1,4 @@
 -- `results::AmountResult::given` meets its contract: the result is made of what came in.
--- Assumes nothing.
 use borrow.Author.Needs.{needs}
 use Rattle.results.proofs.AmountResult.given.Statement.{statement}
 use Rattle.results.proofs.AmountResult.given.Tie as tie

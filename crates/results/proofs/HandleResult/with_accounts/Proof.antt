@@ -1,5 +1,4 @@
 -- `results::HandleResult::with_accounts` meets its contract: the result is made of what came in.
--- Assumes nothing.
 use borrow.Author.Needs.{needs}
 use Rattle.results.proofs.HandleResult.with_accounts.Statement.{statement}
 use Rattle.results.proofs.HandleResult.with_accounts.Tie as tie

@@ -1,5 +1,4 @@
 -- The four refusals in their order, and the entry written where none of them holds.
--- Assumes nothing.
 use native.Mathlib.Omega.{arith}
 use mathlib.Core.Path.{_≡_, ap, sym, _∙_}
 use mathlib.Core.List.{List}
@@ -16,17 +15,8 @@ use Rattle.settings.proofs.Puts.{last-known, last-unknown, add-malforme
 use Rattle.settings.proofs.adding.add.Statement.{statement}
 use Rattle.settings.proofs.adding.add.Tie as tie
 
-last-version-requires : tie.Need-last-version-requires
-last-version-requires c κs = search needs
-
-enum-known-last : tie.Need-enum-known-last
-enum-known-last c = search needs
-
 enum-told : tie.Need-enum-told
 enum-told c = search needs
-
-same-length : tie.Need-same-length
-same-length c = search needs
 
 returns : tie.Need-returns
 returns c =
@@ -45,9 +35,6 @@ known c =
     let a = l .before .before .before .before .args in
     last-known (stored (a .store .now) (a .used)) (c .last .given .0 .0) (sym (c .last .given .1) ∙ l .last-version .ensures)
 
-same-length-2 : tie.Need-same-length-2
-same-length-2 c = search needs
-
 returns-2 : tie.Need-returns-2
 returns-2 c =
     let l = c .before .before in
@@ -55,9 +42,6 @@ returns-2 c =
     let k = known l in
     ap add-told
     (add-long (a .name) (a .version) (a .value .now) (a .store .now) (a .used) (k .0) (k .1 .0) (omega arith))
-
-same-length-3 : tie.Need-same-length-3
-same-length-3 c = search needs
 
 returns-3 : tie.Need-returns-3
 returns-3 c =
@@ -76,12 +60,6 @@ sub-if3 c =
     let k = known l in
     stored-is (a .store .now) (a .used) (k .0) (k .1 .0) .0
 
-add-if3 : tie.Need-add-if3
-add-if3 c = search needs
-
-same-length-4 : tie.Need-same-length-4
-same-length-4 c = search needs
-
 returns-4 : tie.Need-returns-4
 returns-4 c =
     let l = c .before .before .before .before in
@@ -91,18 +69,6 @@ returns-4 c =
     ap add-told
     (add-full (a .name) (a .version) (a .value .now) (a .store .now) (a .used) (k .0) (k .1 .0) (omega arith)
     (omega arith) (omega arith))
-
-put-entry-requires : tie.Need-put-entry-requires
-put-entry-requires c κs = search needs
-
-add-t11 : tie.Need-add-t11
-add-t11 c = search needs
-
-add-t16 : tie.Need-add-t16
-add-t16 c = search needs
-
-same-length-5 : tie.Need-same-length-5
-same-length-5 c = search needs
 
 returns-5 : tie.Need-returns-5
 returns-5 c =
@@ -121,21 +87,21 @@ pub add-spec : {M : Type 1} → statement M
 add-spec =
     tie.close
     (tie.spec
-    last-version-requires
-    enum-known-last
+    (λ c κs. search needs)
+    (λ c. search needs)
     enum-told
-    same-length
+    (λ c. search needs)
     returns
-    same-length-2
+    (λ c. search needs)
     returns-2
-    same-length-3
+    (λ c. search needs)
     returns-3
     sub-if3
-    add-if3
-    same-length-4
+    (λ c. search needs)
+    (λ c. search needs)
     returns-4
-    put-entry-requires
-    add-t11
-    add-t16
-    same-length-5
+    (λ c κs. search needs)
+    (λ c. search needs)
+    (λ c. search needs)
+    (λ c. search needs)
     returns-5)

@@ -1,5 +1,4 @@
 -- Version, name, length and value are written side by side (`entry-put`).
--- Assumes nothing.
 use native.Mathlib.Omega.{arith}
 use mathlib.Core.Path.{_≡_, ap, _∙_}
 use Prim.Native.Nat.{_+_}
@@ -12,29 +11,11 @@ use Rattle.settings.proofs.Puts.{entry-put, put-length}
 use Rattle.settings.proofs.adding.put_entry.Statement.{statement}
 use Rattle.settings.proofs.adding.put_entry.Tie as tie
 
-write-u16-requires : tie.Need-write-u16-requires
-write-u16-requires c κs = search needs
-
-add-store : tie.Need-add-store
-add-store c = search needs
-
-slice-write-store : tie.Need-slice-write-store
-slice-write-store c = search needs
-
-cast-store : tie.Need-cast-store
-cast-store c = search needs
-
-add-store-2 : tie.Need-add-store-2
-add-store-2 c = search needs
-
 slice-write-store-2 : tie.Need-slice-write-store-2
 slice-write-store-2 c =
     let w = c .before .before in
     let a = w .before .before .before .before .args in
     omega (arith, length-set (w .write-u16 .last .0) (a .at + 2) (a .name))
-
-add-put-value : tie.Need-add-put-value
-add-put-value c = search needs
 
 put-value-requires : tie.Need-put-value-requires
 put-value-requires c κs =
@@ -66,13 +47,13 @@ pub put-entry-spec : {M : Type 1} → statement M
 put-entry-spec =
     tie.close
     (tie.spec
-    write-u16-requires
-    add-store
-    slice-write-store
-    cast-store
-    add-store-2
+    (λ c κs. search needs)
+    (λ c. search needs)
+    (λ c. search needs)
+    (λ c. search needs)
+    (λ c. search needs)
     slice-write-store-2
-    add-put-value
+    (λ c. search needs)
     put-value-requires
     same-length
     returns)

@@ -1,5 +1,4 @@
 -- The invariant: the entries so far are read (`Walked`), which knows their last version. The measure is how many bytes are left.
--- Assumes nothing.
 use native.Mathlib.Omega.{arith}
 use Prim.Native.Nat.{_-_}
 use mathlib.Core.Path.{ap, sym, _∙_}
@@ -22,12 +21,6 @@ abbrev μ-loop : tie.MeasureT-loop
 
 loop-holds : tie.Need-loop-holds Inv-loop μ-loop
 loop-holds c = ([], walk-begin (c .before .args .store .now))
-
-read-entry-requires : tie.Need-read-entry-requires Inv-loop μ-loop
-read-entry-requires c κs = search needs
-
-enum-known-entry : tie.Need-enum-known-entry Inv-loop μ-loop
-enum-known-entry c = search needs
 
 enum-told : tie.Need-enum-told Inv-loop μ-loop
 enum-told c = search needs
@@ -73,8 +66,8 @@ last-in-spec =
     Inv-loop
     μ-loop
     loop-holds
-    read-entry-requires
-    enum-known-entry
+    (λ c κs. search needs)
+    (λ c. search needs)
     enum-told
     returns
     loop-less

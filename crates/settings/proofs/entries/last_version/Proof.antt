@@ -1,5 +1,4 @@
 -- A used length beyond the bytes, or the entries of the used bytes.
--- Assumes nothing.
 use native.Mathlib.Omega.{arith}
 use mathlib.Core.Path.{ap, sym, _∙_}
 use lib.Seq.{length-take-le}
@@ -16,13 +15,10 @@ returns c = let a = c .before .before .args in sym (ap last-of (stored-beyond (a
 slice-aggregate-last-in : tie.Need-slice-aggregate-last-in
 slice-aggregate-last-in c = let a = c .before .before .before .args in sym (length-take-le (a .used) (a .store .now) (omega arith))
 
-last-in-requires : tie.Need-last-in-requires
-last-in-requires c κs = search needs
-
 returns-2 : tie.Need-returns-2
 returns-2 c =
     let a = c .before .before .before .before .args in
     c .last-in .ensures ∙ sym (ap last-of (stored-within (a .store .now) (a .used) (omega arith)))
 
 pub last-version-spec : {M : Type 1} → statement M
-last-version-spec = tie.close (tie.spec returns slice-aggregate-last-in last-in-requires returns-2)
+last-version-spec = tie.close (tie.spec returns slice-aggregate-last-in (λ c κs. search needs) returns-2)

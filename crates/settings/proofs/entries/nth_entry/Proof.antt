@@ -1,5 +1,4 @@
 -- A used length beyond the bytes, or the entries of the used bytes.
--- Assumes nothing.
 use native.Mathlib.Omega.{arith}
 use mathlib.Core.Path.{ap, sym, _∙_}
 use lib.Seq.{length-take-le}
@@ -20,13 +19,10 @@ slice-aggregate-nth-in c =
     let a = c .before .before .before .args in
     sym (length-take-le (a .used) (a .store .now) (omega arith))
 
-nth-in-requires : tie.Need-nth-in-requires
-nth-in-requires c κs = search needs
-
 returns-2 : tie.Need-returns-2
 returns-2 c =
     let a = c .before .before .before .before .args in
     c .nth-in .ensures ∙ sym (ap (nth-of (a .n)) (stored-within (a .store .now) (a .used) (omega arith)))
 
 pub nth-entry-spec : {M : Type 1} → statement M
-nth-entry-spec = tie.close (tie.spec returns slice-aggregate-nth-in nth-in-requires returns-2)
+nth-entry-spec = tie.close (tie.spec returns slice-aggregate-nth-in (λ c κs. search needs) returns-2)

@@ -1,6 +1,5 @@
 -- The invariant: the entries so far are read (`Walked`), they are counted, and what was found is the n-th of them
 -- (`nth-snoc`). The measure is how many bytes are left.
--- Assumes nothing.
 use native.Mathlib.Omega.{arith}
 use Prim.Native.Nat.{_+_, _-_, _≤_}
 use mathlib.Core.Path.{_≡_, refl, ap, sym, _∙_}
@@ -28,12 +27,6 @@ loop-holds : tie.Need-loop-holds Inv-loop μ-loop
 unfolding entry-told nth-of
 loop-holds c = let a = c .before .args in ([], (walk-begin (a .store .now), (refl, (omega arith, refl))))
 
-read-entry-requires : tie.Need-read-entry-requires Inv-loop μ-loop
-read-entry-requires c κs = search needs
-
-enum-known-entry : tie.Need-enum-known-entry Inv-loop μ-loop
-enum-known-entry c = search needs
-
 enum-told : tie.Need-enum-told Inv-loop μ-loop
 enum-told c = search needs
 
@@ -47,9 +40,6 @@ returns c =
     let i = at .loop .inv in
     sym (ap (nth-of (a .n))
     (walk-bad (a .store .now) (i .0) (at .loop .last) (at .loop .at) (i .1 .0) (omega arith) bad))
-
-picked-requires : tie.Need-picked-requires Inv-loop μ-loop
-picked-requires c κs = search needs
 
 -- the entry that a turn reads
 turn : (c : tie.After-picked Inv-loop μ-loop)
@@ -106,11 +96,11 @@ nth-in-spec =
     Inv-loop
     μ-loop
     loop-holds
-    read-entry-requires
-    enum-known-entry
+    (λ c κs. search needs)
+    (λ c. search needs)
     enum-told
     returns
-    picked-requires
+    (λ c κs. search needs)
     add-number
     loop-less
     loop-again

@@ -1,25 +1,12 @@
 -- The four tests in their order (`cut-short`, `too-long`, `falls`, `beyond`), and none of them (`whole`).
--- Assumes nothing.
 use native.Mathlib.Omega.{arith}
 use borrow.Author.Needs.{needs}
 use Rattle.settings.proofs.Reading.{cut-short, too-long, falls, beyond, whole}
 use Rattle.settings.proofs.entries.read_entry.Statement.{statement}
 use Rattle.settings.proofs.entries.read_entry.Tie as tie
 
-sub-left : tie.Need-sub-left
-sub-left c = search needs
-
 returns : tie.Need-returns
 returns c = let a = c .before .before .args in cut-short (a .last) (a .at) (a .store .now) (omega arith)
-
-entry-at-requires : tie.Need-entry-at-requires
-entry-at-requires c κs = search needs
-
-add-if2 : tie.Need-add-if2
-add-if2 c = search needs
-
-add-if2-2 : tie.Need-add-if2-2
-add-if2-2 c = search needs
 
 returns-2 : tie.Need-returns-2
 returns-2 c =
@@ -48,4 +35,4 @@ returns-5 c =
 pub read-entry-spec : {M : Type 1} → statement M
 read-entry-spec =
     tie.close
-    (tie.spec sub-left returns entry-at-requires add-if2 add-if2-2 returns-2 returns-3 returns-4 returns-5)
+    (tie.spec (λ c. search needs) returns (λ c κs. search needs) (λ c. search needs) (λ c. search needs) returns-2 returns-3 returns-4 returns-5)

@@ -1,12 +1,8 @@
 -- Each case of the two stores.
--- Assumes nothing.
 use borrow.Author.Needs.{needs}
 use Rattle.settings.proofs.Values.{board-malformed, default-malformed, board-has, default-has, neither-has}
 use Rattle.settings.proofs.finding.chosen.Statement.{statement}
 use Rattle.settings.proofs.finding.chosen.Tie as tie
-
-enum-known-board : tie.Need-enum-known-board
-enum-known-board c = search needs
 
 enum-told : tie.Need-enum-told
 enum-told c = search needs
@@ -14,26 +10,8 @@ enum-told c = search needs
 returns : tie.Need-returns
 returns c = board-malformed _ _ (c .enum-told .given .1)
 
-enum-known-default : tie.Need-enum-known-default
-enum-known-default c = search needs
-
-enum-told-2 : tie.Need-enum-told-2
-enum-told-2 c = search needs
-
 returns-2 : tie.Need-returns-2
 returns-2 c = default-malformed _ _ _ (c .before .before .before .board .given .1) (c .enum-told2 .given .1)
-
-enum-known-own : tie.Need-enum-known-own
-enum-known-own c = search needs
-
-enum-told-3 : tie.Need-enum-told-3
-enum-told-3 c = search needs
-
-enum-known-other : tie.Need-enum-known-other
-enum-known-other c = search needs
-
-enum-told-4 : tie.Need-enum-told-4
-enum-told-4 c = search needs
 
 returns-3 : tie.Need-returns-3
 returns-3 c =
@@ -56,16 +34,16 @@ pub chosen-spec : {M : Type 1} → statement M
 chosen-spec =
     tie.close
     (tie.spec
-    enum-known-board
+    (λ c. search needs)
     enum-told
     returns
-    enum-known-default
-    enum-told-2
+    (λ c. search needs)
+    (λ c. search needs)
     returns-2
-    enum-known-own
-    enum-told-3
-    enum-known-other
-    enum-told-4
+    (λ c. search needs)
+    (λ c. search needs)
+    (λ c. search needs)
+    (λ c. search needs)
     returns-3
     returns-4
     returns-5)

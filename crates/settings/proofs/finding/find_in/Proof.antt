@@ -1,5 +1,4 @@
 -- The invariant: the entries so far are read (`Walked`), and what was found is what they have (`value-snoc`). The measure is how many bytes are left.
--- Assumes nothing.
 use native.Mathlib.Omega.{arith}
 use Prim.Native.Nat.{_-_}
 use mathlib.Core.Path.{_≡_, refl, ap, sym, _∙_}
@@ -26,12 +25,6 @@ loop-holds : tie.Need-loop-holds Inv-loop μ-loop
 unfolding value-in
 loop-holds c = let a = c .before .args in ([], (walk-begin (a .store .now), refl))
 
-read-entry-requires : tie.Need-read-entry-requires Inv-loop μ-loop
-read-entry-requires c κs = search needs
-
-enum-known-entry : tie.Need-enum-known-entry Inv-loop μ-loop
-enum-known-entry c = search needs
-
 enum-told : tie.Need-enum-told Inv-loop μ-loop
 enum-told c = search needs
 
@@ -43,9 +36,6 @@ returns c =
     let bad = unread (at .loop .last) (at .loop .at) (a .store .now) (sym (c .enum-told .given .1) ∙ c .before .before .read-entry .ensures) in
     let i = at .loop .inv in
     sym (ap (found-in (a .name) (a .version)) (walk-bad (a .store .now) (i .0) (at .loop .last) (at .loop .at) (i .1 .0) (omega arith) bad))
-
-later-requires : tie.Need-later-requires Inv-loop μ-loop
-later-requires c κs = search needs
 
 -- the entry that a turn reads
 turn : (c : tie.After-later Inv-loop μ-loop)
@@ -87,11 +77,11 @@ find-in-spec =
     Inv-loop
     μ-loop
     loop-holds
-    read-entry-requires
-    enum-known-entry
+    (λ c κs. search needs)
+    (λ c. search needs)
     enum-told
     returns
-    later-requires
+    (λ c κs. search needs)
     loop-less
     loop-again
     returns-2)

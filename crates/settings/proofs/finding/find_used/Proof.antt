@@ -1,5 +1,4 @@
 -- A used length beyond the bytes, or the entries of the used bytes.
--- Assumes nothing.
 use native.Mathlib.Omega.{arith}
 use mathlib.Core.Path.{ap, sym, _∙_}
 use lib.Seq.{length-take-le}
@@ -18,13 +17,10 @@ returns c =
 slice-aggregate-find-in : tie.Need-slice-aggregate-find-in
 slice-aggregate-find-in c = let a = c .before .before .before .args in sym (length-take-le (a .used) (a .store .now) (omega arith))
 
-find-in-requires : tie.Need-find-in-requires
-find-in-requires c κs = search needs
-
 returns-2 : tie.Need-returns-2
 returns-2 c =
     let a = c .before .before .before .before .args in
     c .find-in .ensures ∙ sym (ap (found-in (a .name) (a .version)) (stored-within (a .store .now) (a .used) (omega arith)))
 
 pub find-used-spec : {M : Type 1} → statement M
-find-used-spec = tie.close (tie.spec returns slice-aggregate-find-in find-in-requires returns-2)
+find-used-spec = tie.close (tie.spec returns slice-aggregate-find-in (λ c κs. search needs) returns-2)

@@ -1,5 +1,4 @@
 -- The two tests are those of `answers`.
--- Assumes nothing.
 use native.Mathlib.Omega.{arith}
 use borrow.Author.Tests.{eq-eqb, ne-eqb, le-leb, lt-leb}
 use Rattle.settings.specs.Find.{later, answers}

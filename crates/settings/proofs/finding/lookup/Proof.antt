@@ -1,5 +1,4 @@
 -- What was found lies in its buffer (`find-inside`); each case is the definition's.
--- Assumes nothing.
 use mathlib.Core.Path.{ap, sym, _∙_}
 use Prim.Native.Nat.{_-_}
 use native.Mathlib.Nat.{add-comm, zero-add}
@@ -11,12 +10,6 @@ use Rattle.settings.proofs.Told.{located-injective}
 use Rattle.settings.specs.declared.Place.{Place}
 use Rattle.settings.proofs.finding.lookup.Statement.{statement}
 use Rattle.settings.proofs.finding.lookup.Tie as tie
-
-find-requires : tie.Need-find-requires
-find-requires c κs = search needs
-
-enum-known-span : tie.Need-enum-known-span
-enum-known-span c = search needs
 
 -- the span that was found lies in its buffer
 board-in : (c : tie.After-span) → Inside (length (c .before .before .before .before .before .args .board .now)) (c .span .given .0 .0)
@@ -42,9 +35,6 @@ part-result-start c = let h = board-in (c .before) in search needs
 part-result-end : tie.Need-part-result-end
 part-result-end c = let h = board-in (c .before) in search needs
 
-enum-known-span-2 : tie.Need-enum-known-span-2
-enum-known-span-2 c = search needs
-
 sub-result-2 : tie.Need-sub-result-2
 sub-result-2 c = default-in (c .before) .ordered
 
@@ -53,21 +43,6 @@ part-result-start-2 c = let h = default-in (c .before) in search needs
 
 part-result-end-2 : tie.Need-part-result-end-2
 part-result-end-2 c = let h = default-in (c .before) in search needs
-
-enum-known-why : tie.Need-enum-known-why
-enum-known-why c = search needs
-
-number-requires : tie.Need-number-requires
-number-requires c κs = search needs
-
-sub-result-3 : tie.Need-sub-result-3
-sub-result-3 c = search needs
-
-part-result-start-3 : tie.Need-part-result-start-3
-part-result-start-3 c = search needs
-
-part-result-end-3 : tie.Need-part-result-end-3
-part-result-end-3 c = search needs
 
 returns : tie.Need-returns
 unfolding part bytes-of lies-at refusal-of
@@ -115,20 +90,20 @@ pub lookup-spec : {M : Type 1} → statement M
 lookup-spec =
     tie.close
     (tie.spec
-    find-requires
-    enum-known-span
+    (λ c κs. search needs)
+    (λ c. search needs)
     sub-result
     part-result-start
     part-result-end
-    enum-known-span-2
+    (λ c. search needs)
     sub-result-2
     part-result-start-2
     part-result-end-2
-    enum-known-why
-    number-requires
-    sub-result-3
-    part-result-start-3
-    part-result-end-3
+    (λ c. search needs)
+    (λ c κs. search needs)
+    (λ c. search needs)
+    (λ c. search needs)
+    (λ c. search needs)
     returns
     returns-2
     returns-3)

@@ -1,20 +1,10 @@
 -- The reply is of the answer, and the store is what adding leaves.
--- Assumes nothing.
 use mathlib.Core.Path.{ap, _∙_}
 use Rattle.settings.proofs.Told.{added-to-injective}
 use Rattle.settings_api.specs.Replies.{add-reply}
 use borrow.Author.Needs.{needs}
 use Rattle.settings_api.proofs.exports.lokhazim_settings_add.Statement.{statement}
 use Rattle.settings_api.proofs.exports.lokhazim_settings_add.Tie as tie
-
-add-requires : tie.Need-add-requires
-add-requires c κs = search needs
-
-reply-of-add-requires : tie.Need-reply-of-add-requires
-reply-of-add-requires c κs = search needs
-
-same-length : tie.Need-same-length
-same-length c = search needs
 
 returns : tie.Need-returns
 returns c =
@@ -24,4 +14,4 @@ returns c =
 
 pub lokhazim-settings-add-spec : {M : Type 1} → statement M
 lokhazim-settings-add-spec =
-    tie.close (tie.spec add-requires reply-of-add-requires same-length returns)
+    tie.close (tie.spec (λ c κs. search needs) (λ c κs. search needs) (λ c. search needs) returns)

@@ -1,5 +1,4 @@
 -- The numbers of the answer's case.
--- Assumes nothing.
 use mathlib.Core.Path.{ap, sym, _∙_}
 use Rattle.settings.specs.declared.AddAnswer.{AddAnswer}
 use Rattle.settings.specs.Add.{added-to}
@@ -7,15 +6,6 @@ use Rattle.settings_api.specs.Replies.{add-reply}
 use borrow.Author.Needs.{needs}
 use Rattle.settings_api.proofs.replies.reply_of_add.Statement.{statement}
 use Rattle.settings_api.proofs.replies.reply_of_add.Tie as tie
-
-enum-known-answer : tie.Need-enum-known-answer
-enum-known-answer c = search needs
-
-enum-known-answer-2 : tie.Need-enum-known-answer-2
-enum-known-answer-2 c = search needs
-
-number-requires : tie.Need-number-requires
-number-requires c κs = search needs
 
 returns : tie.Need-returns
 unfolding added-to
@@ -29,4 +19,4 @@ returns-2 c = λ s.
 
 pub reply-of-add-spec : {M : Type 1} → statement M
 reply-of-add-spec =
-    tie.close (tie.spec enum-known-answer enum-known-answer-2 number-requires returns returns-2)
+    tie.close (tie.spec (λ c. search needs) (λ c. search needs) (λ c κs. search needs) returns returns-2)

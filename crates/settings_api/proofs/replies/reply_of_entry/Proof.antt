@@ -1,5 +1,4 @@
 -- The numbers of the answer's case.
--- Assumes nothing.
 use mathlib.Core.Path.{ap, sym}
 use Rattle.settings.specs.declared.NthEntry.{NthEntry}
 use Rattle.settings.specs.Entries.{entry-told}
@@ -8,14 +7,8 @@ use borrow.Author.Needs.{needs}
 use Rattle.settings_api.proofs.replies.reply_of_entry.Statement.{statement}
 use Rattle.settings_api.proofs.replies.reply_of_entry.Tie as tie
 
-enum-known-answer : tie.Need-enum-known-answer
-enum-known-answer c = search needs
-
 enum-told : tie.Need-enum-told
 enum-told c = search needs
-
-enum-told-2 : tie.Need-enum-told-2
-enum-told-2 c = search needs
 
 returns : tie.Need-returns
 unfolding entry-told
@@ -31,4 +24,4 @@ returns-3 c = ap (λ (a : NthEntry). entry-reply (entry-told a)) (sym (c .enum-t
 
 pub reply-of-entry-spec : {M : Type 1} → statement M
 reply-of-entry-spec =
-    tie.close (tie.spec enum-known-answer enum-told enum-told-2 returns returns-2 returns-3)
+    tie.close (tie.spec (λ c. search needs) enum-told (λ c. search needs) returns returns-2 returns-3)

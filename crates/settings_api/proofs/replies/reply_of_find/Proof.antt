@@ -1,5 +1,4 @@
 -- The numbers of the answer's case.
--- Assumes nothing.
 use mathlib.Core.Path.{ap, sym, _∙_}
 use Rattle.settings.specs.declared.Place.{Place}
 use Rattle.settings.specs.Find.{located}
@@ -7,18 +6,6 @@ use Rattle.settings_api.specs.Replies.{find-reply}
 use borrow.Author.Needs.{needs}
 use Rattle.settings_api.proofs.replies.reply_of_find.Statement.{statement}
 use Rattle.settings_api.proofs.replies.reply_of_find.Tie as tie
-
-enum-known-place : tie.Need-enum-known-place
-enum-known-place c = search needs
-
-enum-known-place-2 : tie.Need-enum-known-place-2
-enum-known-place-2 c = search needs
-
-enum-known-place-3 : tie.Need-enum-known-place-3
-enum-known-place-3 c = search needs
-
-number-requires : tie.Need-number-requires
-number-requires c κs = search needs
 
 returns : tie.Need-returns
 unfolding located
@@ -36,4 +23,4 @@ returns-3 c =
 
 pub reply-of-find-spec : {M : Type 1} → statement M
 reply-of-find-spec =
-    tie.close (tie.spec enum-known-place enum-known-place-2 enum-known-place-3 number-requires returns returns-2 returns-3)
+    tie.close (tie.spec (λ c. search needs) (λ c. search needs) (λ c. search needs) (λ c κs. search needs) returns returns-2 returns-3)

@@ -1,5 +1,4 @@
 -- `stats::counting::used_at` meets its contract, by the test of the record.
--- Assumes nothing.
 use borrow.Author.Needs.{needs}
 use mathlib.Core.Path.{_≡_, refl, ap, sym, _∙_}
 use Rattle.accounts.specs.declared.Hold.{Hold}
@@ -7,12 +6,6 @@ use Rattle.accounts.specs.Accounts.{used}
 use Rattle.survey.specs.Shares.{one-if}
 use Rattle.stats.proofs.counting.used_at.Statement.{statement}
 use Rattle.stats.proofs.counting.used_at.Tie as tie
-
-hold-at-requires : tie.Need-hold-at-requires
-hold-at-requires c κs = search needs
-
-is-used-requires : tie.Need-is-used-requires
-is-used-requires c κs = search needs
 
 returns : tie.Need-returns
 returns c =
@@ -26,4 +19,4 @@ returns-2 c =
 
 pub used-at-spec : {M : Type 1} → statement M
 used-at-spec =
-    tie.close (tie.spec hold-at-requires is-used-requires returns returns-2)
+    tie.close (tie.spec (λ c κs. search needs) (λ c κs. search needs) returns returns-2)

@@ -1,5 +1,4 @@
 -- `stats::counting::used_records` meets its contract. The loop's invariant: the records before place `i` were counted.
--- Assumes nothing.
 use Prim.Native.Nat.{_+_, _-_}
 use native.Mathlib.Omega.{arith}
 use borrow.Author.Needs.{needs}
@@ -22,9 +21,6 @@ abbrev μ-loop : tie.MeasureT-loop
 
 loop-holds : tie.Need-loop-holds Inv-loop μ-loop
 loop-holds c = counted-start used (holds-of (c .args .words .now)) zero-hold
-
-used-at-requires : tie.Need-used-at-requires Inv-loop μ-loop
-used-at-requires c κs = search needs
 
 -- one record more is counted
 next : (c : tie.After-used-at Inv-loop μ-loop)
@@ -57,4 +53,4 @@ returns c =
 
 pub used-records-spec : {M : Type 1} → statement M
 used-records-spec =
-    tie.close (tie.spec Inv-loop μ-loop loop-holds used-at-requires add-count add-i loop-less loop-again returns)
+    tie.close (tie.spec Inv-loop μ-loop loop-holds (λ c κs. search needs) add-count add-i loop-less loop-again returns)

@@ -1,5 +1,4 @@
 -- `stats::reaching::is_short` meets its contract, by its test.
--- Assumes nothing.
 use mathlib.Core.Path.{refl}
 use native.Mathlib.Omega.{arith}
 use borrow.Author.Tests.{eq-eqb, ne-eqb}

@@ -1,5 +1,4 @@
 -- `stats::reaching::most_units` meets its contract, by its test.
--- Assumes nothing.
 use Prim.Native.Nat.{ℕ, zero, suc}
 use native.Mathlib.Omega.{arith}
 use mathlib.Core.Path.{_≡_, refl, ap, sym, _∙_}

@@ -1,5 +1,4 @@
 -- `stats::reaching::reach` meets its contract: the units that there is room for, or none where they are too few.
--- Assumes nothing.
 use Prim.Native.Nat.{ℕ, _*_, _≤_}
 use native.Mathlib.Nat.{mul-le-mul}
 use native.Mathlib.Omega.{arith}

@@ -1,14 +1,10 @@
 -- `stats::reaching::units_in` meets its contract, by its test.
--- Assumes nothing.
 use borrow.Author.Needs.{needs}
 use native.Mathlib.Omega.{arith}
 use Prim.Native.Nat.{_/_}
 use borrow.Author.Tests.{le-leb, lt-leb}
 use Rattle.stats.proofs.reaching.units_in.Statement.{statement}
 use Rattle.stats.proofs.reaching.units_in.Tie as tie
-
-div-count : tie.Need-div-count
-div-count c = search needs
 
 returns : tie.Need-returns
 returns c = let a = c .before .args in (rw (le-leb (a .room / a .unit) (a .units) (c .if1 .taken)), c .if1 .taken)
@@ -18,4 +14,4 @@ returns-2 c = let a = c .before .args in (rw (lt-leb (a .room / a .unit) (a .uni
 
 pub units-in-spec : {M : Type 1} → statement M
 units-in-spec =
-    tie.close (tie.spec div-count returns returns-2)
+    tie.close (tie.spec (λ c. search needs) returns returns-2)

@@ -1,5 +1,4 @@
 -- `stats::tallying::empty` meets its contract: every figure of no block is 0.
--- Assumes nothing.
 use borrow.Author.Needs.{needs}
 use Rattle.model.specs.Lists.{total}
 use Rattle.survey.specs.Shares.{how-many}
@@ -7,9 +6,6 @@ use Rattle.stats.specs.Stats.{most}
 use Rattle.stats.specs.Tallies.{part-met, tally-of}
 use Rattle.stats.proofs.tallying.empty.Statement.{statement}
 use Rattle.stats.proofs.tallying.empty.Tie as tie
-
-no-part-requires : tie.Need-no-part-requires
-no-part-requires c κs = search needs
 
 returns : tie.Need-returns
 unfolding tally-of part-met how-many total most
@@ -26,4 +22,4 @@ returns c = λ i. record {
 
 pub empty-spec : {M : Type 1} → statement M
 empty-spec =
-    tie.close (tie.spec no-part-requires returns)
+    tie.close (tie.spec (λ c κs. search needs) returns)

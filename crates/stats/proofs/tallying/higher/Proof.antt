@@ -1,5 +1,4 @@
 -- `stats::tallying::higher` meets its contract, by its test.
--- Assumes nothing.
 use native.Mathlib.Omega.{arith}
 use mathlib.Core.Path.{sym}
 use Rattle.stats.proofs.Joins.{higher-right, higher-left}

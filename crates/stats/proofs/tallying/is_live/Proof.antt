@@ -1,5 +1,4 @@
 -- `stats::tallying::is_live` meets its contract, by its test.
--- Assumes nothing.
 use mathlib.Core.Path.{refl}
 use borrow.Author.Tests.{eq-eqb, ne-eqb}
 use Rattle.stats.proofs.tallying.is_live.Statement.{statement}

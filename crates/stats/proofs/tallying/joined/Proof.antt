@@ -1,5 +1,4 @@
 -- `stats::tallying::joined` meets its contract, figure by figure. No sum wraps, since both tallies are small.
--- Assumes nothing.
 use native.Mathlib.Omega.{arith}
 use borrow.Author.Needs.{needs}
 use Rattle.stats.specs.Tallies.{joined}
@@ -23,21 +22,6 @@ both-parts-requires-3 c κs =
     let a = c .before .before .pre .0 .of-quarantined in
     let b = c .before .before .pre .1 .of-quarantined in
     (omega arith, omega arith)
-
-higher-requires : tie.Need-higher-requires
-higher-requires c κs = search needs
-
-higher-requires-2 : tie.Need-higher-requires-2
-higher-requires-2 c κs = search needs
-
-higher-requires-3 : tie.Need-higher-requires-3
-higher-requires-3 c κs = search needs
-
-higher-requires-4 : tie.Need-higher-requires-4
-higher-requires-4 c κs = search needs
-
-higher-requires-5 : tie.Need-higher-requires-5
-higher-requires-5 c κs = search needs
 
 returns : tie.Need-returns
 unfolding joined
@@ -67,9 +51,9 @@ joined-spec =
     both-parts-requires
     both-parts-requires-2
     both-parts-requires-3
-    higher-requires
-    higher-requires-2
-    higher-requires-3
-    higher-requires-4
-    higher-requires-5
+    (λ c κs. search needs)
+    (λ c κs. search needs)
+    (λ c κs. search needs)
+    (λ c κs. search needs)
+    (λ c κs. search needs)
     returns)

@@ -1,5 +1,4 @@
 -- `stats::tallying::one_part` meets its contract, by its test.
--- Assumes nothing.
 use mathlib.Core.Bool.{Bool}
 use mathlib.Core.Path.{_≡_, refl, ap, sym, _∙_}
 use Rattle.stats.specs.Tallies.{one-part}

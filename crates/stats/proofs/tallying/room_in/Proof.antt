@@ -1,5 +1,4 @@
 -- `stats::tallying::room_in` meets its contract: the base is the lowest multiple behind the header, and what lies behind it is the room.
--- Assumes nothing.
 use Prim.Native.Nat.{_+_, _-_, _*_, _/_, _≤_}
 use native.Mathlib.Nat.{div-mul-le-self}
 use native.Mathlib.Omega.{arith}

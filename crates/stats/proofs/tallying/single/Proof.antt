@@ -1,5 +1,4 @@
 -- `stats::tallying::single` meets its contract, figure by figure.
--- Assumes nothing.
 use native.Mathlib.Omega.{arith}
 use borrow.Author.Needs.{needs}
 use mathlib.Core.Path.{_≡_, refl, ap, sym, _∙_}
@@ -7,21 +6,6 @@ use mathlib.Core.Bool.{Bool}
 use Rattle.stats.specs.Tallies.{one-part, single}
 use Rattle.stats.proofs.tallying.single.Statement.{statement}
 use Rattle.stats.proofs.tallying.single.Tie as tie
-
-one-part-requires : tie.Need-one-part-requires
-one-part-requires c κs = search needs
-
-is-live-requires : tie.Need-is-live-requires
-is-live-requires c κs = search needs
-
-one-part-requires-2 : tie.Need-one-part-requires-2
-one-part-requires-2 c κs = search needs
-
-one-part-requires-3 : tie.Need-one-part-requires-3
-one-part-requires-3 c κs = search needs
-
-if-so-requires : tie.Need-if-so-requires
-if-so-requires c κs = search needs
 
 room-in-requires : tie.Need-room-in-requires
 room-in-requires c κs = let p = c .before .before .before .before .before .pre in (omega arith, omega arith, p)
@@ -62,11 +46,11 @@ pub single-spec : {M : Type 1} → statement M
 single-spec =
     tie.close
     (tie.spec
-    one-part-requires
-    is-live-requires
-    one-part-requires-2
-    one-part-requires-3
-    if-so-requires
+    (λ c κs. search needs)
+    (λ c κs. search needs)
+    (λ c κs. search needs)
+    (λ c κs. search needs)
+    (λ c κs. search needs)
     room-in-requires
     room-in-requires-2
     room-in-requires-3

@@ -1,6 +1,5 @@
 -- `stats::tallying::walk` meets its contract. The loop's invariant: the tally of the blocks so far, joined with that of the blocks to come, is the whole
 -- (`Tallied`). Each turn meets a block that ends in the heap, so the rest of the heap gets shorter.
--- Assumes nothing.
 use Prim.Native.Nat.{ℕ, _+_, _-_, _^_, _≤_}
 use native.Mathlib.Omega.{arith}
 use borrow.Author.Needs.{needs}
@@ -25,19 +24,10 @@ Inv-loop heap tally₀ at₀ tally at = Tallied heap at tally × (length heap �
 abbrev μ-loop : tie.MeasureT-loop
 μ-loop heap tally₀ at₀ tally at = length heap - at
 
-empty-requires : tie.Need-empty-requires Inv-loop μ-loop
-empty-requires c κs = search needs
-
 loop-holds : tie.Need-loop-holds Inv-loop μ-loop
 loop-holds c =
     let s = c .before .before in
     (subst (λ (t : Tally). Tallied (s .args .heap .now) 0 t) (sym (c .empty .ensures)) (tallied-start (s .args .heap .now)), s .pre)
-
-start-at-requires : tie.Need-start-at-requires Inv-loop μ-loop
-start-at-requires c κs = search needs
-
-enum-known-header : tie.Need-enum-known-header Inv-loop μ-loop
-enum-known-header c = search needs
 
 enum-told : tie.Need-enum-told Inv-loop μ-loop
 enum-told c = search needs
@@ -120,10 +110,10 @@ walk-spec =
     (tie.spec
     Inv-loop
     μ-loop
-    empty-requires
+    (λ c κs. search needs)
     loop-holds
-    start-at-requires
-    enum-known-header
+    (λ c κs. search needs)
+    (λ c. search needs)
     enum-told
     returns
     mul-size

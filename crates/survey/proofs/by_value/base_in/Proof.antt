@@ -1,23 +1,10 @@
 -- `survey::base_in` meets its contract: the gap in front of the base is the remainder's.
--- Assumes nothing.
 use native.Mathlib.Omega.{arith}
 use Prim.Native.Nat.{_+_}
 use Rattle.lookup.proofs.Multiple.{mod-below, multiple-gap}
 use borrow.Author.Needs.{needs}
 use Rattle.survey.proofs.by_value.base_in.Statement.{statement}
 use Rattle.survey.proofs.by_value.base_in.Tie as tie
-
-add-start : tie.Need-add-start
-add-start c = search needs
-
-sub-result : tie.Need-sub-result
-sub-result c = search needs
-
-sub-result-2 : tie.Need-sub-result-2
-sub-result-2 c = search needs
-
-rem-result : tie.Need-rem-result
-rem-result c = search needs
 
 sub-result-3 : tie.Need-sub-result-3
 sub-result-3 c = mod-below _ (c .pre .0)
@@ -35,10 +22,10 @@ pub base-in-spec : {M : Type 1} → statement M
 base-in-spec =
     tie.close
     (tie.spec
-    add-start
-    sub-result
-    sub-result-2
-    rem-result
+    (λ c. search needs)
+    (λ c. search needs)
+    (λ c. search needs)
+    (λ c. search needs)
     sub-result-3
     add-result
     returns)

@@ -1,5 +1,4 @@
 -- `survey::found` meets its contract.
--- Assumes nothing.
 use mathlib.Core.Path.{ap}
 use Rattle.survey.specs.Survey.{block-of}
 use Rattle.lookup.specs.declared.Lookup.the-variants.{Found}
@@ -12,9 +11,6 @@ returns : tie.Need-returns
 unfolding block-of
 returns c = rw (not-true (c .before .before .args .found) (c .if1 .taken))
 
-block-at-requires : tie.Need-block-at-requires
-block-at-requires c κs = search needs
-
 returns-2 : tie.Need-returns-2
 unfolding block-of
 returns-2 c = rw (not-false (c .before .before .before .args .found) (c .before .if1 .left)) (ap Found (c .block-at .ensures))
@@ -24,5 +20,5 @@ found-spec =
     tie.close
     (tie.spec
     returns
-    block-at-requires
+    (λ c κs. search needs)
     returns-2)

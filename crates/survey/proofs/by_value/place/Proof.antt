@@ -1,5 +1,4 @@
 -- `survey::place` meets its contract.
--- Assumes nothing.
 use mathlib.Core.Path.{sym}
 use native.Mathlib.Omega.{arith}
 use Rattle.survey.proofs.Told.{place-at, place-nothing}

@@ -1,5 +1,4 @@
 -- `survey::room` meets its contract.
--- Assumes nothing.
 use native.Mathlib.Omega.{arith}
 use Prim.Native.Nat.{_+_}
 use Rattle.survey.proofs.Told.{room-none, room-at, multiple-zero}
@@ -11,9 +10,6 @@ returns : tie.Need-returns
 returns c =
     let a = c .before .before .args in
     room-none (a .unit) (a .fit) (a .heap .now) (omega (arith, c .if1 .taken))
-
-block-at-requires : tie.Need-block-at-requires
-block-at-requires c κs = search needs
 
 returns-2 : tie.Need-returns-2
 returns-2 c =
@@ -39,7 +35,7 @@ room-spec =
     tie.close
     (tie.spec
     returns
-    block-at-requires
+    (λ c κs. search needs)
     returns-2
     base-in-requires
     returns-3)

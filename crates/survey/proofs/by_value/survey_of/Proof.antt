@@ -1,17 +1,10 @@
 -- `survey::survey_of` meets its contract: the words hold the accounts.
--- Assumes nothing.
 use mathlib.Core.Path.{subst}
 use Rattle.accounts.specs.declared.Accounts.{Accounts}
 use Rattle.survey.specs.Survey.{Survey}
 use borrow.Author.Needs.{needs}
 use Rattle.survey.proofs.by_value.survey_of.Statement.{statement}
 use Rattle.survey.proofs.by_value.survey_of.Tie as tie
-
-words-of-requires : tie.Need-words-of-requires
-words-of-requires c κs = search needs
-
-survey-requires : tie.Need-survey-requires
-survey-requires c κs = search needs
 
 returns : tie.Need-returns
 returns c =
@@ -23,6 +16,6 @@ pub survey-of-spec : {M : Type 1} → statement M
 survey-of-spec =
     tie.close
     (tie.spec
-    words-of-requires
-    survey-requires
+    (λ c κs. search needs)
+    (λ c κs. search needs)
     returns)

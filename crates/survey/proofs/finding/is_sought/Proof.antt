@@ -1,5 +1,4 @@
 -- `survey::finding::is_sought` meets its contract: its tests are those of the contract.
--- Assumes nothing.
 use borrow.Author.Tests.{eq-eqb, ne-eqb}
 use Rattle.survey.proofs.finding.is_sought.Statement.{statement}
 use Rattle.survey.proofs.finding.is_sought.Tie as tie

@@ -1,7 +1,6 @@
 -- `survey::finding::on_path` meets its contract. The loop's invariant is `Tracing`: the path from `at` on leads to each record that is sought. Links go up, so
 -- what
 -- is left of the table is the measure.
--- Assumes nothing.
 use Prim.Native.Nat.{ℕ, _-_, _/_, _%_, _<_}
 use native.Mathlib.Omega.{arith}
 use borrow.Author.Needs.{needs}
@@ -29,9 +28,6 @@ returns c =
     let a = s .args in
     trace-none (s .pre .0) (a .own) (a .serial) (a .quota) (s .pre .1) (c .if1 .taken)
 
-slot-of-requires : tie.Need-slot-of-requires Inv-loop μ-loop
-slot-of-requires c κs = search needs
-
 head-in-requires : tie.Need-head-in-requires Inv-loop μ-loop
 head-in-requires c κs = c .slot-of .ensures .1
 
@@ -43,15 +39,6 @@ loop-holds c =
     let a = s .args in
     trace-start (s .pre .0) (a .own) (a .serial) (a .quota) (o .before .if1 .left)
     (ap (λ (x : ℕ). x % FORKED) (c .head-in .ensures .0 ∙ ap (λ (x : ℕ). getD (a .heads .now) x 0) (o .slot-of .ensures .0))) refl
-
-serial-in-requires : tie.Need-serial-in-requires Inv-loop μ-loop
-serial-in-requires c κs = search needs
-
-quota-in-requires : tie.Need-quota-in-requires Inv-loop μ-loop
-quota-in-requires c κs = search needs
-
-is-sought-requires : tie.Need-is-sought-requires Inv-loop μ-loop
-is-sought-requires c κs = search needs
 
 abbrev turn : tie.After-is-sought Inv-loop μ-loop → tie.In-loop Inv-loop μ-loop
 turn c = c .before .before .before
@@ -112,12 +99,12 @@ on-path-spec =
     Inv-loop
     μ-loop
     returns
-    slot-of-requires
+    (λ c κs. search needs)
     head-in-requires
     loop-holds
-    serial-in-requires
-    quota-in-requires
-    is-sought-requires
+    (λ c κs. search needs)
+    (λ c κs. search needs)
+    (λ c κs. search needs)
     returns-2
     link-in-requires
     loop-less

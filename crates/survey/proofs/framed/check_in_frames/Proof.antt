@@ -1,5 +1,4 @@
 -- `survey::framed::check_in_frames` meets its contract, by the laws that give the survey's verdict: the heap is the bytes that the stream has there.
--- Assumes nothing.
 use Prim.Native.Nat.{ℕ}
 use native.Mathlib.Omega.{arith}
 use borrow.Author.Needs.{needs}
@@ -36,12 +35,6 @@ heap c = heap-in (c .args .from) (c .args .size) (c .args .image .now)
 sized : (c : tie.Start) (t : Bool) → allowed (c .args .size) ≡ t → allowed (length (heap c)) ≡ t
 sized c t e = ap allowed (length-padded (c .args .size) (drop (c .args .from) (stream-of (c .args .image .now)))) ∙ e
 
-is-allowed-requires : tie.Need-is-allowed-requires
-is-allowed-requires c κs = search needs
-
-verdict-requires : tie.Need-verdict-requires
-verdict-requires c κs = search needs
-
 returns : tie.Need-returns
 unfolding verdict-of
 returns c =
@@ -50,9 +43,6 @@ returns c =
     ap verdict-values (c .verdict .ensures)
     ∙ verdict-length (table (edition-of (words s))) (heap s) (accounts-of (words s))
     (sized s false (sym (t .before .is-allowed .ensures) ∙ not-true _ (t .if1 .taken)))
-
-numbers-in-requires : tie.Need-numbers-in-requires
-numbers-in-requires c κs = search needs
 
 -- what came in, and that its length is allowed
 abbrev start : tie.After-numbers-in → tie.Start
@@ -63,9 +53,6 @@ allows c =
     let e = c .before in
     sized (start c) true (sym (e .before .is-allowed .ensures) ∙ not-false _ (e .if1 .left))
 
-verdict-requires-2 : tie.Need-verdict-requires-2
-verdict-requires-2 c κs = search needs
-
 returns-2 : tie.Need-returns-2
 unfolding verdict-of
 returns-2 c =
@@ -75,12 +62,6 @@ returns-2 c =
     ap verdict-values (c .verdict2 .ensures)
     ∙ verdict-range (table (edition-of (words s))) (heap s) (accounts-of (words s)) (allows r)
     (sym (r .numbers-in .ensures .0) ∙ not-true _ (t .if2 .taken))
-
-cast-end : tie.Need-cast-end
-cast-end c = search needs
-
-used-top-requires : tie.Need-used-top-requires
-used-top-requires c κs = search needs
 
 index-requires : tie.Need-index-requires
 index-requires c κs = let t = c .before .before in (t .used-top .ensures .0, t .used-top .ensures .1, built-none (words (start (t .before .before .before))))
@@ -98,9 +79,6 @@ told c t e =
     subst (λ (x : Bool). Told (words (start (range c))) x (c .index .last .1 .1 .0) (c .index .last .1 .0) (c .index .result .low) (c .index .result .used)) e
     (c .index .ensures)
 
-verdict-requires-3 : tie.Need-verdict-requires-3
-verdict-requires-3 c κs = search needs
-
 returns-3 : tie.Need-returns-3
 unfolding verdict-of
 returns-3 c =
@@ -112,18 +90,12 @@ returns-3 c =
     ∙ verdict-ill (table (edition-of (words s))) (heap s) (accounts-of (words s)) (allows r) (ranged i) (quotas-long (words s))
     (told i false (not-true _ (t .if3 .taken)))
 
-owing-requires : tie.Need-owing-requires
-owing-requires c κs = search needs
-
 -- what the quotas owe, by the answer of `owing`
 abbrev indexed : tie.After-owing → tie.After-index
 indexed c = c .before .before .before .before
 
 owes-all : (c : tie.After-owing) (t : Bool) → c .owing .result ≡ t → Owing (quotas-of (words (start (range (indexed c))))) t (c .owing .last .1 .0)
 owes-all c t e = subst (λ (x : Bool). Owing (quotas-of (words (start (range (indexed c))))) x (c .owing .last .1 .0)) e (c .owing .ensures)
-
-verdict-requires-4 : tie.Need-verdict-requires-4
-verdict-requires-4 c κs = search needs
 
 returns-4 : tie.Need-returns-4
 unfolding verdict-of
@@ -171,17 +143,11 @@ decided c t e =
     verdict-walked (entered l) (debts l) (heap (start r)) (allows r) (ranged (tally l)) (n .result .edition) (n .result .kind) (n .result .last)
     (n .ensures .3) (n .ensures .2) (n .ensures .1) t (sym e ∙ c .walk-frames .ensures)
 
-verdict-requires-5 : tie.Need-verdict-requires-5
-verdict-requires-5 c κs = search needs
-
 returns-5 : tie.Need-returns-5
 unfolding verdict-of
 returns-5 c =
     let t = c .before in
     ap verdict-values (c .verdict5 .ensures) ∙ decided (t .before) false (not-true _ (t .if5 .taken))
-
-verdict-requires-6 : tie.Need-verdict-requires-6
-verdict-requires-6 c κs = search needs
 
 returns-6 : tie.Need-returns-6
 unfolding verdict-of
@@ -193,22 +159,22 @@ pub check-in-frames-spec : {M : Type 1} → statement M
 check-in-frames-spec =
     tie.close
     (tie.spec
-    is-allowed-requires
-    verdict-requires
+    (λ c κs. search needs)
+    (λ c κs. search needs)
     returns
-    numbers-in-requires
-    verdict-requires-2
+    (λ c κs. search needs)
+    (λ c κs. search needs)
     returns-2
-    cast-end
-    used-top-requires
+    (λ c. search needs)
+    (λ c κs. search needs)
     index-requires
-    verdict-requires-3
+    (λ c κs. search needs)
     returns-3
-    owing-requires
-    verdict-requires-4
+    (λ c κs. search needs)
+    (λ c κs. search needs)
     returns-4
     walk-frames-requires
-    verdict-requires-5
+    (λ c κs. search needs)
     returns-5
-    verdict-requires-6
+    (λ c κs. search needs)
     returns-6)

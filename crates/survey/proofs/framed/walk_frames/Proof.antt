@@ -1,6 +1,5 @@
 -- `survey::framed::walk_frames` meets its contract. The loop's invariant is `Walking` over the heap's rest from the place on, as in the survey's own walk. The
 -- measure is what is left of the size: a block that was visited has a size.
--- Assumes nothing.
 use Prim.Native.Nat.{ℕ, _+_, _*_, _-_, _%_, _≤_}
 use native.Mathlib.Omega.{arith}
 use borrow.Author.Needs.{needs}
@@ -64,9 +63,6 @@ add-header-in c = omega (arith, most (c .before .before .before))
 cast-header-in : tie.Need-cast-header-in Inv-loop μ-loop
 cast-header-in c = omega (arith, most (c .before .before .before))
 
-header-in-requires : tie.Need-header-in-requires Inv-loop μ-loop
-header-in-requires c κs = search needs
-
 -- the rest of the heap, and the header that was read of it
 abbrev turn : tie.After-header-in Inv-loop μ-loop → tie.In-loop Inv-loop μ-loop
 turn c = c .before
@@ -90,9 +86,6 @@ some-rest c = omega (arith, rest-long c, turn c .loop-test .taken)
 
 mul-bytes : tie.Need-mul-bytes Inv-loop μ-loop
 mul-bytes c = omega (arith, c .before .header-in .ensures .1)
-
-sub-if1 : tie.Need-sub-if1 Inv-loop μ-loop
-sub-if1 c = search needs
 
 returns : tie.Need-returns Inv-loop μ-loop
 unfolding judged
@@ -227,9 +220,9 @@ walk-frames-spec =
     add-loop
     add-header-in
     cast-header-in
-    header-in-requires
+    (λ c κs. search needs)
     mul-bytes
-    sub-if1
+    (λ c. search needs)
     returns
     returns-2
     add-end

@@ -1,5 +1,4 @@
 -- `survey::holders::count` meets its contract: an array that is passed by value has its length.
--- Assumes nothing.
 use Rattle.survey.proofs.holders.count.Statement.{statement}
 use Rattle.survey.proofs.holders.count.Tie as tie
 

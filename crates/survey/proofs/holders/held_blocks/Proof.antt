@@ -1,16 +1,9 @@
 -- `survey::holders::held_blocks` meets its contract: the index is what the walk asks for.
--- Assumes nothing.
 use borrow.Author.Needs.{needs}
 use Rattle.survey.proofs.Building.{built-none}
 use Rattle.survey.proofs.Flags.{told-indexed}
 use Rattle.survey.proofs.holders.held_blocks.Statement.{statement}
 use Rattle.survey.proofs.holders.held_blocks.Tie as tie
-
-cast-end : tie.Need-cast-end
-cast-end c = search needs
-
-used-top-requires : tie.Need-used-top-requires
-used-top-requires c κs = search needs
 
 index-requires : tie.Need-index-requires
 index-requires c κs = let t = c .before .before in (t .used-top .ensures .0, t .used-top .ensures .1, built-none (t .before .before .args .words .now))
@@ -26,4 +19,4 @@ returns : tie.Need-returns
 returns c = c .put-flags .ensures
 
 pub held-blocks-spec : {M : Type 1} → statement M
-held-blocks-spec = tie.close (tie.spec cast-end used-top-requires index-requires put-flags-requires returns)
+held-blocks-spec = tie.close (tie.spec (λ c. search needs) (λ c κs. search needs) index-requires put-flags-requires returns)

@@ -1,5 +1,4 @@
 -- `survey::holders::is_held` meets its contract: where all records are well-formed, the path of the serial leads to one exactly if one has it.
--- Assumes nothing.
 use borrow.Author.Needs.{needs}
 use borrow.Author.Tests.{not-true, not-false}
 use mathlib.Core.Path.{_≡_, subst}
@@ -19,9 +18,6 @@ returns c =
     let s = c .before in
     held-ill (holds-of (s .args .words .now)) (s .args .serial) (indexed s false (not-true _ (c .if1 .taken)))
 
-cast-on-path : tie.Need-cast-on-path
-cast-on-path c = search needs
-
 on-path-requires : tie.Need-on-path-requires
 on-path-requires c κs = indexed (c .before) true (not-false _ (c .if1 .left))
 
@@ -32,4 +28,4 @@ returns-2 c =
     held-found (holds-of (s .args .words .now)) (s .args .serial) (c .on-path .result) (indexed s true (not-false _ (e .if1 .left)) .1) (c .on-path .ensures)
 
 pub is-held-spec : {M : Type 1} → statement M
-is-held-spec = tie.close (tie.spec returns cast-on-path on-path-requires returns-2)
+is-held-spec = tie.close (tie.spec returns (λ c. search needs) on-path-requires returns-2)

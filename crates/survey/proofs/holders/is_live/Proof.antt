@@ -1,5 +1,4 @@
 -- `survey::holders::is_live` meets its contract: its tests are those of the contract.
--- Assumes nothing.
 use borrow.Author.Tests.{eq-eqb, ne-eqb}
 use Rattle.survey.proofs.holders.is_live.Statement.{statement}
 use Rattle.survey.proofs.holders.is_live.Tie as tie

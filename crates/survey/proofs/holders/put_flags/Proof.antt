@@ -1,6 +1,5 @@
 -- `survey::holders::put_flags` meets its contract. The loop's invariant: the flags are put on from the walk's place (`Flagging`). Each turn meets a block that
 -- ends in the heap, so the rest of the heap gets shorter.
--- Assumes nothing.
 use Prim.Native.Nat.{ℕ, _+_, _*_, _-_, _≤_}
 use native.Mathlib.Omega.{arith}
 use borrow.Author.Needs.{needs}
@@ -48,19 +47,10 @@ live c = c .before .before .before .before .before
 abbrev other : tie.After-struct-known2 Inv-loop μ-loop → tie.After-header Inv-loop μ-loop
 other c = c .before .before .before .before
 
-count-requires : tie.Need-count-requires Inv-loop μ-loop
-count-requires c κs = search needs
-
 loop-holds : tie.Need-loop-holds Inv-loop μ-loop
 loop-holds c =
     let a = c .before .before .before .args in
     flagging-start (holds-of (a .words .now)) (a .heap .now) (a .kept .now) (c .count .ensures)
-
-start-at-requires : tie.Need-start-at-requires Inv-loop μ-loop
-start-at-requires c κs = search needs
-
-enum-known-header : tie.Need-enum-known-header Inv-loop μ-loop
-enum-known-header c = search needs
 
 enum-told : tie.Need-enum-told Inv-loop μ-loop
 enum-told c = search needs
@@ -69,9 +59,6 @@ returns : tie.Need-returns Inv-loop μ-loop
 returns c =
     let l = c .before .before .before .before in
     flagging-ended (l .loop .inv) (sym (c .before .before .start-at .ensures) ∙ c .enum-told .given .1)
-
-is-live-requires : tie.Need-is-live-requires Inv-loop μ-loop
-is-live-requires c κs = search needs
 
 is-held-requires : tie.Need-is-held-requires Inv-loop μ-loop
 is-held-requires c κs = start (c .before .before .before) .pre
@@ -129,13 +116,13 @@ put-flags-spec =
     (tie.spec
     Inv-loop
     μ-loop
-    count-requires
+    (λ c κs. search needs)
     loop-holds
-    start-at-requires
-    enum-known-header
+    (λ c κs. search needs)
+    (λ c. search needs)
     enum-told
     returns
-    is-live-requires
+    (λ c κs. search needs)
     is-held-requires
     element-write-kept
     add-i

@@ -1,5 +1,4 @@
 -- `survey::indexing::are_blank` meets its contract. The loop's invariant: where no bit was met, the words before the i-th are 0. The measure is what is left.
--- Assumes nothing.
 use Prim.Native.Nat.{ℕ, _+_, _*_, _-_, _<_, _≤_}
 use native.Mathlib.Omega.{arith}
 use borrow.Author.Needs.{needs}

@@ -1,5 +1,4 @@
 -- `survey::indexing::enter` meets its contract: by what is in the slot, the record is alone there, or hung below the one that is.
--- Assumes nothing.
 use Prim.Native.Nat.{ℕ, _+_, _-_, _<_, _≤_}
 use native.Mathlib.Omega.{arith}
 use borrow.Author.Needs.{needs}
@@ -17,9 +16,6 @@ use Rattle.survey.proofs.indexing.enter.Tie as tie
 
 serial-in-requires : tie.Need-serial-in-requires
 serial-in-requires c κs = c .pre .0
-
-slot-of-requires : tie.Need-slot-of-requires
-slot-of-requires c κs = search needs
 
 head-in-requires : tie.Need-head-in-requires
 head-in-requires c κs = c .before .slot-of .ensures .1
@@ -39,9 +35,6 @@ small c = c .before .before .slot-of .ensures .1
 
 cast-heads : tie.Need-cast-heads
 cast-heads c = let s = start (c .before) in omega (arith, s .pre .0)
-
-mul-heads : tie.Need-mul-heads
-mul-heads c = search needs
 
 element-write-heads : tie.Need-element-write-heads
 element-write-heads c = omega (arith, start (c .before) .pre .2 .heads-long, small (c .before))
@@ -64,15 +57,6 @@ hang-requires : tie.Need-hang-requires
 hang-requires c κs =
     let h = c .before .before .before in
     (lone h (c .before .if2 .taken), start h .pre .0, start h .pre .2 .growing)
-
-add-heads : tie.Need-add-heads
-add-heads c = search needs
-
-cast-heads-2 : tie.Need-cast-heads-2
-cast-heads-2 c = search needs
-
-mul-heads-2 : tie.Need-mul-heads-2
-mul-heads-2 c = search needs
 
 element-write-heads-2 : tie.Need-element-write-heads-2
 element-write-heads-2 c = omega (arith, start (c .before .before) .pre .2 .heads-long, small (c .before .before))
@@ -117,14 +101,14 @@ enter-spec =
     tie.close
     (tie.spec
     serial-in-requires
-    slot-of-requires
+    (λ c κs. search needs)
     head-in-requires
     cast-heads
-    mul-heads
+    (λ c. search needs)
     element-write-heads
-    add-heads
-    cast-heads-2
-    mul-heads-2
+    (λ c. search needs)
+    (λ c. search needs)
+    (λ c. search needs)
     element-write-heads-2
     hang-requires
     sub-hang

@@ -1,7 +1,6 @@
 -- `survey::indexing::hang` meets its contract. The loop's invariant: the path leads to `at`, over links that are not empty; or `link` is the empty one at its
 -- end.
 -- Links go up, so what is left of the table is the measure.
--- Assumes nothing.
 use Prim.Native.Nat.{ℕ, _+_, _-_, _/_, _<_, _≤_}
 use native.Mathlib.Omega.{arith}
 use borrow.Author.Needs.{needs}
@@ -24,9 +23,6 @@ abbrev μ-loop : tie.MeasureT-loop
 loop-holds : tie.Need-loop-holds Inv-loop μ-loop
 unfolding bits-of
 loop-holds c = ((λ l. (c .pre .0, stay)), (λ l. absurd (omega (arith, c .pre .0, c .pre .1))))
-
-fork-requires : tie.Need-fork-requires Inv-loop μ-loop
-fork-requires c κs = search needs
 
 add-link : tie.Need-add-link Inv-loop μ-loop
 add-link c = omega (arith, c .fork .ensures .1, c .before .loop-test .taken)
@@ -109,7 +105,7 @@ hang-spec =
     Inv-loop
     μ-loop
     loop-holds
-    fork-requires
+    (λ c κs. search needs)
     add-link
     number-in-requires
     loop-less

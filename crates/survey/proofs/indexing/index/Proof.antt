@@ -1,6 +1,5 @@
 -- `survey::indexing::index` meets its contract. The loop's invariant is `Passed`: the records before place i are well-formed and in the index. The measure is
 -- what is left up to `top`.
--- Assumes nothing.
 use Prim.Native.Nat.{ℕ, _+_, _-_, _<_}
 use native.Mathlib.Omega.{arith}
 use borrow.Author.Needs.{needs}
@@ -69,9 +68,6 @@ ill c e =
 is-blank-requires : tie.Need-is-blank-requires Inv-loop μ-loop
 is-blank-requires c κs = inside (turn (c .before))
 
-ill-formed-requires : tie.Need-ill-formed-requires Inv-loop μ-loop
-ill-formed-requires c κs = search needs
-
 -- an answer that says no
 abbrev Says : tie.After-serial-in Inv-loop μ-loop → ℕ → ℕ → Bool → Type 0
 Says c low used t = Told (words c) t (turn c .before .loop .heads) (turn c .before .loop .links) low used
@@ -82,9 +78,6 @@ returns c =
     let k = b .before .before in
     let r = c .ill-formed .result in
     subst (Says k (r .low) (r .used)) (sym (c .ill-formed .ensures)) (ill k (blank-tests b ∙ not-true _ (c .before .if2 .taken)))
-
-lower-requires : tie.Need-lower-requires Inv-loop μ-loop
-lower-requires c κs = search needs
 
 abbrev lowered : tie.After-lower Inv-loop μ-loop → tie.After-serial-in Inv-loop μ-loop
 lowered c = c .before .before .before .before
@@ -110,9 +103,6 @@ loop-again c =
 
 is-possible-requires : tie.Need-is-possible-requires Inv-loop μ-loop
 is-possible-requires c κs = inside (turn (c .before))
-
-ill-formed-requires-2 : tie.Need-ill-formed-requires-2 Inv-loop μ-loop
-ill-formed-requires-2 c κs = search needs
 
 returns-2 : tie.Need-returns-2 Inv-loop μ-loop
 returns-2 c =
@@ -163,15 +153,15 @@ index-spec =
     loop-holds
     serial-in-requires
     is-blank-requires
-    ill-formed-requires
+    (λ c κs. search needs)
     returns
-    lower-requires
+    (λ c κs. search needs)
     add-blank
     add-i
     loop-less
     loop-again
     is-possible-requires
-    ill-formed-requires-2
+    (λ c κs. search needs)
     returns-2
     enter-requires
     add-i-2

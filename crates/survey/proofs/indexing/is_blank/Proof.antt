@@ -1,5 +1,4 @@
 -- `survey::indexing::is_blank` meets its contract: its two tests are those of the contract.
--- Assumes nothing.
 use borrow.Author.Tests.{eq-eqb, ne-eqb}
 use Prim.Native.Nat.{ℕ}
 use mathlib.Core.Path.{ap, sym, _∙_}

@@ -1,5 +1,4 @@
 -- `survey::indexing::is_possible` meets its contract: its two tests are those of the contract.
--- Assumes nothing.
 use Prim.Native.Nat.{ℕ}
 use native.Mathlib.Omega.{arith}
 use borrow.Author.Needs.{needs}
@@ -14,9 +13,6 @@ use Rattle.survey.proofs.indexing.is_possible.Tie as tie
 
 quota-in-requires : tie.Need-quota-in-requires
 quota-in-requires c κs = c .pre
-
-cast-quota : tie.Need-cast-quota
-cast-quota c = search needs
 
 returns : tie.Need-returns
 returns c =
@@ -40,7 +36,7 @@ is-possible-spec =
     tie.close
     (tie.spec
     quota-in-requires
-    cast-quota
+    (λ c. search needs)
     returns
     count-in-requires
     returns-2)

@@ -1,5 +1,4 @@
 -- `survey::indexing::lower` meets its contract.
--- Assumes nothing.
 use borrow.Author.Tests.{lt-ltb, le-ltb}
 use native.Mathlib.Omega.{arith}
 use Rattle.survey.proofs.indexing.lower.Statement.{statement}

@@ -1,5 +1,4 @@
 -- `survey::indexing::one_down` meets its contract.
--- Assumes nothing.
 use native.Mathlib.Omega.{arith}
 use borrow.Author.Tests.{not-false}
 use Rattle.survey.proofs.Passes.{blank-more}

@@ -1,5 +1,4 @@
 -- `survey::indexing::used_end` meets its contract. The loop's invariant: the records from `top` on are blank. The measure is `top`.
--- Assumes nothing.
 use Prim.Native.Nat.{ℕ, _-_, _<_, _≤_}
 use native.Mathlib.Omega.{arith}
 use borrow.Author.Needs.{needs}

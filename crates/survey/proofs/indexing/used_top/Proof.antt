@@ -1,5 +1,4 @@
 -- `survey::indexing::used_top` meets its contract: behind the table all is blank, and each search goes down from what is.
--- Assumes nothing.
 use native.Mathlib.Omega.{arith}
 use Rattle.survey.proofs.Passes.{blank-end}
 use Rattle.survey.proofs.indexing.used_top.Statement.{statement}

@@ -1,5 +1,4 @@
 -- `survey::parts::lost` meets its contract.
--- Assumes nothing.
 use mathlib.Core.Path.{refl}
 use Rattle.survey.proofs.parts.lost.Statement.{statement}
 use Rattle.survey.proofs.parts.lost.Tie as tie

@@ -1,7 +1,6 @@
 -- `survey::parts::walk_parts` meets its contract. The loop's invariant is `Touring`: what is judged from the start on is judged from the place on. The measure
 -- is
 -- the edge, and 0 behind the last part.
--- Assumes nothing.
 use Prim.Native.Nat.{ℕ}
 use borrow.Author.Needs.{needs}
 use borrow.Author.Tests.{not-true, not-false}
@@ -63,9 +62,6 @@ Says c t =
 says : (c : tie.After-walk Inv-loop μ-loop) (t : Bool) → c .walk .result .fine ≡ t → Says c t
 says c t e = subst (Says c) e (c .walk .ensures .0)
 
-lost-requires : tie.Need-lost-requires Inv-loop μ-loop
-lost-requires c κs = search needs
-
 abbrev Ends : tie.After-walk Inv-loop μ-loop → ℕ → ℕ → ℕ → Bool → Type 0
 Ends c at back before t =
     let a = start c .args in
@@ -110,7 +106,7 @@ walk-parts-spec =
     μ-loop
     loop-holds
     walk-requires
-    lost-requires
+    (λ c κs. search needs)
     returns
     loop-less
     loop-again

@@ -1,5 +1,4 @@
 -- `survey::paying::is_settled` meets its contract: its two tests are those of the contract.
--- Assumes nothing.
 use borrow.Author.Needs.{needs}
 use borrow.Author.Tests.{eq-eqb, ne-eqb}
 use mathlib.Core.Path.{_≡_, ap, sym, _∙_}

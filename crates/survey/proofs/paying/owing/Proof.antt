@@ -1,6 +1,5 @@
 -- `survey::paying::owing` meets its contract. The loop's invariant is `Tallied`: what was met tells whether the quotas
 -- before place i are valid, and what each of them owes stands at its place. The measure is what is left of the table.
--- Assumes nothing.
 use Prim.Native.Nat.{ℕ, _-_, _%_, _≤_}
 use native.Mathlib.Omega.{arith}
 use borrow.Author.Needs.{needs}
@@ -26,27 +25,6 @@ abbrev μ-loop : tie.MeasureT-loop
 
 loop-holds : tie.Need-loop-holds Inv-loop μ-loop
 loop-holds c = tallied-start (quotas-of (c .args .words .now)) (c .pre)
-
-grant-in-requires : tie.Need-grant-in-requires Inv-loop μ-loop
-grant-in-requires c κs = search needs
-
-remainder-in-requires : tie.Need-remainder-in-requires Inv-loop μ-loop
-remainder-in-requires c κs = search needs
-
-spare-in-requires : tie.Need-spare-in-requires Inv-loop μ-loop
-spare-in-requires c κs = search needs
-
-due-of-requires : tie.Need-due-of-requires Inv-loop μ-loop
-due-of-requires c κs = search needs
-
-short-at-requires : tie.Need-short-at-requires Inv-loop μ-loop
-short-at-requires c κs = search needs
-
-cast-owed : tie.Need-cast-owed Inv-loop μ-loop
-cast-owed c = search needs
-
-mul-owed : tie.Need-mul-owed Inv-loop μ-loop
-mul-owed c = search needs
 
 -- the turn
 abbrev turn : tie.After-short-at Inv-loop μ-loop → tie.In-loop Inv-loop μ-loop
@@ -90,9 +68,6 @@ returns c =
       λ e. absurd (false≢true e),
     )
 
-cast-most : tie.Need-cast-most Inv-loop μ-loop
-cast-most c = search needs
-
 returns-2 : tie.Need-returns-2 Inv-loop μ-loop
 returns-2 c =
     let l = c .before .before in
@@ -109,17 +84,17 @@ owing-spec =
     Inv-loop
     μ-loop
     loop-holds
-    grant-in-requires
-    remainder-in-requires
-    spare-in-requires
-    due-of-requires
-    short-at-requires
-    cast-owed
-    mul-owed
+    (λ c κs. search needs)
+    (λ c κs. search needs)
+    (λ c κs. search needs)
+    (λ c κs. search needs)
+    (λ c κs. search needs)
+    (λ c. search needs)
+    (λ c. search needs)
     element-write-owed
     add-i
     loop-less
     loop-again
     returns
-    cast-most
+    (λ c. search needs)
     returns-2)

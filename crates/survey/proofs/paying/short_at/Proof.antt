@@ -1,5 +1,4 @@
 -- `survey::paying::short_at` meets its contract: its test is that of the contract.
--- Assumes nothing.
 use borrow.Author.Tests.{lt-ltb, le-ltb}
 use native.Mathlib.Omega.{arith}
 use Rattle.survey.proofs.paying.short_at.Statement.{statement}

@@ -1,5 +1,4 @@
 -- `survey::reading::fork` meets its contract.
--- Assumes nothing.
 use native.Mathlib.Omega.{arith}
 use mathlib.Core.Path.{refl}
 use Rattle.survey.specs.Index.{fork}

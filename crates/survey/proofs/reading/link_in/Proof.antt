@@ -1,5 +1,4 @@
 -- `survey::reading::link_in` meets its contract.
--- Assumes nothing.
 use Prim.Native.Nat.{ℕ, _+_}
 use native.Mathlib.Omega.{arith}
 use borrow.Author.Needs.{needs}
@@ -9,22 +8,10 @@ use Rattle.survey.proofs.Paths.{fork-inside}
 use Rattle.survey.proofs.reading.link_in.Statement.{statement}
 use Rattle.survey.proofs.reading.link_in.Tie as tie
 
-fork-requires : tie.Need-fork-requires
-fork-requires c κs = search needs
-
-add-wide : tie.Need-add-wide
-add-wide c = search needs
-
-mul-wide : tie.Need-mul-wide
-mul-wide c = search needs
-
 element-copy-out-wide : tie.Need-element-copy-out-wide
 element-copy-out-wide c =
     let s = c .before in
     omega (arith, c .fork .ensures .0, fork-inside (s .args .at) (s .args .bits) (s .pre))
-
-wide-requires : tie.Need-wide-requires
-wide-requires c κs = search needs
 
 returns : tie.Need-returns
 returns c =
@@ -33,4 +20,4 @@ returns c =
     (c .wide .ensures .0 ∙ ap (λ (x : ℕ). getD (s .args .links .now) (s .args .at + x) 0) (f .fork .ensures .0), c .wide .ensures .1)
 
 pub link-in-spec : {M : Type 1} → statement M
-link-in-spec = tie.close (tie.spec fork-requires add-wide mul-wide element-copy-out-wide wide-requires returns)
+link-in-spec = tie.close (tie.spec (λ c κs. search needs) (λ c. search needs) (λ c. search needs) element-copy-out-wide (λ c κs. search needs) returns)

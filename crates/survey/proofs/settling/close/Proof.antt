@@ -1,5 +1,4 @@
 -- `survey::settling::close` meets its contract.
--- Assumes nothing.
 use Prim.Native.Nat.{ℕ, _+_}
 use native.Mathlib.Omega.{arith}
 use borrow.Author.Needs.{needs}
@@ -18,9 +17,6 @@ add-flagged c = omega (arith, c .flag-in .ensures .1)
 cast-links : tie.Need-cast-links
 cast-links c = omega (arith, c .flag-in .ensures .0, c .before .before .pre .2)
 
-mul-links : tie.Need-mul-links
-mul-links c = search needs
-
 element-write-links : tie.Need-element-write-links
 element-write-links c = let s = c .before .before in omega (arith, s .pre .0, s .pre .1)
 
@@ -28,4 +24,4 @@ returns : tie.Need-returns
 returns c = let s = c .before .before in ap (λ (x : ℕ). set (s .args .links .now) (s .args .at) (x + CLOSED)) (c .flag-in .ensures .0)
 
 pub close-spec : {M : Type 1} → statement M
-close-spec = tie.close (tie.spec flag-in-requires add-flagged cast-links mul-links element-write-links returns)
+close-spec = tie.close (tie.spec flag-in-requires add-flagged cast-links (λ c. search needs) element-write-links returns)

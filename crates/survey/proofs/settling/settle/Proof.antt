@@ -1,5 +1,4 @@
 -- `survey::settling::settle` meets its contract: by what is in the serial's slot, its path is gone along, or the one record is looked at.
--- Assumes nothing.
 use Prim.Native.Nat.{ℕ, _<_, _≤_}
 use native.Mathlib.Omega.{arith}
 use borrow.Author.Needs.{needs}
@@ -16,9 +15,6 @@ use Rattle.survey.proofs.Closing.{quota-small}
 use Rattle.survey.proofs.Trees.{alone-other, alone-left, alone-short, alone-paid}
 use Rattle.survey.proofs.settling.settle.Statement.{statement}
 use Rattle.survey.proofs.settling.settle.Tie as tie
-
-slot-of-requires : tie.Need-slot-of-requires
-slot-of-requires c κs = search needs
 
 head-in-requires : tie.Need-head-in-requires
 head-in-requires c κs = c .before .slot-of .ensures .1
@@ -39,9 +35,6 @@ settle-path-requires c κs =
 returns : tie.Need-returns
 returns c = c .settle-path .ensures
 
-serial-in-requires : tie.Need-serial-in-requires
-serial-in-requires c κs = search needs
-
 -- the slot has one record
 alone : (c : tie.Else1) → c .before .head-in .result < HOLDS
 alone c = omega (arith, c .if1 .left)
@@ -59,9 +52,6 @@ returns-2 c =
 
 quota-in-requires : tie.Need-quota-in-requires
 quota-in-requires c κs = alone (c .before .before)
-
-cast-quota : tie.Need-cast-quota
-cast-quota c = search needs
 
 abbrev own : tie.After-quota-in → tie.Else1
 own c = c .before .before .before
@@ -106,12 +96,6 @@ returns-3 c =
     (a .heads .now) (a .links .now) (p .pay .last .0) (a .left .now)
     (q .quota-in .ensures) (charged p false (not-true _ (c .if3 .taken)))
 
-cast-heads : tie.Need-cast-heads
-cast-heads c = search needs
-
-mul-heads : tie.Need-mul-heads
-mul-heads c = search needs
-
 element-write-heads : tie.Need-element-write-heads
 element-write-heads c =
     let h = first (quota (c .before)) in
@@ -138,18 +122,18 @@ pub settle-spec : {M : Type 1} → statement M
 settle-spec =
     tie.close
     (tie.spec
-    slot-of-requires
+    (λ c κs. search needs)
     head-in-requires
     settle-path-requires
     returns
-    serial-in-requires
+    (λ c κs. search needs)
     returns-2
     quota-in-requires
-    cast-quota
+    (λ c. search needs)
     pay-requires
     returns-3
-    cast-heads
-    mul-heads
+    (λ c. search needs)
+    (λ c. search needs)
     element-write-heads
     sub-left
     returns-4)

@@ -1,6 +1,5 @@
 -- `survey::settling::settle_path` meets its contract. The loop's invariant is `Goes`: what is left to strike and to pay is what the keys from `at` on come to.
 -- Links go up, so what is left of the table is the measure.
--- Assumes nothing.
 use Prim.Native.Nat.{ℕ, _+_, _-_, _/_, _%_, _<_, _≤_}
 use native.Mathlib.Omega.{arith}
 use borrow.Author.Needs.{needs}
@@ -29,14 +28,8 @@ Inv-loop words links₀ heads owed₀ left₀ serial charge seen₀ found₀ at�
 abbrev μ-loop : tie.MeasureT-loop
 μ-loop words links₀ heads owed₀ left₀ serial charge seen₀ found₀ at₀ bits₀ links owed left seen found at bits = HOLDS - at
 
-slot-of-requires : tie.Need-slot-of-requires Inv-loop μ-loop
-slot-of-requires c κs = search needs
-
 head-in-requires : tie.Need-head-in-requires Inv-loop μ-loop
 head-in-requires c κs = c .slot-of .ensures .1
-
-wrapping-sub-usize-requires : tie.Need-wrapping-sub-usize-requires Inv-loop μ-loop
-wrapping-sub-usize-requires c κs = search needs
 
 loop-holds : tie.Need-loop-holds Inv-loop μ-loop
 unfolding bits-of
@@ -144,9 +137,6 @@ few c =
           (t .loop-test .taken),
     )
 
-cast-quota : tie.Need-cast-quota Inv-loop μ-loop
-cast-quota c = search needs
-
 array-read-if3 : tie.Need-array-read-if3 Inv-loop μ-loop
 array-read-if3 c = omega (arith, few c)
 
@@ -244,9 +234,9 @@ settle-path-spec =
     (tie.spec
     Inv-loop
     μ-loop
-    slot-of-requires
+    (λ c κs. search needs)
     head-in-requires
-    wrapping-sub-usize-requires
+    (λ c κs. search needs)
     loop-holds
     serial-in-requires
     next-in-requires
@@ -257,7 +247,7 @@ settle-path-spec =
     loop-less-2
     loop-again-2
     quota-in-requires
-    cast-quota
+    (λ c. search needs)
     array-read-if3
     returns
     pay-requires

@@ -1,5 +1,4 @@
 -- `survey::sharing::held_by` meets its contract: the index tells whether every record is well-formed, and where they are, the counts are the definition's.
--- Assumes nothing.
 use borrow.Author.Needs.{needs}
 use borrow.Author.Tests.{not-true, not-false}
 use Prim.Native.Nat.{ℕ}
@@ -12,21 +11,17 @@ use Rattle.survey.proofs.Building.{built-none}
 use Rattle.survey.proofs.sharing.held_by.Statement.{statement}
 use Rattle.survey.proofs.sharing.held_by.Tie as tie
 
-cast-end : tie.Need-cast-end
-cast-end c = search needs
-
-used-top-requires : tie.Need-used-top-requires
-used-top-requires c κs = search needs
-
 index-requires : tie.Need-index-requires
 index-requires c κs = let t = c .before .before in (t .used-top .ensures .0, t .used-top .ensures .1, built-none (t .before .args .words .now))
 
 -- what the index says
 told : (c : tie.After-index) (t : Bool) → c .index .result .fine ≡ t
-    → Told (c .before .before .before .before .args .words .now) t (c .index .last .1 .1 .0) (c .index .last .1 .0) (c .index .result .low) (c .index .result .used)
+    → Told (c .before .before .before .before .args .words .now) t (c .index .last .1 .1 .0) (c .index .last .1 .0) (c .index .result .low)
+    (c .index .result .used)
 told c t e =
     let r = c .index .result in
-    subst (λ (x : Bool). Told (c .before .before .before .before .args .words .now) x (c .index .last .1 .1 .0) (c .index .last .1 .0) (r .low) (r .used)) e
+    subst (λ (x : Bool). Told (c .before .before .before .before .args .words .now) x (c .index .last .1 .1 .0) (c .index .last .1 .0) (r .low)
+    (r .used)) e
     (c .index .ensures)
 
 returns : tie.Need-returns
@@ -37,7 +32,8 @@ returns c =
 
 entered : (c : tie.Else1)
     → let i = c .before .before in
-    Index (i .before .before .before .before .args .words .now) (i .index .last .1 .1 .0) (i .index .last .1 .0) (i .index .result .low) (i .index .result .used)
+    Index (i .before .before .before .before .args .words .now) (i .index .last .1 .1 .0) (i .index .last .1 .0) (i .index .result .low)
+    (i .index .result .used)
 entered c = told (c .before .before) true (not-false _ (c .if1 .left))
 
 held-in-requires : tie.Need-held-in-requires
@@ -51,4 +47,4 @@ returns-2 c =
 
 pub held-by-spec : {M : Type 1} → statement M
 held-by-spec =
-    tie.close (tie.spec cast-end used-top-requires index-requires returns held-in-requires returns-2)
+    tie.close (tie.spec (λ c. search needs) (λ c κs. search needs) index-requires returns held-in-requires returns-2)

@@ -1,5 +1,4 @@
 -- `survey::sharing::held_in` meets its contract. The loop's invariant: the records before place `i` were counted.
--- Assumes nothing.
 use borrow.Author.Needs.{needs}
 use Prim.Native.Nat.{ℕ, _+_, _-_}
 use native.Mathlib.Omega.{arith}

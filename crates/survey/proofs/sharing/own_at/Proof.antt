@@ -1,5 +1,4 @@
 -- `survey::sharing::own_at` meets its contract: a record without a serial is unused, and any other is the quota's own by its number.
--- Assumes nothing.
 use borrow.Author.Needs.{needs}
 use Prim.Native.Nat.{ℕ}
 use mathlib.Core.Path.{_≡_, refl, ap, sym, _∙_}

@@ -1,5 +1,4 @@
 -- `survey::sharing::shared_at` meets its contract: another quota holds the object exactly if the path leads to a record of one.
--- Assumes nothing.
 use borrow.Author.Needs.{needs}
 use borrow.Author.Tests.{lt-ltb, le-ltb}
 use Prim.Native.Nat.{ℕ}

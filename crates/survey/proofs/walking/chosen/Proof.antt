@@ -1,5 +1,4 @@
 -- `survey::walking::chosen` meets its contract.
--- Assumes nothing.
 use Rattle.survey.proofs.walking.chosen.Statement.{statement}
 use Rattle.survey.proofs.walking.chosen.Tie as tie
 

@@ -1,5 +1,4 @@
 -- `survey::walking::failed` meets its contract.
--- Assumes nothing.
 use mathlib.Core.Path.{refl}
 use Rattle.survey.proofs.walking.failed.Statement.{statement}
 use Rattle.survey.proofs.walking.failed.Tie as tie

@@ -1,7 +1,6 @@
 -- `survey::walking::is_fitting` meets its contract: the difference wraps for a block that is too short, and is great then; a short object has unit 8; else a
 -- length is
 -- a multiple of its unit exactly if it is one of the unit by its leading zeros, and then the tests are the definition's.
--- Assumes nothing.
 use Prim.Native.Nat.{ℕ, _-_, _%_}
 use native.Mathlib.Omega.{arith}
 use borrow.Author.Needs.{needs}
@@ -14,9 +13,6 @@ use Rattle.audit.proofs.Fitting.{fits-eights, length-unfit, base-fits}
 use Rattle.survey.proofs.walking.is_fitting.Statement.{statement}
 use Rattle.survey.proofs.walking.is_fitting.Tie as tie
 
-wrapping-sub-usize-requires : tie.Need-wrapping-sub-usize-requires
-wrapping-sub-usize-requires c κs = search needs
-
 returns : tie.Need-returns
 returns c =
     let a = c .before .before .args in
@@ -27,18 +23,6 @@ returns c =
 
 returns-2 : tie.Need-returns-2
 returns-2 c = rw (lt-leb 16 (c .before .before .before .args .size) (c .if2 .taken))
-
-sub-length : tie.Need-sub-length
-sub-length c = search needs
-
-cast-object-unit : tie.Need-cast-object-unit
-cast-object-unit c = search needs
-
-object-unit-requires : tie.Need-object-unit-requires
-object-unit-requires c κs = search needs
-
-cast-unit : tie.Need-cast-unit
-cast-unit c = search needs
 
 rem-if3 : tie.Need-rem-if3
 rem-if3 c =
@@ -75,13 +59,13 @@ pub is-fitting-spec : {M : Type 1} → statement M
 is-fitting-spec =
     tie.close
     (tie.spec
-    wrapping-sub-usize-requires
+    (λ c κs. search needs)
     returns
     returns-2
-    sub-length
-    cast-object-unit
-    object-unit-requires
-    cast-unit
+    (λ c. search needs)
+    (λ c. search needs)
+    (λ c κs. search needs)
+    (λ c. search needs)
     rem-if3
     returns-3
     rem-result

@@ -1,5 +1,4 @@
 -- `survey::walking::is_roomy` meets its contract: a free block has room where the gap in front of the lowest base and the object's bytes do.
--- Assumes nothing.
 use Prim.Native.Nat.{_-_}
 use native.Mathlib.Omega.{arith}
 use borrow.Author.Needs.{needs}
@@ -20,26 +19,8 @@ returns-2 c =
     let a = s .args in
     sym (room-small (a .unit) (a .need) (record { at = a .end - a .size; size = a .size; back = 0; serial = a .serial }) (s .pre .0) (c .if2 .taken))
 
-sub-room : tie.Need-sub-room
-sub-room c = search needs
-
-sub-start : tie.Need-sub-start
-sub-start c = search needs
-
-sub-gap : tie.Need-sub-gap
-sub-gap c = search needs
-
-sub-gap-2 : tie.Need-sub-gap-2
-sub-gap-2 c = search needs
-
-rem-gap : tie.Need-rem-gap
-rem-gap c = search needs
-
 sub-gap-3 : tie.Need-sub-gap-3
 sub-gap-3 c = mod-below _ (c .before .before .pre .0)
-
-add-result : tie.Need-add-result
-add-result c = search needs
 
 returns-3 : tie.Need-returns-3
 returns-3 c =
@@ -54,11 +35,11 @@ is-roomy-spec =
     (tie.spec
     returns
     returns-2
-    sub-room
-    sub-start
-    sub-gap
-    sub-gap-2
-    rem-gap
+    (λ c. search needs)
+    (λ c. search needs)
+    (λ c. search needs)
+    (λ c. search needs)
+    (λ c. search needs)
     sub-gap-3
-    add-result
+    (λ c. search needs)
     returns-3)

@@ -1,5 +1,4 @@
 -- `survey::walking::is_waiting` meets its contract: its tests are those of the contract.
--- Assumes nothing.
 use native.Mathlib.Omega.{arith}
 use borrow.Author.Tests.{eq-eqb, ne-eqb, le-leb, lt-leb}
 use Rattle.layout.specs.Blocks.{QUARANTINED}

@@ -1,7 +1,6 @@
 -- `survey::walking::visit` meets its contract: its tests are those of the definition, and that a free block has 8 bytes; each of them decides it where it
 -- fails.
 -- A serial above the last one can be that of a quarantined block; one that is not is no such serial, since the last is below it.
--- Assumes nothing.
 use Prim.Native.Nat.{ℕ, _-_}
 use native.Mathlib.Omega.{arith}
 use borrow.Author.Needs.{needs}
@@ -25,9 +24,6 @@ returns-2 c =
     let a = s .args in
     visit-apart (table (a .edition)) (a .kind) (a .last) (a .serial) (a .size) (a .whole - a .after) (a .before)
     (s .pre .0) (c .before .if1 .taken) (c .if2 .left)
-
-is-waiting-requires : tie.Need-is-waiting-requires
-is-waiting-requires c κs = search needs
 
 returns-3 : tie.Need-returns-3
 returns-3 c =
@@ -76,7 +72,7 @@ visit-spec =
     (tie.spec
     returns
     returns-2
-    is-waiting-requires
+    (λ c κs. search needs)
     returns-3
     sub-is-fitting
     is-fitting-requires

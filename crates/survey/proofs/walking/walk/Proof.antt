@@ -1,7 +1,6 @@
 -- `survey::walking::walk` meets its contract. The loop's invariant is `Walking`: the audit of the blocks from the start
 -- on is that of the blocks in the rest, with what is left of keys and debts. The measure is the length of the rest: a
 -- block that was visited has a size.
--- Assumes nothing.
 use Prim.Native.Nat.{ℕ, _+_, _*_, _-_, _<_, _≤_}
 use native.Mathlib.Omega.{arith}
 use borrow.Author.Needs.{needs}
@@ -67,9 +66,6 @@ loop-holds c =
           (passed-start (a .edge) (a .unit) (a .units) (a .serial-before) (a .fit-before) (a .need-before) r),
     )
 
-header-at-requires : tie.Need-header-at-requires Inv-loop μ-loop
-header-at-requires c κs = search needs
-
 -- the rest of the heap, and the header that was read of it
 abbrev turn : tie.After-header-at Inv-loop μ-loop → tie.In-loop Inv-loop μ-loop
 turn c = c .before
@@ -88,9 +84,6 @@ some-rest c = omega (arith, turn c .loop-test .taken, start c .pre .1)
 
 mul-size : tie.Need-mul-size Inv-loop μ-loop
 mul-size c = omega (arith, c .before .header-at .ensures .1)
-
-failed-requires : tie.Need-failed-requires Inv-loop μ-loop
-failed-requires c κs = search needs
 
 abbrev Says : tie.After-header-at Inv-loop μ-loop → ℕ → ℕ → ℕ → List ℕ → List ℕ → List ℕ → ℕ → Bool → Type 0
 Says c at back before heads links owed left t =
@@ -111,9 +104,6 @@ returns c =
       λ e. absurd (false≢true (sym (c .failed .ensures) ∙ e)),
     )
 
-failed-requires-2 : tie.Need-failed-requires-2 Inv-loop μ-loop
-failed-requires-2 c κs = search needs
-
 returns-2 : tie.Need-returns-2 Inv-loop μ-loop
 unfolding judged
 returns-2 c =
@@ -125,15 +115,6 @@ returns-2 c =
           (one-fails _ _ (walking-back (l .inv .0) (read h) (some-rest h) (f .if1 .left) (λ e. omega (arith, c .before .if2 .taken)))),
       λ e. absurd (false≢true (sym (c .failed2 .ensures) ∙ e)),
     )
-
-sub-after : tie.Need-sub-after Inv-loop μ-loop
-sub-after c = search needs
-
-part-after-start : tie.Need-part-after-start Inv-loop μ-loop
-part-after-start c = search needs
-
-part-after-end : tie.Need-part-after-end Inv-loop μ-loop
-part-after-end c = search needs
 
 visit-requires : tie.Need-visit-requires Inv-loop μ-loop
 visit-requires c κs =
@@ -177,9 +158,6 @@ Answers c t =
 
 visited : (c : tie.After-visit Inv-loop μ-loop) (t : Bool) → c .visit .result ≡ t → Answers c t
 visited c t e = subst (Answers c) e (c .visit .ensures)
-
-failed-requires-3 : tie.Need-failed-requires-3 Inv-loop μ-loop
-failed-requires-3 c κs = search needs
 
 returns-3 : tie.Need-returns-3 Inv-loop μ-loop
 unfolding judged
@@ -307,12 +285,6 @@ sub-chosen c =
     let h = header v in
     omega (arith, ap length (beyond v) ∙ length-drop (8 * h .header-at .result .size) (bytes h), turn h .before .loop .inv .0 .inside, fits v .if1 .left)
 
-chosen-requires : tie.Need-chosen-requires Inv-loop μ-loop
-chosen-requires c κs = search needs
-
-chosen-requires-2 : tie.Need-chosen-requires-2 Inv-loop μ-loop
-chosen-requires-2 c κs = search needs
-
 loop-less-2 : tie.Need-loop-less-2 Inv-loop μ-loop
 loop-less-2 c = shorter (c .before .before .before .before)
 
@@ -345,25 +317,25 @@ walk-spec =
     part-rest-start
     part-rest-end
     loop-holds
-    header-at-requires
+    (λ c κs. search needs)
     mul-size
-    failed-requires
+    (λ c κs. search needs)
     returns
-    failed-requires-2
+    (λ c κs. search needs)
     returns-2
-    sub-after
-    part-after-start
-    part-after-end
+    (λ c. search needs)
+    (λ c. search needs)
+    (λ c. search needs)
     visit-requires
-    failed-requires-3
+    (λ c κs. search needs)
     returns-3
     loop-less
     loop-again
     sub-end
     is-roomy-requires
     sub-chosen
-    chosen-requires
-    chosen-requires-2
+    (λ c κs. search needs)
+    (λ c κs. search needs)
     loop-less-2
     loop-again-2
     sub-t44

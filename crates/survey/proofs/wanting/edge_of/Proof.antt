@@ -1,5 +1,4 @@
 -- `survey::wanting::edge_of` meets its contract: its tests are those of the definition.
--- Assumes nothing.
 use native.Mathlib.Omega.{arith}
 use borrow.Author.Needs.{needs}
 use borrow.Author.Tests.{lt-ltb, le-ltb}
@@ -18,9 +17,6 @@ returns-2 c =
     let a = c .before .before .args in
     (rw (le-ltb (a .base) 8 (omega (arith, c .before .if1 .left)), lt-ltb (a .len) (a .base) (omega (arith, c .if2 .taken))) refl, omega arith)
 
-add-result : tie.Need-add-result
-add-result c = search needs
-
 returns-3 : tie.Need-returns-3
 unfolding edge-of
 returns-3 c =
@@ -28,4 +24,4 @@ returns-3 c =
     (rw (le-ltb (a .base) 8 (omega (arith, c .before .if1 .left)), le-ltb (a .len) (a .base) (omega (arith, c .if2 .left))) refl, omega arith)
 
 pub edge-of-spec : {M : Type 1} → statement M
-edge-of-spec = tie.close (tie.spec returns returns-2 add-result returns-3)
+edge-of-spec = tie.close (tie.spec returns returns-2 (λ c. search needs) returns-3)

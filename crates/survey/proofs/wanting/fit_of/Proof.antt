@@ -1,5 +1,4 @@
 -- `survey::wanting::fit_of` meets its contract.
--- Assumes nothing.
 use borrow.Author.Tests.{eq-eqb, ne-eqb}
 use Rattle.survey.proofs.wanting.fit_of.Statement.{statement}
 use Rattle.survey.proofs.wanting.fit_of.Tie as tie

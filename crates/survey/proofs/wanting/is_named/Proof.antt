@@ -1,5 +1,4 @@
 -- `survey::wanting::is_named` meets its contract: its tests are those of the definition.
--- Assumes nothing.
 use native.Mathlib.Omega.{arith}
 use borrow.Author.Needs.{needs}
 use mathlib.Core.Path.{sym}
@@ -32,20 +31,11 @@ returns-4 c =
     sym (named-empty (record { base = a .base; length = a .length; serial = a .serial }) (record { at = a .at; size = a .size; back = 0; serial = a .before })
     (c .if4 .taken))
 
-add-if5 : tie.Need-add-if5
-add-if5 c = search needs
-
 returns-5 : tie.Need-returns-5
 returns-5 c =
     let a = c .before .before .before .before .before .args in
     sym (before-block (record { base = a .base; length = a .length; serial = a .serial }) (record { at = a .at; size = a .size; back = 0; serial = a .before })
     (omega (arith, c .if5 .taken)))
-
-add-result : tie.Need-add-result
-add-result c = search needs
-
-add-result-2 : tie.Need-add-result-2
-add-result-2 c = search needs
 
 returns-6 : tie.Need-returns-6
 returns-6 c =
@@ -66,8 +56,8 @@ is-named-spec =
     returns-2
     returns-3
     returns-4
-    add-if5
+    (λ c. search needs)
     returns-5
-    add-result
-    add-result-2
+    (λ c. search needs)
+    (λ c. search needs)
     returns-6)

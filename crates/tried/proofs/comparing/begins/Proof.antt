@@ -1,5 +1,4 @@
 -- `tried::comparing::begins` ends: each turn goes on by a byte.
--- Assumes nothing.
 use Prim.Native.Nat.{_≤_, _-_}
 use borrow.Author.Needs.{needs}
 use lib.ListN.{length}

@@ -1,5 +1,4 @@
 -- `tried::comparing::same_words` ends: each turn goes on by a word.
--- Assumes nothing.
 use Prim.Native.Nat.{_≤_, _-_}
 use borrow.Author.Needs.{needs}
 use Rattle.words.specs.Words.{WORDS}

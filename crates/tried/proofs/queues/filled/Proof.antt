@@ -1,5 +1,4 @@
 -- `tried::queues::filled` ends: each turn goes on by a place.
--- Assumes nothing.
 use Prim.Native.Nat.{_-_}
 use borrow.Author.Needs.{needs}
 use mathlib.Core.Path.{_≡_}

@@ -1,5 +1,4 @@
 -- `tried::queues::same_places` ends: each turn goes on by a word.
--- Assumes nothing.
 use Prim.Native.Nat.{_≤_, _-_}
 use borrow.Author.Needs.{needs}
 use Rattle.tried.proofs.queues.same_places.Statement.{statement}

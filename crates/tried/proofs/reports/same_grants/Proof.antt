@@ -1,5 +1,4 @@
 -- `tried::reports::same_grants` ends: each turn goes on by a grant.
--- Assumes nothing.
 use Prim.Native.Nat.{_≤_, _-_}
 use borrow.Author.Needs.{needs}
 use Rattle.tried.proofs.reports.same_grants.Statement.{statement}

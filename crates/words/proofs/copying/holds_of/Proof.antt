@@ -1,5 +1,4 @@
 -- `words::holds_of` meets its contract. The loop's invariant: each place before `i` holds what the words say. The measure is what is left of the table.
--- Assumes nothing.
 use Prim.Native.Nat.{ℕ, _≤_, _<_, _-_}
 use native.Mathlib.Omega.{arith}
 use borrow.Author.Needs.{needs}
@@ -20,26 +19,8 @@ Inv-loop words holds₀ i₀ holds i = (i ≤ HOLDS) × (length holds ≡ HOLDS)
 abbrev μ-loop : tie.MeasureT-loop
 μ-loop words holds₀ i₀ holds i = HOLDS - i
 
-zero-requires : tie.Need-zero-requires Inv-loop μ-loop
-zero-requires c κs = search needs
-
 loop-holds : tie.Need-loop-holds Inv-loop μ-loop
 loop-holds c = (search needs, length-replicate HOLDS (c .zero .result), below-none _)
-
-hold-at-requires : tie.Need-hold-at-requires Inv-loop μ-loop
-hold-at-requires c κs = search needs
-
-mul-holds : tie.Need-mul-holds Inv-loop μ-loop
-mul-holds c = search needs
-
-array-set-from-holds : tie.Need-array-set-from-holds Inv-loop μ-loop
-array-set-from-holds c = search needs
-
-add-i : tie.Need-add-i Inv-loop μ-loop
-add-i c = search needs
-
-loop-less : tie.Need-loop-less Inv-loop μ-loop
-loop-less c = search needs
 
 loop-again : tie.Need-loop-again Inv-loop μ-loop
 loop-again c =
@@ -63,4 +44,5 @@ returns c =
     (λ j b. l .inv .2 j (omega (arith, l .inv .1, c .loop-test .left)) ∙ sym (holds-at words j (omega (arith, l .inv .1))))
 
 pub holds-of-spec : {M : Type 1} → statement M
-holds-of-spec = tie.close (tie.spec Inv-loop μ-loop zero-requires loop-holds hold-at-requires mul-holds array-set-from-holds add-i loop-less loop-again returns)
+holds-of-spec = tie.close (tie.spec Inv-loop μ-loop (λ c κs. search needs) loop-holds (λ c κs. search needs) (λ c. search needs) (λ c. search needs)
+    (λ c. search needs) (λ c. search needs) loop-again returns)

@@ -1,5 +1,4 @@
 -- `words::quotas_of` meets its contract. The loop's invariant: each place before `i` holds what the words say. The measure is what is left of the table.
--- Assumes nothing.
 use Prim.Native.Nat.{ℕ, _≤_, _<_, _-_}
 use native.Mathlib.Omega.{arith}
 use borrow.Author.Needs.{needs}
@@ -22,21 +21,6 @@ abbrev μ-loop : tie.MeasureT-loop
 loop-holds : tie.Need-loop-holds Inv-loop μ-loop
 loop-holds c = (search needs, length-replicate QUOTAS zero-quota, below-none _)
 
-entry-in-requires : tie.Need-entry-in-requires Inv-loop μ-loop
-entry-in-requires c κs = search needs
-
-mul-quotas : tie.Need-mul-quotas Inv-loop μ-loop
-mul-quotas c = search needs
-
-array-set-from-quotas : tie.Need-array-set-from-quotas Inv-loop μ-loop
-array-set-from-quotas c = search needs
-
-add-i : tie.Need-add-i Inv-loop μ-loop
-add-i c = search needs
-
-loop-less : tie.Need-loop-less Inv-loop μ-loop
-loop-less c = search needs
-
 loop-again : tie.Need-loop-again Inv-loop μ-loop
 loop-again c =
     let at = c .before .before in
@@ -46,7 +30,8 @@ loop-again c =
       length-set (l .quotas) (l .i) (c .entry-in .result) ∙ l .inv .1,
       below-more (λ (j : ℕ). getD (set (l .quotas) (l .i) (c .entry-in .result)) j zero-quota ≡ entry-in (a .words .now) j) (l .i)
           (λ j b. getD-set-other (l .quotas) (l .i) j (c .entry-in .result) zero-quota (λ e. omega arith) ∙ l .inv .2 j b)
-          (getD-set-same (l .quotas) (l .i) (c .entry-in .result) zero-quota (omega (arith, l .inv .1, c .before .loop-test .taken)) ∙ c .entry-in .ensures),
+          (getD-set-same (l .quotas) (l .i) (c .entry-in .result) zero-quota (omega (arith, l .inv .1, c .before .loop-test .taken))
+          ∙ c .entry-in .ensures),
     )
 
 returns : tie.Need-returns Inv-loop μ-loop
@@ -58,4 +43,5 @@ returns c =
     (λ j b. l .inv .2 j (omega (arith, l .inv .1, c .loop-test .left)) ∙ sym (quotas-at words j (omega (arith, l .inv .1))))
 
 pub quotas-of-spec : {M : Type 1} → statement M
-quotas-of-spec = tie.close (tie.spec Inv-loop μ-loop loop-holds entry-in-requires mul-quotas array-set-from-quotas add-i loop-less loop-again returns)
+quotas-of-spec = tie.close (tie.spec Inv-loop μ-loop loop-holds (λ c κs. search needs) (λ c. search needs) (λ c. search needs) (λ c. search needs)
+    (λ c. search needs) loop-again returns)

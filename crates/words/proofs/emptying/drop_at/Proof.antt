@@ -1,5 +1,4 @@
 -- `words::drop_at` meets its contract: the tests are those of a record of the quota.
--- Assumes nothing.
 use borrow.Author.Needs.{needs}
 use mathlib.Core.Path.{_≡_, refl, sym, ap, _∙_}
 use mathlib.Core.Bool.{Bool, true, false, _&&_, and-false}
@@ -12,9 +11,6 @@ use Rattle.words.proofs.Padding.{padded-same}
 use Rattle.words.proofs.emptying.drop_at.Statement.{statement}
 use Rattle.words.proofs.emptying.drop_at.Tie as tie
 
-hold-at-requires : tie.Need-hold-at-requires
-hold-at-requires c κs = search needs
-
 returns : tie.Need-returns
 returns c =
     let h = c .before .before in
@@ -25,9 +21,6 @@ returns c =
       padded-same (a .words .now),
     )
 
-is-used-requires : tie.Need-is-used-requires
-is-used-requires c κs = search needs
-
 returns-2 : tie.Need-returns-2
 returns-2 c =
     let u = c .before in
@@ -36,9 +29,6 @@ returns-2 c =
     let x = h .hold-at .result in
     let no : used x ≡ false = sym (u .is-used .ensures) ∙ not-true _ (c .if2 .taken) in
     (drops-not (a .at) (a .quota) (accounts-of (a .words .now)) x (h .hold-at .ensures) (rw no), padded-same (a .words .now))
-
-drop-hold-requires : tie.Need-drop-hold-requires
-drop-hold-requires c κs = search needs
 
 returns-3 : tie.Need-returns-3
 returns-3 c =
@@ -54,4 +44,4 @@ returns-3 c =
 pub drop-at-spec : {M : Type 1} → statement M
 drop-at-spec =
     tie.close
-    (tie.spec hold-at-requires returns is-used-requires returns-2 drop-hold-requires returns-3)
+    (tie.spec (λ c κs. search needs) returns (λ c κs. search needs) returns-2 (λ c κs. search needs) returns-3)

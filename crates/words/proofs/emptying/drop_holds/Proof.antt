@@ -1,5 +1,4 @@
 -- `words::drop_holds` meets its contract. The loop's invariant: the quota's records before place `i` are dropped, and padding is as it was.
--- Assumes nothing.
 use Prim.Native.Nat.{ℕ, _≤_, _-_}
 use native.Mathlib.Omega.{arith}
 use borrow.Author.Needs.{needs}
@@ -19,15 +18,6 @@ abbrev μ-loop : tie.MeasureT-loop
 
 loop-holds : tie.Need-loop-holds Inv-loop μ-loop
 loop-holds c = let a = c .args in (search needs, drops-none (a .quota) (accounts-of (a .words .now)), padded-same (a .words .now))
-
-drop-at-requires : tie.Need-drop-at-requires Inv-loop μ-loop
-drop-at-requires c κs = search needs
-
-add-i : tie.Need-add-i Inv-loop μ-loop
-add-i c = search needs
-
-loop-less : tie.Need-loop-less Inv-loop μ-loop
-loop-less c = search needs
 
 loop-again : tie.Need-loop-again Inv-loop μ-loop
 loop-again c =
@@ -52,4 +42,4 @@ returns c =
     )
 
 pub drop-holds-spec : {M : Type 1} → statement M
-drop-holds-spec = tie.close (tie.spec Inv-loop μ-loop loop-holds drop-at-requires add-i loop-less loop-again returns)
+drop-holds-spec = tie.close (tie.spec Inv-loop μ-loop loop-holds (λ c κs. search needs) (λ c. search needs) (λ c. search needs) loop-again returns)

@@ -1,5 +1,4 @@
 -- `words::put_holds` meets its contract. The loop's invariant: the records before place `i` are written, and the words before the records are as they were.
--- Assumes nothing.
 use Prim.Native.Nat.{ℕ, _+_, _*_, _≤_, _<_, _-_}
 use native.Mathlib.Omega.{arith}
 use borrow.Author.Needs.{needs}
@@ -21,62 +20,8 @@ Inv-loop words₀ holds i₀ words i =
 abbrev μ-loop : tie.MeasureT-loop
 μ-loop words₀ holds i₀ words i = HOLDS - i
 
-count-requires : tie.Need-count-requires Inv-loop μ-loop
-count-requires c κs = search needs
-
 loop-holds : tie.Need-loop-holds Inv-loop μ-loop
 loop-holds c = (search needs, c .count .ensures .0, below-none _, λ j l. refl)
-
-mul-hold : tie.Need-mul-hold Inv-loop μ-loop
-mul-hold c = search needs
-
-array-copy-out-hold : tie.Need-array-copy-out-hold Inv-loop μ-loop
-array-copy-out-hold c = search needs
-
-wide-requires : tie.Need-wide-requires Inv-loop μ-loop
-wide-requires c κs = search needs
-
-wide-requires-2 : tie.Need-wide-requires-2 Inv-loop μ-loop
-wide-requires-2 c κs = search needs
-
-mul-words : tie.Need-mul-words Inv-loop μ-loop
-mul-words c = search needs
-
-add-words : tie.Need-add-words Inv-loop μ-loop
-add-words c = search needs
-
-mul-words-2 : tie.Need-mul-words-2 Inv-loop μ-loop
-mul-words-2 c = search needs
-
-element-write-words : tie.Need-element-write-words Inv-loop μ-loop
-element-write-words c = search needs
-
-mul-words-3 : tie.Need-mul-words-3 Inv-loop μ-loop
-mul-words-3 c = search needs
-
-add-words-2 : tie.Need-add-words-2 Inv-loop μ-loop
-add-words-2 c = search needs
-
-mul-words-4 : tie.Need-mul-words-4 Inv-loop μ-loop
-mul-words-4 c = search needs
-
-add-words-3 : tie.Need-add-words-3 Inv-loop μ-loop
-add-words-3 c = search needs
-
-add-words-4 : tie.Need-add-words-4 Inv-loop μ-loop
-add-words-4 c = search needs
-
-mul-words-5 : tie.Need-mul-words-5 Inv-loop μ-loop
-mul-words-5 c = search needs
-
-element-write-words-2 : tie.Need-element-write-words-2 Inv-loop μ-loop
-element-write-words-2 c = search needs
-
-add-i : tie.Need-add-i Inv-loop μ-loop
-add-i c = search needs
-
-loop-less : tie.Need-loop-less Inv-loop μ-loop
-loop-less c = search needs
 
 loop-again : tie.Need-loop-again Inv-loop μ-loop
 loop-again c =
@@ -104,24 +49,24 @@ put-holds-spec =
     (tie.spec
     Inv-loop
     μ-loop
-    count-requires
+    (λ c κs. search needs)
     loop-holds
-    mul-hold
-    array-copy-out-hold
-    wide-requires
-    wide-requires-2
-    mul-words
-    add-words
-    mul-words-2
-    element-write-words
-    mul-words-3
-    add-words-2
-    mul-words-4
-    add-words-3
-    add-words-4
-    mul-words-5
-    element-write-words-2
-    add-i
-    loop-less
+    (λ c. search needs)
+    (λ c. search needs)
+    (λ c κs. search needs)
+    (λ c κs. search needs)
+    (λ c. search needs)
+    (λ c. search needs)
+    (λ c. search needs)
+    (λ c. search needs)
+    (λ c. search needs)
+    (λ c. search needs)
+    (λ c. search needs)
+    (λ c. search needs)
+    (λ c. search needs)
+    (λ c. search needs)
+    (λ c. search needs)
+    (λ c. search needs)
+    (λ c. search needs)
     loop-again
     returns)

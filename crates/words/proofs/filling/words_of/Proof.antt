@@ -1,5 +1,4 @@
 -- `words::words_of` meets its contract: each word is written.
--- Assumes nothing.
 use Prim.Native.Nat.{_+_, _*_}
 use native.Mathlib.Omega.{arith}
 use borrow.Author.Needs.{needs}
@@ -29,30 +28,6 @@ packs c =
       edition = omega (arith, g .1 .1 .1 .1 .0 .1);
     }
 
-wide-requires : tie.Need-wide-requires
-wide-requires c κs = search needs
-
-wide-requires-2 : tie.Need-wide-requires-2
-wide-requires-2 c κs = search needs
-
-put-quotas-requires : tie.Need-put-quotas-requires
-put-quotas-requires c κs = search needs
-
-put-holds-requires : tie.Need-put-holds-requires
-put-holds-requires c κs = search needs
-
-array-write-words : tie.Need-array-write-words
-array-write-words c = search needs
-
-mul-words : tie.Need-mul-words
-mul-words c = search needs
-
-add-words : tie.Need-add-words
-add-words c = search needs
-
-array-write-words-2 : tie.Need-array-write-words-2
-array-write-words-2 c = search needs
-
 returns : tie.Need-returns
 returns c =
     let q = c .before .before in
@@ -70,12 +45,12 @@ pub words-of-spec : {M : Type 1} → statement M
 words-of-spec =
     tie.close
     (tie.spec
-    wide-requires
-    wide-requires-2
-    put-quotas-requires
-    put-holds-requires
-    array-write-words
-    mul-words
-    add-words
-    array-write-words-2
+    (λ c κs. search needs)
+    (λ c κs. search needs)
+    (λ c κs. search needs)
+    (λ c κs. search needs)
+    (λ c. search needs)
+    (λ c. search needs)
+    (λ c. search needs)
+    (λ c. search needs)
     returns)

@@ -1,5 +1,4 @@
 -- `words::open` meets its contract. The loop's invariant: the quotas before place `i` have their grants, and no record is used.
--- Assumes nothing.
 use Prim.Native.Nat.{_≤_, _-_}
 use native.Mathlib.Omega.{arith}
 use borrow.Author.Needs.{needs}
@@ -18,28 +17,10 @@ Inv-loop words₀ grants kind edition i₀ words i = (i ≤ QUOTAS) × Granting 
 abbrev μ-loop : tie.MeasureT-loop
 μ-loop words₀ grants kind edition i₀ words i = QUOTAS - i
 
-wipe-requires : tie.Need-wipe-requires Inv-loop μ-loop
-wipe-requires c κs = search needs
-
 loop-holds : tie.Need-loop-holds Inv-loop μ-loop
 loop-holds c =
     let b = c .wipe .ensures in
     (search needs, granting-start (c .before .before .args .t2) _ (blank-zero _ b), blank-unpadded b)
-
-mul-grant : tie.Need-mul-grant Inv-loop μ-loop
-mul-grant c = search needs
-
-array-read-grant : tie.Need-array-read-grant Inv-loop μ-loop
-array-read-grant c = search needs
-
-put-grant-requires : tie.Need-put-grant-requires Inv-loop μ-loop
-put-grant-requires c κs = search needs
-
-add-i : tie.Need-add-i Inv-loop μ-loop
-add-i c = search needs
-
-loop-less : tie.Need-loop-less Inv-loop μ-loop
-loop-less c = search needs
 
 loop-again : tie.Need-loop-again Inv-loop μ-loop
 loop-again c =
@@ -51,15 +32,6 @@ loop-again c =
       granting-more (a .t2) (l .i) (accounts-of (l .words)) _ (l .inv .1) (n .loop-test .taken) (c .put-grant .ensures .0),
       unpadded-on (l .inv .2) (c .put-grant .ensures .1),
     )
-
-number-requires : tie.Need-number-requires Inv-loop μ-loop
-number-requires c κs = search needs
-
-number-requires-2 : tie.Need-number-requires-2 Inv-loop μ-loop
-number-requires-2 c κs = search needs
-
-put-kinds-requires : tie.Need-put-kinds-requires Inv-loop μ-loop
-put-kinds-requires c κs = search needs
 
 returns : tie.Need-returns Inv-loop μ-loop
 returns c =
@@ -82,15 +54,15 @@ open-spec =
     (tie.spec
     Inv-loop
     μ-loop
-    wipe-requires
+    (λ c κs. search needs)
     loop-holds
-    mul-grant
-    array-read-grant
-    put-grant-requires
-    add-i
-    loop-less
+    (λ c. search needs)
+    (λ c. search needs)
+    (λ c κs. search needs)
+    (λ c. search needs)
+    (λ c. search needs)
     loop-again
-    number-requires
-    number-requires-2
-    put-kinds-requires
+    (λ c κs. search needs)
+    (λ c κs. search needs)
+    (λ c κs. search needs)
     returns)

@@ -1,5 +1,4 @@
 -- `words::wipe` meets its contract. The loop's invariant: the words before place `i` are 0.
--- Assumes nothing.
 use Prim.Native.Nat.{ℕ, _≤_, _<_, _-_}
 use native.Mathlib.Omega.{arith}
 use borrow.Author.Needs.{needs}
@@ -21,23 +20,8 @@ Inv-loop words₀ i₀ words i = (i ≤ WORDS) × (length words ≡ WORDS) × ((
 abbrev μ-loop : tie.MeasureT-loop
 μ-loop words₀ i₀ words i = WORDS - i
 
-count-requires : tie.Need-count-requires Inv-loop μ-loop
-count-requires c κs = search needs
-
 loop-holds : tie.Need-loop-holds Inv-loop μ-loop
 loop-holds c = (search needs, c .count .ensures .0, below-none _)
-
-mul-words : tie.Need-mul-words Inv-loop μ-loop
-mul-words c = search needs
-
-element-write-words : tie.Need-element-write-words Inv-loop μ-loop
-element-write-words c = search needs
-
-add-i : tie.Need-add-i Inv-loop μ-loop
-add-i c = search needs
-
-loop-less : tie.Need-loop-less Inv-loop μ-loop
-loop-less c = search needs
 
 loop-again : tie.Need-loop-again Inv-loop μ-loop
 loop-again c =
@@ -59,4 +43,5 @@ returns c =
     all j ws n f false e = List·getD-eq-default ws 0 (omega (arith, n, ltb-false j WORDS e))
 
 pub wipe-spec : {M : Type 1} → statement M
-wipe-spec = tie.close (tie.spec Inv-loop μ-loop count-requires loop-holds mul-words element-write-words add-i loop-less loop-again returns)
+wipe-spec = tie.close (tie.spec Inv-loop μ-loop (λ c κs. search needs) loop-holds (λ c. search needs) (λ c. search needs) (λ c. search needs)
+    (λ c. search needs) loop-again returns)

@@ -1,5 +1,4 @@
 -- `words::left_permissions` meets its contract.
--- Assumes nothing.
 use borrow.Author.Needs.{needs}
 use Prim.Native.Nat.{ℕ}
 use mathlib.Core.Path.{ap, _∙_}
@@ -7,14 +6,8 @@ use Rattle.accounts.specs.Accounts.{cleared}
 use Rattle.words.proofs.readers.left_permissions.Statement.{statement}
 use Rattle.words.proofs.readers.left_permissions.Tie as tie
 
-permissions-requires : tie.Need-permissions-requires
-permissions-requires c κs = search needs
-
-cleared-requires : tie.Need-cleared-requires
-cleared-requires c κs = search needs
-
 returns : tie.Need-returns
 returns c = let a = c .before .before .args in c .cleared .ensures ∙ ap (λ (x : ℕ). cleared (a .bits) x) (c .before .permissions .ensures)
 
 pub left-permissions-spec : {M : Type 1} → statement M
-left-permissions-spec = tie.close (tie.spec permissions-requires cleared-requires returns)
+left-permissions-spec = tie.close (tie.spec (λ c κs. search needs) (λ c κs. search needs) returns)

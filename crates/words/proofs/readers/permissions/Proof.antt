@@ -1,5 +1,4 @@
 -- `words::permissions` meets its contract.
--- Assumes nothing.
 use borrow.Author.Needs.{needs}
 use Prim.Native.Nat.{ℕ, _%_}
 use mathlib.Core.Path.{ap, _∙_}
@@ -10,22 +9,10 @@ use Rattle.words.proofs.readers.permissions.Tie as tie
 returns : tie.Need-returns
 returns c = let a = c .before .args in permissions-none (a .words .now) (a .quota) (c .if1 .taken)
 
-mul-word-at : tie.Need-mul-word-at
-mul-word-at c = search needs
-
-add-word-at : tie.Need-add-word-at
-add-word-at c = search needs
-
-word-at-requires : tie.Need-word-at-requires
-word-at-requires c κs = search needs
-
-cast-result : tie.Need-cast-result
-cast-result c = search needs
-
 returns-2 : tie.Need-returns-2
 returns-2 c = let a = c .before .before .args in ap (λ (x : ℕ). x % 256) (c .word-at .ensures)
     ∙ permissions-is (a .words .now) (a .quota) (c .before .if1 .left)
 
 pub permissions-spec : {M : Type 1} → statement M
 permissions-spec =
-    tie.close (tie.spec returns mul-word-at add-word-at word-at-requires cast-result returns-2)
+    tie.close (tie.spec returns (λ c. search needs) (λ c. search needs) (λ c κs. search needs) (λ c. search needs) returns-2)

@@ -1,5 +1,4 @@
 -- `words::quota_at` meets its contract.
--- Assumes nothing.
 use borrow.Author.Needs.{needs}
 use mathlib.Core.Path.{_∙_}
 use Rattle.words.proofs.Readings.{quota-is, quota-none}
@@ -9,11 +8,8 @@ use Rattle.words.proofs.readers.quota_at.Tie as tie
 returns : tie.Need-returns
 returns c = let a = c .before .args in quota-none (a .words .now) (a .q) (c .if1 .taken)
 
-entry-in-requires : tie.Need-entry-in-requires
-entry-in-requires c κs = search needs
-
 returns-2 : tie.Need-returns-2
 returns-2 c = let a = c .before .before .args in c .entry-in .ensures ∙ quota-is (a .words .now) (a .q) (c .before .if1 .left)
 
 pub quota-at-spec : {M : Type 1} → statement M
-quota-at-spec = tie.close (tie.spec returns entry-in-requires returns-2)
+quota-at-spec = tie.close (tie.spec returns (λ c κs. search needs) returns-2)

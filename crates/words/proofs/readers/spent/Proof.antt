@@ -1,5 +1,4 @@
 -- `words::spent` meets its contract: a difference below 0 is 0.
--- Assumes nothing.
 use borrow.Author.Needs.{needs}
 use native.Mathlib.Omega.{arith}
 use mathlib.Core.Path.{_∙_}
@@ -9,21 +8,6 @@ use Rattle.words.proofs.readers.spent.Tie as tie
 
 returns : tie.Need-returns
 returns c = let a = c .before .args in spent-none (a .words .now) (a .quota) (c .if1 .taken)
-
-mul-word-at : tie.Need-mul-word-at
-mul-word-at c = search needs
-
-word-at-requires : tie.Need-word-at-requires
-word-at-requires c κs = search needs
-
-mul-word-at-2 : tie.Need-mul-word-at-2
-mul-word-at-2 c = search needs
-
-add-word-at : tie.Need-add-word-at
-add-word-at c = search needs
-
-word-at-requires-2 : tie.Need-word-at-requires-2
-word-at-requires-2 c κs = search needs
 
 returns-2 : tie.Need-returns-2
 returns-2 c =
@@ -44,10 +28,10 @@ spent-spec =
     tie.close
     (tie.spec
     returns
-    mul-word-at
-    word-at-requires
-    mul-word-at-2
-    add-word-at
-    word-at-requires-2
+    (λ c. search needs)
+    (λ c κs. search needs)
+    (λ c. search needs)
+    (λ c. search needs)
+    (λ c κs. search needs)
     returns-2
     returns-3)

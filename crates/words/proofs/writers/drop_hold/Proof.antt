@@ -1,5 +1,4 @@
 -- `words::drop_hold` meets its contract.
--- Assumes nothing.
 use borrow.Author.Needs.{needs}
 use mathlib.Core.Path.{ap, _∙_}
 use Rattle.accounts.specs.declared.Hold.{Hold}
@@ -7,12 +6,6 @@ use Rattle.accounts.specs.Accounts.{drop-hold, put-hold}
 use Rattle.words.specs.Words.{accounts-of}
 use Rattle.words.proofs.writers.drop_hold.Statement.{statement}
 use Rattle.words.proofs.writers.drop_hold.Tie as tie
-
-zero-requires : tie.Need-zero-requires
-zero-requires c κs = search needs
-
-put-hold-requires : tie.Need-put-hold-requires
-put-hold-requires c κs = search needs
 
 returns : tie.Need-returns
 unfolding drop-hold
@@ -22,4 +15,4 @@ returns c =
     (c .put-hold .ensures .0 ∙ ap (λ (h : Hold). put-hold (a .at) h (accounts-of (a .words .now))) (z .zero .ensures), c .put-hold .ensures .1)
 
 pub drop-hold-spec : {M : Type 1} → statement M
-drop-hold-spec = tie.close (tie.spec zero-requires put-hold-requires returns)
+drop-hold-spec = tie.close (tie.spec (λ c κs. search needs) (λ c κs. search needs) returns)

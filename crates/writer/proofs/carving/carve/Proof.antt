@@ -1,5 +1,4 @@
 -- `writer::carving::carve` meets its contract: where the test holds there is room for the cut, and where it does not nothing is written.
--- Assumes nothing.
 use mathlib.Core.Path.{sym, _∙_}
 use borrow.Author.Tests.{not-true}
 use Rattle.writer.proofs.Guards.{room-of-test, carves, carves-nothing}
@@ -7,14 +6,8 @@ use borrow.Author.Needs.{needs}
 use Rattle.writer.proofs.carving.carve.Statement.{statement}
 use Rattle.writer.proofs.carving.carve.Tie as tie
 
-has-room-requires : tie.Need-has-room-requires
-has-room-requires c κs = search needs
-
 cut-requires : tie.Need-cut-requires
 cut-requires c κs = room-of-test _ _ _ (sym (c .before .before .has-room .ensures) ∙ c .before .if1 .taken)
-
-same-length : tie.Need-same-length
-same-length c = search needs
 
 returns : tie.Need-returns
 returns c =
@@ -28,4 +21,4 @@ returns-2 c =
     carves-nothing (a .block) (a .base) (a .length) (a .serial) (a .heap .now) (sym (c .before .has-room .ensures) ∙ c .if1 .left)
 
 pub carve-spec : {M : Type 1} → statement M
-carve-spec = tie.close (tie.spec has-room-requires cut-requires same-length returns returns-2)
+carve-spec = tie.close (tie.spec (λ c κs. search needs) cut-requires (λ c. search needs) returns returns-2)

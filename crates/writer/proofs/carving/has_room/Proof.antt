@@ -1,5 +1,4 @@
 -- `writer::carving::has_room` meets its contract: each test that fails denies one of the three facts, and the last one decides.
--- Assumes nothing.
 use native.Mathlib.Omega.{arith}
 use Rattle.writer.proofs.Guards.{no-room, room-left}
 use borrow.Author.Needs.{needs}
@@ -12,14 +11,8 @@ returns c = no-room _ _ _ (λ r. omega (arith, r .inside))
 returns-2 : tie.Need-returns-2
 returns-2 c = no-room _ _ _ (λ r. omega (arith, r .inside))
 
-add-if3 : tie.Need-add-if3
-add-if3 c = search needs
-
 returns-3 : tie.Need-returns-3
 returns-3 c = no-room _ _ _ (λ r. omega (arith, r .low))
-
-add-end : tie.Need-add-end
-add-end c = search needs
 
 returns-4 : tie.Need-returns-4
 returns-4 c = no-room _ _ _ (λ r. omega (arith, r .high))
@@ -28,4 +21,4 @@ returns-5 : tie.Need-returns-5
 returns-5 c = room-left _ _ _ (omega arith) (omega arith) (omega arith)
 
 pub has-room-spec : {M : Type 1} → statement M
-has-room-spec = tie.close (tie.spec returns returns-2 add-if3 returns-3 add-end returns-4 returns-5)
+has-room-spec = tie.close (tie.spec returns returns-2 (λ c. search needs) returns-3 (λ c. search needs) returns-4 returns-5)

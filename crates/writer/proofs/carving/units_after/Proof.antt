@@ -1,5 +1,4 @@
 -- `writer::carving::units_after` meets its contract: the units are those of what is left, or where nothing is left those before.
--- Assumes nothing.
 use Rattle.writer.proofs.Writes.{units-some, units-none}
 use Rattle.writer.proofs.carving.units_after.Statement.{statement}
 use Rattle.writer.proofs.carving.units_after.Tie as tie

@@ -1,5 +1,4 @@
 -- `writer::freeing::is_inside` meets its contract: each test that fails denies one of the five facts, and the last one decides.
--- Assumes nothing.
 use mathlib.Core.Path.{ap}
 use native.Mathlib.Omega.{arith}
 use Rattle.writer.specs.declared.freeing.Room.{Room}
@@ -23,19 +22,10 @@ returns-4 c = not-inside _ _ (λ i. omega (arith, i .header))
 returns-5 : tie.Need-returns-5
 returns-5 c = not-inside _ _ (λ i. omega (arith, i .before))
 
-mul-room-at : tie.Need-mul-room-at
-mul-room-at c = search needs
-
-sub-room-at : tie.Need-sub-room-at
-sub-room-at c = search needs
-
-room-at-requires : tie.Need-room-at-requires
-room-at-requires c κs = search needs
-
 returns-6 : tie.Need-returns-6
 returns-6 c = inside-left _ _ (omega arith) (omega arith) (omega arith) (omega arith) _ (ap (λ (x : Room). x .free) (c .before .before .room-at .ensures))
 
 pub is-inside-spec : {M : Type 1} → statement M
 is-inside-spec =
     tie.close
-    (tie.spec returns returns-2 returns-3 returns-4 returns-5 mul-room-at sub-room-at room-at-requires returns-6)
+    (tie.spec returns returns-2 returns-3 returns-4 returns-5 (λ c. search needs) (λ c. search needs) (λ c κs. search needs) returns-6)

@@ -1,5 +1,4 @@
 -- `writer::freeing::join` meets its contract: where one of the blocks has no bytes nothing is written, and else its three writes are the definition's.
--- Assumes nothing.
 use mathlib.Core.Path.{sym}
 use mathlib.Core.Logic.{inl, inr}
 use borrow.Author.Tests.{lt-ltb}
@@ -15,27 +14,12 @@ returns c = sym (join-none _ _ _ _ _ (inl (c .if1 .taken)))
 returns-2 : tie.Need-returns-2
 returns-2 c = sym (join-none _ _ _ _ _ (inr (c .if2 .taken)))
 
-sub-size : tie.Need-sub-size
-sub-size c = search needs
-
-add-zero-part : tie.Need-add-zero-part
-add-zero-part c = search needs
-
-zero-part-requires : tie.Need-zero-part-requires
-zero-part-requires c κs = search needs
-
-write-header-requires : tie.Need-write-header-requires
-write-header-requires c κs = search needs
-
-put-next-requires : tie.Need-put-next-requires
-put-next-requires c κs = search needs
-
-same-length : tie.Need-same-length
-same-length c = search needs
-
 returns-3 : tie.Need-returns-3
 unfolding join-bytes
-returns-3 c = rw (lt-ltb _ _ (c .before .before .before .before .before .before .before .before .before .before .before .before .before .if1 .left), lt-ltb _ _ (c .before .before .before .before .before .before .before .before .before .before .before .before .if2 .left)) (cc)
+returns-3 c = rw (
+  lt-ltb _ _ (c .before .before .before .before .before .before .before .before .before .before .before .before .before .if1 .left),
+  lt-ltb _ _ (c .before .before .before .before .before .before .before .before .before .before .before .before .if2 .left),
+) (cc)
 
 pub join-spec : {M : Type 1} → statement M
 join-spec =
@@ -43,10 +27,10 @@ join-spec =
     (tie.spec
     returns
     returns-2
-    sub-size
-    add-zero-part
-    zero-part-requires
-    write-header-requires
-    put-next-requires
-    same-length
+    (λ c. search needs)
+    (λ c. search needs)
+    (λ c κs. search needs)
+    (λ c κs. search needs)
+    (λ c κs. search needs)
+    (λ c. search needs)
     returns-3)

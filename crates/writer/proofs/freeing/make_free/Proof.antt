@@ -1,6 +1,5 @@
 -- `writer::freeing::make_free` meets its contract: the rooms are read before anything is written, and then its three steps are the definition's. What
 -- is behind the block ends in the heap, so every place is a small number.
--- Assumes nothing.
 use mathlib.Core.Path.{ap}
 use Prim.Native.Nat.{_+_}
 use Rattle.writer.specs.declared.freeing.Room.{Room}
@@ -11,23 +10,13 @@ use borrow.Author.Needs.{needs}
 use Rattle.writer.proofs.freeing.make_free.Statement.{statement}
 use Rattle.writer.proofs.freeing.make_free.Tie as tie
 
-add-end : tie.Need-add-end
-add-end c = search needs
-
-mul-room-at : tie.Need-mul-room-at
-mul-room-at c = search needs
-
-sub-room-at : tie.Need-sub-room-at
-sub-room-at c = search needs
-
-room-at-requires : tie.Need-room-at-requires
-room-at-requires c κs = search needs
-
-room-at-requires-2 : tie.Need-room-at-requires-2
-room-at-requires-2 c κs = search needs
-
 sub-start : tie.Need-sub-start
-sub-start c = omega (arith, c .before .before .before .before .before .before .pre .front, ap (λ (x : Room). x .free) (c .before .before .before .room-at .ensures))
+sub-start c = omega (
+  arith,
+  c .before .before .before .before .before .before .pre .front,
+  ap (λ (x : Room). x .free)
+      (c .before .before .before .room-at .ensures),
+)
 
 add-stop : tie.Need-add-stop
 add-stop c =
@@ -35,15 +24,6 @@ add-stop c =
     let p = a .pre in
     let r = ap (λ (x : Room). x .free) (c .before .before .room-at2 .ensures) in
     omega (arith, p .end, p .allowed, r, room-ends (a .args .block .at + a .args .block .size) (a .args .heap .now) (p .end))
-
-add-put-object : tie.Need-add-put-object
-add-put-object c = search needs
-
-sub-put-object : tie.Need-sub-put-object
-sub-put-object c = search needs
-
-put-object-requires : tie.Need-put-object-requires
-put-object-requires c κs = search needs
 
 join-requires : tie.Need-join-requires
 join-requires c κs =
@@ -56,36 +36,40 @@ join-requires-2 : tie.Need-join-requires-2
 join-requires-2 c κs =
     let a = c .before .before .before .before .before .before .before .before .before .before .before .before .before .before .before .before in
     let p = a .pre in
-    let r = ap (λ (x : Room). x .free) (c .before .before .before .before .before .before .before .before .before .before .before .room-at2 .ensures) in
+    let r = ap (λ (x : Room). x .free)
+    (c .before .before .before .before .before .before .before .before .before .before .before .room-at2 .ensures) in
     omega (arith, p .end, p .allowed, r, room-ends (a .args .block .at + a .args .block .size) (a .args .heap .now) (p .end))
-
-same-length : tie.Need-same-length
-same-length c = search needs
 
 returns : tie.Need-returns
 unfolding free-end
 returns c =
-    let a = c .before .before .before .before .before .before .before .before .before .before .before .before .before .before .before .before .before .before .before in (
-      freed-is (a .args .block) (a .args .heap .now) (a .pre .header) (c .before .before .before .before .before .before .before .before .before .before .before .before .before .before .before .before .room-at .result) (c .before .before .before .before .before .before .before .before .before .before .before .before .before .before .room-at2 .result) (c .before .before .before .before .before .before .before .before .before .before .before .before .before .before .before .before .room-at .ensures) (c .before .before .before .before .before .before .before .before .before .before .before .before .before .before .room-at2 .ensures) _ _ _
-          (c .before .before .before .before .before .before .before .before .before .before .put-object .ensures) (c .before .before .before .before .before .before .join .ensures) (c .before .before .join2 .ensures),
-      ap (λ (x : Room). a .args .block .at + a .args .block .size + x .free) (c .before .before .before .before .before .before .before .before .before .before .before .before .before .before .room-at2 .ensures),
+    let joined = c .before .before in
+    let joining = joined .before .before .before .before in
+    let put = joining .before .before .before .before in
+    let behind = put .before .before .before .before in
+    let front = behind .before .before in
+    let a = front .before .before .before in (
+      freed-is (a .args .block) (a .args .heap .now) (a .pre .header) (front .room-at .result) (behind .room-at2 .result)
+          (front .room-at .ensures) (behind .room-at2 .ensures) _ _ _ (put .put-object .ensures) (joining .join .ensures)
+          (joined .join2 .ensures),
+      ap (λ (x : Room). a .args .block .at + a .args .block .size + x .free) (behind .room-at2 .ensures),
     )
 
 pub make-free-spec : {M : Type 1} → statement M
 make-free-spec =
     tie.close
     (tie.spec
-    add-end
-    mul-room-at
-    sub-room-at
-    room-at-requires
-    room-at-requires-2
+    (λ c. search needs)
+    (λ c. search needs)
+    (λ c. search needs)
+    (λ c κs. search needs)
+    (λ c κs. search needs)
     sub-start
     add-stop
-    add-put-object
-    sub-put-object
-    put-object-requires
+    (λ c. search needs)
+    (λ c. search needs)
+    (λ c κs. search needs)
     join-requires
     join-requires-2
-    same-length
+    (λ c. search needs)
     returns)

@@ -1,22 +1,9 @@
 -- `writer::writing::put_next` meets its contract: the back size is written where a block starts, and else nothing is.
--- Assumes nothing.
 use Rattle.writer.proofs.Writes.{next-some, next-none}
 use mathlib.Core.Path.{_∙_}
 use borrow.Author.Needs.{needs}
 use Rattle.writer.proofs.writing.put_next.Statement.{statement}
 use Rattle.writer.proofs.writing.put_next.Tie as tie
-
-add-write-u16 : tie.Need-add-write-u16
-add-write-u16 c = search needs
-
-cast-write-u16 : tie.Need-cast-write-u16
-cast-write-u16 c = search needs
-
-write-u16-requires : tie.Need-write-u16-requires
-write-u16-requires c κs = search needs
-
-same-length : tie.Need-same-length
-same-length c = search needs
 
 returns : tie.Need-returns
 returns c =
@@ -33,4 +20,4 @@ returns-2 c =
 pub put-next-spec : {M : Type 1} → statement M
 put-next-spec =
     tie.close
-    (tie.spec add-write-u16 cast-write-u16 write-u16-requires same-length returns returns-2)
+    (tie.spec (λ c. search needs) (λ c. search needs) (λ c κs. search needs) (λ c. search needs) returns returns-2)

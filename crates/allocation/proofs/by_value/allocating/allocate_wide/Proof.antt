@@ -1,6 +1,5 @@
 -- `allocation::by_value::allocate_wide` meets its contract: the survey, the quota's number, its permission and the length are the first lines of allocate, and
 -- past them `grant` gives the definition's outcome.
--- Assumes nothing.
 use borrow.Author.Needs.{needs}
 use native.Mathlib.Omega.{arith}
 use mathlib.Core.Path.{_≡_, refl, sym, _∙_}
@@ -15,24 +14,6 @@ use Rattle.allocation.proofs.Grants.{rounded-by}
 use Rattle.allocation.proofs.Granted.{from-8, refused-check, refused-3, refused-12, refused-4}
 use Rattle.allocation.proofs.by_value.allocating.allocate_wide.Statement.{statement}
 use Rattle.allocation.proofs.by_value.allocating.allocate_wide.Tie as tie
-
-request-requires : tie.Need-request-requires
-request-requires c κs = search needs
-
-survey-of-requires : tie.Need-survey-of-requires
-survey-of-requires c κs = search needs
-
-verdict-requires : tie.Need-verdict-requires
-verdict-requires c κs = search needs
-
-enum-known-refusal : tie.Need-enum-known-refusal
-enum-known-refusal c = search needs
-
-refused-requires : tie.Need-refused-requires
-refused-requires c κs = search needs
-
-same-length : tie.Need-same-length
-same-length c = search needs
 
 returns : tie.Need-returns
 returns c =
@@ -52,12 +33,6 @@ returns c =
 
 enum-told : tie.Need-enum-told
 enum-told c = search needs
-
-refused-requires-2 : tie.Need-refused-requires-2
-refused-requires-2 c κs = search needs
-
-same-length-2 : tie.Need-same-length-2
-same-length-2 c = search needs
 
 returns-2 : tie.Need-returns-2
 returns-2 c =
@@ -94,18 +69,6 @@ checked c =
     let ok = sym (at-verdict .verdict .ensures) ∙ at-enum-told .enum-told .given .1 in
     checked-is u s k v told ok (a .quota) (c .if1 .left)
 
-mul-if2 : tie.Need-mul-if2
-mul-if2 c = search needs
-
-element-copy-out-if2 : tie.Need-element-copy-out-if2
-element-copy-out-if2 c = search needs
-
-refused-requires-3 : tie.Need-refused-requires-3
-refused-requires-3 c κs = search needs
-
-same-length-3 : tie.Need-same-length-3
-same-length-3 c = search needs
-
 returns-3 : tie.Need-returns-3
 returns-3 c =
     let then2 = c .before in
@@ -127,12 +90,6 @@ may c =
     let a = start .args in
     permitted ALLOCATE (a .quota) (a .t2) (c .if2 .left)
 
-refused-requires-4 : tie.Need-refused-requires-4
-refused-requires-4 c κs = search needs
-
-same-length-4 : tie.Need-same-length-4
-same-length-4 c = search needs
-
 returns-4 : tie.Need-returns-4
 returns-4 c =
     let then3 = c .before in
@@ -145,12 +102,6 @@ returns-4 c =
     let u = table (k .edition) in
     let zero = line-4-zero (a .length) (from-8 u s k (a .quota) (a .length)) (then3 .if3 .taken) in
     refused-4 u s k (a .quota) (a .length) (checked else1) (may else2) zero (c .refused4 .result) (c .refused4 .ensures)
-
-refused-requires-5 : tie.Need-refused-requires-5
-refused-requires-5 c κs = search needs
-
-same-length-5 : tie.Need-same-length-5
-same-length-5 c = search needs
 
 returns-5 : tie.Need-returns-5
 returns-5 c =
@@ -191,9 +142,6 @@ grant-requires c κs =
       room = g .known ok .fit;
     }
 
-same-length-6 : tie.Need-same-length-6
-same-length-6 c = search needs
-
 returns-6 : tie.Need-returns-6
 returns-6 c =
     let at-grant = c .before .before in
@@ -219,28 +167,28 @@ pub allocate-wide-spec : {M : Type 1} → statement M
 allocate-wide-spec =
     tie.close
     (tie.spec
-    request-requires
-    survey-of-requires
-    verdict-requires
-    enum-known-refusal
-    refused-requires
-    same-length
+    (λ c κs. search needs)
+    (λ c κs. search needs)
+    (λ c κs. search needs)
+    (λ c. search needs)
+    (λ c κs. search needs)
+    (λ c. search needs)
     returns
     enum-told
-    refused-requires-2
-    same-length-2
+    (λ c κs. search needs)
+    (λ c. search needs)
     returns-2
-    mul-if2
-    element-copy-out-if2
-    refused-requires-3
-    same-length-3
+    (λ c. search needs)
+    (λ c. search needs)
+    (λ c κs. search needs)
+    (λ c. search needs)
     returns-3
-    refused-requires-4
-    same-length-4
+    (λ c κs. search needs)
+    (λ c. search needs)
     returns-4
-    refused-requires-5
-    same-length-5
+    (λ c κs. search needs)
+    (λ c. search needs)
     returns-5
     grant-requires
-    same-length-6
+    (λ c. search needs)
     returns-6)

@@ -1,6 +1,5 @@
 -- `allocation::by_value::grant` meets its contract: each test is a line of the definition behind the first four, in its order; past all of them the object is
 -- cut where the survey found room, and the accounts change as the definition says.
--- Assumes nothing.
 use borrow.Author.Needs.{needs}
 use native.Mathlib.Omega.{arith}
 use Prim.Native.Nat.{_+_}
@@ -28,16 +27,10 @@ add-charge c =
     let start = c .before in
     omega (arith, size-small (start .pre .requested))
 
-mul-if1 : tie.Need-mul-if1
-mul-if1 c = search needs
-
 element-copy-out-if1 : tie.Need-element-copy-out-if1
 element-copy-out-if1 c =
     let start = c .before in
     omega (arith, start .pre .requested .checked .exists)
-
-refused-requires : tie.Need-refused-requires
-refused-requires c κs = search needs
 
 returns : tie.Need-returns
 unfolding remaining
@@ -50,17 +43,8 @@ returns c =
       λ t l. ap (λ (x : HandleResult). any (shares t (a .quota)) (x .accounts .holds)) (c .refused .ensures),
     )
 
-place-requires : tie.Need-place-requires
-place-requires c κs = search needs
-
-enum-known-place : tie.Need-enum-known-place
-enum-known-place c = search needs
-
 enum-told : tie.Need-enum-told
 enum-told c = search needs
-
-refused-requires-2 : tie.Need-refused-requires-2
-refused-requires-2 c κs = search needs
 
 returns-2 : tie.Need-returns-2
 unfolding remaining
@@ -75,9 +59,6 @@ returns-2 c =
       λ n d. unrecorded y d (c .refused2 .result) (omega (arith, else1 .if1 .left)) none (c .refused2 .ensures),
       λ t l. ap (λ (x : HandleResult). any (shares t (a .quota)) (x .accounts .holds)) (c .refused2 .ensures),
     )
-
-refused-requires-3 : tie.Need-refused-requires-3
-refused-requires-3 c κs = search needs
 
 returns-3 : tie.Need-returns-3
 unfolding remaining
@@ -94,21 +75,6 @@ returns-3 c =
       λ n d. unnumbered y d (c .refused3 .result) (omega (arith, else1 .if1 .left)) (i .0 .0) p (omega (arith, then2 .if2 .taken)) (c .refused3 .ensures),
       λ t l. ap (λ (x : HandleResult). any (shares t (a .quota)) (x .accounts .holds)) (c .refused3 .ensures),
     )
-
-room-requires : tie.Need-room-requires
-room-requires c κs = search needs
-
-enum-known-block : tie.Need-enum-known-block
-enum-known-block c = search needs
-
-enum-told-2 : tie.Need-enum-told-2
-enum-told-2 c = search needs
-
-refused-requires-4 : tie.Need-refused-requires-4
-refused-requires-4 c κs = search needs
-
-same-length : tie.Need-same-length
-same-length c = search needs
 
 returns-4 : tie.Need-returns-4
 unfolding remaining
@@ -129,18 +95,6 @@ returns-4 c =
       λ t l. ap (λ (x : HandleResult). any (shares t (a .quota)) (x .accounts .holds)) (c .refused4 .ensures),
     )
 
-add-serial : tie.Need-add-serial
-add-serial c = search needs
-
-carve-requires : tie.Need-carve-requires
-carve-requires c κs = search needs
-
-cast-booked : tie.Need-cast-booked
-cast-booked c = search needs
-
-booked-requires : tie.Need-booked-requires
-booked-requires c κs = search needs
-
 given-requires : tie.Need-given-requires
 given-requires c κs =
     let at-block = c .before .before .before .before .before .before in
@@ -149,9 +103,6 @@ given-requires c κs =
     let b = at-block .block .given in
     let r = room-there (start .pre) (b .0 .0) (b .0 .1 .0) (sym (at-room .room .ensures) ∙ b .1) in
     omega (arith, r .high, r .inside)
-
-same-length-2 : tie.Need-same-length-2
-same-length-2 c = search needs
 
 returns-5 : tie.Need-returns-5
 unfolding remaining
@@ -186,27 +137,27 @@ grant-spec =
     (tie.spec
     cast-length
     add-charge
-    mul-if1
+    (λ c. search needs)
     element-copy-out-if1
-    refused-requires
+    (λ c κs. search needs)
     returns
-    place-requires
-    enum-known-place
+    (λ c κs. search needs)
+    (λ c. search needs)
     enum-told
-    refused-requires-2
+    (λ c κs. search needs)
     returns-2
-    refused-requires-3
+    (λ c κs. search needs)
     returns-3
-    room-requires
-    enum-known-block
-    enum-told-2
-    refused-requires-4
-    same-length
+    (λ c κs. search needs)
+    (λ c. search needs)
+    (λ c. search needs)
+    (λ c κs. search needs)
+    (λ c. search needs)
     returns-4
-    add-serial
-    carve-requires
-    cast-booked
-    booked-requires
+    (λ c. search needs)
+    (λ c κs. search needs)
+    (λ c. search needs)
+    (λ c κs. search needs)
     given-requires
-    same-length-2
+    (λ c. search needs)
     returns-5)

@@ -1,6 +1,5 @@
 -- `allocation::by_value::exchange` meets its contract: lines 5 and 6 refuse as the survey says, what `grant` refuses is refused, and where it gives an object,
 -- the copy and the release that follow make up the definition's outcome.
--- Assumes nothing.
 use borrow.Author.Needs.{needs}
 use Prim.Native.Nat.{ℕ, _+_, _-_, min}
 use native.Mathlib.Omega.{arith}
@@ -45,20 +44,8 @@ limits c =
       serial = checked-serial (table (a .accounts .edition)) (a .heap .now) (a .accounts) (a .wanted .quota) (c .pre .requested .checked);
     }
 
-found-requires : tie.Need-found-requires
-found-requires c κs = search needs
-
-enum-known-old : tie.Need-enum-known-old
-enum-known-old c = search needs
-
 enum-told : tie.Need-enum-told
 enum-told c = search needs
-
-refused-requires : tie.Need-refused-requires
-refused-requires c κs = search needs
-
-same-length : tie.Need-same-length
-same-length c = search needs
 
 returns : tie.Need-returns
 returns c =
@@ -99,15 +86,6 @@ sub-length c =
     let f = block at-old .0 in
     omega (arith, sized at-old, located-old y f .header)
 
-cast-if1 : tie.Need-cast-if1
-cast-if1 c = search needs
-
-refused-requires-2 : tie.Need-refused-requires-2
-refused-requires-2 c κs = search needs
-
-same-length-2 : tie.Need-same-length-2
-same-length-2 c = search needs
-
 returns-2 : tie.Need-returns-2
 returns-2 c =
     let then1 = c .before in
@@ -117,21 +95,6 @@ returns-2 c =
     let f = block at-old .0 in
     let size = ap (λ (x : ℕ). x - 8) (sym (sized at-old)) in
     λ n d. not-whole y f (λ z. then1 .if1 .taken (z ∙ size)) d (c .refused2 .result) (c .refused2 .ensures)
-
-place-requires : tie.Need-place-requires
-place-requires c κs = search needs
-
-enum-known-place : tie.Need-enum-known-place
-enum-known-place c = search needs
-
-enum-told-2 : tie.Need-enum-told-2
-enum-told-2 c = search needs
-
-refused-requires-3 : tie.Need-refused-requires-3
-refused-requires-3 c κs = search needs
-
-same-length-3 : tie.Need-same-length-3
-same-length-3 c = search needs
 
 returns-3 : tie.Need-returns-3
 returns-3 c =
@@ -151,15 +114,6 @@ grant-requires c κs =
     let start = c .before .before .before .before .before .before .before .before .before .before .before .before .before .before in
     grantable (start .pre)
 
-enum-known-answer : tie.Need-enum-known-answer
-enum-known-answer c = search needs
-
-enum-told-3 : tie.Need-enum-told-3
-enum-told-3 c = search needs
-
-same-length-4 : tie.Need-same-length-4
-same-length-4 c = search needs
-
 returns-4 : tie.Need-returns-4
 returns-4 c =
     let at-grant = c .before .before .before .before in
@@ -176,12 +130,6 @@ returns-4 c =
     let g = at-grant .grant in
     λ n d. not-granted y f long (i .0 .0) p d (g .last .0) (g .result) (c .enum-told3 .given .0 .0) (c .enum-told3 .given .1) (g .ensures .0 n d)
 
-cast-shorter : tie.Need-cast-shorter
-cast-shorter c = search needs
-
-shorter-requires : tie.Need-shorter-requires
-shorter-requires c κs = search needs
-
 add-copy-part : tie.Need-add-copy-part
 add-copy-part c =
     let back = c .before .before .before .before .before .before .before .before .before .before .before .before .before .before in
@@ -190,12 +138,6 @@ add-copy-part c =
     let y = start .pre in
     let f = block at-old .0 in
     omega (arith, placed at-old, located-old y f .end)
-
-cast-copy-part : tie.Need-cast-copy-part
-cast-copy-part c = search needs
-
-copy-part-requires : tie.Need-copy-part-requires
-copy-part-requires c κs = search needs
 
 -- the copy is of as many bytes as both objects have
 copied : (c : tie.After-copy-part) →
@@ -243,9 +185,6 @@ drop-claim-requires c κs =
     let t = at-copy-part .copy-part .last .0 in
     subst (λ (x : ℕ). Droppable t (g .result .accounts) (a .wanted .quota) (block-at x t) (i .0 .0) (ltb (a .known .other) HOLDS)) (sym at) z
 
-with-accounts-requires : tie.Need-with-accounts-requires
-with-accounts-requires c κs = search needs
-
 same-length-5 : tie.Need-same-length-5
 same-length-5 c =
     let at-heap3 = c .before .before in
@@ -290,34 +229,34 @@ pub exchange-spec : {M : Type 1} → statement M
 exchange-spec =
     tie.close
     (tie.spec
-    found-requires
-    enum-known-old
+    (λ c κs. search needs)
+    (λ c. search needs)
     enum-told
-    refused-requires
-    same-length
+    (λ c κs. search needs)
+    (λ c. search needs)
     returns
     sub-length
-    cast-if1
-    refused-requires-2
-    same-length-2
+    (λ c. search needs)
+    (λ c κs. search needs)
+    (λ c. search needs)
     returns-2
-    place-requires
-    enum-known-place
-    enum-told-2
-    refused-requires-3
-    same-length-3
+    (λ c κs. search needs)
+    (λ c. search needs)
+    (λ c. search needs)
+    (λ c κs. search needs)
+    (λ c. search needs)
     returns-3
     grant-requires
-    enum-known-answer
-    enum-told-3
-    same-length-4
+    (λ c. search needs)
+    (λ c. search needs)
+    (λ c. search needs)
     returns-4
-    cast-shorter
-    shorter-requires
+    (λ c. search needs)
+    (λ c κs. search needs)
     add-copy-part
-    cast-copy-part
-    copy-part-requires
+    (λ c. search needs)
+    (λ c κs. search needs)
     drop-claim-requires
-    with-accounts-requires
+    (λ c κs. search needs)
     same-length-5
     returns-5)

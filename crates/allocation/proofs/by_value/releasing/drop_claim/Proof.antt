@@ -1,6 +1,5 @@
 -- `allocation::by_value::drop_claim` meets its contract: a count above 1 goes down, and the last hold is refunded and makes the record zero. The block is then
 -- vacated exactly where no other quota has a record for its object.
--- Assumes nothing.
 use borrow.Author.Needs.{needs}
 use Prim.Native.Nat.{_<_}
 use native.Mathlib.Omega.{arith}
@@ -39,15 +38,6 @@ mul-hold c = let p = placed c in search needs
 element-copy-out-hold : tie.Need-element-copy-out-hold
 element-copy-out-hold c = placed c
 
-sub-t19 : tie.Need-sub-t19
-sub-t19 c = search needs
-
-put-hold-requires : tie.Need-put-hold-requires
-put-hold-requires c κs = search needs
-
-given-requires : tie.Need-given-requires
-given-requires c κs = search needs
-
 returns : tie.Need-returns
 unfolding hold-at
 returns c =
@@ -58,9 +48,6 @@ returns c =
     let a = start .args in
     few-dropped (a .heap .now) (a .t2) (octets at-slice-known) (a .quota) (block-at (a .at) (a .heap .now)) (a .place) (a .shared) (start .pre)
     (omega (arith, then1 .if1 .taken)) (at-put-hold .put-hold .result) (at-put-hold .put-hold .ensures) (c .given .result) (c .given .ensures)
-
-block-at-requires : tie.Need-block-at-requires
-block-at-requires c κs = search needs
 
 -- what is known of the block that was read
 droppable : (c : tie.After-block-at) →
@@ -96,18 +83,6 @@ add-charge c =
     let at-block-at = c .before in
     let l = lies at-block-at in omega (arith, l .end, l .allowed)
 
-refund-requires : tie.Need-refund-requires
-refund-requires c κs = search needs
-
-drop-hold-requires : tie.Need-drop-hold-requires
-drop-hold-requires c κs = search needs
-
-given-requires-2 : tie.Need-given-requires-2
-given-requires-2 c κs = search needs
-
-same-length : tie.Need-same-length
-same-length c = search needs
-
 returns-2 : tie.Need-returns-2
 unfolding hold-at
 returns-2 c =
@@ -124,15 +99,6 @@ returns-2 c =
     held-dropped (a .heap .now) (a .t2) (octets at-slice-known) (a .quota) (at-block-at .block-at .result) (a .place) (a .shared) (droppable at-block-at)
     (omega (arith, else1 .if1 .left)) (r .result) (z .result) (r .ensures) (z .ensures) (c .given2 .result) (c .given2 .ensures) (then2 .if2 .taken)
     ∙ ap (λ (x : Met). claim-dropped (a .heap .now) (a .t2) (a .quota) (object-met x)) (at-block-at .block-at .ensures)
-
-vacate-block-requires : tie.Need-vacate-block-requires
-vacate-block-requires c κs = search needs
-
-given-requires-3 : tie.Need-given-requires-3
-given-requires-3 c κs = search needs
-
-same-length-2 : tie.Need-same-length-2
-same-length-2 c = search needs
 
 returns-3 : tie.Need-returns-3
 unfolding hold-at
@@ -160,20 +126,20 @@ drop-claim-spec =
     (tie.spec
     mul-hold
     element-copy-out-hold
-    sub-t19
-    put-hold-requires
-    given-requires
+    (λ c. search needs)
+    (λ c κs. search needs)
+    (λ c κs. search needs)
     returns
-    block-at-requires
+    (λ c κs. search needs)
     sub-length
     cast-length
     add-charge
-    refund-requires
-    drop-hold-requires
-    given-requires-2
-    same-length
+    (λ c κs. search needs)
+    (λ c κs. search needs)
+    (λ c κs. search needs)
+    (λ c. search needs)
     returns-2
-    vacate-block-requires
-    given-requires-3
-    same-length-2
+    (λ c κs. search needs)
+    (λ c κs. search needs)
+    (λ c. search needs)
     returns-3)

@@ -1,6 +1,5 @@
 -- `allocation::by_value::release` meets its contract: the survey, the quota's number, the object and the quota's record are the lines of release, and past them
 -- the hold that is dropped is the definition's.
--- Assumes nothing.
 use borrow.Author.Needs.{needs}
 use Prim.Native.Nat.{ℕ}
 use mathlib.Core.Path.{ap, sym, subst, _∙_}
@@ -16,24 +15,6 @@ use Rattle.allocation.proofs.Releases.{block-missing, block-found, rele
 use Rattle.allocation.proofs.Releases.{released-unheld, released-droppable, released-is}
 use Rattle.allocation.proofs.by_value.releasing.release.Statement.{statement}
 use Rattle.allocation.proofs.by_value.releasing.release.Tie as tie
-
-asked-requires : tie.Need-asked-requires
-asked-requires c κs = search needs
-
-survey-of-requires : tie.Need-survey-of-requires
-survey-of-requires c κs = search needs
-
-verdict-requires : tie.Need-verdict-requires
-verdict-requires c κs = search needs
-
-enum-known-refusal : tie.Need-enum-known-refusal
-enum-known-refusal c = search needs
-
-refused-requires : tie.Need-refused-requires
-refused-requires c κs = search needs
-
-same-length : tie.Need-same-length
-same-length c = search needs
 
 returns : tie.Need-returns
 returns c =
@@ -55,12 +36,6 @@ returns c =
 enum-told : tie.Need-enum-told
 enum-told c = search needs
 
-refused-requires-2 : tie.Need-refused-requires-2
-refused-requires-2 c κs = search needs
-
-same-length-2 : tie.Need-same-length-2
-same-length-2 c = search needs
-
 returns-2 : tie.Need-returns-2
 returns-2 c =
     let then1 = c .before in
@@ -77,21 +52,6 @@ returns-2 c =
     let ok = sym (at-verdict .verdict .ensures) ∙ at-enum-told .enum-told .given .1 in
     released-numbered s k (a .quota) (a .handle) (asked .result) (r .result) (asked .ensures) (r .ensures) ok (then1 .if1 .taken)
     (c .refused2 .result) (c .refused2 .ensures)
-
-found-requires : tie.Need-found-requires
-found-requires c κs = search needs
-
-enum-known-block : tie.Need-enum-known-block
-enum-known-block c = search needs
-
-enum-told-2 : tie.Need-enum-told-2
-enum-told-2 c = search needs
-
-refused-requires-3 : tie.Need-refused-requires-3
-refused-requires-3 c κs = search needs
-
-same-length-3 : tie.Need-same-length-3
-same-length-3 c = search needs
 
 returns-3 : tie.Need-returns-3
 returns-3 c =
@@ -112,21 +72,6 @@ returns-3 c =
     let none = block-missing (r .result .found) (r .result .at) s (sym (at-found .found .ensures) ∙ at-enum-told2 .enum-told2 .given .1) in
     released-missed s k (a .quota) (a .handle) (asked .result) (r .result) (asked .ensures) (r .ensures) ok (else1 .if1 .left) none
     (c .refused3 .result) (c .refused3 .ensures)
-
-place-requires : tie.Need-place-requires
-place-requires c κs = search needs
-
-enum-known-place : tie.Need-enum-known-place
-enum-known-place c = search needs
-
-enum-told-3 : tie.Need-enum-told-3
-enum-told-3 c = search needs
-
-refused-requires-4 : tie.Need-refused-requires-4
-refused-requires-4 c κs = search needs
-
-same-length-4 : tie.Need-same-length-4
-same-length-4 c = search needs
 
 returns-4 : tie.Need-returns-4
 returns-4 c =
@@ -176,9 +121,6 @@ drop-claim-requires c κs =
     let d = released-droppable s k (a .quota) (a .handle) (asked .result) (r .result) (asked .ensures) (r .ensures) ok (else1 .if1 .left) (b .0) (i .0 .0) p in
     subst (λ (x : ℕ). Droppable s k (a .quota) (block-at x s) (i .0 .0) (ltb (r .result .other) HOLDS)) (sym at) d
 
-same-length-5 : tie.Need-same-length-5
-same-length-5 c = search needs
-
 returns-5 : tie.Need-returns-5
 returns-5 c =
     let at-drop-claim = c .before .before in
@@ -210,29 +152,29 @@ pub release-spec : {M : Type 1} → statement M
 release-spec =
     tie.close
     (tie.spec
-    asked-requires
-    survey-of-requires
-    verdict-requires
-    enum-known-refusal
-    refused-requires
-    same-length
+    (λ c κs. search needs)
+    (λ c κs. search needs)
+    (λ c κs. search needs)
+    (λ c. search needs)
+    (λ c κs. search needs)
+    (λ c. search needs)
     returns
     enum-told
-    refused-requires-2
-    same-length-2
+    (λ c κs. search needs)
+    (λ c. search needs)
     returns-2
-    found-requires
-    enum-known-block
-    enum-told-2
-    refused-requires-3
-    same-length-3
+    (λ c κs. search needs)
+    (λ c. search needs)
+    (λ c. search needs)
+    (λ c κs. search needs)
+    (λ c. search needs)
     returns-3
-    place-requires
-    enum-known-place
-    enum-told-3
-    refused-requires-4
-    same-length-4
+    (λ c κs. search needs)
+    (λ c. search needs)
+    (λ c. search needs)
+    (λ c κs. search needs)
+    (λ c. search needs)
     returns-4
     drop-claim-requires
-    same-length-5
+    (λ c. search needs)
     returns-5)

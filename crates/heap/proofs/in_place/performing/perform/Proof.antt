@@ -1,6 +1,5 @@
 -- `heap::in_place::perform` meets its contract: each arm makes the call of its name, whose promise is the definition
 -- that `step` gives for it.
--- Assumes nothing.
 use mathlib.Core.Path.{ap}
 use Rattle.words.proofs.Padding.{padded-same}
 use Rattle.model.specs.Answers.{answer-of}

@@ -1,6 +1,5 @@
 -- `holding::by_value::claim` meets its contract: the survey, the quota, its permission and the object decide in the order of claim's lines, and then the place
 -- of the quota's record picks the way of the claim. The block lies in the heap, so its length is short and the charge fits.
--- Assumes nothing.
 use native.Mathlib.Omega.{arith}
 use mathlib.Core.Path.{_≡_, sym, subst, _∙_}
 use mathlib.Core.Bool.{true}
@@ -62,21 +61,6 @@ finds c = looks (c .before .before) ∙ c .block .given .1
 lies : (c : tie.After-block) → Located (entry (able c) .args .heap .now) (entry (able c) .args .handle) (object c)
 lies c = claim-located (surveyed (survey (told (able c)))) (accepts (told (able c))) (object c) (finds c)
 
-asked-requires : tie.Need-asked-requires
-asked-requires c κs = search needs
-
-survey-of-requires : tie.Need-survey-of-requires
-survey-of-requires c κs = search needs
-
-verdict-requires : tie.Need-verdict-requires
-verdict-requires c κs = search needs
-
-enum-known-refusal : tie.Need-enum-known-refusal
-enum-known-refusal c = search needs
-
-refused-requires : tie.Need-refused-requires
-refused-requires c κs = search needs
-
 returns : tie.Need-returns
 returns c =
     let x = c .before .before .refusal .given in
@@ -86,40 +70,16 @@ returns c =
 enum-told : tie.Need-enum-told
 enum-told c = search needs
 
-refused-requires-2 : tie.Need-refused-requires-2
-refused-requires-2 c κs = search needs
-
 returns-2 : tie.Need-returns-2
 returns-2 c =
     let t = c .before .before in
     claim-numbered (surveyed (survey t)) (accepts t) (c .before .if1 .taken) (c .refused2 .result) (c .refused2 .ensures)
-
-mul-if2 : tie.Need-mul-if2
-mul-if2 c = search needs
-
-element-copy-out-if2 : tie.Need-element-copy-out-if2
-element-copy-out-if2 c = search needs
-
-refused-requires-3 : tie.Need-refused-requires-3
-refused-requires-3 c κs = search needs
 
 returns-3 : tie.Need-returns-3
 returns-3 c =
     let f = c .before .before in
     let t = f .before in
     claim-barred (surveyed (survey t)) (accepts t) (f .if1 .left) (c .before .if2 .taken) (c .refused3 .result) (c .refused3 .ensures)
-
-found-requires : tie.Need-found-requires
-found-requires c κs = search needs
-
-enum-known-block : tie.Need-enum-known-block
-enum-known-block c = search needs
-
-enum-told-2 : tie.Need-enum-told-2
-enum-told-2 c = search needs
-
-refused-requires-4 : tie.Need-refused-requires-4
-refused-requires-4 c κs = search needs
 
 returns-4 : tie.Need-returns-4
 returns-4 c =
@@ -135,15 +95,6 @@ sub-length c = let l = lies (c .before .before) in omega (arith, l .header)
 cast-length : tie.Need-cast-length
 cast-length c = let l = lies (c .before .before) in record { fits = omega (arith, l .header, l .end) }
 
-place-requires : tie.Need-place-requires
-place-requires c κs = search needs
-
-enum-known-at : tie.Need-enum-known-at
-enum-known-at c = search needs
-
-claim-again-requires : tie.Need-claim-again-requires
-claim-again-requires c κs = search needs
-
 returns-5 : tie.Need-returns-5
 returns-5 c =
     let p = c .before .before in
@@ -153,15 +104,6 @@ returns-5 c =
     let t = told e in
     claimed-again (surveyed (survey t)) (accepts t) (e .before .if1 .left) (may e) (object b) (finds b) (p .at .given .0 .0)
     (sym (d .place .ensures) ∙ p .at .given .1) (c .claim-again .result) (c .claim-again .ensures)
-
-enum-told-3 : tie.Need-enum-told-3
-enum-told-3 c = search needs
-
-cast-t23 : tie.Need-cast-t23
-cast-t23 c = search needs
-
-place-requires-2 : tie.Need-place-requires-2
-place-requires-2 c κs = search needs
 
 claim-first-requires : tie.Need-claim-first-requires
 claim-first-requires c κs =
@@ -184,32 +126,32 @@ pub claim-spec : {M : Type 1} → statement M
 claim-spec =
     tie.close
     (tie.spec
-    asked-requires
-    survey-of-requires
-    verdict-requires
-    enum-known-refusal
-    refused-requires
+    (λ c κs. search needs)
+    (λ c κs. search needs)
+    (λ c κs. search needs)
+    (λ c. search needs)
+    (λ c κs. search needs)
     returns
     enum-told
-    refused-requires-2
+    (λ c κs. search needs)
     returns-2
-    mul-if2
-    element-copy-out-if2
-    refused-requires-3
+    (λ c. search needs)
+    (λ c. search needs)
+    (λ c κs. search needs)
     returns-3
-    found-requires
-    enum-known-block
-    enum-told-2
-    refused-requires-4
+    (λ c κs. search needs)
+    (λ c. search needs)
+    (λ c. search needs)
+    (λ c κs. search needs)
     returns-4
     sub-length
     cast-length
-    place-requires
-    enum-known-at
-    claim-again-requires
+    (λ c κs. search needs)
+    (λ c. search needs)
+    (λ c κs. search needs)
     returns-5
-    enum-told-3
-    cast-t23
-    place-requires-2
+    (λ c. search needs)
+    (λ c. search needs)
+    (λ c κs. search needs)
     claim-first-requires
     returns-6)

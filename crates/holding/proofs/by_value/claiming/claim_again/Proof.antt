@@ -1,5 +1,4 @@
 -- `holding::by_value::claim_again` meets its contract: the test is on the count of the record at the place, and a count below 255 has room for one more.
--- Assumes nothing.
 use mathlib.Core.Path.{ap, _∙_}
 use borrow.Author.Needs.{needs}
 use Rattle.holding.specs.Claims.{claimed-length}
@@ -7,23 +6,11 @@ use Rattle.holding.proofs.Claims.{again-limit, again-raises}
 use Rattle.holding.proofs.by_value.claiming.claim_again.Statement.{statement}
 use Rattle.holding.proofs.by_value.claiming.claim_again.Tie as tie
 
-hold-at-requires : tie.Need-hold-at-requires
-hold-at-requires c κs = search needs
-
-refused-requires : tie.Need-refused-requires
-refused-requires c κs = search needs
-
 returns : tie.Need-returns
 returns c =
     let k = c .before .before .before in
     let a = k .before .args in
     c .refused .ensures ∙ again-limit (a .at) (a .length) (a .accounts) (k .hold-at .result) (k .hold-at .ensures) (c .before .if1 .taken)
-
-add-t8 : tie.Need-add-t8
-add-t8 c = search needs
-
-put-hold-requires : tie.Need-put-hold-requires
-put-hold-requires c κs = search needs
 
 returns-2 : tie.Need-returns-2
 returns-2 c =
@@ -35,4 +22,4 @@ returns-2 c =
 pub claim-again-spec : {M : Type 1} → statement M
 claim-again-spec =
     tie.close
-    (tie.spec hold-at-requires refused-requires returns add-t8 put-hold-requires returns-2)
+    (tie.spec (λ c κs. search needs) (λ c κs. search needs) returns (λ c. search needs) (λ c κs. search needs) returns-2)

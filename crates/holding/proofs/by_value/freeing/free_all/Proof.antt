@@ -1,6 +1,5 @@
 -- `holding::by_value::free_all` meets its contract. Each refusal is the first line that holds: the check's, the quota's number, and its permission. Past them
 -- the accounts are those that the definition leaves, and the blocks that the records left do not hold are freed (`all-freed`).
--- Assumes nothing.
 use borrow.Author.Needs.{needs}
 use Prim.Native.Nat.{ℕ}
 use mathlib.Core.Path.{_≡_, refl, ap}
@@ -36,18 +35,6 @@ sized c =
       holds-long = simp length-map at (c .good .1 .0 .1 .1 .1 .1 .0 .1 .0 .1);
     }
 
-check-requires : tie.Need-check-requires
-check-requires c κs = search needs
-
-enum-known-refusal : tie.Need-enum-known-refusal
-enum-known-refusal c = search needs
-
-refused-requires : tie.Need-refused-requires
-refused-requires c κs = search needs
-
-same-length : tie.Need-same-length
-same-length c = search needs
-
 returns : tie.Need-returns
 returns c =
     let a = c .before .before .before .before .before .before .before .args in
@@ -59,12 +46,6 @@ returns c =
 enum-told : tie.Need-enum-told
 enum-told c = search needs
 
-refused-requires-2 : tie.Need-refused-requires-2
-refused-requires-2 c κs = search needs
-
-same-length-2 : tie.Need-same-length-2
-same-length-2 c = search needs
-
 returns-2 : tie.Need-returns-2
 returns-2 c =
     let a = c .before .before .before .before .before .before .before .args in
@@ -72,18 +53,6 @@ returns-2 c =
     all-refuses (table (a .t2 .edition)) (a .heap .now) (a .t2) (a .quota) (c .refused2 .result) QuotaNumber (c .refused2 .ensures)
     (all-by-quota (table (a .t2 .edition)) (a .heap .now) (a .t2) (a .quota) (k .result) (k .ensures) (c .before .before .enum-told .given .1)
     (c .before .if1 .taken))
-
-mul-if2 : tie.Need-mul-if2
-mul-if2 c = search needs
-
-element-copy-out-if2 : tie.Need-element-copy-out-if2
-element-copy-out-if2 c = search needs
-
-refused-requires-3 : tie.Need-refused-requires-3
-refused-requires-3 c κs = search needs
-
-same-length-3 : tie.Need-same-length-3
-same-length-3 c = search needs
 
 returns-3 : tie.Need-returns-3
 returns-3 c =
@@ -93,21 +62,6 @@ returns-3 c =
     all-refuses (table (a .t2 .edition)) (a .heap .now) (a .t2) (a .quota) (c .refused3 .result) NotPermitted (c .refused3 .ensures)
     (all-by-permission (table (a .t2 .edition)) (a .heap .now) (a .t2) (a .quota) (k .result) (k .ensures) (f .before .enum-told .given .1) (f .if1 .left)
     (c .before .if2 .taken))
-
-spent-requires : tie.Need-spent-requires
-spent-requires c κs = search needs
-
-refund-requires : tie.Need-refund-requires
-refund-requires c κs = search needs
-
-cast-drop-holds : tie.Need-cast-drop-holds
-cast-drop-holds c = search needs
-
-drop-holds-requires : tie.Need-drop-holds-requires
-drop-holds-requires c κs = search needs
-
-words-of-requires : tie.Need-words-of-requires
-words-of-requires c κs = search needs
 
 -- what is done to the accounts before blocks are freed
 abbrev dropped : tie.After-words → tie.After-drop-holds
@@ -158,12 +112,6 @@ walked c =
 free-unheld-requires : tie.Need-free-unheld-requires
 free-unheld-requires c κs = walked c .0
 
-given-requires : tie.Need-given-requires
-given-requires c κs = search needs
-
-same-length-4 : tie.Need-same-length-4
-same-length-4 c = search needs
-
 returns-4 : tie.Need-returns-4
 returns-4 c =
     let w = c .before .before .before in
@@ -173,26 +121,26 @@ pub free-all-spec : {M : Type 1} → statement M
 free-all-spec =
     tie.close
     (tie.spec
-    check-requires
-    enum-known-refusal
-    refused-requires
-    same-length
+    (λ c κs. search needs)
+    (λ c. search needs)
+    (λ c κs. search needs)
+    (λ c. search needs)
     returns
     enum-told
-    refused-requires-2
-    same-length-2
+    (λ c κs. search needs)
+    (λ c. search needs)
     returns-2
-    mul-if2
-    element-copy-out-if2
-    refused-requires-3
-    same-length-3
+    (λ c. search needs)
+    (λ c. search needs)
+    (λ c κs. search needs)
+    (λ c. search needs)
     returns-3
-    spent-requires
-    refund-requires
-    cast-drop-holds
-    drop-holds-requires
-    words-of-requires
+    (λ c κs. search needs)
+    (λ c κs. search needs)
+    (λ c. search needs)
+    (λ c κs. search needs)
+    (λ c κs. search needs)
     free-unheld-requires
-    given-requires
-    same-length-4
+    (λ c κs. search needs)
+    (λ c. search needs)
     returns-4)

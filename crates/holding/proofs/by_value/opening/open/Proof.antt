@@ -1,5 +1,4 @@
 -- `holding::by_value::open` meets its contract: a length that is not allowed is refused, and else the cleared bytes are the definition's one block.
--- Assumes nothing.
 use mathlib.Core.Path.{sym, _∙_}
 use borrow.Author.Tests.{not-true, not-false}
 use Rattle.holding.proofs.Cleared.{open-refused, open-accepted}
@@ -7,27 +6,12 @@ use borrow.Author.Needs.{needs}
 use Rattle.holding.proofs.by_value.opening.open.Statement.{statement}
 use Rattle.holding.proofs.by_value.opening.open.Tie as tie
 
-is-allowed-requires : tie.Need-is-allowed-requires
-is-allowed-requires c κs = search needs
-
-zero-requires : tie.Need-zero-requires
-zero-requires c κs = search needs
-
 returns : tie.Need-returns
 returns c =
     let k = c .before .before in
     let a = k .before .before .args in
     open-refused (a .settings) (a .heap .now) (a .grants) (c .zero .result) (c .zero .ensures)
     (sym (k .is-allowed .ensures) ∙ not-true (k .is-allowed .result) (c .before .if1 .taken))
-
-clear-requires : tie.Need-clear-requires
-clear-requires c κs = search needs
-
-open-requires : tie.Need-open-requires
-open-requires c κs = search needs
-
-same-length : tie.Need-same-length
-same-length c = search needs
 
 returns-2 : tie.Need-returns-2
 returns-2 c =
@@ -42,10 +26,10 @@ pub open-spec : {M : Type 1} → statement M
 open-spec =
     tie.close
     (tie.spec
-    is-allowed-requires
-    zero-requires
+    (λ c κs. search needs)
+    (λ c κs. search needs)
     returns
-    clear-requires
-    open-requires
-    same-length
+    (λ c κs. search needs)
+    (λ c κs. search needs)
+    (λ c. search needs)
     returns-2)

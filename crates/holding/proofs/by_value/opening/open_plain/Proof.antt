@@ -1,17 +1,10 @@
 -- `holding::by_value::open_plain` meets its contract: it opens with the settings of a plain heap.
--- Assumes nothing.
 use borrow.Author.Needs.{needs}
 use Rattle.holding.proofs.by_value.opening.open_plain.Statement.{statement}
 use Rattle.holding.proofs.by_value.opening.open_plain.Tie as tie
-
-open-requires : tie.Need-open-requires
-open-requires c κs = search needs
-
-same-length : tie.Need-same-length
-same-length c = search needs
 
 returns : tie.Need-returns
 returns c = c .before .before .«open» .ensures
 
 pub open-plain-spec : {M : Type 1} → statement M
-open-plain-spec = tie.close (tie.spec open-requires same-length returns)
+open-plain-spec = tie.close (tie.spec (λ c κs. search needs) (λ c. search needs) returns)

@@ -1,19 +1,9 @@
 -- `holding::by_value::clear_permissions` meets its contract: the check decides first, then the quota's number, and else the accounts are the definition's.
--- Assumes nothing.
 use borrow.Author.Needs.{needs}
 use Rattle.rounding.specs.Rounding.{table}
 use Rattle.holding.proofs.Barred.{clear-checked, clear-numbered, clear-gives}
 use Rattle.holding.proofs.by_value.permissions.clear_permissions.Statement.{statement}
 use Rattle.holding.proofs.by_value.permissions.clear_permissions.Tie as tie
-
-check-requires : tie.Need-check-requires
-check-requires c κs = search needs
-
-enum-known-refusal : tie.Need-enum-known-refusal
-enum-known-refusal c = search needs
-
-refused-requires : tie.Need-refused-requires
-refused-requires c κs = search needs
 
 returns : tie.Need-returns
 returns c =
@@ -26,9 +16,6 @@ returns c =
 enum-told : tie.Need-enum-told
 enum-told c = search needs
 
-refused-requires-2 : tie.Need-refused-requires-2
-refused-requires-2 c κs = search needs
-
 returns-2 : tie.Need-returns-2
 returns-2 c =
     let e = c .before .before in
@@ -36,18 +23,6 @@ returns-2 c =
     let k = e .before .before .check in
     clear-numbered (table (a .accounts .edition)) (a .heap .now) (a .accounts) (a .quota) (a .bits) (k .result) (k .ensures) (e .enum-told .given .1)
     (c .before .if1 .taken) (c .refused2 .result) (c .refused2 .ensures)
-
-left-permissions-requires : tie.Need-left-permissions-requires
-left-permissions-requires c κs = search needs
-
-clear-permissions-requires : tie.Need-clear-permissions-requires
-clear-permissions-requires c κs = search needs
-
-cast-given : tie.Need-cast-given
-cast-given c = search needs
-
-given-requires : tie.Need-given-requires
-given-requires c κs = search needs
 
 returns-3 : tie.Need-returns-3
 returns-3 c =
@@ -65,15 +40,15 @@ pub clear-permissions-spec : {M : Type 1} → statement M
 clear-permissions-spec =
     tie.close
     (tie.spec
-    check-requires
-    enum-known-refusal
-    refused-requires
+    (λ c κs. search needs)
+    (λ c. search needs)
+    (λ c κs. search needs)
     returns
     enum-told
-    refused-requires-2
+    (λ c κs. search needs)
     returns-2
-    left-permissions-requires
-    clear-permissions-requires
-    cast-given
-    given-requires
+    (λ c κs. search needs)
+    (λ c κs. search needs)
+    (λ c. search needs)
+    (λ c κs. search needs)
     returns-3)

@@ -1,6 +1,5 @@
 -- `holding::by_value::sweep` meets its contract. The refusal is the check's. Past it the heap is that of its blocks, so the walk may start, and leaves the
 -- swept blocks.
--- Assumes nothing.
 use Rattle.rounding.specs.Rounding.{table}
 use borrow.Author.Needs.{needs}
 use native.Mathlib.Omega.{arith}
@@ -13,18 +12,6 @@ use Rattle.holding.proofs.by_value.sweeping.sweep.Tie as tie
 -- the heap's bytes are bytes
 octets : (c : tie.After-slice-known) → Octets (c .before .args .heap .now)
 octets c i = c .slice-known .given i .fits
-
-check-requires : tie.Need-check-requires
-check-requires c κs = search needs
-
-enum-known-refusal : tie.Need-enum-known-refusal
-enum-known-refusal c = search needs
-
-refused-requires : tie.Need-refused-requires
-refused-requires c κs = search needs
-
-same-length : tie.Need-same-length
-same-length c = search needs
 
 returns : tie.Need-returns
 returns c =
@@ -59,12 +46,6 @@ cast-given c =
     in
     omega (arith, w .sweep-blocks .ensures (p .0) (p .1) .2)
 
-given-requires : tie.Need-given-requires
-given-requires c κs = search needs
-
-same-length-2 : tie.Need-same-length-2
-same-length-2 c = search needs
-
 returns-2 : tie.Need-returns-2
 returns-2 c =
     let w = c .before .before .before in
@@ -79,14 +60,14 @@ pub sweep-spec : {M : Type 1} → statement M
 sweep-spec =
     tie.close
     (tie.spec
-    check-requires
-    enum-known-refusal
-    refused-requires
-    same-length
+    (λ c κs. search needs)
+    (λ c. search needs)
+    (λ c κs. search needs)
+    (λ c. search needs)
     returns
     enum-told
     sweep-blocks-requires
     cast-given
-    given-requires
-    same-length-2
+    (λ c κs. search needs)
+    (λ c. search needs)
     returns-2)

@@ -1,5 +1,4 @@
 -- The quotas, the last serial, the records, the kind and the edition are put one after the other; each leaves what was put before it.
--- Assumes nothing.
 use mathlib.Core.Path.{refl, ap, _∙_}
 use borrow.Author.Needs.{needs}
 use native.Mathlib.Omega.{arith}
@@ -12,19 +11,10 @@ use Rattle.image.proofs.Said.{accounts-read}
 use Rattle.image.proofs.in_place.reading.put_accounts.Statement.{statement}
 use Rattle.image.proofs.in_place.reading.put_accounts.Tie as tie
 
-put-blank-requires : tie.Need-put-blank-requires
-put-blank-requires c κs = search needs
-
 put-entries-requires : tie.Need-put-entries-requires
 put-entries-requires c κs =
     let b = c .before in
     (b .before .before .before .pre .quotas, λ (f : Form). ap (λ (k : Accounts). k .quotas) (b .put-blank .ensures .0 f))
-
-read-quad-requires : tie.Need-read-quad-requires
-read-quad-requires c κs = search needs
-
-set-last-serial-requires : tie.Need-set-last-serial-requires
-set-last-serial-requires c κs = search needs
 
 entry-at-requires : tie.Need-entry-at-requires
 entry-at-requires c κs = c .before .before .before .before .before .before .before .before .before .pre .quotas
@@ -41,15 +31,6 @@ put-records-requires c κs =
           ap (λ (k : Accounts). k .holds) (l .set-last-serial .ensures .0) ∙ ap (λ (k : Accounts). k .holds) (e .put-entries .ensures .0 (s .args .form) refl)
           ∙ ap (λ (k : Accounts). k .holds) (b .put-blank .ensures .0 f),
     )
-
-read-kind-requires : tie.Need-read-kind-requires
-read-kind-requires c κs = search needs
-
-read-edition-requires : tie.Need-read-edition-requires
-read-edition-requires c κs = search needs
-
-put-kinds-requires : tie.Need-put-kinds-requires
-put-kinds-requires c κs = search needs
 
 returns : tie.Need-returns
 unfolding tail-width
@@ -82,13 +63,13 @@ pub put-accounts-spec : {M : Type 1} → statement M
 put-accounts-spec =
     tie.close
     (tie.spec
-    put-blank-requires
+    (λ c κs. search needs)
     put-entries-requires
-    read-quad-requires
-    set-last-serial-requires
+    (λ c κs. search needs)
+    (λ c κs. search needs)
     entry-at-requires
     put-records-requires
-    read-kind-requires
-    read-edition-requires
-    put-kinds-requires
+    (λ c κs. search needs)
+    (λ c κs. search needs)
+    (λ c κs. search needs)
     returns)

@@ -1,5 +1,4 @@
 -- The invariant: the first `i` quotas are read and the others blank (`read-more`). The measure is what is left of them.
--- Assumes nothing.
 use native.Mathlib.Omega.{arith}
 use mathlib.Core.Path.{_≡_, refl, ap, _∙_}
 use Prim.Native.Nat.{ℕ, _-_, _≤_}
@@ -38,17 +37,8 @@ loop-holds c =
     let s = c .before in
     (omega arith, λ (f : Form) e. ap (λ (qs : List Quota). with-quotas qs (accounts-of (s .args .words .now))) (s .pre .1 f), padded-same (s .args .words .now))
 
-entry-at-requires : tie.Need-entry-at-requires Inv-loop μ-loop
-entry-at-requires c κs = search needs
-
 read-entry-requires : tie.Need-read-entry-requires Inv-loop μ-loop
 read-entry-requires c κs = omega (arith, c .entry-at .ensures .1)
-
-put-quota-requires : tie.Need-put-quota-requires Inv-loop μ-loop
-put-quota-requires c κs = search needs
-
-add-i : tie.Need-add-i Inv-loop μ-loop
-add-i c = search needs
 
 loop-less : tie.Need-loop-less Inv-loop μ-loop
 loop-less c = omega arith
@@ -87,10 +77,10 @@ put-entries-spec =
     Inv-loop
     μ-loop
     loop-holds
-    entry-at-requires
+    (λ c κs. search needs)
     read-entry-requires
-    put-quota-requires
-    add-i
+    (λ c κs. search needs)
+    (λ c. search needs)
     loop-less
     loop-again
     returns)

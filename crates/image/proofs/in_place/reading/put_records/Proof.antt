@@ -1,5 +1,4 @@
 -- The invariant: the first `i` records are read and the others blank (`read-more`). The measure is what is left of them.
--- Assumes nothing.
 use native.Mathlib.Omega.{arith}
 use mathlib.Core.Path.{_≡_, refl, ap, sym, _∙_}
 use Prim.Native.Nat.{ℕ, _*_, _-_, _≤_}
@@ -37,21 +36,6 @@ loop-holds c =
     let s = c .before in
     (omega arith, λ (f : Form). ap (λ (hs : List Hold). with-holds hs (accounts-of (s .args .words .now))) (s .pre .2 f), padded-same (s .args .words .now))
 
-mul-read-record : tie.Need-mul-read-record Inv-loop μ-loop
-mul-read-record c = search needs
-
-add-read-record : tie.Need-add-read-record Inv-loop μ-loop
-add-read-record c = search needs
-
-read-record-requires : tie.Need-read-record-requires Inv-loop μ-loop
-read-record-requires c κs = search needs
-
-put-hold-requires : tie.Need-put-hold-requires Inv-loop μ-loop
-put-hold-requires c κs = search needs
-
-add-i : tie.Need-add-i Inv-loop μ-loop
-add-i c = search needs
-
 loop-less : tie.Need-loop-less Inv-loop μ-loop
 loop-less c = omega arith
 
@@ -86,11 +70,11 @@ put-records-spec =
     Inv-loop
     μ-loop
     loop-holds
-    mul-read-record
-    add-read-record
-    read-record-requires
-    put-hold-requires
-    add-i
+    (λ c. search needs)
+    (λ c. search needs)
+    (λ c κs. search needs)
+    (λ c κs. search needs)
+    (λ c. search needs)
     loop-less
     loop-again
     returns)

@@ -1,5 +1,4 @@
 -- An image that its own bytes refuse is refused; of another the rest is `restore`.
--- Assumes nothing.
 use mathlib.Core.Path.{_∙_}
 use borrow.Author.Needs.{needs}
 use Rattle.framing.specs.Frames.{stream-of}
@@ -9,12 +8,6 @@ use Rattle.image.proofs.Parses.{Found, shape-found, shape-refused, foun
 use Rattle.image.proofs.Restores.{read-refused, read-restored}
 use Rattle.image.proofs.in_place.reading.read_image.Statement.{statement}
 use Rattle.image.proofs.in_place.reading.read_image.Tie as tie
-
-shape-of-requires : tie.Need-shape-of-requires
-shape-of-requires c κs = search needs
-
-enum-known-shape : tie.Need-enum-known-shape
-enum-known-shape c = search needs
 
 -- what the image was found to be
 found : (c : tie.After-shape)
@@ -29,15 +22,6 @@ restore-requires : tie.Need-restore-requires
 restore-requires c κs =
     let s = c .before .before .before in
     (found-fits _ _ _ _ (found s), found-allowed _ _ _ _ (found s))
-
-enum-known-shape-2 : tie.Need-enum-known-shape-2
-enum-known-shape-2 c = search needs
-
-refused-requires : tie.Need-refused-requires
-refused-requires c κs = search needs
-
-same-length : tie.Need-same-length
-same-length c = search needs
 
 returns : tie.Need-returns
 returns c =
@@ -62,11 +46,11 @@ pub read-image-spec : {M : Type 1} → statement M
 read-image-spec =
     tie.close
     (tie.spec
-    shape-of-requires
-    enum-known-shape
+    (λ c κs. search needs)
+    (λ c. search needs)
     restore-requires
-    enum-known-shape-2
-    refused-requires
-    same-length
+    (λ c. search needs)
+    (λ c κs. search needs)
+    (λ c. search needs)
     returns
     returns-2)

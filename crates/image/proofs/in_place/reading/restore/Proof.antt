@@ -1,5 +1,4 @@
 -- 25 by the length, 26 by the check, else the copy (`Restores`).
--- Assumes nothing.
 use mathlib.Core.Path.{_≡_, ap, _∙_}
 use mathlib.Core.List.{List}
 use Prim.Native.Nat.{ℕ}
@@ -23,15 +22,6 @@ stream c = stream-of (c .args .image .now)
 abbrev said : tie.Start → Accounts
 said c = accounts-said (c .args .form) (stream c)
 
-heap-at-requires : tie.Need-heap-at-requires
-heap-at-requires c κs = search needs
-
-cast-from : tie.Need-cast-from
-cast-from c = search needs
-
-refused-requires : tie.Need-refused-requires
-refused-requires c κs = search needs
-
 returns : tie.Need-returns
 returns c =
     let t = c .before .before in
@@ -41,12 +31,6 @@ returns c =
           ∙ restore-room (s .args .form) (s .args .size) (stream s) (s .args .heap .now) (said s) (t .if1 .taken),
       e .1 .1,
     )
-
-put-accounts-requires : tie.Need-put-accounts-requires
-put-accounts-requires c κs = search needs
-
-is-sound-in-requires : tie.Need-is-sound-in-requires
-is-sound-in-requires c κs = search needs
 
 -- where the heap has the image's length: what the check says of the accounts that the image says
 abbrev room : tie.After-is-sound-in → tie.Else1
@@ -62,9 +46,6 @@ told c =
     ∙ ap (λ (k : Accounts). own-sound (padded (start c .args .size) (drop (room c .before .heap-at .result) (stream (start c)))) k)
     (c .before .before .put-accounts .ensures .0)
 
-refused-requires-2 : tie.Need-refused-requires-2
-refused-requires-2 c κs = search needs
-
 returns-2 : tie.Need-returns-2
 returns-2 c =
     let t = c .before .before in
@@ -77,15 +58,6 @@ returns-2 c =
           (v .is-sound-in .result) (told v) (not-true _ (t .if2 .taken)),
       e .1 .1,
     )
-
-cast-copy-stream : tie.Need-cast-copy-stream
-cast-copy-stream c = search needs
-
-copy-stream-requires : tie.Need-copy-stream-requires
-copy-stream-requires c κs = search needs
-
-same-length : tie.Need-same-length
-same-length c = search needs
 
 returns-3 : tie.Need-returns-3
 returns-3 c =
@@ -105,15 +77,15 @@ pub restore-spec : {M : Type 1} → statement M
 restore-spec =
     tie.close
     (tie.spec
-    heap-at-requires
-    cast-from
-    refused-requires
+    (λ c κs. search needs)
+    (λ c. search needs)
+    (λ c κs. search needs)
     returns
-    put-accounts-requires
-    is-sound-in-requires
-    refused-requires-2
+    (λ c κs. search needs)
+    (λ c κs. search needs)
+    (λ c κs. search needs)
     returns-2
-    cast-copy-stream
-    copy-stream-requires
-    same-length
+    (λ c. search needs)
+    (λ c κs. search needs)
+    (λ c. search needs)
     returns-3)

@@ -1,5 +1,4 @@
 -- What was read is copied, or nothing is (`Restores`).
--- Assumes nothing.
 use mathlib.Core.Path.{ap, sym, _∙_}
 use borrow.Author.Needs.{needs}
 use Rattle.words.specs.Words.{accounts-of}
@@ -8,17 +7,8 @@ use Rattle.image.proofs.Restores.{restored-read, restored-kept, left-re
 use Rattle.image.proofs.in_place.restoring.restore_image.Statement.{statement}
 use Rattle.image.proofs.in_place.restoring.restore_image.Tie as tie
 
-read-image-requires : tie.Need-read-image-requires
-read-image-requires c κs = search needs
-
 enum-told : tie.Need-enum-told
 enum-told c = search needs
-
-enum-known-answer : tie.Need-enum-known-answer
-enum-known-answer c = search needs
-
-same-length : tie.Need-same-length
-same-length c = search needs
 
 returns : tie.Need-returns
 returns c =
@@ -32,9 +22,6 @@ returns c =
     let k = accounts-of (a .words .now) in
     let p = restored-read i h (l .1 .0) k (accounts-of (l .1 .1 .0)) e in
     (p, left-read i h (l .1 .0) k (accounts-of (l .1 .1 .0)) (a .words .now) (l .1 .1 .0) p (r .read-image .ensures .1))
-
-same-length-2 : tie.Need-same-length-2
-same-length-2 c = search needs
 
 returns-2 : tie.Need-returns-2
 returns-2 c =
@@ -53,10 +40,10 @@ pub restore-image-spec : {M : Type 1} → statement M
 restore-image-spec =
     tie.close
     (tie.spec
-    read-image-requires
+    (λ c κs. search needs)
     enum-told
-    enum-known-answer
-    same-length
+    (λ c. search needs)
+    (λ c. search needs)
     returns
-    same-length-2
+    (λ c. search needs)
     returns-2)

@@ -1,5 +1,4 @@
 -- The tests are the definition's, in its order (`Puts`).
--- Assumes nothing.
 use borrow.Author.Needs.{needs}
 use mathlib.Core.Path.{_∙_}
 use mathlib.Core.List.{_++_}
@@ -13,17 +12,11 @@ use Rattle.image.proofs.in_place.writing.is_carried.Tie as tie
 returns : tie.Need-returns
 returns c = let a = c .before .args in carried-full (a .form) (accounts-of (a .words .now)) (c .if1 .taken)
 
-no-grants-requires : tie.Need-no-grants-requires
-no-grants-requires c κs = search needs
-
 returns-2 : tie.Need-returns-2
 returns-2 c =
     let g = c .before in
     let a = g .before .before .args in
     carried-grants (a .form) (accounts-of (a .words .now)) (g .before .if1 .left) (g .no-grants .result) (g .no-grants .ensures) (not-true _ (c .if2 .taken))
-
-none-used-requires : tie.Need-none-used-requires
-none-used-requires c κs = search needs
 
 returns-3 : tie.Need-returns-3
 returns-3 c =
@@ -33,9 +26,6 @@ returns-3 c =
     carried-records (a .form) (accounts-of (a .words .now)) (g .before .if1 .left) (g .no-grants .result) (g .no-grants .ensures)
     (not-false _ (u .before .if2 .left))
     (u .none-used .result) (u .none-used .ensures) (not-true _ (c .if3 .taken))
-
-are-permitted-requires : tie.Need-are-permitted-requires
-are-permitted-requires c κs = search needs
 
 returns-4 : tie.Need-returns-4
 returns-4 c =
@@ -47,15 +37,6 @@ returns-4 c =
     (not-false _ (u .before .if2 .left))
     (u .none-used .result) (u .none-used .ensures) (not-false _ (p .before .if3 .left)) (p .are-permitted .result) (p .are-permitted .ensures)
     (not-true _ (c .if4 .taken))
-
-kind-requires : tie.Need-kind-requires
-kind-requires c κs = search needs
-
-edition-requires : tie.Need-edition-requires
-edition-requires c κs = search needs
-
-marks-requires : tie.Need-marks-requires
-marks-requires c κs = search needs
 
 returns-5 : tie.Need-returns-5
 returns-5 c =
@@ -76,13 +57,13 @@ is-carried-spec =
     tie.close
     (tie.spec
     returns
-    no-grants-requires
+    (λ c κs. search needs)
     returns-2
-    none-used-requires
+    (λ c κs. search needs)
     returns-3
-    are-permitted-requires
+    (λ c κs. search needs)
     returns-4
-    kind-requires
-    edition-requires
-    marks-requires
+    (λ c κs. search needs)
+    (λ c κs. search needs)
+    (λ c κs. search needs)
     returns-5)

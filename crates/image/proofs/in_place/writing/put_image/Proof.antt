@@ -1,5 +1,4 @@
 -- Accounts that the form does not carry are refused; else the head is made in a part of an array that is as long as it.
--- Assumes nothing.
 use native.Mathlib.Omega.{arith}
 use mathlib.Core.Path.{_≡_, sym, _∙_}
 use borrow.Author.Needs.{needs}
@@ -11,22 +10,10 @@ use Rattle.image.proofs.Puts.{put-uncarried}
 use Rattle.image.proofs.in_place.writing.put_image.Statement.{statement}
 use Rattle.image.proofs.in_place.writing.put_image.Tie as tie
 
-is-carried-requires : tie.Need-is-carried-requires
-is-carried-requires c κs = search needs
-
 returns : tie.Need-returns
 returns c =
     let a = c .before .before .before .before .args in
     put-uncarried (a .form) (a .image .now) (a .heap .now) (accounts-of (a .words .now)) (sym (c .before .is-carried .ensures) ∙ not-true _ (c .if1 .taken))
-
-heap-at-requires : tie.Need-heap-at-requires
-heap-at-requires c κs = search needs
-
-head-space-requires : tie.Need-head-space-requires
-head-space-requires c κs = search needs
-
-array-borrow-prefix-head : tie.Need-array-borrow-prefix-head
-array-borrow-prefix-head c = search needs
 
 -- the part is as long as it was asked for
 sized : (c : tie.After-head)
@@ -47,9 +34,6 @@ put-with-requires c κs =
     let p = start .pre in
     (sym (k .is-carried .ensures) ∙ not-false _ (h .before .if1 .left), p .0, sym (sized c) ∙ h .heap-at .ensures .0, p .1)
 
-same-length : tie.Need-same-length
-same-length c = search needs
-
 returns-2 : tie.Need-returns-2
 returns-2 c = search needs
 
@@ -57,12 +41,12 @@ pub put-image-spec : {M : Type 1} → statement M
 put-image-spec =
     tie.close
     (tie.spec
-    is-carried-requires
+    (λ c κs. search needs)
     returns
-    heap-at-requires
-    head-space-requires
-    array-borrow-prefix-head
+    (λ c κs. search needs)
+    (λ c κs. search needs)
+    (λ c. search needs)
     slice-aggregate-put-with
     put-with-requires
-    same-length
+    (λ c. search needs)
     returns-2)

@@ -1,22 +1,12 @@
 -- `image::verdict_on` meets its contract: the survey's verdict is the definition's.
--- Assumes nothing.
 use mathlib.Core.Path.{ap, _∙_}
 use borrow.Author.Needs.{needs}
 use Rattle.model.specs.Answers.{verdict-values}
 use Rattle.image.proofs.in_place.writing.verdict_on.Statement.{statement}
 use Rattle.image.proofs.in_place.writing.verdict_on.Tie as tie
 
-unasked-requires : tie.Need-unasked-requires
-unasked-requires c κs = search needs
-
-survey-requires : tie.Need-survey-requires
-survey-requires c κs = search needs
-
-verdict-requires : tie.Need-verdict-requires
-verdict-requires c κs = search needs
-
 returns : tie.Need-returns
 returns c = ap verdict-values (c .verdict .ensures) ∙ c .before .survey .ensures .told
 
 pub verdict-on-spec : {M : Type 1} → statement M
-verdict-on-spec = tie.close (tie.spec unasked-requires survey-requires verdict-requires returns)
+verdict-on-spec = tie.close (tie.spec (λ c κs. search needs) (λ c κs. search needs) (λ c κs. search needs) returns)

@@ -1,6 +1,5 @@
 -- `queries::by_value::span_of` meets its contract: the survey refuses first, then the lookup; the handle's range lies in the object that it found, and so in
 -- the heap.
--- Assumes nothing.
 use borrow.Author.Needs.{needs}
 use mathlib.Core.Path.{_≡_, ap, sym, subst, _∙_}
 use Rattle.rounding.specs.Rounding.{table}
@@ -12,21 +11,6 @@ use Rattle.model.specs.declared.Refusal.the-variants.{NoSuchObject}
 use Rattle.queries.proofs.Lent.{lend-refused, lend-missing, lend-accepted, lend-inside, spans-refused, spans-lent}
 use Rattle.queries.proofs.by_value.lending.span_of.Statement.{statement}
 use Rattle.queries.proofs.by_value.lending.span_of.Tie as tie
-
-asked-requires : tie.Need-asked-requires
-asked-requires c κs = search needs
-
-survey-of-requires : tie.Need-survey-of-requires
-survey-of-requires c κs = search needs
-
-verdict-requires : tie.Need-verdict-requires
-verdict-requires c κs = search needs
-
-enum-known-refusal : tie.Need-enum-known-refusal
-enum-known-refusal c = search needs
-
-number-requires : tie.Need-number-requires
-number-requires c κs = search needs
 
 returns : tie.Need-returns
 returns c =
@@ -45,18 +29,6 @@ returns c =
 enum-told : tie.Need-enum-told
 enum-told c = search needs
 
-found-requires : tie.Need-found-requires
-found-requires c κs = search needs
-
-enum-told-2 : tie.Need-enum-told-2
-enum-told-2 c = search needs
-
-enum-told-3 : tie.Need-enum-told-3
-enum-told-3 c = search needs
-
-number-requires-2 : tie.Need-number-requires-2
-number-requires-2 c κs = search needs
-
 returns-2 : tie.Need-returns-2
 returns-2 c =
     let a = c .before .before .before .before .before .before .before .before .before .before .args in
@@ -72,15 +44,6 @@ returns-2 c =
     let ok = sym (v .ensures) ∙ yes in
     let f = looked-up-is g ok (c .before .before .before .found .result) (c .before .before .before .found .ensures) _ (c .before .enum-told3 .given .1) in
     spans-refused u s k (a .handle) (c .number2 .result) NoSuchObject (c .number2 .ensures) (lend-missing u s k (a .handle) (v .result) told yes f)
-
-cast-start : tie.Need-cast-start
-cast-start c = search needs
-
-cast-t13 : tie.Need-cast-t13
-cast-t13 c = search needs
-
-add-t14 : tie.Need-add-t14
-add-t14 c = search needs
 
 returns-3 : tie.Need-returns-3
 returns-3 c =
@@ -104,19 +67,19 @@ pub span-of-spec : {M : Type 1} → statement M
 span-of-spec =
     tie.close
     (tie.spec
-    asked-requires
-    survey-of-requires
-    verdict-requires
-    enum-known-refusal
-    number-requires
+    (λ c κs. search needs)
+    (λ c κs. search needs)
+    (λ c κs. search needs)
+    (λ c. search needs)
+    (λ c κs. search needs)
     returns
     enum-told
-    found-requires
-    enum-told-2
-    enum-told-3
-    number-requires-2
+    (λ c κs. search needs)
+    (λ c. search needs)
+    (λ c. search needs)
+    (λ c κs. search needs)
     returns-2
-    cast-start
-    cast-t13
-    add-t14
+    (λ c. search needs)
+    (λ c. search needs)
+    (λ c. search needs)
     returns-3)

@@ -1,6 +1,5 @@
 -- `queries::by_value::write_object` meets its contract: the survey refuses first, then the lookup; the handle's range lies in the heap, so a place below
 -- its length is a place of the heap.
--- Assumes nothing.
 use borrow.Author.Needs.{needs}
 use mathlib.Core.Path.{_≡_, ap, sym, subst, _∙_}
 use Rattle.rounding.specs.Rounding.{table}
@@ -15,21 +14,6 @@ use Rattle.results.proofs.Lines.{refused-is}
 use Rattle.queries.proofs.Lent.{lend-refused, lend-missing, lend-accepted, lend-inside, writes, passes}
 use Rattle.queries.proofs.by_value.lending.write_object.Statement.{statement}
 use Rattle.queries.proofs.by_value.lending.write_object.Tie as tie
-
-asked-requires : tie.Need-asked-requires
-asked-requires c κs = search needs
-
-survey-of-requires : tie.Need-survey-of-requires
-survey-of-requires c κs = search needs
-
-verdict-requires : tie.Need-verdict-requires
-verdict-requires c κs = search needs
-
-enum-known-refusal : tie.Need-enum-known-refusal
-enum-known-refusal c = search needs
-
-same-length : tie.Need-same-length
-same-length c = search needs
 
 returns : tie.Need-returns
 unfolding write-object verdict-values
@@ -49,18 +33,6 @@ returns c =
 enum-told : tie.Need-enum-told
 enum-told c = search needs
 
-found-requires : tie.Need-found-requires
-found-requires c κs = search needs
-
-enum-told-2 : tie.Need-enum-told-2
-enum-told-2 c = search needs
-
-enum-told-3 : tie.Need-enum-told-3
-enum-told-3 c = search needs
-
-same-length-2 : tie.Need-same-length-2
-same-length-2 c = search needs
-
 returns-2 : tie.Need-returns-2
 unfolding write-object verdict-values
 returns-2 c =
@@ -77,12 +49,6 @@ returns-2 c =
     let ok = sym (v .ensures) ∙ yes in
     let f = looked-up-is g ok (c .before .before .found .result) (c .before .before .found .ensures) _ (c .enum-told3 .given .1) in
     refused-is _ s k _ NoSuchObject (lend-missing u s k (a .handle) (v .result) told yes f)
-
-cast-index : tie.Need-cast-index
-cast-index c = search needs
-
-add-index : tie.Need-add-index
-add-index c = search needs
 
 slice-write-heap : tie.Need-slice-write-heap
 slice-write-heap c =
@@ -102,9 +68,6 @@ slice-write-heap c =
     let m = c .before .before .before .enum-told2 .given .0 .0 in
     omega (arith, lend-inside u s k (a .handle) (v .result) told yes m f, c .before .if1 .taken)
 
-same-length-3 : tie.Need-same-length-3
-same-length-3 c = search needs
-
 returns-3 : tie.Need-returns-3
 unfolding verdict-values
 returns-3 c =
@@ -123,9 +86,6 @@ returns-3 c =
     (c .before .before .before .enum-told2 .given .1) in
     let m = c .before .before .before .enum-told2 .given .0 .0 in
     writes u s k (a .handle) (lend-accepted u s k (a .handle) (v .result) told yes m f) (a .at) (a .byte) (c .before .if1 .taken)
-
-same-length-4 : tie.Need-same-length-4
-same-length-4 c = search needs
 
 returns-4 : tie.Need-returns-4
 unfolding verdict-values
@@ -150,22 +110,22 @@ pub write-object-spec : {M : Type 1} → statement M
 write-object-spec =
     tie.close
     (tie.spec
-    asked-requires
-    survey-of-requires
-    verdict-requires
-    enum-known-refusal
-    same-length
+    (λ c κs. search needs)
+    (λ c κs. search needs)
+    (λ c κs. search needs)
+    (λ c. search needs)
+    (λ c. search needs)
     returns
     enum-told
-    found-requires
-    enum-told-2
-    enum-told-3
-    same-length-2
+    (λ c κs. search needs)
+    (λ c. search needs)
+    (λ c. search needs)
+    (λ c. search needs)
     returns-2
-    cast-index
-    add-index
+    (λ c. search needs)
+    (λ c. search needs)
     slice-write-heap
-    same-length-3
+    (λ c. search needs)
     returns-3
-    same-length-4
+    (λ c. search needs)
     returns-4)

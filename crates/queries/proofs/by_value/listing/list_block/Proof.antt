@@ -1,6 +1,5 @@
 -- `queries::by_value::list_block` meets its contract: the check decides first; a heap that it accepts is cut into blocks, and the walk finds what its listing
 -- has.
--- Assumes nothing.
 use mathlib.Core.Path.{ap, _∙_}
 use mathlib.Core.List.{[]}
 use borrow.Author.Needs.{needs}
@@ -14,12 +13,6 @@ use Rattle.queries.proofs.Listed.{find-block-is}
 use Rattle.queries.proofs.by_value.listing.list_block.Statement.{statement}
 use Rattle.queries.proofs.by_value.listing.list_block.Tie as tie
 
-check-requires : tie.Need-check-requires
-check-requires c κs = search needs
-
-enum-known-refusal : tie.Need-enum-known-refusal
-enum-known-refusal c = search needs
-
 returns : tie.Need-returns
 unfolding list-block block-values check-lines
 returns c =
@@ -31,9 +24,6 @@ returns c =
 
 enum-told : tie.Need-enum-told
 enum-told c = search needs
-
-find-block-requires : tie.Need-find-block-requires
-find-block-requires c κs = search needs
 
 returns-2 : tie.Need-returns-2
 unfolding list-block check-lines first-refusal
@@ -50,9 +40,9 @@ pub list-block-spec : {M : Type 1} → statement M
 list-block-spec =
     tie.close
     (tie.spec
-    check-requires
-    enum-known-refusal
+    (λ c κs. search needs)
+    (λ c. search needs)
     returns
     enum-told
-    find-block-requires
+    (λ c κs. search needs)
     returns-2)

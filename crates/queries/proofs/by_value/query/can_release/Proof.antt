@@ -1,6 +1,5 @@
 -- `queries::by_value::can_release` meets its contract: the survey, the quota and the lookup decide in the order of release's lines, and then whether
 -- the quota has a record for the object.
--- Assumes nothing.
 use borrow.Author.Needs.{needs}
 use mathlib.Core.Path.{_≡_, ap, sym, subst, _∙_}
 use Rattle.rounding.specs.Rounding.{table}
@@ -17,18 +16,6 @@ use Rattle.results.proofs.Lines.{check-refuses, check-accepts, refused-is, acce
 use Rattle.results.proofs.Lookups.{quota-missing, release-refuses, release-passes}
 use Rattle.queries.proofs.by_value.query.can_release.Statement.{statement}
 use Rattle.queries.proofs.by_value.query.can_release.Tie as tie
-
-asked-requires : tie.Need-asked-requires
-asked-requires c κs = search needs
-
-survey-of-requires : tie.Need-survey-of-requires
-survey-of-requires c κs = search needs
-
-verdict-requires : tie.Need-verdict-requires
-verdict-requires c κs = search needs
-
-enum-known-refusal : tie.Need-enum-known-refusal
-enum-known-refusal c = search needs
 
 returns : tie.Need-returns
 unfolding can-release verdict-values release-lines
@@ -67,15 +54,6 @@ returns-2 c =
     let rest = line-5 o ∷ line-6 k (a .quota) (found o) ∷ [] in
     refused-is _ s k _ QuotaNumber (check-accepts u s k (v .result) told (line-3 (a .quota) ∷ rest) yes ∙ line-3-refuses (a .quota) rest (c .if1 .taken))
 
-found-requires : tie.Need-found-requires
-found-requires c κs = search needs
-
-enum-told-2 : tie.Need-enum-told-2
-enum-told-2 c = search needs
-
-enum-told-3 : tie.Need-enum-told-3
-enum-told-3 c = search needs
-
 returns-3 : tie.Need-returns-3
 unfolding can-release verdict-values release-lines
 returns-3 c =
@@ -93,15 +71,6 @@ returns-3 c =
     let f = looked-up-is g ok (c .before .before .found .result) (c .before .before .found .ensures) _ (c .enum-told3 .given .1) in
     let rest = line-6 k (a .quota) (found (lookup (a .handle) s)) ∷ [] in
     refused-is _ s k _ NoSuchObject (quota-missing u s k (v .result) told yes (a .quota) (a .handle) rest (c .before .before .before .if1 .left) f)
-
-place-requires : tie.Need-place-requires
-place-requires c κs = search needs
-
-enum-told-4 : tie.Need-enum-told-4
-enum-told-4 c = search needs
-
-enum-told-5 : tie.Need-enum-told-5
-enum-told-5 c = search needs
 
 returns-4 : tie.Need-returns-4
 unfolding can-release verdict-values
@@ -151,19 +120,19 @@ pub can-release-spec : {M : Type 1} → statement M
 can-release-spec =
     tie.close
     (tie.spec
-    asked-requires
-    survey-of-requires
-    verdict-requires
-    enum-known-refusal
+    (λ c κs. search needs)
+    (λ c κs. search needs)
+    (λ c κs. search needs)
+    (λ c. search needs)
     returns
     enum-told
     returns-2
-    found-requires
-    enum-told-2
-    enum-told-3
+    (λ c κs. search needs)
+    (λ c. search needs)
+    (λ c. search needs)
     returns-3
-    place-requires
-    enum-told-4
-    enum-told-5
+    (λ c κs. search needs)
+    (λ c. search needs)
+    (λ c. search needs)
     returns-4
     returns-5)

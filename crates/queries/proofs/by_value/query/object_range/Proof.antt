@@ -1,5 +1,4 @@
 -- `queries::by_value::object_range` meets its contract: the survey and the lookup decide in the order of lend's lines, and the handle's range is given.
--- Assumes nothing.
 use borrow.Author.Needs.{needs}
 use mathlib.Core.Path.{_≡_, ap, sym, subst, _∙_}
 use Rattle.rounding.specs.Rounding.{table}
@@ -17,18 +16,6 @@ use Rattle.results.proofs.Lines.{check-refuses, refused-is}
 use Rattle.results.proofs.Lookups.{lend-missing, lend-is}
 use Rattle.queries.proofs.by_value.query.object_range.Statement.{statement}
 use Rattle.queries.proofs.by_value.query.object_range.Tie as tie
-
-asked-requires : tie.Need-asked-requires
-asked-requires c κs = search needs
-
-survey-of-requires : tie.Need-survey-of-requires
-survey-of-requires c κs = search needs
-
-verdict-requires : tie.Need-verdict-requires
-verdict-requires c κs = search needs
-
-enum-known-refusal : tie.Need-enum-known-refusal
-enum-known-refusal c = search needs
 
 returns : tie.Need-returns
 unfolding lend range-values lend-lines
@@ -48,15 +35,6 @@ returns c =
 enum-told : tie.Need-enum-told
 enum-told c = search needs
 
-found-requires : tie.Need-found-requires
-found-requires c κs = search needs
-
-enum-told-2 : tie.Need-enum-told-2
-enum-told-2 c = search needs
-
-enum-told-3 : tie.Need-enum-told-3
-enum-told-3 c = search needs
-
 returns-2 : tie.Need-returns-2
 unfolding lend range-values
 returns-2 c =
@@ -73,15 +51,6 @@ returns-2 c =
     let ok = sym (v .ensures) ∙ yes in
     let f = looked-up-is g ok (c .before .before .found .result) (c .before .before .found .ensures) _ (c .enum-told3 .given .1) in
     refused-is _ s k _ NoSuchObject (lend-missing u s k (v .result) told yes (a .handle) f)
-
-cast-start : tie.Need-cast-start
-cast-start c = search needs
-
-cast-t11 : tie.Need-cast-t11
-cast-t11 c = search needs
-
-add-t12 : tie.Need-add-t12
-add-t12 c = search needs
 
 returns-3 : tie.Need-returns-3
 unfolding range-values
@@ -105,17 +74,17 @@ pub object-range-spec : {M : Type 1} → statement M
 object-range-spec =
     tie.close
     (tie.spec
-    asked-requires
-    survey-of-requires
-    verdict-requires
-    enum-known-refusal
+    (λ c κs. search needs)
+    (λ c κs. search needs)
+    (λ c κs. search needs)
+    (λ c. search needs)
     returns
     enum-told
-    found-requires
-    enum-told-2
-    enum-told-3
+    (λ c κs. search needs)
+    (λ c. search needs)
+    (λ c. search needs)
     returns-2
-    cast-start
-    cast-t11
-    add-t12
+    (λ c. search needs)
+    (λ c. search needs)
+    (λ c. search needs)
     returns-3)

@@ -1,5 +1,4 @@
 -- `queries::by_value::remaining` meets its contract: the check decides first, then the quota's number, and else the accounts' remainder is the definition's.
--- Assumes nothing.
 use Prim.Native.Nat.{ℕ}
 use mathlib.Core.Path.{ap, _∙_}
 use mathlib.Core.List.{[], _∷_}
@@ -12,12 +11,6 @@ use Rattle.model.specs.declared.Refusal.the-variants.{QuotaNumber}
 use Rattle.results.proofs.Lines.{check-refuses, check-accepts, refused-is, accepted-is, line-3-refuses, line-3-passes}
 use Rattle.queries.proofs.by_value.query.remaining.Statement.{statement}
 use Rattle.queries.proofs.by_value.query.remaining.Tie as tie
-
-check-requires : tie.Need-check-requires
-check-requires c κs = search needs
-
-enum-known-refusal : tie.Need-enum-known-refusal
-enum-known-refusal c = search needs
 
 returns : tie.Need-returns
 unfolding remaining-of amount-values quota-lines
@@ -40,9 +33,6 @@ returns-2 c =
     (check-accepts (table (a .accounts .edition)) (a .heap .now) (a .accounts) (k .result) (k .ensures) (line-3 (a .quota) ∷ [])
     (c .before .enum-told .given .1) ∙ line-3-refuses (a .quota) [] (c .if1 .taken))
 
-remaining-requires : tie.Need-remaining-requires
-remaining-requires c κs = search needs
-
 returns-3 : tie.Need-returns-3
 unfolding remaining-of amount-values quota-lines first-refusal
 returns-3 c =
@@ -58,10 +48,10 @@ pub remaining-spec : {M : Type 1} → statement M
 remaining-spec =
     tie.close
     (tie.spec
-    check-requires
-    enum-known-refusal
+    (λ c κs. search needs)
+    (λ c. search needs)
     returns
     enum-told
     returns-2
-    remaining-requires
+    (λ c κs. search needs)
     returns-3)

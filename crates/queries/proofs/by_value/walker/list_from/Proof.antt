@@ -4,7 +4,6 @@
 -- A `&[u8]` and the accounts are Copy: what each owns is had twice, once for the exit, and once for the callee, inside the struct and beside it.
 -- In a local of a body MIR erases the lifetime of a struct's type, so a value is shown to have the type at `erased`: what the struct owns does not say
 -- the lifetime's name.
--- Assumes nothing.
 use mathlib.Core.Path.{_≡_, refl, ap}
 use Prim.Native.Nat.{ℕ, _<_, _^_}
 use native.Mathlib.Omega.{arith}

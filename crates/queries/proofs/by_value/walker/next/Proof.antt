@@ -3,7 +3,6 @@
 -- and a `Step` is made of the slice and of what it gives. All that the proof knows of `step_from` is that it meets its contract.
 -- The struct and the accounts are Copy: what each owns is had twice. What heap owns, and what the accounts own, goes to the callee, beside the lifetime's
 -- token, which comes back. The copy that is kept is had twice again: for the exit, and, with the facts of the place and of the answer, for the result.
--- Assumes nothing.
 use mathlib.Core.Path.{_≡_, refl, ap}
 use Prim.Native.Nat.{_<_, _^_}
 use mathlib.Core.List.{[], _∷_}

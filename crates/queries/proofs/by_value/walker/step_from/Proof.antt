@@ -1,5 +1,4 @@
 -- `queries::by_value::step_from` meets its contract: the block that the listing gives ends in the heap, and where none is given the place stays.
--- Assumes nothing.
 use mathlib.Core.Path.{_≡_, refl}
 use mathlib.Core.List.{[], _∷_}
 use mathlib.Core.Logic.{⊎-elim}
@@ -19,12 +18,6 @@ use Rattle.queries.specs.Listing.{Stepped}
 use Rattle.queries.proofs.Listed.{after-some, after-none}
 use Rattle.queries.proofs.by_value.walker.step_from.Statement.{statement}
 use Rattle.queries.proofs.by_value.walker.step_from.Tie as tie
-
-list-block-requires : tie.Need-list-block-requires
-list-block-requires c κs = search needs
-
-enum-known-answer : tie.Need-enum-known-answer
-enum-known-answer c = search needs
 
 -- an answer that is not the first variant lists no block
 unlisted : (r : BlockAnswer) → OneOf (1 ∷ 2 ∷ []) (tagOf S.the-type r) → block-values r .block ≡ none
@@ -58,4 +51,4 @@ returns-2 c = given c .1
 
 pub step-from-spec : {M : Type 1} → statement M
 step-from-spec =
-    tie.close (tie.spec list-block-requires enum-known-answer returns add-t6 returns-2)
+    tie.close (tie.spec (λ c κs. search needs) (λ c. search needs) returns add-t6 returns-2)
