@@ -1,7 +1,5 @@
--- What the test for consistency says: rules 5.1 to 5.8 as statements about blocks, objects, records and quotas, and the test passes exactly if all
--- of them hold.
--- The test is an `and` of seven tests. Each of these goes through a list, or through its pairs, and by induction on the list it passes exactly
--- if what it tests holds of each member or of each two places.
+-- Rules 5.1 to 5.8 as statements about blocks, objects, records and quotas; the test for them passes exactly if they hold. It is
+-- an `and` of seven tests, each over a list or its pairs, and goes by induction on the list.
 use mathlib.Core.Path.{_≡_, refl, ap, sym, _∙_}
 use Prim.Native.Nat.{ℕ, zero, suc, _+_, _≤_, _<_, suc-le-suc, zero-le}
 use native.Mathlib.Omega.{arith}
@@ -25,12 +23,11 @@ use Rattle.model.specs.Answers.{zero-handle}
 use Rattle.model.specs.Objects.{objects, objects-of, blocks-of}
 use Rattle.model.specs.Consistent.{long-enough, starts-free, free-apart, well-cut, has-serial, serials-differ, serials-given, record-valid}
 use Rattle.model.specs.Consistent.{records-differ, is-of, held, charges, balanced-from, consistent-blocks, consistent-parsed, consistent, sound}
-use Rattle.model.specs.Consistent.{in-units, in-kind}
-use Rattle.model.specs.Consistent.{in-range, greatest-serial}
+use Rattle.model.specs.Consistent.{in-units, in-kind, in-range, greatest-serial}
 use Rattle.model.specs.declared.Handle.{Handle}
 use Rattle.model.proofs.Bools.{and-left, and-right, and-both, or-cases, or-left, or-right, implies, implied, fails}
-use Rattle.model.proofs.Lists.{all-member, member-all, none-member, all-exactly, any-exactly, any-and, unrelated, unrelated-places}
-use Rattle.model.proofs.Lists.{places-unrelated}
+use Rattle.model.proofs.Lists.{all-member, member-all, none-member, all-exactly, any-exactly, any-and, unrelated}
+use Rattle.model.proofs.Lists.{unrelated-places, places-unrelated}
 
 -- the seven tests, for rules 5.2 to 5.8 in their order
 pub record Tests (bs : List Block) (k : Accounts) : Type 0 where
@@ -150,8 +147,7 @@ pub is-of-exactly : (serial : ℕ) (h : Hold) → (is-of serial h ≡ true) ↔ 
 unfolding is-of
 is-of-exactly serial h = (
   λ e. (and-left (used h) _ e, eqb-true (h .serial) serial (and-right (used h) _ e)),
-  λ f. and-both (used h) _ (f .0)
-      (eq-eqb (h .serial) serial (f .1)),
+  λ f. and-both (used h) _ (f .0) (eq-eqb (h .serial) serial (f .1)),
 )
 
 pub is-for-exactly : (serial q : ℕ) (h : Hold) → (is-for serial q h ≡ true) ↔ ((used h ≡ true) × (h .serial ≡ serial) × (h .quota ≡ q))
@@ -236,8 +232,7 @@ taken-away (h ∷ hs) n e = go (is-of n h) refl (taken-away hs n)
         let r = ih (rw t at e) in (
           h ∷ r .0,
           ap suc (r .1),
-          λ m d u. ⊎-elim (λ v. or-left (is-of m h) _ v) (λ v. or-right (is-of m h) _ (r .2 m d v))
-              (or-cases (is-of m h) (held hs m) u),
+          λ m d u. ⊎-elim (λ v. or-left (is-of m h) _ v) (λ v. or-right (is-of m h) _ (r .2 m d v)) (or-cases (is-of m h) (held hs m) u),
         )
 
 -- so there are no more objects than records
