@@ -4,6 +4,7 @@
 # make run       tell a story, prove the heap and the replay program (minutes), and run the story
 # make try       tell the story and run it at once, with nothing proved
 # make test      prove everything from nothing, try every must-fail edit, run every test
+# make check     run every check that takes seconds and proves nothing: documents, layout, lints
 #
 # make lib       prove the exported calls, and write build/lib/liblokhazim.a with its header
 # make cli       prove the library and build the command build/bin/lokhazim over it
@@ -27,7 +28,7 @@ PREFIX ?= /usr/local
 DESTDIR ?=
 TARGET :=
 
-.PHONY: help run try test lib cli install uninstall dist port port-test wrong figures bench fuzz sanitize clean
+.PHONY: help run try test check lib cli install uninstall dist port port-test wrong figures bench fuzz sanitize clean
 
 help:
 	@sed -n '/^#/!q; s/^# \{0,1\}//p' Makefile
@@ -40,6 +41,9 @@ try:
 
 test:
 	@scripts/test
+
+check:
+	@scripts/check
 
 lib:
 	@scripts/lib
