@@ -12,7 +12,8 @@ use borrow.Author.Tests.{ltb-true, ltb-false, lt-ltb, eqb-false}
 use Rattle.accounts.specs.declared.Hold.{Hold}
 use Rattle.accounts.specs.declared.Accounts.{Accounts}
 use Rattle.accounts.specs.Accounts.{QUOTAS, HOLDS, CLAIM, zero-hold, unused, is-for, record-of, dropped, drop-records}
-use Rattle.accounts.specs.Accounts.{clear-permissions, clear-at, with-holds, charge, permits}
+use Rattle.accounts.specs.Accounts.{clear-permissions, with-holds, charge, permits}
+use Rattle.accounts.proofs.Laws.{clear-kept}
 use Rattle.model.specs.Lists.{all, any, first, change-first, or-else, is-none}
 use Rattle.model.specs.Objects.{lookup, found}
 use Rattle.model.specs.Consistent.{charge-of, allowed, sound}
@@ -155,12 +156,7 @@ claimed-counts q o k e n = go (claims-first k q o)
     go false = raised (o .serial) q (k .holds) e n
 
 cleared-counts : (q n : ℕ) (k : Accounts) → Counted (k .holds) → Counted (clear-permissions q n k .holds)
-unfolding clear-permissions
-cleared-counts q n k e = go (ltb q QUOTAS)
-  where
-    go : (b : Bool) → Counted (cond b (clear-at q n k) k .holds)
-    go true = e
-    go false = e
+cleared-counts q n k e = rw (clear-kept q n k .same-holds) e
 
 -- every call keeps counts of one byte
 module _ (unit : ℕ → ℕ) where

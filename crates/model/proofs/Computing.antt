@@ -1,5 +1,5 @@
 -- Every definition that a computed run unfolds, under one name; and all of them but `sound`, which costs most.
-use Rattle.accounts.specs.Accounts.{opened, remaining, set-remaining, less-paid, paid-back, charge, refund, used, unused, is-for, drop-records, permits}
+use Rattle.accounts.specs.Accounts.{opened, remaining, change-quota, less-paid, paid-back, charge, refund, used, unused, is-for, drop-records, permits}
 use Rattle.accounts.specs.Accounts.{clear-permissions}
 use Rattle.layout.specs.Bytes.{bytes, number}
 use Rattle.layout.specs.Blocks.{header-bytes, read-header, starts-block, render-from, render, read-block, in-front, parse-from, parse}
@@ -20,7 +20,7 @@ use Rattle.model.specs.Calls.{claim, release, free-all, reallocate, lend
 use Rattle.model.specs.Step.{step}
 
 unfoldable pub computing-but-sound : Unit {0}
-unfolding opened remaining set-remaining less-paid paid-back charge refund used unused is-for permits clear-permissions
+unfolding opened remaining change-quota less-paid paid-back charge refund used unused is-for permits clear-permissions
     bytes number header-bytes read-header starts-block render-from render read-block in-front parse-from parse
     unit unit-2 table object-length alignment
     all any keep total first change-first is-none or-else

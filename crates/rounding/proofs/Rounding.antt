@@ -50,7 +50,7 @@ module _ (u : ℕ → ℕ) (units : Units u) where
 -- what holds of each row's value on its row, from a number on, and of the value behind them
 abbrev pub OnRows : (ℕ → Type 0) → ℕ → ℕ → List (ℕ × ℕ) → ℕ → Type 0
 OnRows P n low [] other = low ≤ n → P other
-OnRows P n low (row ∷ rows) other = (low ≤ n → n ≤ row .0 → P (row .1)) × OnRows P n (suc (row .0)) rows other
+OnRows P n low (row ∷ more) other = (low ≤ n → n ≤ row .0 → P (row .1)) × OnRows P n (suc (row .0)) more other
 
 -- holds of a table's value for any number
 module _ (P : ℕ → Type 0) (n : ℕ) where
@@ -59,10 +59,10 @@ module _ (P : ℕ → Type 0) (n : ℕ) where
   by-test row later f g true e = rw e (f (leb-true n (row .0) e))
   by-test row later f g false e = rw e (g (leb-false n (row .0) e))
 
-  pub by-rows : (low : ℕ) (rows : List (ℕ × ℕ)) (other : ℕ) → low ≤ n → OnRows P n low rows other → P (by rows other n)
+  pub by-rows : (low : ℕ) (more : List (ℕ × ℕ)) (other : ℕ) → low ≤ n → OnRows P n low more other → P (by more other n)
   by-rows low [] other l f = f l
-  by-rows low (row ∷ rows) other l f =
-      by-test row (by rows other n) (f .0 l) (λ m. by-rows (suc (row .0)) rows other m (f .1)) (leb n (row .0)) refl
+  by-rows low (row ∷ more) other l f =
+      by-test row (by more other n) (f .0 l) (λ m. by-rows (suc (row .0)) more other m (f .1)) (leb n (row .0)) refl
 
 -- so of edition 1's unit
 module _ (P : ℕ → Type 0) (n : ℕ) (row-8 : n ≤ 8191 → P 8) (row-16 : 8192 ≤ n → n ≤ 16383 → P 16) (row-32 : 16384 ≤ n → n ≤ 32767 → P 32)

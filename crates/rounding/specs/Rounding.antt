@@ -8,7 +8,7 @@ use lib.Dec.{leb, ltb}
 -- a table: each row has the last number that it reaches, and its value; numbers behind the last row have one value more
 abbrev pub by : List (ℕ × ℕ) → ℕ → ℕ → ℕ
 by [] other n = other
-by (row ∷ rows) other n = cond (leb n (row .0)) (row .1) (by rows other n)
+by (row ∷ more) other n = cond (leb n (row .0)) (row .1) (by more other n)
 
 -- rule 6.1; and 6.5: a length below the first row or above the last one has that row's unit
 abbrev pub rows : List (ℕ × ℕ)
