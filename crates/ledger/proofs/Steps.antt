@@ -9,7 +9,7 @@ use mathlib.Core.Bool.{true}
 use mathlib.Core.Option.{some}
 use borrow.Author.Tests.{eq-eqb, ne-eqb}
 use Rattle.accounts.specs.declared.Accounts.{Accounts}
-use Rattle.accounts.specs.Accounts.{clear-permissions}
+use Rattle.accounts.specs.Accounts.{QUOTAS, clear-permissions}
 use Rattle.accounts.proofs.Laws.{clear-kept}
 use Rattle.rounding.specs.Rounding.{Units}
 use Rattle.layout.specs.Blocks.{render}

@@ -31,7 +31,7 @@ use Rattle.model.proofs.Lookup.{Narrowed, names-exactly, lookup-named, found-se
 use Rattle.invariant.proofs.Counts.{counted-used, member-count}
 use Rattle.ledger.specs.Ledger.{Ledger, Event, Called, ledger-of}
 use Rattle.ledger.specs.History.{by-own, History}
-use Rattle.ledger.specs.Demand3.{Holds, objects-in}
+use Rattle.ledger.specs.Demand3.{AsRecorded, objects-in}
 use Rattle.ledger.proofs.Narrowing.{held-found}
 use Rattle.ledger.proofs.Theorem.{demand-3-of}
 use Rattle.queue.specs.declared.Queue.{Queue}
@@ -122,8 +122,8 @@ module _ (tables : ℕ → ℕ → ℕ) where
 module _ (tables : ℕ → ℕ → ℕ) (units : (e : ℕ) → Units (tables e)) (begun : Ledger) where
   -- a count above 0 is a hold of the ledger, and a live object is held
   module _ (es : List Event) (s : List ℕ) (k : Accounts) (past : History tables (by-own tables) begun es s k) where
-    abbrev after : Holds (tables (k .edition)) (by-own tables) begun es [] s k
-    after = demand-3-of tables units .always begun es [] s k past
+    abbrev after : AsRecorded (tables (k .edition)) (by-own tables) (ledger-of begun es) s k
+    after = demand-3-of tables units .always begun es [] s k past .agrees
 
     counted-holds : (q serial : ℕ) → 0 < count-of serial q (k .holds) → HoldsIn q serial (ledger-of begun es)
     counted-holds q serial p =

@@ -243,9 +243,9 @@ module _ (tables : ℕ → ℕ → ℕ) (units : (e : ℕ) → Units (tables e))
   opened-returned g given es s k h p none =
       let d = demand-3-of tables units .always (empty g given) es [] s k h in
       let u = none-read tables (empty g given) es s k h p in
-      subst (λ (x : List ℕ). AsOpened g x s k) (d .grants-kept ∙ d .grants-begun u)
+      subst (λ (x : List ℕ). AsOpened g x s k) (d .agrees .grants-kept ∙ d .grants-begun u)
       (restored-returned (empty g given) es s k h (images tables (empty g given) (λ s k. ⊥) _ (λ s k w. absurd w) es s k h p) none g
-      (sym (d .kind-kept ∙ d .kind-begun u)) (sym (d .edition-kept ∙ d .edition-begun u)))
+      (sym (d .agrees .kind-kept ∙ d .kind-begun u)) (sym (d .agrees .edition-kept ∙ d .edition-begun u)))
 
   pub all-returned-of : AllReturned tables (by-own tables)
   all-returned-of = record { opened = opened-returned; restored = restored-returned }

@@ -195,7 +195,7 @@ module _ (tables : ℕ → ℕ → ℕ) (units : (e : ℕ) → Units (tables e))
       → (HasSerial (h .serial) (ledger-of begun es) → ⊥) → NamesNothing (by-own tables) s k h
   unfolding stale-refusal
   names-nothing begun es s k past h gone =
-      let d = demand-3-of tables units .always begun es [] s k past in
+      let d = demand-3-of tables units .always begun es [] s k past .agrees in
       let f = answers (tables (k .edition)) s k (d .length-allowed) (d .kept-sound) h (λ o m e. gone (o, d .live-recorded o m, e)) in
       record {
         refuses = f;

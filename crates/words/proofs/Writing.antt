@@ -65,7 +65,8 @@ module _ (words : List ℕ) (at v q : ℕ) (few : q < QUOTAS) where
       → accounts-of (set words at v) ≡ put-quota q x (accounts-of words)
   put-entry others low x e =
       let hs = holds-kept words (set words at v) (λ j h. same-hold words at v j (λ e. omega arith) (λ e. omega arith)) in
-      let qs : quotas-of (set words at v) ≡ set (quotas-of words) q x = quotas-put words (set words at v) q few (λ j h n. others j n) ∙ ap (set (quotas-of words) q) e in
+      let qs : quotas-of (set words at v) ≡ set (quotas-of words) q x =
+      quotas-put words (set words at v) q few (λ j h n. others j n) ∙ ap (set (quotas-of words) q) e in
       let last = other words at v LAST (λ e. omega arith) in
       let kinds = other words at v KINDS (λ e. omega arith) in
       λ i. record { quotas = qs i; «last_serial» = last i; holds = hs i; kind = kinds i % 256; edition = kinds i / 256 % 256 }
