@@ -21,7 +21,7 @@ use Rattle.model.specs.Answers.{amount-of}
 use Rattle.model.specs.Objects.{objects, blocks-of, objects-of}
 use Rattle.model.specs.Consistent.{serials-differ, records-differ, charges, sound}
 use Rattle.model.specs.Holds.{count-of}
-use Rattle.model.specs.Refusals.{first-refusal, line-1, line-2, line-3, quota-lines}
+use Rattle.model.specs.Refusals.{first-refusal, line-1, line-2, line-3, row-lines}
 use Rattle.model.specs.Calls.{unless, state-of, remaining-of, listing-from}
 use Rattle.model.specs.Step.{step}
 use Rattle.model.specs.declared.Handle.{Handle}
@@ -115,5 +115,5 @@ module _ (l : Ledger) (s : List ℕ) (k : Accounts) (a : Agrees l s k) where
 
   -- and it is answered to a call that asks for it
   pub answered-of : (unit : ℕ → ℕ) → sound unit s k ≡ true → (q : ℕ) → q < QUOTAS → step unit (Remaining q) s k .values ≡ amount-of (remaining q k)
-  unfolding step remaining-of quota-lines line-1 line-2 line-3 first-refusal unless
+  unfolding step remaining-of row-lines line-1 line-2 line-3 first-refusal unless
   answered-of unit f q h = rw (a .extent, f, lt-leb QUOTAS q h)

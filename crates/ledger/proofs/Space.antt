@@ -20,7 +20,7 @@ use Rattle.layout.specs.Blocks.{Block, size, occupied, quarantined}
 use Rattle.model.specs.Lists.{any, keep, is-none}
 use Rattle.model.specs.Objects.{object, objects-from, objects, blocks-of, objects-of, lookup-whole, found}
 use Rattle.model.specs.Space.{suitable}
-use Rattle.model.specs.Refusals.{Line, _when_, line-holds, first-refusal, line-1, line-2, line-3, line-4, line-5, line-6, line-8, line-9, line-10}
+use Rattle.model.specs.Refusals.{Line, _when_, line-holds, first-refusal, line-1, line-2, line-3, line-4, line-5, line-6, line-8, line-9, line-10, row-lines}
 use Rattle.model.specs.Refusals.{line-11}
 use Rattle.model.specs.Refusals.{line-12, base-for, allocate-lines, reallocate-lines}
 use Rattle.model.specs.Step.{step}
@@ -29,7 +29,8 @@ use Rattle.model.specs.declared.Call.{Call}
 use Rattle.model.specs.declared.Call.the-variants.{Allocate, AllocateArray, Claim, Release, FreeAll, Reallocate, Lend, Remaining, CanRelease}
 use Rattle.model.specs.declared.Call.the-variants.{ListBlock}
 use Rattle.model.specs.declared.Call.the-variants.{ClearPermissions, Sweep}
-use Rattle.model.proofs.Refusals.{lines-of, by-lines, refusal-of-lines}
+use Rattle.model.specs.Rows.{call-lines}
+use Rattle.model.proofs.Refusals.{by-lines, refusal-of-lines}
 use Rattle.model.proofs.Sweep.{quarantined-occupied}
 use Rattle.model.proofs.Base.{in-occupied, lowest-some, lowest-none, suitable-bytes, bytes-suitable}
 use Rattle.ledger.specs.Ledger.{Span, spans-from, quarantined-of}
@@ -133,7 +134,7 @@ module _ (unit : ℕ → ℕ) (units : Units unit) (s : List ℕ) (n : ℕ) wher
 -- the lines but 11 of each request
 module _ (unit : ℕ → ℕ) (units : Units unit) (s : List ℕ) (k : Accounts) where
   allocate-decided : (q n : ℕ) → passes-others (allocate-lines unit s k q n) ≡ true → Decided unit s n (first-refusal (allocate-lines unit s k q n))
-  unfolding passes-others allocate-lines keep line-1 line-2 line-3 line-12 line-4 line-8 line-9 line-10 line-11
+  unfolding passes-others row-lines keep line-1 line-2 line-3 line-12 line-4 line-8 line-9 line-10 line-11
   allocate-decided q n e =
       line-decides unit units s n (line-1 s ∷ line-2 unit s k ∷ line-3 q ∷ line-12 ALLOCATE k q ∷ line-4 n ∷ line-8 k q (object-length unit n)
       ∷ line-9 k
@@ -141,7 +142,7 @@ module _ (unit : ℕ → ℕ) (units : Units unit) (s : List ℕ) (k : Accounts)
 
   reallocate-decided : (q : ℕ) (h : Handle) (n : ℕ) → passes-others (reallocate-lines unit s k q h n) ≡ true
       → Decided unit s n (first-refusal (reallocate-lines unit s k q h n))
-  unfolding passes-others reallocate-lines keep line-1 line-2 line-3 line-12 line-4 line-5 line-6 line-8 line-9 line-10 line-11
+  unfolding passes-others row-lines keep line-1 line-2 line-3 line-12 line-4 line-5 line-6 line-8 line-9 line-10 line-11
   reallocate-decided q h n e =
       line-decides unit units s n
       (line-1 s ∷ line-2 unit s k ∷ line-3 q ∷ line-12 ALLOCATE k q ∷ line-4 n ∷ line-5 (lookup-whole h s) ∷ line-6 k q (found (lookup-whole h s))
@@ -150,7 +151,7 @@ module _ (unit : ℕ → ℕ) (units : Units unit) (s : List ℕ) (k : Accounts)
 
   -- the lines of a call give its refusal
   of-request : (c : Call) (r₀ r : Request) → some r₀ ≡ some r → passes-others (r .lines) ≡ true
-      → (passes-others (r₀ .lines) ≡ true → Decided unit s (r₀ .asked) (first-refusal (lines-of unit c s k)))
+      → (passes-others (r₀ .lines) ≡ true → Decided unit s (r₀ .asked) (first-refusal (call-lines unit c s k)))
       → Decided unit s (r .asked) (step unit c s k .values .refusal)
   of-request c r₀ r e p f =
       let x : r₀ ≡ r = Option·some-injective r₀ r e in

@@ -1,8 +1,8 @@
 -- Demand 3 (rules 10.3 to 10.11, 22.11 and 22.13), as one statement about every list of calls: of every history of a run, and of every split of its events.
-use Prim.Native.Nat.{ℕ, _+_, _*_, _%_, _≤_, _<_}
+use Prim.Native.Nat.{ℕ, _+_, _%_, _≤_, _<_}
 use mathlib.Core.Path.{_≡_}
 use mathlib.Core.List.{List, [], _∷_, _++_, map, List·Memᴰ}
-use mathlib.Core.Bool.{Bool, true, false, not, _&&_, _||_}
+use mathlib.Core.Bool.{Bool, true, false, not, cond, _&&_, _||_}
 use mathlib.Core.Option.{Option, none, some}
 use mathlib.Core.Logic.{_↔_}
 use lib.ListN.{length, getD}
@@ -16,15 +16,15 @@ use Rattle.model.specs.Lists.{any, keep, total}
 use Rattle.model.specs.Answers.{amount-of, zero-handle}
 use Rattle.model.specs.Objects.{blocks-of, objects-of}
 use Rattle.model.specs.Consistent.{allowed, sound, serials-differ, records-differ}
-use Rattle.model.specs.Refusals.{Line, line-number, line-holds, allocate-lines, reallocate-lines}
+use Rattle.model.specs.Refusals.{Line, line-number, line-holds, has}
+use Rattle.model.specs.Rows.{row-of, arguments-of, call-lines}
 use Rattle.model.specs.Calls.{listing-from}
 use Rattle.model.specs.Step.{step}
 use Rattle.model.specs.declared.Handle.{Handle}
 use Rattle.model.specs.declared.ListedBlock.{ListedBlock}
+use Rattle.model.specs.declared.Refusal.the-variants.{NoSpace}
 use Rattle.model.specs.declared.Call.{Call}
-use Rattle.model.specs.declared.Call.the-variants.{Allocate, AllocateArray, Claim, Release, FreeAll, Reallocate, Lend, Remaining, CanRelease}
-use Rattle.model.specs.declared.Call.the-variants.{ListBlock}
-use Rattle.model.specs.declared.Call.the-variants.{ClearPermissions, Sweep}
+use Rattle.model.specs.declared.Call.the-variants.{Remaining}
 use Rattle.ledger.specs.Ledger.{Entry, Span, Ledger, Event, holds-of, cost-to, quarantined-of, unrestored, ledger-of}
 use Rattle.ledger.specs.History.{Run, History}
 
@@ -70,18 +70,9 @@ pub record Request : Type 0 where
   pub lines : List Line
 
 unfoldable pub request-of : (ℕ → ℕ) → Call → List ℕ → Accounts → Option Request
-request-of unit (Allocate q n) s k = some (record { asked = n; lines = allocate-lines unit s k q n })
-request-of unit (AllocateArray q count size) s k = some (record { asked = count * size; lines = allocate-lines unit s k q (count * size) })
-request-of unit (Claim q h) s k = none
-request-of unit (Release q h) s k = none
-request-of unit (FreeAll q) s k = none
-request-of unit Sweep s k = none
-request-of unit (Reallocate q h n) s k = some (record { asked = n; lines = reallocate-lines unit s k q h n })
-request-of unit (Lend h) s k = none
-request-of unit (Remaining q) s k = none
-request-of unit (CanRelease q h) s k = none
-request-of unit (ListBlock at) s k = none
-request-of unit (ClearPermissions q n) s k = none
+request-of unit c s k =
+    let r : Request = record { asked = arguments-of c .length; lines = call-lines unit c s k } in
+    cond (has NoSpace (row-of c)) (some r) none
 
 -- no line other than 11 holds
 unfoldable pub passes-others : List Line → Bool

@@ -12,9 +12,9 @@ use Rattle.model.specs.Consistent.{in-units, in-kind, in-range, sound}
 use Rattle.model.specs.Space.{outside-occupied, suitable, first-candidate, lowest-base, left-over, cut-block, carve-from, carve, vacate, changed}
 use Rattle.model.specs.Space.{join-front, join-free, reclaim, settle, swept, body-of, copy-into}
 use Rattle.model.specs.Holds.{count-of, take-record, raise-count, less-one, lower-count}
-use Rattle.model.specs.Refusals.{first-refusal, line-1, line-2, line-3, line-4, line-5, line-6, line-7, line-8, line-9, line-10, line-12, only-if}
-use Rattle.model.specs.Refusals.{claims-first, open-lines, check-lines, quota-lines, free-all-lines, lend-lines, release-lines, claim-lines, base-for}
-use Rattle.model.specs.Refusals.{line-11, allocate-lines, reallocate-lines}
+use Rattle.model.specs.Refusals.{first-refusal, line-1, line-2, line-3, line-4, line-5, line-6, line-7, line-8, line-9, line-10, line-12, only-if, row-lines}
+use Rattle.model.specs.Refusals.{claims-first, open-lines, base-for}
+use Rattle.model.specs.Refusals.{line-11}
 use Rattle.model.specs.Calls.{unless, fresh, open-heap, allocated, claimed, given-back, released, freed, copied, new-object, allocate, allocate-array}
 use Rattle.model.specs.Calls.{claim, release, free-all, reallocate, lend, remaining-of, can-release, check, listing-from, list-block, clear, sweep}
 use Rattle.model.specs.Step.{step}
@@ -31,7 +31,7 @@ unfolding opened remaining change-quota less-paid paid-back charge refund used u
     reclaim settle swept body-of copy-into
     count-of take-record raise-count less-one lower-count drop-records
     first-refusal line-1 line-2 line-3 line-4 line-5 line-6 line-7 line-8 line-9 line-10 line-12 only-if claims-first
-    open-lines check-lines quota-lines free-all-lines lend-lines release-lines claim-lines base-for line-11 allocate-lines reallocate-lines
+    open-lines row-lines base-for line-11
     unless fresh open-heap allocated claimed given-back released freed copied new-object
     allocate allocate-array claim release free-all sweep reallocate lend remaining-of can-release check listing-from list-block clear
     step

@@ -20,7 +20,7 @@ use Rattle.model.specs.Answers.{lent, zero-handle}
 use Rattle.model.specs.Objects.{objects-of, lookup}
 use Rattle.model.specs.Consistent.{allowed, sound}
 use Rattle.model.specs.Holds.{count-of}
-use Rattle.model.specs.Refusals.{Line, _when_, first-refusal, line-1, line-2, line-5, lend-lines}
+use Rattle.model.specs.Refusals.{Line, _when_, first-refusal, line-1, line-2, line-5, row-lines}
 use Rattle.model.specs.Calls.{Outcome, unless, unchanged, can-release, lend}
 use Rattle.model.specs.Step.{step}
 use Rattle.model.specs.declared.Handle.{Handle}
@@ -71,11 +71,11 @@ given-still u h rest l w =
 -- lend where heap and accounts are sound
 module _ (unit : ℕ → ℕ) (s : List ℕ) (k : Accounts) (a : allowed (length s) ≡ true) (w : sound unit s k ≡ true) (h : Handle) where
   lend-gives : (o : Handle) → lookup h s ≡ some o → lend unit s k h ≡ unchanged s k (lent (record { start = h .base; end = h .base + h .length }))
-  unfolding lend lend-lines first-refusal line-1 line-2 line-5 is-none unless
+  unfolding lend row-lines first-refusal line-1 line-2 line-5 is-none unless
   lend-gives o e = rw (a, w, e)
 
   lend-refuses : lookup h s ≡ none → lend unit s k h .values .refusal ≡ 5
-  unfolding lend lend-lines first-refusal line-1 line-2 line-5 is-none unless
+  unfolding lend row-lines first-refusal line-1 line-2 line-5 is-none unless
   lend-refuses e = rw (a, w, e)
 
 module _ (tables : ℕ → ℕ → ℕ) where

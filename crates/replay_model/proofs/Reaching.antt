@@ -11,7 +11,7 @@ use Rattle.accounts.specs.Accounts.{plain}
 use Rattle.rounding.specs.Rounding.{table}
 use Rattle.model.specs.Answers.{Values}
 use Rattle.model.specs.Consistent.{allowed}
-use Rattle.model.specs.Refusals.{first-refusal, line-1, line-2, check-lines}
+use Rattle.model.specs.Refusals.{first-refusal, line-1, line-2, check-lines, row-lines}
 use Rattle.model.specs.Step.{own-step}
 use Rattle.model.specs.declared.Call.{Call}
 use Rattle.model.proofs.Bools.{and-right}
@@ -26,7 +26,7 @@ module _ (s : List ℕ) (k : Accounts) (r : Reached s k) where
   reached-agrees = demand-3 .always (empty plain (r .grants)) (r .events) [] s k (r .history) .agrees
 
   pub reached-checked : first-refusal (check-lines (table (k .edition)) s k) ≡ 0
-  unfolding first-refusal check-lines line-1 line-2
+  unfolding first-refusal row-lines line-1 line-2
   reached-checked = rw (reached-agrees .length-allowed, reached-agrees .kept-sound)
 
   pub reached-length : length s ≤ 32768

@@ -17,8 +17,7 @@ use Rattle.model.specs.Lists.{all, any, is-none}
 use Rattle.model.specs.Answers.{Values, refused}
 use Rattle.model.specs.Objects.{objects-of, names, lookup, lookup-whole}
 use Rattle.model.specs.Consistent.{allowed, sound}
-use Rattle.model.specs.Refusals.{Line, _when_, line-holds, first-refusal, line-1, line-2, line-3, line-4, line-5, line-12, lend-lines}
-use Rattle.model.specs.Refusals.{claim-lines, release-lines, reallocate-lines}
+use Rattle.model.specs.Refusals.{Line, _when_, line-holds, first-refusal, line-1, line-2, line-3, line-4, line-5, line-12, row-lines}
 use Rattle.model.specs.Calls.{Outcome, unless, unchanged}
 use Rattle.model.specs.Step.{step, own-step}
 use Rattle.model.specs.declared.Handle.{Handle}
@@ -108,25 +107,25 @@ module _ (unit : ℕ → ℕ) (s : List ℕ) (k : Accounts) (extent : allowed (l
 
     module _ (q : ℕ) where
       claims : Answers (Claim q h)
-      unfolding claim-lines stale-refusal lines-before-5 line-3 line-12 all
+      unfolding row-lines stale-refusal lines-before-5 line-3 line-12 all
       claims = by-lines unit (Claim q h) s k .outcome ∙ refused-there (line-3 q ∷ line-12 CLAIM k q ∷ []) _ (lookup h s) nothing refl _
 
       releases : Answers (Release q h)
-      unfolding release-lines stale-refusal lines-before-5 line-3 all
+      unfolding row-lines stale-refusal lines-before-5 line-3 all
       releases = by-lines unit (Release q h) s k .outcome ∙ refused-there (line-3 q ∷ []) _ (lookup h s) nothing refl _
 
       can-releases : Answers (CanRelease q h)
-      unfolding release-lines stale-refusal lines-before-5 line-3 all
+      unfolding row-lines stale-refusal lines-before-5 line-3 all
       can-releases = by-lines unit (CanRelease q h) s k .outcome ∙ refused-there (line-3 q ∷ []) _ (lookup h s) nothing refl _
 
       reallocates : (n : ℕ) → Answers (Reallocate q h n)
-      unfolding reallocate-lines stale-refusal lines-before-5 line-3 line-4 line-12 all
+      unfolding row-lines stale-refusal lines-before-5 line-3 line-4 line-12 all
       reallocates n =
           by-lines unit (Reallocate q h n) s k .outcome
           ∙ refused-there (line-3 q ∷ line-12 ALLOCATE k q ∷ line-4 n ∷ []) _ (lookup-whole h s) nothing-whole refl _
 
     lends : Answers (Lend h)
-    unfolding lend-lines stale-refusal lines-before-5 all
+    unfolding row-lines stale-refusal lines-before-5 all
     lends = by-lines unit (Lend h) s k .outcome ∙ refused-there [] [] (lookup h s) nothing refl _
 
     answers : (c : Call) → handle-of c ≡ some h → Answers c
