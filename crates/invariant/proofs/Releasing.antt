@@ -49,7 +49,7 @@ good-sound : (unit : ℕ → ℕ) (t : State) → Good t → Fitting unit t → 
 unfolding sound
 good-sound unit t g f =
     let k = written-kinds t g (f .kinded) in
-    and-both _ _ (good-heap t g .sound)
+    and-both _ _ (good-heap t g .passes)
     (and-both _ _ (ap (all (in-units unit)) (good-heap t g .objects) ∙ f .units) (and-both _ _ (f .permitted) (and-both _ _ (k .0) (k .1))))
 
 -- and a sound heap's state has it

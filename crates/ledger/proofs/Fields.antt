@@ -47,11 +47,11 @@ total-entries f g (e ∷ es) h = rw (h e (List·Memᴰ·head refl), total-entrie
 module _ (l : Ledger) (s : List ℕ) (k : Accounts) (a : Agrees l s k) where
   -- the tests that the heap passes, over its objects
   tests-of : Tests (blocks-of s) k
-  tests-of = tests-exactly (blocks-of s) k .0 (consistent-cut s k (a .sound) .1)
+  tests-of = tests-exactly (blocks-of s) k .0 (consistent-cut s k (a .passes) .1)
 
   -- the records are in order
   pub ordered-of : Ordered (k .holds)
-  ordered-of = good-ordered (state-of s k) (heap-good s k (a .extent) (a .octets) (a .sound) (a .quotas) (a .narrow) (range-serial k (a .kinded .1)))
+  ordered-of = good-ordered (state-of s k) (heap-good s k (a .extent) (a .octets) (a .passes) (a .quotas) (a .narrow) (range-serial k (a .kinded .1)))
 
   -- the objects of live blocks have different serials
   pub live-once-of : serials-differ (objects-of s) ≡ true
@@ -73,7 +73,7 @@ module _ (l : Ledger) (s : List ℕ) (k : Accounts) (a : Agrees l s k) where
   pub inside-of : (o : Handle) → List·Memᴰ o (objects-of s) → o .base + o .length ≤ length s
   unfolding objects-of objects render
   inside-of o m =
-      let r = parse-is s (blocks-of s) (a .octets) .0 (consistent-cut s k (a .sound) .0) .0 in
+      let r = parse-is s (blocks-of s) (a .octets) .0 (consistent-cut s k (a .passes) .0) .0 in
       let e = ap length (sym r) ∙ length-render 0 (blocks-of s) in
       let p = objects-lie 0 (blocks-of s) o m .high in
       omega arith

@@ -58,7 +58,7 @@ agrees-from l t a =
     record {
       extent = w .allowed;
       octets = w .octets;
-      sound = w .sound;
+      passes = w .passes;
       quotas = a .good .quotas;
       narrow = a .good .narrow;
       kinded = written-kinds t (a .good) (a .kinded);
@@ -71,14 +71,14 @@ agrees-from l t a =
 module _ (l : Ledger) (s : List ℕ) (k : Accounts) (a : Agrees l s k) where
   -- the state that a call starts from
   pub good : Good (state-of s k)
-  good = heap-good s k (a .extent) (a .octets) (a .sound) (a .quotas) (a .narrow) (range-serial k (a .kinded .1))
+  good = heap-good s k (a .extent) (a .octets) (a .passes) (a .quotas) (a .narrow) (range-serial k (a .kinded .1))
 
   tracked : Tracks l (state-of s k)
   unfolding objects-of quarantined-of
   tracked = record { good = good; kinded = a .kinded; kind = a .kind; grants = a .grants; matches = a .matches; waits = a .waits }
 
   pub again : render (blocks-of s) ≡ s
-  again = heap-again s k (a .octets) (a .sound)
+  again = heap-again s k (a .octets) (a .passes)
 
 module _ (unit : ℕ → ℕ) (units : Units unit) (l : Ledger) (s : List ℕ) (k : Accounts) (a : Agrees l s k) where
   -- the new object of a request that has passed its lines
@@ -173,7 +173,7 @@ clear-agrees l s k a q n =
     record {
       extent = a .extent;
       octets = a .octets;
-      sound = clear-consistent q n k s ∙ a .sound;
+      passes = clear-consistent q n k s ∙ a .passes;
       quotas = c .same-count ∙ a .quotas;
       narrow = λ j. rw (same-grant q k (clear-permissions q n k) c j) (a .narrow j);
       kinded = (

@@ -163,7 +163,7 @@ module _ (tables : ℕ → ℕ → ℕ) (begun : Ledger) where
 -- a blank heap that agrees with an empty ledger, and its records
 module _ (l : Ledger) (s : List ℕ) (k : Accounts) (a : Agrees l s k) (none : NobodyHolds l) (b : blank s ≡ true) (rs : length (k .holds) ≡ HOLDS) where
   tests : Tests (blocks-of s) k
-  tests = tests-exactly (blocks-of s) k .0 (consistent-cut s k (a .sound) .1)
+  tests = tests-exactly (blocks-of s) k .0 (consistent-cut s k (a .passes) .1)
 
   no-objects : objects (blocks-of s) ≡ []
   unfolding objects-of
@@ -174,7 +174,7 @@ module _ (l : Ledger) (s : List ℕ) (k : Accounts) (a : Agrees l s k) (none : N
   no-spans = empty-list (quarantined-of s) (λ x m. List·Memᴰ·not-nil (subst (List·Memᴰ x) (none .1) (a .waits .both x .0 m)))
 
   again : render (blocks-of s) ≡ s
-  again = heap-again s k (a .octets) (a .sound)
+  again = heap-again s k (a .octets) (a .passes)
 
   extent : length s ≡ total size (blocks-of s)
   extent = ap length (sym again) ∙ render-total (blocks-of s)
@@ -186,7 +186,7 @@ module _ (l : Ledger) (s : List ℕ) (k : Accounts) (a : Agrees l s k) (none : N
   -- one free block covers the heap
   one : (b : Block) × (blocks-of s ≡ b ∷ []) × (occupied b ≡ false) × (live b ≡ false)
   unfolding objects
-  one = one-block 0 (blocks-of s) no-objects no-spans (consistent-apart s k (a .sound)) (omega (arith, extent, long))
+  one = one-block 0 (blocks-of s) no-objects no-spans (consistent-apart s k (a .passes)) (omega (arith, extent, long))
 
   module _ (g : Settings) where
     covers : blocks-of s ≡ fresh g (length s) (grants k) .blocks

@@ -185,7 +185,7 @@ module _ (tables : ℕ → ℕ → ℕ) (begun : Ledger) where
 -- an object of the ledger has a serial that was given
 serial-given : (l : Ledger) (s : List ℕ) (k : Accounts) → Agrees l s k → (n : ℕ) → HasSerial n l → n ≤ k .«last_serial»
 unfolding objects-of
-serial-given l s k a n r = rw (← r .2) (consistent-facts s k (a .sound) .given (r .0) (a .matches .objects (r .0) .1 (r .1)))
+serial-given l s k a n r = rw (← r .2) (consistent-facts s k (a .passes) .given (r .0) (a .matches .objects (r .0) .1 (r .1)))
 
 -- THE THEOREM
 module _ (tables : ℕ → ℕ → ℕ) (units : (e : ℕ) → Units (tables e)) where
