@@ -20,9 +20,9 @@ use Rattle.model.specs.declared.Call.{Call}
 use Rattle.model.specs.declared.Call.the-variants.{Allocate, Claim, Release, Sweep}
 use Rattle.model.proofs.Lists.{all-member}
 use Rattle.model.proofs.Computing.{computing}
-use Rattle.ledger.specs.Ledger.{Event, Called, empty, ledger-of}
+use Rattle.ledger.specs.Ledger.{Event, Called, in-span, empty, ledger-of}
 use Rattle.ledger.specs.History.{Begins, Opening}
-use Rattle.ledger.specs.Demand3.{SuitableRun, in-live-block, in-span, taken, spans-differ, HeldIn, request-of}
+use Rattle.ledger.specs.Demand3.{SuitableRun, taken, spans-differ, HeldIn, request-of}
 use Rattle.ledger.specs.Demand3.{passes-others, Demand3}
 use Rattle.ledger.proofs.Recording.{recording}
 use Rattle.ledger.proofs.Short.{grants, below, after, events, history, said, listing, first, second, waiting}
@@ -43,7 +43,7 @@ choosing = tt
 
 -- `space`: every call is refused for space, and there is a run of bytes at 8
 pub refuted-refuses-all : Demand3 table refuses-all → ⊥
-unfolding computing recording listing refuses-all request-of passes-others in-live-block in-span taken
+unfolding computing recording listing refuses-all request-of passes-others in-span taken
 refuted-refuses-all d =
     let h = said plain refuses-all d [] in
     let r : SuitableRun unit (after plain refuses-all [] .heap) 8 8 =

@@ -6,7 +6,7 @@ use mathlib.Core.Bool.{Bool, true, false, not, cond, _&&_, _||_}
 use mathlib.Core.Option.{Option, none, some}
 use mathlib.Core.Logic.{_↔_}
 use lib.ListN.{length, getD}
-use lib.Dec.{leb, ltb, eqb}
+use lib.Dec.{eqb}
 use Rattle.accounts.specs.declared.Quota.{Quota}
 use Rattle.accounts.specs.declared.Hold.{Hold}
 use Rattle.accounts.specs.declared.Accounts.{Accounts}
@@ -25,24 +25,16 @@ use Rattle.model.specs.declared.ListedBlock.{ListedBlock}
 use Rattle.model.specs.declared.Refusal.the-variants.{NoSpace}
 use Rattle.model.specs.declared.Call.{Call}
 use Rattle.model.specs.declared.Call.the-variants.{Remaining}
-use Rattle.ledger.specs.Ledger.{Entry, Span, Ledger, Event, holds-of, cost-to, quarantined-of, unrestored, ledger-of}
+use Rattle.ledger.specs.Ledger.{Entry, Span, in-span, block-of, Ledger, Event, holds-of, cost-to, quarantined-of, unrestored, ledger-of}
 use Rattle.ledger.specs.History.{Run, History}
 
 -- a byte of an object (rule 4.1)
 abbrev pub Within : ℕ → Handle → Type 0
 Within i o = (o .base ≤ i) × (i < o .base + o .length)
 
--- a byte of the block of one of these objects, header and body
-unfoldable pub in-live-block : ℕ → List Handle → Bool
-in-live-block i os = any (λ o. leb (o .base) (i + 8) && ltb i (o .base + o .length)) os
-
--- a byte of one of these blocks
-unfoldable pub in-span : ℕ → List Span → Bool
-in-span i xs = any (λ x. leb (x .from) i && ltb i (x .to)) xs
-
 -- rule 22.13: a byte of a live block or of a quarantined one
 unfoldable pub taken : ℕ → List ℕ → Bool
-taken i s = in-live-block i (objects-of s) || in-span i (quarantined-of s)
+taken i s = in-span i (map block-of (objects-of s)) || in-span i (quarantined-of s)
 
 -- no two of these blocks start at one place
 unfoldable pub spans-differ : List Span → Bool
