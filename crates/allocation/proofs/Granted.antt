@@ -20,7 +20,7 @@ use Rattle.model.specs.Answers.{refusal-number, given, verdict-values, handle-v
 use Rattle.model.specs.Lists.{all, is-none, or-else}
 use Rattle.model.specs.Consistent.{charge-of, greatest-serial}
 use Rattle.model.specs.Holds.{take-record}
-use Rattle.model.specs.Refusals.{Line, first-refusal, line-3, line-4, line-8, line-9, line-10, line-11, line-12, base-for, allocate-lines}
+use Rattle.model.specs.Refusals.{Line, first-refusal, line-3, line-4, line-8, line-9, line-10, line-11, line-12, base-for, allocate-lines, row-lines}
 use Rattle.model.specs.Calls.{unless, check, leaves, state-of, allocated, new-object, allocate}
 use Rattle.model.specs.declared.Handle.{Handle}
 use Rattle.model.specs.declared.Refusal.{Refusal}
@@ -107,29 +107,29 @@ module _ (unit : ℕ → ℕ) (s : List ℕ) (k : Accounts) (q n : ℕ) where
   pub refused-check : (v : Verdict) → verdict-values v ≡ check unit s k .values → (f : Refusal) → v ≡ Refused f → (r : HandleResult)
       → r ≡ record { accounts = k; answer = NotGiven f }
       → handle-outcome s r ≡ allocate unit s k q n
-  unfolding allocate-lines
+  unfolding row-lines
   refused-check v told f a r e = refused-by r f e (check-refuses unit s k v told from-3 f a)
 
   pub refused-3 : (v : Verdict) → verdict-values v ≡ check unit s k .values → v ≡ Accepted → QUOTAS ≤ q → (r : HandleResult)
       → r ≡ record { accounts = k; answer = NotGiven QuotaNumber }
       → handle-outcome s r ≡ allocate unit s k q n
-  unfolding allocate-lines
+  unfolding row-lines
   refused-3 v told a h r e = refused-by r QuotaNumber e (check-accepts unit s k v told from-3 a ∙ line-3-refuses q from-12 h)
 
   pub refused-12 : Checked unit s k q → quota-at q k .permissions / ALLOCATE % 2 ≡ 0
       → (r : HandleResult) → r ≡ record { accounts = k; answer = NotGiven NotPermitted } → handle-outcome s r ≡ allocate unit s k q n
-  unfolding allocate-lines
+  unfolding row-lines
   refused-12 c z r e = refused-by r NotPermitted e (checked-passes unit s k q from-12 c ∙ line-12-refuses ALLOCATE q k from-4 z)
 
   pub refused-4 : Checked unit s k q → permits ALLOCATE q k ≡ true → first-refusal from-4 ≡ 4
       → (r : HandleResult) → r ≡ record { accounts = k; answer = NotGiven ObjectLength } → handle-outcome s r ≡ allocate unit s k q n
-  unfolding allocate-lines
+  unfolding row-lines
   refused-4 c p h r e = refused-by r ObjectLength e (checked-passes unit s k q from-12 c ∙ line-12-passes ALLOCATE q k from-4 p ∙ h)
 
 -- the others, of a request that is ready
 module _ (unit : ℕ → ℕ) (units : Units unit) (s : List ℕ) (k : Accounts) (q n : ℕ) (y : Ready unit s k q n) (r : HandleResult) where
   to-8 : number unit s k q n ≡ first-refusal (from-8 unit s k q n)
-  unfolding allocate-lines
+  unfolding row-lines
   to-8 = ready-passes unit s k q n (from-8 unit s k q n) y
 
   pub refused-8 : remaining q k < object-length unit n + 8 → r ≡ record { accounts = k; answer = NotGiven QuotaExceeded }

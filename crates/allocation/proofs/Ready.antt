@@ -12,7 +12,7 @@ use Rattle.accounts.specs.Accounts.{QUOTAS, ALLOCATE}
 use Rattle.layout.specs.Blocks.{QUARANTINED}
 use Rattle.model.specs.Answers.{verdict-values}
 use Rattle.model.specs.Consistent.{allowed, sound}
-use Rattle.model.specs.Refusals.{Line, first-refusal, line-1, line-2, line-3, line-4, line-12, greatest-length, check-lines}
+use Rattle.model.specs.Refusals.{Line, first-refusal, line-1, line-2, line-3, line-4, line-12, greatest-length, row-lines}
 use Rattle.model.specs.Calls.{unless, check}
 use Rattle.model.specs.declared.Verdict.{Verdict}
 use Rattle.model.specs.declared.Verdict.the-variants.{Accepted}
@@ -40,7 +40,7 @@ checked-serial unit s k q c = range-serial k (sound-range unit s k (c .sound))
 
 -- the check accepts it
 pub accepted-check : (unit : ℕ → ℕ) (s : List ℕ) (k : Accounts) (q : ℕ) → Checked unit s k q → verdict-values Accepted ≡ check unit s k .values
-unfolding verdict-values check check-lines unless line-1 line-2 first-refusal
+unfolding verdict-values check row-lines unless line-1 line-2 first-refusal
 accepted-check unit s k q c = rw (c .extent, c .sound)
 
 -- 4: the length

@@ -21,7 +21,7 @@ use Rattle.model.specs.Objects.{blocks-of, objects, objects-of, lookup, lookup-
 use mathlib.Core.Logic.{⊎-elim}
 use Rattle.model.specs.Consistent.{allowed, has-record, in-units, sound as is-sound}
 use Rattle.model.proofs.Lists.{member-all}
-use Rattle.model.specs.Refusals.{Line, first-refusal, line-5, line-6, release-lines, allocate-lines, reallocate-lines}
+use Rattle.model.specs.Refusals.{Line, first-refusal, line-5, line-6, release-lines, allocate-lines, reallocate-lines, row-lines}
 use Rattle.model.specs.Calls.{Outcome, State, unless, leaves, state-of, allocated, copied, released, new-object, allocate, release, reallocate}
 use Rattle.model.specs.Step.{step}
 use Rattle.model.specs.declared.Handle.{Handle}
@@ -94,7 +94,7 @@ line-6-passes k q o rest e = line-passes 6 (not (has-record (k .holds) q (o .ser
 module _ (unit : ℕ → ℕ) (s : List ℕ) (k : Accounts) (q : ℕ) (h old : Handle) (c : Checked unit s k q) (named : lookup h s ≡ some old)
     (held : has-record (k .holds) q (old .serial) ≡ true) where
   release-passes : first-refusal (release-lines unit s k q h) ≡ 0
-  unfolding release-lines first-refusal found or-else
+  unfolding row-lines first-refusal found or-else
   release-passes =
       checked-passes unit s k q (line-5 (lookup h s) ∷ line-6 k q (found (lookup h s)) ∷ []) c
       ∙ line-5-passes (lookup h s) old (line-6 k q (found (lookup h s)) ∷ []) named
@@ -110,7 +110,7 @@ module _ (unit : ℕ → ℕ) (units : Units unit) (s : List ℕ) (k : Accounts)
     (handle-is : h ≡ old) (named : lookup h s ≡ some old) (held : has-record (k .holds) q (old .serial) ≡ true) where
   -- the lines behind them are allocate's
   same-number : first-refusal (reallocate-lines unit s k q h n) ≡ first-refusal (allocate-lines unit s k q n)
-  unfolding reallocate-lines allocate-lines
+  unfolding row-lines
   same-number =
       let w = whole-named h old s handle-is named in
       let o = found (lookup-whole h s) in

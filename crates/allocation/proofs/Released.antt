@@ -23,14 +23,14 @@ use Rattle.model.specs.Answers.{amount-of}
 use Rattle.model.specs.Objects.{names, object, objects-from, objects, blocks-of, objects-of, lookup}
 use Rattle.model.specs.Consistent.{consistent, free-apart, has-serial, serials-differ, is-of, held}
 use Rattle.model.specs.Holds.{count-of, with-count, less-one, lower-count}
-use Rattle.model.specs.Space.{settle}
+use Rattle.model.specs.Space.{settle, stays}
 use Rattle.model.specs.Calls.{given-back, released}
 use Rattle.model.specs.declared.Handle.{Handle}
 use Rattle.model.proofs.Bools.{and-left, and-right, or-neither, implies, implied}
 use Rattle.model.proofs.Lists.{first-some, all-member, member-all, all-append, getD-member}
 use Rattle.model.proofs.Blocks.{objects-live, objects-free, objects-append, live-occupied}
 use Rattle.model.proofs.Consistent.{Tests, tests-exactly, consistent-cut, consistent-apart, consistent-facts, is-for-exactly}
-use Rattle.model.proofs.Settle.{stays, stays-objects, settle-same, settle-one}
+use Rattle.model.proofs.Settle.{stays-objects, settle-same, settle-one}
 use Rattle.lookup.specs.declared.Met.{Met}
 use Rattle.lookup.specs.declared.Lookup.the-variants.{Found}
 use Rattle.lookup.specs.Walk.{object-met, find-object}

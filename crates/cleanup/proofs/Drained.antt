@@ -20,7 +20,7 @@ use Rattle.model.specs.Objects.{blocks-of, objects, objects-of}
 use Rattle.model.specs.Consistent.{allowed, consistent, sound, held, charges, long-enough, free-apart, well-cut}
 use Rattle.model.specs.Space.{settle}
 use Rattle.model.specs.Holds.{with-count, less-one, lower-count}
-use Rattle.model.specs.Refusals.{line-holds, line-1, line-2, free-all-lines}
+use Rattle.model.specs.Refusals.{line-holds, line-1, line-2, free-all-lines, row-lines}
 use Rattle.model.specs.Calls.{State, leaves, unless, state-of, given-back, released, freed, free-all, release}
 use Rattle.model.specs.Step.{step}
 use Rattle.model.specs.declared.Handle.{Handle}
@@ -197,7 +197,7 @@ module _ (unit : ℕ → ℕ) (q : ℕ) where
     none-holds = call-accepted-exactly unit (FreeAll q) s k .0 e
 
     checked : (allowed (length s) ≡ true) × (sound unit s k ≡ true)
-    unfolding free-all-lines any line-1 line-2
+    unfolding row-lines any line-1 line-2
     checked =
         let x = or-neither (not (allowed (length s))) _ none-holds in
         let y = or-neither (not (sound unit s k)) _ (x .1) in

@@ -14,7 +14,7 @@ use Rattle.comparison.specs.declared.Position.the-variants.{Start, Kind as From
 use Rattle.comparison.specs.declared.Step.{Step}
 use Rattle.comparison.specs.declared.Step.the-variants.{Differs, Nothing}
 use Rattle.comparison.specs.Compare.{Compared, Advanced}
-use Rattle.comparison_api.specs.Replies.{which-number, kind-number, place-number, length-number, reply-with, compare-reply, position-of}
+use Rattle.comparison_api.specs.Replies.{which-number, difference-number, place-number, length-number, reply-with, compare-reply, position-of}
 use Rattle.comparison_api.specs.Replies.{part-number, place-in, step-reply, next-reply}
 use Rattle.comparison_api.specs.declared.CompareReply.{CompareReply}
 use Rattle.comparison_api.specs.declared.NextReply.{NextReply}
@@ -24,7 +24,7 @@ use Rattle.comparison_api.proofs.Rows
 abbrev difference-from : ℕ → ℕ → ℕ → Option Difference
 difference-from k p n = getD (none ∷ some LastSerial ∷ some (QuotaAt p) ∷ some (RecordAt p) ∷ some (Bytes p n) ∷ some Kind ∷ some Edition ∷ []) k none
 
-difference-back : (d : Difference) → difference-from (kind-number d) (place-number d) (length-number d) ≡ some d
+difference-back : (d : Difference) → difference-from (difference-number d) (place-number d) (length-number d) ≡ some d
 difference-back LastSerial = refl
 difference-back Kind = refl
 difference-back Edition = refl

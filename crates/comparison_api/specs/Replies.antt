@@ -22,13 +22,13 @@ which-number Second = 2
 which-number Neither = 0
 
 -- the kind of a difference, its place and its length
-abbrev pub kind-number : Difference → ℕ
-kind-number LastSerial = 1
-kind-number Kind = 5
-kind-number Edition = 6
-kind-number (QuotaAt q) = 2
-kind-number (RecordAt p) = 3
-kind-number (Bytes at n) = 4
+abbrev pub difference-number : Difference → ℕ
+difference-number LastSerial = 1
+difference-number Kind = 5
+difference-number Edition = 6
+difference-number (QuotaAt q) = 2
+difference-number (RecordAt p) = 3
+difference-number (Bytes at n) = 4
 
 abbrev pub place-number : Difference → ℕ
 place-number LastSerial = 0
@@ -49,7 +49,7 @@ length-number (Bytes at n) = n
 -- the reply of compare: zeros where there is no difference
 abbrev pub reply-with : ℕ → ℕ → Option Difference → CompareReply
 reply-with r w none = record { refusal = r; which = w; kind = 0; place = 0; length = 0 }
-reply-with r w (some d) = record { refusal = r; which = w; kind = kind-number d; place = place-number d; length = length-number d }
+reply-with r w (some d) = record { refusal = r; which = w; kind = difference-number d; place = place-number d; length = length-number d }
 
 abbrev pub compare-reply : Compared → CompareReply
 compare-reply c = reply-with (c .refusal) (which-number (c .which)) (c .found)
@@ -82,7 +82,7 @@ step-reply r w (Differs d p) =
     record {
       refusal = r;
       which = w;
-      kind = kind-number d;
+      kind = difference-number d;
       place = place-number d;
       length = length-number d;
       part = part-number p;

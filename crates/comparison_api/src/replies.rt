@@ -8,7 +8,7 @@ use comparison::Position;
 use comparison::Which;
 ghost use mathlib.Core.Path.{_≡_};
 ghost use Rattle.comparison.specs.Compare.{compared, advanced};
-ghost use Rattle.comparison_api.specs.Replies.{which-number, kind-number, place-number, length-number, compare-reply, position-of, part-number};
+ghost use Rattle.comparison_api.specs.Replies.{which-number, difference-number, place-number, length-number, compare-reply, position-of, part-number};
 ghost use Rattle.comparison_api.specs.Replies.{place-in, next-reply};
 
 // The number of the image that a refusal is about.
@@ -24,7 +24,7 @@ fn number_of(which: Which) -> u32
 
 // The numbers of a difference: its kind, its place and its length.
 fn kind_of(difference: Difference) -> u32
-    ensures { λ r. ⌜ r ≡ kind-number difference ⌝ }
+    ensures { λ r. ⌜ r ≡ difference-number difference ⌝ }
 {
     match difference {
         Difference::LastSerial => 1,

@@ -17,7 +17,7 @@ use Rattle.model.specs.Answers.{refusal-number, verdict-values, amount-of, amou
 use Rattle.model.specs.Objects.{blocks-of, objects-of}
 use Rattle.model.specs.Consistent.{consistent, charges}
 use Rattle.model.specs.Space.{settle}
-use Rattle.model.specs.Refusals.{Line, first-refusal, line-3, line-12, free-all-lines}
+use Rattle.model.specs.Refusals.{Line, first-refusal, line-3, line-12, free-all-lines, row-lines}
 use Rattle.model.specs.Calls.{check, freed, free-all}
 use Rattle.model.specs.declared.Refusal.{Refusal}
 use Rattle.model.specs.declared.Verdict.{Verdict}
@@ -42,20 +42,20 @@ module _ (unit : ℕ → ℕ) (s : List ℕ) (k : Accounts) (q : ℕ) (v : Verdi
   last-lines = line-12 FREE-ALL k q ∷ []
 
   pub all-by-check : (x : Refusal) → v ≡ NotAccepted x → first-refusal (free-all-lines unit s k q) ≡ refusal-number x
-  unfolding free-all-lines
+  unfolding row-lines
   all-by-check x e = check-refuses unit s k v told (line-3 q ∷ last-lines) x e
 
   pub all-by-quota : v ≡ Accepted → QUOTAS ≤ q → first-refusal (free-all-lines unit s k q) ≡ 3
-  unfolding free-all-lines
+  unfolding row-lines
   all-by-quota e l = check-accepts unit s k v told (line-3 q ∷ last-lines) e ∙ line-3-refuses q last-lines l
 
   pub all-by-permission : v ≡ Accepted → q < QUOTAS → quota-at q k .permissions / FREE-ALL % 2 ≡ 0 → first-refusal (free-all-lines unit s k q) ≡ 12
-  unfolding free-all-lines
+  unfolding row-lines
   all-by-permission e l z =
       check-accepts unit s k v told (line-3 q ∷ last-lines) e ∙ line-3-passes q last-lines l ∙ line-12-refuses FREE-ALL q k [] z
 
   pub all-passes : v ≡ Accepted → q < QUOTAS → permits FREE-ALL q k ≡ true → first-refusal (free-all-lines unit s k q) ≡ 0
-  unfolding free-all-lines first-refusal
+  unfolding row-lines first-refusal
   all-passes e l p = check-accepts unit s k v told (line-3 q ∷ last-lines) e ∙ line-3-passes q last-lines l ∙ line-12-passes FREE-ALL q k [] p
 
 -- a refusal as a result

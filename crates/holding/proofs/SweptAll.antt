@@ -11,7 +11,7 @@ use Rattle.layout.proofs.Parse.{parse-is}
 use Rattle.model.specs.Answers.{verdict-values, amount-of, amount-values}
 use Rattle.model.specs.Objects.{blocks-of}
 use Rattle.model.specs.Consistent.{allowed, consistent, sound}
-use Rattle.model.specs.Refusals.{first-refusal, check-lines}
+use Rattle.model.specs.Refusals.{first-refusal, check-lines, row-lines}
 use Rattle.model.specs.Calls.{check, sweep}
 use Rattle.model.specs.declared.Refusal.{Refusal}
 use Rattle.model.specs.declared.Verdict.{Verdict}
@@ -32,7 +32,7 @@ module _ (unit : ℕ → ℕ) (s : List ℕ) (k : Accounts) (v : Verdict) (told 
   -- the check's refusal
   pub sweep-refuses : (r : AmountResult) (x : Refusal) → r ≡ record { accounts = k; answer = Refused x } → v ≡ NotAccepted x → amount-outcome s r
       ≡ sweep unit s k
-  unfolding sweep amount-values check-lines
+  unfolding sweep amount-values row-lines
   sweep-refuses r x e n = ap (amount-outcome s) e ∙ refused-is (first-refusal (check-lines unit s k)) s k _ x (check-refuses unit s k v told [] x n)
 
 -- the walk may start
@@ -52,7 +52,7 @@ sweepable unit s k o ok = (blocks-of s, sweeping-of unit s k o ok)
 pub sweep-gives : (unit : ℕ → ℕ) (s : List ℕ) (k : Accounts) → Octets s → (v : Verdict) → verdict-values v ≡ check unit s k .values → v ≡ Accepted
     → (s′ : List ℕ) (n : ℕ) → Swept s s′ n
     → (r : AmountResult) → r ≡ record { accounts = k; answer = Amount n } → amount-outcome s′ r ≡ sweep unit s k
-unfolding sweep check-lines first-refusal
+unfolding sweep row-lines first-refusal
 sweep-gives unit s k o v told ok s′ n w r e =
     let f = w (blocks-of s) (sweeping-of unit s k o (check-consistent unit s k v told ok)) in
     gives s′ k n r e ∙ (λ i. outcome (f .0 i) k (amount-of (f .1 i))) ∙ accepted-is (first-refusal (check-lines unit s k)) s k _

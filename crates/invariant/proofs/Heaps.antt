@@ -38,7 +38,7 @@ pub record Written-out (t : State) : Type 0 where
   pub extent : length (render (t .blocks)) ≡ total size (t .blocks)
   pub allowed : allowed (length (render (t .blocks))) ≡ true
   pub octets : Octets (render (t .blocks))
-  pub sound : consistent (render (t .blocks)) (t .accounts) ≡ true
+  pub passes : consistent (render (t .blocks)) (t .accounts) ≡ true
 
 pub good-heap : (t : State) → Good t → Written-out t
 unfolding render objects-of
@@ -54,7 +54,7 @@ good-heap t g =
       extent = render-total bs;
       allowed = rw (render-total bs) (g .extent);
       octets = o;
-      sound = consistent-exactly (render bs) (t .accounts) .1 (bs, p, tests-exactly bs (t .accounts) .1 (g .tests));
+      passes = consistent-exactly (render bs) (t .accounts) .1 (bs, p, tests-exactly bs (t .accounts) .1 (g .tests));
     }
 
 -- the blocks of a consistent heap can be written, and are the heap again

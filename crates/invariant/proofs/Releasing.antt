@@ -15,7 +15,7 @@ use Rattle.model.specs.Lists.{all, any, first, or-else, is-none}
 use Rattle.model.specs.Answers.{amount-of}
 use Rattle.model.specs.Objects.{objects, objects-of, names, lookup, found}
 use Rattle.model.specs.Consistent.{allowed, consistent, sound, has-record, in-units}
-use Rattle.model.specs.Refusals.{line-holds, first-refusal, line-1, line-2, line-3, line-5, line-6, release-lines}
+use Rattle.model.specs.Refusals.{line-holds, first-refusal, line-1, line-2, line-3, line-5, line-6, release-lines, row-lines}
 use Rattle.model.specs.Calls.{State, leaves, unless, state-of, given-back, released, release}
 use Rattle.model.specs.Step.{step}
 use Rattle.model.specs.declared.Handle.{Handle}
@@ -49,7 +49,7 @@ good-sound : (unit : ℕ → ℕ) (t : State) → Good t → Fitting unit t → 
 unfolding sound
 good-sound unit t g f =
     let k = written-kinds t g (f .kinded) in
-    and-both _ _ (good-heap t g .sound)
+    and-both _ _ (good-heap t g .passes)
     (and-both _ _ (ap (all (in-units unit)) (good-heap t g .objects) ∙ f .units) (and-both _ _ (f .permitted) (and-both _ _ (k .0) (k .1))))
 
 -- and a sound heap's state has it
@@ -93,7 +93,7 @@ module _ (q : ℕ) (h o : Handle) (t : State) (g : Good t) (p : Possible q h o t
     found-here = rw (good-heap t g .objects) (p .names)
 
     no-line : first-refusal (release-lines unit (render (t .blocks)) (t .accounts) q h) ≡ 0
-    unfolding release-lines first-refusal line-1 line-2 line-3 line-5 line-6 found or-else is-none
+    unfolding row-lines first-refusal line-1 line-2 line-3 line-5 line-6 found or-else is-none
     no-line = rw (good-heap t g .allowed, good-sound unit t g f, lt-leb _ _ (p .exists), found-here, p .recorded)
 
     -- it is accepted, and does what its definition says
@@ -108,7 +108,7 @@ module _ (unit : ℕ → ℕ) (s : List ℕ) (k : Accounts) (q : ℕ) (h : Handl
   none-holds = call-accepted-exactly unit (Release q h) s k .0 e
 
   checked : (allowed (length s) ≡ true) × (sound unit s k ≡ true)
-  unfolding release-lines any line-1 line-2
+  unfolding row-lines any line-1 line-2
   checked =
       let x = or-neither (not (allowed (length s))) _ none-holds in
       let y = or-neither (not (sound unit s k)) _ (x .1) in

@@ -47,7 +47,7 @@ pub record Tracks (l : Ledger) (t : State) : Type 0 where
 pub record Agrees (l : Ledger) (s : List ℕ) (k : Accounts) : Type 0 where
   pub extent : allowed (length s) ≡ true
   pub octets : Octets s
-  pub sound : consistent s k ≡ true
+  pub passes : consistent s k ≡ true
   pub quotas : length (k .quotas) ≡ QUOTAS
   pub narrow : (q : ℕ) → getD (k .quotas) q zero-quota .grant < 2 ^ 32
   pub kinded : Kinded (state-of s k)

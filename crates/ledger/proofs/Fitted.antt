@@ -47,7 +47,7 @@ pub sound-of : (unit : ℕ → ℕ) (l : Ledger) (s : List ℕ) (k : Accounts) �
 unfolding sound
 sound-of unit l s k a f p =
     let fits = member-all (in-units unit) (objects-of s) (λ o m. f o (a .matches .objects o .0 m)) in
-    and-both (consistent s k) _ (a .sound)
+    and-both (consistent s k) _ (a .passes)
     (and-both (all (in-units unit) (objects-of s)) _ fits (and-both (all permissible (permissions k)) _ p
     (and-both _ _ (a .kinded .0) (a .kinded .1))))
 

@@ -128,4 +128,4 @@ module _ (unit : ℕ → ℕ) (l : Ledger) (s : List ℕ) (k : Accounts) where
     where
       -- the next serial is above that of every object
       past : (p : Handle) → p .serial ≡ k .«last_serial» + 1 → p .serial ≡ o .serial → p ≡ o
-      past p n e = let b = consistent-facts s k (a .sound) .given o (a .matches .objects o .1 m) in absurd (omega arith)
+      past p n e = let b = consistent-facts s k (a .passes) .given o (a .matches .objects o .1 m) in absurd (omega arith)

@@ -89,7 +89,7 @@ consistent-agrees s k e o c l n f =
     record {
       extent = e;
       octets = o;
-      sound = c;
+      passes = c;
       quotas = l;
       narrow = n;
       kinded = f;

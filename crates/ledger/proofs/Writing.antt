@@ -206,12 +206,12 @@ written-agrees l s s′ k a w =
     record {
       extent = rw (w .same-length) (a .extent);
       octets = w .octets;
-      sound = written-consistent s s′ k (a .octets) (a .sound) w;
+      passes = written-consistent s s′ k (a .octets) (a .passes) w;
       quotas = a .quotas;
       narrow = a .narrow;
-      kinded = (written-kinds s s′ k (a .octets) (a .sound) w (k .kind) ∙ a .kinded .0, a .kinded .1);
+      kinded = (written-kinds s s′ k (a .octets) (a .passes) w (k .kind) ∙ a .kinded .0, a .kinded .1);
       kind = a .kind;
       grants = a .grants;
-      matches = rw (written-objects s s′ k (a .octets) (a .sound) w) (a .matches);
-      waits = rw (written-spans s s′ k (a .octets) (a .sound) w) (a .waits);
+      matches = rw (written-objects s s′ k (a .octets) (a .passes) w) (a .matches);
+      waits = rw (written-spans s s′ k (a .octets) (a .passes) w) (a .waits);
     }

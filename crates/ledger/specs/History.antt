@@ -1,10 +1,9 @@
 -- Histories (rule 10.1): every list of calls, refused ones included, from an accepted opening of one heap, with writes inside live objects in between.
-use Prim.Native.Nat.{ℕ, _+_, _<_, _^_}
+use Prim.Native.Nat.{ℕ, _<_, _^_}
 use mathlib.Core.Path.{_≡_}
 use mathlib.Core.List.{List, [], _∷_}
-use mathlib.Core.Bool.{Bool, true, false, _&&_}
+use mathlib.Core.Bool.{Bool, true, false}
 use lib.ListN.{length, getD}
-use lib.Dec.{leb, ltb}
 use Rattle.accounts.specs.declared.Accounts.{Accounts}
 use Rattle.accounts.specs.declared.settings.Settings.{Settings}
 use Rattle.accounts.specs.Accounts.{QUOTAS, HOLDS, zero-quota, zero-hold}
@@ -17,7 +16,7 @@ use Rattle.model.specs.Calls.{Outcome, open-heap}
 use Rattle.model.specs.Step.{step}
 use Rattle.model.specs.declared.Handle.{Handle}
 use Rattle.model.specs.declared.Call.{Call}
-use Rattle.ledger.specs.Ledger.{Ledger, Event, Called, Wrote, Saved, Restored, empty, read-ledger}
+use Rattle.ledger.specs.Ledger.{covers, bytes-in, Ledger, Event, Called, Wrote, Saved, Restored, empty, read-ledger}
 
 -- whatever performs a call on a heap and its accounts
 abbrev pub Run : Type 0
@@ -53,7 +52,7 @@ pub data Begins (tables : ℕ → ℕ → ℕ) (begun : Ledger) (s : List ℕ) (
 
 -- a byte lies in one of these objects
 unfoldable pub in-object : ℕ → List Handle → Bool
-in-object i os = any (λ o. leb (o .base) i && ltb i (o .base + o .length)) os
+in-object i os = any (λ o. covers (bytes-in o) i) os
 
 -- bytes inside live objects are written in whatever way, and nobody writes any others
 pub record Written (s s′ : List ℕ) : Type 0 where

@@ -25,8 +25,9 @@ use Rattle.model.specs.Calls.{State, leaves, unless, unchanged, state-of
 use Rattle.model.specs.declared.Handle.{Handle}
 use Rattle.model.proofs.Bools.{and-both}
 use Rattle.model.proofs.Consistent.{Tests, tests-exactly, consistent-cut, consistent-apart, consistent-facts, is-for-exactly}
-use Rattle.model.proofs.Settle.{stays, stays-objects, drop-none, settle-none}
+use Rattle.model.proofs.Settle.{stays-objects, drop-none, settle-none}
 use Rattle.model.proofs.Lists.{none-exactly}
+use Rattle.model.specs.Space.{stays}
 
 -- in a consistent state the sum of a quota's charges is what it has spent
 pub charges-spent : (s : List ℕ) (k : Accounts) → consistent s k ≡ true → (q : ℕ) → q < length (k .quotas) → charges (k .holds) q (objects-of s) ≡ spent q k

@@ -9,7 +9,7 @@ use mathlib.Core.Option.{some}
 use Rattle.accounts.specs.declared.Accounts.{Accounts}
 use Rattle.model.specs.Objects.{objects-of, lookup}
 use Rattle.model.specs.Consistent.{consistent}
-use Rattle.model.specs.Refusals.{claim-lines, release-lines}
+use Rattle.model.specs.Refusals.{row-lines}
 use Rattle.model.specs.Calls.{claim, release, can-release}
 use Rattle.model.specs.declared.Handle.{Handle}
 use Rattle.model.proofs.Lookup.{Narrowed, names-exactly, whole-names, lookup-named, lookup-exactly, consistent-differ, consistent-byte}
@@ -45,13 +45,13 @@ module _ (s : List ℕ) (k : Accounts) (c : consistent s k ≡ true) where
     -- so these calls answer and leave the same
     module _ (unit : ℕ → ℕ) (q : ℕ) where
       pub claim-whole : claim unit s k q h ≡ claim unit s k q o
-      unfolding claim claim-lines
+      unfolding claim row-lines
       claim-whole = rw same-found
 
       pub release-whole : release unit s k q h ≡ release unit s k q o
-      unfolding release release-lines
+      unfolding release row-lines
       release-whole = rw same-found
 
       pub can-release-whole : can-release unit s k q h ≡ can-release unit s k q o
-      unfolding can-release release-lines
+      unfolding can-release row-lines
       can-release-whole = rw same-found

@@ -14,7 +14,7 @@ use Rattle.layout.specs.Blocks.{Block, size, occupied, QUARANTINED, live, AllWr
 use Rattle.model.specs.Lists.{all, any, total, keep}
 use Rattle.model.specs.Objects.{objects-from, objects}
 use Rattle.model.specs.Consistent.{long-enough, free-apart, well-cut, held}
-use Rattle.model.specs.Space.{join-front, join-free, vacates, vacant, vacate, changed, reclaim, settle}
+use Rattle.model.specs.Space.{join-front, join-free, vacates, vacant, vacate, stays, changed, reclaim, settle}
 use Rattle.model.specs.Joining.{join-neighbours}
 use Rattle.model.specs.declared.Handle.{Handle}
 use Rattle.model.proofs.Bools.{and-left, and-right, and-both, or-left, or-right, or-neither, implies}
@@ -26,10 +26,6 @@ use Rattle.model.proofs.Join.{join-replaced}
 -- a record holds this object
 abbrev pub object-held : List Hold → Handle → Bool
 object-held hs o = held hs (o .serial)
-
--- a block that settling leaves alone: it is free, or a record holds it
-abbrev pub stays : List Hold → Block → Bool
-stays hs b = not (live b) || held hs (b .serial)
 
 -- every live block is held exactly if every object is
 pub stays-objects : (hs : List Hold) (at : ℕ) (bs : List Block) → all (object-held hs) (objects-from at bs) ≡ all (stays hs) bs

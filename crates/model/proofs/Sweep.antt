@@ -10,7 +10,7 @@ use Rattle.layout.specs.Blocks.{Block, size, occupied, QUARANTINED, quarantined
 use Rattle.model.specs.Lists.{all, total}
 use Rattle.model.specs.Objects.{objects-from, objects}
 use Rattle.model.specs.Consistent.{long-enough, free-apart, well-cut}
-use Rattle.model.specs.Space.{join-front, join-free, changed, reclaim, unquarantine, swept}
+use Rattle.model.specs.Space.{join-front, join-free, changed, reclaim, unquarantine, not-quarantined, swept}
 use Rattle.model.specs.Joining.{join-neighbours}
 use Rattle.model.proofs.Touched.{sweep-touches}
 use Rattle.model.proofs.Bools.{and-left, and-right, and-both}
@@ -97,9 +97,6 @@ swept-cut bs a =
     (join-apart-all (unquarantine-all bs))
 
 -- no block is quarantined any more
-abbrev pub not-quarantined : Block → Bool
-not-quarantined b = not (quarantined b)
-
 unquarantined-open : (bs : List Block) → all not-quarantined (unquarantine-all bs) ≡ true
 unfolding changed all
 unquarantined-open [] = refl

@@ -5,6 +5,7 @@ pub mod Consistent
 pub mod Space
 pub mod Holds
 pub mod Refusals
+pub mod Rows
 pub mod Calls
 pub mod Step
 pub mod Marked

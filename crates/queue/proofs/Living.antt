@@ -20,7 +20,7 @@ use Rattle.model.specs.Answers.{lent, zero-handle}
 use Rattle.model.specs.Objects.{objects-of, lookup}
 use Rattle.model.specs.Consistent.{allowed, sound}
 use Rattle.model.specs.Holds.{count-of}
-use Rattle.model.specs.Refusals.{Line, _when_, first-refusal, line-1, line-2, line-5, lend-lines}
+use Rattle.model.specs.Refusals.{Line, _when_, first-refusal, line-1, line-2, line-5, row-lines}
 use Rattle.model.specs.Calls.{Outcome, unless, unchanged, can-release, lend}
 use Rattle.model.specs.Step.{step}
 use Rattle.model.specs.declared.Handle.{Handle}
@@ -31,7 +31,7 @@ use Rattle.model.proofs.Lookup.{Narrowed, names-exactly, lookup-named, found-se
 use Rattle.invariant.proofs.Counts.{counted-used, member-count}
 use Rattle.ledger.specs.Ledger.{Ledger, Event, Called, ledger-of}
 use Rattle.ledger.specs.History.{by-own, History}
-use Rattle.ledger.specs.Demand3.{Holds, objects-in}
+use Rattle.ledger.specs.Demand3.{AsRecorded, objects-in}
 use Rattle.ledger.proofs.Narrowing.{held-found}
 use Rattle.ledger.proofs.Theorem.{demand-3-of}
 use Rattle.queue.specs.declared.Queue.{Queue}
@@ -71,11 +71,11 @@ given-still u h rest l w =
 -- lend where heap and accounts are sound
 module _ (unit : ℕ → ℕ) (s : List ℕ) (k : Accounts) (a : allowed (length s) ≡ true) (w : sound unit s k ≡ true) (h : Handle) where
   lend-gives : (o : Handle) → lookup h s ≡ some o → lend unit s k h ≡ unchanged s k (lent (record { start = h .base; end = h .base + h .length }))
-  unfolding lend lend-lines first-refusal line-1 line-2 line-5 is-none unless
+  unfolding lend row-lines first-refusal line-1 line-2 line-5 is-none unless
   lend-gives o e = rw (a, w, e)
 
   lend-refuses : lookup h s ≡ none → lend unit s k h .values .refusal ≡ 5
-  unfolding lend lend-lines first-refusal line-1 line-2 line-5 is-none unless
+  unfolding lend row-lines first-refusal line-1 line-2 line-5 is-none unless
   lend-refuses e = rw (a, w, e)
 
 module _ (tables : ℕ → ℕ → ℕ) where
@@ -122,8 +122,8 @@ module _ (tables : ℕ → ℕ → ℕ) where
 module _ (tables : ℕ → ℕ → ℕ) (units : (e : ℕ) → Units (tables e)) (begun : Ledger) where
   -- a count above 0 is a hold of the ledger, and a live object is held
   module _ (es : List Event) (s : List ℕ) (k : Accounts) (past : History tables (by-own tables) begun es s k) where
-    abbrev after : Holds (tables (k .edition)) (by-own tables) begun es [] s k
-    after = demand-3-of tables units .always begun es [] s k past
+    abbrev after : AsRecorded (tables (k .edition)) (by-own tables) (ledger-of begun es) s k
+    after = demand-3-of tables units .always begun es [] s k past .agrees
 
     counted-holds : (q serial : ℕ) → 0 < count-of serial q (k .holds) → HoldsIn q serial (ledger-of begun es)
     counted-holds q serial p =

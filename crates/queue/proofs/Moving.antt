@@ -112,7 +112,7 @@ module _ (tables : ℕ → ℕ → ℕ) (units : (e : ℕ) → Units (tables e))
   held-fitting =
       sound-fitting unit s (claimed to object k)
       (subst (λ (n : ℕ). sound (tables n) s (claimed to object k) ≡ true) held-edition
-      (demand-3-of tables units .always begun claimed-events [] s (claimed to object k) claimed-past .kept-sound))
+      (demand-3-of tables units .always begun claimed-events [] s (claimed to object k) claimed-past .agrees .kept-sound))
 
   held-ordered : Ordered (claimed to object k .holds)
   held-ordered = good-ordered held held-good

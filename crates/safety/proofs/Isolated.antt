@@ -15,7 +15,7 @@ use Rattle.model.specs.Lists.{total}
 use Rattle.model.specs.Answers.{given, amount-of}
 use Rattle.model.specs.Objects.{blocks-of, objects, objects-of, lookup, lookup-whole, found}
 use Rattle.model.specs.Consistent.{consistent, sound, has-record, charged-for, charges}
-use Rattle.model.specs.Refusals.{Line, first-refusal, line-2, line-6, line-7, line-8, line-9, line-10, line-12, claims-first, quota-lines, free-all-lines}
+use Rattle.model.specs.Refusals.{Line, first-refusal, line-2, line-6, line-7, line-8, line-9, line-10, line-12, claims-first, quota-lines, free-all-lines, row-lines}
 use Rattle.model.specs.Refusals.{check-lines, lend-lines, release-lines, claim-lines, allocate-lines, reallocate-lines}
 use Rattle.model.specs.Calls.{Outcome, unless, new-object, given-back, allocate, allocate-array, claim, release, free-all, sweep, reallocate, lend}
 use Rattle.model.specs.Calls.{remaining-of, can-release, list-block, clear}
@@ -82,11 +82,11 @@ module _ (unit : ℕ → ℕ) (q : ℕ) (s : List ℕ) (k k′ : Accounts) (c : 
 
   -- the lines of its calls
   same-allocate : (n : ℕ) → allocate-lines unit s k q n ≡ allocate-lines unit s k′ q n
-  unfolding allocate-lines line-2 line-8 line-9 line-10 line-12
+  unfolding row-lines line-2 line-8 line-9 line-10 line-12
   same-allocate n = rw (c, c′, permitted 1, remains, a .record-left, a .last)
 
   same-reallocate : (h : Handle) (n : ℕ) → reallocate-lines unit s k q h n ≡ reallocate-lines unit s k′ q h n
-  unfolding reallocate-lines line-2 line-6 line-8 line-9 line-10 line-12
+  unfolding row-lines line-2 line-6 line-8 line-9 line-10 line-12
   same-reallocate h n = rw (c, c′, permitted 1, records (found (lookup-whole h s) .serial), remains, a .record-left, a .last)
 
   same-object : (n : ℕ) → new-object unit s k n ≡ new-object unit s k′ n
@@ -94,27 +94,27 @@ module _ (unit : ℕ → ℕ) (q : ℕ) (s : List ℕ) (k k′ : Accounts) (c : 
   same-object n = rw (a .last)
 
   same-claim : (h : Handle) → claim-lines unit s k q h ≡ claim-lines unit s k′ q h
-  unfolding claim-lines line-2 line-7 line-8 line-9 line-12 claims-first
+  unfolding row-lines line-2 line-7 line-8 line-9 line-12 claims-first
   same-claim h = rw (c, c′, permitted 2, records (found (lookup h s) .serial), a .holds (found (lookup h s) .serial), remains, a .record-left)
 
   same-release : (h : Handle) → release-lines unit s k q h ≡ release-lines unit s k′ q h
-  unfolding release-lines line-2 line-6
+  unfolding row-lines line-2 line-6
   same-release h = rw (c, c′, records (found (lookup h s) .serial))
 
   same-quota : quota-lines unit s k q ≡ quota-lines unit s k′ q
-  unfolding quota-lines line-2
+  unfolding row-lines line-2
   same-quota = rw (c, c′)
 
   same-free-all : free-all-lines unit s k q ≡ free-all-lines unit s k′ q
-  unfolding free-all-lines line-2 line-12
+  unfolding row-lines line-2 line-12
   same-free-all = rw (c, c′, permitted 4)
 
   same-check : check-lines unit s k ≡ check-lines unit s k′
-  unfolding check-lines line-2
+  unfolding row-lines line-2
   same-check = rw (c, c′)
 
   same-lend : (h : Handle) → lend-lines unit s k h ≡ lend-lines unit s k′ h
-  unfolding lend-lines line-2
+  unfolding row-lines line-2
   same-lend h = rw (c, c′)
 
   same-back : (o : Handle) → given-back q o k ≡ given-back q o k′

@@ -144,7 +144,7 @@ written-clean : (p : ℕ → Bool) (l : Ledger) (s s′ : List ℕ) (k : Account
 written-clean p l s s′ k a w b =
     member-all (clean-block p) (blocks-of s′)
     (λ c m.
-    clean-member p c (λ f. clean-passes p c f (all-member (clean-block p) (blocks-of s) b c (written-others s s′ k (a .octets) (a .sound) w c f m))))
+    clean-member p c (λ f. clean-passes p c f (all-member (clean-block p) (blocks-of s) b c (written-others s s′ k (a .octets) (a .passes) w c f m))))
 
 -- an opening leaves one block of zeros
 opened-blank : (g : Settings) (grants s : List ℕ) (k : Accounts) → Opened g grants s k → blank s ≡ true
@@ -190,7 +190,7 @@ nothing-left-of tables units =
       called = call-clean tables units;
       wrote = write-clean tables units;
       bytes = λ begun es s k h b.
-          (let a = history-agrees tables units begun es s k h in byte-zero s (heap-again s k (a .octets) (a .sound)) b);
+          (let a = history-agrees tables units begun es s k h in byte-zero s (heap-again s k (a .octets) (a .passes)) b);
     }
 
 -- and so of both editions' tables

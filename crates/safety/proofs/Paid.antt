@@ -101,7 +101,7 @@ paid-consistent s k c n =
 -- THE THEOREM: so of every history
 pub paid-for-of : (tables : ℕ → ℕ → ℕ) → ((e : ℕ) → Units (tables e)) → PaidFor tables (by-own tables)
 paid-for-of tables units =
-    record { always = λ begun es s k h. (let a = history-agrees tables units begun es s k h in paid-consistent s k (a .sound) (a .quotas)) }
+    record { always = λ begun es s k h. (let a = history-agrees tables units begun es s k h in paid-consistent s k (a .passes) (a .quotas)) }
 
 pub paid-for : PaidFor table own-step
 paid-for = paid-for-of table table-is

@@ -8,7 +8,7 @@ use Rattle.accounts.specs.declared.Quota.{Quota}
 use Rattle.rounding.specs.Rounding.{table}
 use Rattle.words.specs.Words.{edition-of, holds-of, accounts-of}
 use Rattle.words.proofs.Readings.{quota-is}
-use Rattle.model.specs.Refusals.{first-refusal, line-3, quota-lines}
+use Rattle.model.specs.Refusals.{first-refusal, line-3, row-lines}
 use Rattle.model.specs.declared.Refusal.the-variants.{QuotaNumber}
 use Rattle.results.proofs.Lines.{check-refuses, check-accepts, check-consistent, line-3-refuses, line-3-passes}
 use Rattle.survey.specs.declared.sharing.Holdings.{Holdings}
@@ -18,7 +18,7 @@ use Rattle.stats.proofs.quota_stats.Statement.{statement}
 use Rattle.stats.proofs.quota_stats.Tie as tie
 
 returns : tie.Need-returns
-unfolding quota-stats quota-lines
+unfolding quota-stats row-lines
 returns c =
     let n = c .before in
     let x = n .before .before in
@@ -37,7 +37,7 @@ enum-told : tie.Need-enum-told
 enum-told c = search needs
 
 returns-2 : tie.Need-returns-2
-unfolding quota-stats quota-lines
+unfolding quota-stats row-lines
 returns-2 c =
     let n = c .before in
     let i = n .before in
@@ -57,7 +57,7 @@ grant-in-requires : tie.Need-grant-in-requires
 grant-in-requires c κs = c .before .if1 .left
 
 returns-3 : tie.Need-returns-3
-unfolding quota-stats quota-figures quota-lines first-refusal
+unfolding quota-stats quota-figures row-lines first-refusal
 returns-3 c =
     let g = c .before in
     let h = g .before in

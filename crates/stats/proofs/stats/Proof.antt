@@ -12,7 +12,7 @@ use Rattle.layout.specs.Blocks.{greatest-heap}
 use Rattle.words.specs.Words.{edition-of, accounts-of}
 use Rattle.model.specs.Objects.{blocks-of}
 use Rattle.model.specs.Consistent.{consistent}
-use Rattle.model.specs.Refusals.{first-refusal, check-lines}
+use Rattle.model.specs.Refusals.{first-refusal, row-lines}
 use Rattle.results.proofs.Lines.{check-refuses, check-accepts, check-consistent}
 use Rattle.survey.proofs.Surveys.{allowed-range}
 use Rattle.lookup.specs.Walk.{met}
@@ -26,7 +26,7 @@ use Rattle.stats.proofs.stats.Statement.{statement}
 use Rattle.stats.proofs.stats.Tie as tie
 
 returns : tie.Need-returns
-unfolding stats check-lines
+unfolding stats row-lines
 returns c =
     let n = c .before in
     let x = n .before .before in
@@ -103,7 +103,7 @@ units-of : (c : tie.After-struct-known) → units-known c .most-units .result �
 units-of c = let m = units-known c in m .most-units .ensures .0 ∙ ap most-units (m .before .edition .ensures)
 
 returns-2 : tie.Need-returns-2
-unfolding stats figures check-lines first-refusal fragmented tally-of
+unfolding stats figures row-lines first-refusal fragmented tally-of
 returns-2 c =
     let r3 = c .before in
     let r2 = r3 .before in
