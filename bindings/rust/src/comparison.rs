@@ -31,6 +31,21 @@ pub enum Difference {
     },
 }
 
+impl fmt::Display for Difference {
+    /// Writes what differs: `serial`, `kind`, `edition`, `quota NUMBER`, `record PLACE` or
+    /// `bytes OFFSET LENGTH`.
+    fn fmt(&self, f: &mut fmt::Formatter<'_>) -> fmt::Result {
+        match self {
+            Difference::LastSerial => f.write_str("serial"),
+            Difference::Kind => f.write_str("kind"),
+            Difference::Edition => f.write_str("edition"),
+            Difference::Quota(quota) => write!(f, "quota {quota}"),
+            Difference::Record(place) => write!(f, "record {place}"),
+            Difference::Bytes { offset, length } => write!(f, "bytes {offset} {length}"),
+        }
+    }
+}
+
 /// Which of two images a refusal is about.
 #[derive(Clone, Copy, Debug, PartialEq, Eq, Hash)]
 pub enum Which {

@@ -1,5 +1,7 @@
 //! What an opening chooses beside the grants.
 
+use core::fmt;
+
 /// What becomes of the block of an object that nobody holds any more.
 ///
 /// ```
@@ -55,6 +57,16 @@ impl Kind {
             1 => Some(Kind::Quarantine),
             _ => None,
         }
+    }
+}
+
+impl fmt::Display for Kind {
+    /// Writes `plain` or `quarantine`.
+    fn fmt(&self, f: &mut fmt::Formatter<'_>) -> fmt::Result {
+        f.pad(match self {
+            Kind::Plain => "plain",
+            Kind::Quarantine => "quarantine",
+        })
     }
 }
 
@@ -122,6 +134,16 @@ impl Edition {
             1 => Some(Edition::Second),
             _ => None,
         }
+    }
+}
+
+impl fmt::Display for Edition {
+    /// Writes the number by which the rules name it: `1` or `2`.
+    fn fmt(&self, f: &mut fmt::Formatter<'_>) -> fmt::Result {
+        f.pad(match self {
+            Edition::First => "1",
+            Edition::Second => "2",
+        })
     }
 }
 
