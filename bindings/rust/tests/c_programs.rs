@@ -4,7 +4,7 @@
 #[allow(dead_code)]
 mod support;
 
-use support::{compile, read_headers, repository, run};
+use support::{compile, read_headers, repository, run, warnings};
 
 /// The headers, by what follows `lokhazim`.
 const HEADERS: [&str; 6] = [
@@ -105,12 +105,27 @@ fn every_field_goes_through_the_library_from_c() {
 #[test]
 fn calls_change_what_they_may_from_c() {
     for level in ["-O0", "-O2"] {
-        run(
-            &compile("bindings/rust/tests/c/in_place.c", level),
-            &[],
-            b"",
-        );
+        run(&compile("bindings/rust/tests/c/calls.c", level), &[], b"");
     }
+}
+
+#[test]
+fn pointers_are_checked_from_c() {
+    for level in ["-O0", "-O2"] {
+        let program = compile("bindings/rust/tests/c/pointers.c", level);
+        run(&program, &[], b"");
+    }
+}
+
+#[test]
+fn misuse_gives_warnings() {
+    let said = ["cc", "gcc", "clang"].map(|compiler| {
+        let said = warnings(compiler, "bindings/rust/tests/c/misused.c")?;
+        assert_eq!(said.matches("[-Wenum-conversion]").count(), 2, "{said}");
+        assert_eq!(said.matches("[-Wunused-result]").count(), 2, "{said}");
+        Some(())
+    });
+    assert!(said[0].is_some(), "the command 'cc' is missing");
 }
 
 #[test]

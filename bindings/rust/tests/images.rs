@@ -172,7 +172,7 @@ fn a_quota_differs_by_its_permissions_alone() -> Result<(), Box<dyn Error>> {
     let mut after = [0; 5_120];
     heap.save(&mut after)?;
     let differences: Vec<Difference> = compare_images(&before, &after)?.collect();
-    assert_eq!(differences, [Difference::Quota(31)]);
+    assert_eq!(differences, [Difference::Quota(QuotaId::new(31))]);
     Ok(())
 }
 

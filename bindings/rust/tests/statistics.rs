@@ -12,7 +12,7 @@ fn every_field_is_told() -> Result<(), Refusal> {
         kind: Kind::Quarantine,
         edition: Edition::First,
     };
-    let mut heap = Heap::open_with(&mut memory.0, [200; QUOTAS], settings)?;
+    let mut heap = Heap::open_with(&mut memory.0, [200; QUOTAS], options)?;
     let first = heap.allocate(QuotaId::new(0), 40)?;
     let second = heap.allocate(QuotaId::new(1), 16)?;
     heap.allocate(QuotaId::new(0), 32)?;
@@ -47,10 +47,13 @@ fn every_field_is_told() -> Result<(), Refusal> {
         objects,
         shared,
     };
-    assert_eq!(heap.quota_statistics(0)?, quota(2, 1, 136));
-    assert_eq!(heap.quota_statistics(1)?, quota(1, 1, 176));
-    assert_eq!(heap.quota_statistics(31)?, quota(0, 0, 200));
-    assert_eq!(heap.quota_statistics(32), Err(Refusal::QuotaNumber));
+    assert_eq!(heap.quota_statistics(QuotaId::new(0))?, quota(2, 1, 136));
+    assert_eq!(heap.quota_statistics(QuotaId::new(1))?, quota(1, 1, 176));
+    assert_eq!(heap.quota_statistics(QuotaId::new(31))?, quota(0, 0, 200));
+    assert_eq!(
+        heap.quota_statistics(QuotaId::new(32)),
+        Err(Refusal::QuotaNumber)
+    );
     Ok(())
 }
 
@@ -63,7 +66,7 @@ fn a_request_of_the_figure_is_made_and_one_more_is_refused() -> Result<(), Refus
         };
         for length in [64, 4_112, 8_208, 16_448, 32_768] {
             let mut memory = Aligned([0; 32_768]);
-            let mut heap = Heap::open_with(&mut memory.0[..length], [40_000; QUOTAS], settings)?;
+            let mut heap = Heap::open_with(&mut memory.0[..length], [40_000; QUOTAS], options)?;
             let stats = heap.statistics()?;
             assert!(UNITS.contains(&8) && stats.largest_request() + 8 <= length);
             for largest in stats.largest.into_iter().filter(|largest| *largest > 0) {

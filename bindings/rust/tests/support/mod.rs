@@ -96,6 +96,25 @@ pub fn compile_over(source: &str, flags: &[&str], headers: &Path, program: &Path
     cc(&format!("{source} with {flags:?}"), &words);
 }
 
+/// What a compiler warns of in a C program of the repository; none where there is no such compiler.
+pub fn warnings(compiler: &str, source: &str) -> Option<String> {
+    let done = Command::new(compiler)
+        .args([
+            "-std=c11",
+            "-Wall",
+            "-Wextra",
+            "-c",
+            "-o",
+            "/dev/null",
+            "-I",
+        ])
+        .args([repository("include"), repository(source)])
+        .output()
+        .ok()?;
+    assert!(done.status.success(), "{source} does not compile");
+    Some(String::from_utf8_lossy(&done.stderr).into_owned())
+}
+
 /// Has the compiler read headers, named by what follows `lokhazim`, with its own headers alone, as for
 /// a machine without an operating system.
 pub fn read_headers(names: &[&str], flags: &[&str]) {
