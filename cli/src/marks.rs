@@ -2,7 +2,7 @@
 
 use std::fmt::Write;
 
-use lokhazim::{Quota, Stats};
+use lokhazim::{Quota, Statistics};
 
 /// A figure and the line behind which it first stood.
 type Mark = (usize, usize);
@@ -35,12 +35,12 @@ fn lower(mark: &mut Option<Mark>, figure: usize, line: usize) {
 
 impl Marks {
     /// Notes the figures behind a line.
-    pub fn note(&mut self, line: usize, stats: &Stats, quotas: &[Quota]) {
-        higher(&mut self.live, stats.live.bytes, line);
-        higher(&mut self.quarantined, stats.quarantined.bytes, line);
-        lower(&mut self.free, stats.free.bytes, line);
-        lower(&mut self.request, stats.largest_request(), line);
-        higher(&mut self.records, stats.records, line);
+    pub fn note(&mut self, line: usize, now: &Statistics, quotas: &[Quota]) {
+        higher(&mut self.live, now.live.bytes, line);
+        higher(&mut self.quarantined, now.quarantined.bytes, line);
+        lower(&mut self.free, now.free.bytes, line);
+        lower(&mut self.request, now.largest_request(), line);
+        higher(&mut self.records, now.records, line);
         self.spent.resize(quotas.len(), None);
         for (mark, quota) in self.spent.iter_mut().zip(quotas) {
             let spent = quota.grant.saturating_sub(quota.remainder);

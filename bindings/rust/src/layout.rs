@@ -2,6 +2,7 @@
 //!
 //! The headers in `include/` have the same structs for C, and the same numbers in their assertions.
 
+use core::fmt;
 use core::mem::{offset_of, size_of};
 
 /// The number of quotas; they are numbered from 0.
@@ -70,6 +71,51 @@ pub struct Handle {
     pub serial: u32,
 }
 
+/// The number of a quota, from 0. Any number may be given; calls refuse those from [`QUOTAS`] on.
+///
+/// It is a type of its own, so that a quota and a length can't be exchanged. So there is no
+/// conversion from a number but [`QuotaId::new`], which says what the number is:
+///
+/// ```compile_fail,E0308
+/// use lokhazim::QuotaId;
+///
+/// # let mut memory = [0; 128];
+/// let mut heap = lokhazim::Heap::open(&mut memory, [100; lokhazim::QUOTAS])?;
+/// heap.allocate(QuotaId::new(10), 0)?;
+/// # Ok::<(), lokhazim::Refusal>(())
+/// ```
+#[derive(Clone, Copy, Debug, Default, PartialEq, Eq, PartialOrd, Ord, Hash)]
+#[repr(transparent)]
+pub struct QuotaId(pub(crate) u32);
+
+impl QuotaId {
+    /// The quota of this number.
+    ///
+    /// ```
+    /// use lokhazim::QuotaId;
+    ///
+    /// const LOGGER: QuotaId = QuotaId::new(1);
+    /// assert_eq!(LOGGER.number(), 1);
+    /// ```
+    #[must_use]
+    pub const fn new(number: u32) -> QuotaId {
+        QuotaId(number)
+    }
+
+    /// Its number.
+    #[must_use]
+    pub const fn number(self) -> u32 {
+        self.0
+    }
+}
+
+impl fmt::Display for QuotaId {
+    /// Writes the number.
+    fn fmt(&self, f: &mut fmt::Formatter<'_>) -> fmt::Result {
+        self.0.fmt(f)
+    }
+}
+
 /// A queue of handles on their way from a sending quota to a receiving one, first in, first out.
 ///
 /// [`send`](Queue::send) makes the receiver hold the object and then takes the sender's hold, and
@@ -78,10 +124,10 @@ pub struct Handle {
 #[derive(Clone, Debug, PartialEq, Eq, Hash)]
 #[repr(C)]
 pub struct Queue {
-    /// The number of the sending quota.
-    pub sender: u32,
-    /// The number of the receiving quota.
-    pub receiver: u32,
+    /// The sending quota.
+    pub sender: QuotaId,
+    /// The receiving quota.
+    pub receiver: QuotaId,
     /// How many handles are on their way.
     pub count: u32,
     /// The places; the first `count` are the handles on their way, the oldest first.
@@ -97,8 +143,9 @@ pub struct Grants {
 }
 
 /// The reply of allocate, allocate array and reallocate.
+#[derive(Clone, Copy)]
 #[repr(C)]
-pub struct GivenHandle {
+pub struct HandleReply {
     /// The refusal's number, 0 where there is none; so in every reply.
     pub refusal: u32,
     /// The new object.
@@ -106,8 +153,9 @@ pub struct GivenHandle {
 }
 
 /// The reply of claim, release, free-all, clear permissions, sweep and remaining.
+#[derive(Clone, Copy)]
 #[repr(C)]
-pub struct Amount {
+pub struct AmountReply {
     /// The refusal's number.
     pub refusal: u32,
     /// The number that the call answers.
@@ -268,8 +316,8 @@ lies!(Hold, 8: serial at 0, quota at 4, count at 5);
 lies!(Accounts, 4488: quotas at 0, last_serial at 384, holds at 388, kind at 4484, edition at 4485);
 lies!(Handle, 12: base at 0, length at 4, serial at 8);
 lies!(Grants, 128: values at 0);
-lies!(GivenHandle, 16: refusal at 0, handle at 4);
-lies!(Amount, 8: refusal at 0, amount at 4);
+lies!(HandleReply, 16: refusal at 0, handle at 4);
+lies!(AmountReply, 8: refusal at 0, amount at 4);
 lies!(RangeReply, 24: refusal at 0, start at 8, end at 16);
 lies!(BlockReply, 32: refusal at 0, found at 4, offset at 8, size at 16, serial at 24);
 lies!(ImageReply, 16: refusal at 0, length at 8);

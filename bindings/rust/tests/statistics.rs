@@ -1,34 +1,35 @@
 //! The figures of a heap through the crate: of each kind and edition, after calls, and where they are refused.
 
 use lokhazim::{
-    Aligned, Edition, Heap, Kind, Part, QuotaStats, Refusal, Settings, Stats, QUOTAS, UNITS,
+    Aligned, BlockCount, Edition, Heap, Kind, Options, QuotaId, QuotaStatistics, Refusal,
+    Statistics, QUOTAS, UNITS,
 };
 
 #[test]
 fn every_field_is_told() -> Result<(), Refusal> {
     let mut memory = Aligned([0; 256]);
-    let settings = Settings {
+    let options = Options {
         kind: Kind::Quarantine,
         edition: Edition::First,
     };
-    let mut heap = Heap::open_with(&mut memory.0, [200; QUOTAS], settings)?;
-    let first = heap.allocate(0, 40)?;
-    let second = heap.allocate(1, 16)?;
-    heap.allocate(0, 32)?;
-    heap.claim(0, second)?;
-    heap.release(0, first)?;
-    let wanted = Stats {
+    let mut heap = Heap::open_with(&mut memory.0, [200; QUOTAS], options)?;
+    let first = heap.allocate(QuotaId::new(0), 40)?;
+    let second = heap.allocate(QuotaId::new(1), 16)?;
+    heap.allocate(QuotaId::new(0), 32)?;
+    heap.claim(QuotaId::new(0), second)?;
+    heap.release(QuotaId::new(0), first)?;
+    let wanted = Statistics {
         last_serial: 3,
         records: 3,
-        free: Part {
+        free: BlockCount {
             blocks: 1,
             bytes: 144,
         },
-        live: Part {
+        live: BlockCount {
             blocks: 2,
             bytes: 64,
         },
-        quarantined: Part {
+        quarantined: BlockCount {
             blocks: 1,
             bytes: 48,
         },
@@ -36,42 +37,49 @@ fn every_field_is_told() -> Result<(), Refusal> {
         fragmented: 0,
         largest: [136, 0, 0, 0],
     };
-    assert_eq!(heap.stats()?, wanted);
+    assert_eq!(heap.statistics()?, wanted);
     heap.sweep()?;
-    let swept = heap.stats()?;
+    let swept = heap.statistics()?;
     assert_eq!((swept.free.blocks, swept.fragmented), (2, 48));
-    let quota = |objects, shared, remaining| QuotaStats {
+    let quota = |objects, shared, remaining| QuotaStatistics {
         grant: 200,
         remaining,
         objects,
         shared,
     };
-    assert_eq!(heap.quota_stats(0)?, quota(2, 1, 136));
-    assert_eq!(heap.quota_stats(1)?, quota(1, 1, 176));
-    assert_eq!(heap.quota_stats(31)?, quota(0, 0, 200));
-    assert_eq!(heap.quota_stats(32), Err(Refusal::QuotaNumber));
+    assert_eq!(heap.quota_statistics(QuotaId::new(0))?, quota(2, 1, 136));
+    assert_eq!(heap.quota_statistics(QuotaId::new(1))?, quota(1, 1, 176));
+    assert_eq!(heap.quota_statistics(QuotaId::new(31))?, quota(0, 0, 200));
+    assert_eq!(
+        heap.quota_statistics(QuotaId::new(32)),
+        Err(Refusal::QuotaNumber)
+    );
     Ok(())
 }
 
 #[test]
 fn a_request_of_the_figure_is_made_and_one_more_is_refused() -> Result<(), Refusal> {
     for edition in [Edition::First, Edition::Second] {
-        let settings = Settings {
+        let options = Options {
             kind: Kind::Plain,
             edition,
         };
         for length in [64, 4_112, 8_208, 16_448, 32_768] {
             let mut memory = Aligned([0; 32_768]);
-            let mut heap = Heap::open_with(&mut memory.0[..length], [40_000; QUOTAS], settings)?;
-            let stats = heap.stats()?;
+            let mut heap = Heap::open_with(&mut memory.0[..length], [40_000; QUOTAS], options)?;
+            let stats = heap.statistics()?;
             assert!(UNITS.contains(&8) && stats.largest_request() + 8 <= length);
             for largest in stats.largest.into_iter().filter(|largest| *largest > 0) {
-                let handle = heap.allocate(0, largest as u32)?;
+                let handle = heap.allocate(QuotaId::new(0), largest as u32)?;
                 assert_eq!(handle.length as usize, largest);
-                heap.release(0, handle)?;
+                heap.release(QuotaId::new(0), handle)?;
             }
             let more = stats.largest_request() as u32 + 1;
-            assert_eq!(heap.allocate(0, more), Err(Refusal::NoSpace), "{length}");
+            assert_eq!(
+                heap.allocate(QuotaId::new(0), more),
+                Err(Refusal::NoSpace),
+                "{length}"
+            );
         }
     }
     Ok(())
@@ -82,7 +90,7 @@ fn damage_is_refused() -> Result<(), Refusal> {
     let mut memory = [0; 64];
     let (bytes, accounts) = Heap::open(&mut memory, [100; QUOTAS])?.into_parts();
     bytes[0] = 7;
-    let told = Heap::from_parts(bytes, accounts).and_then(|heap| heap.stats());
+    let told = Heap::from_parts(bytes, &accounts).and_then(|heap| heap.statistics());
     assert_eq!(told, Err(Refusal::Inconsistent));
     Ok(())
 }

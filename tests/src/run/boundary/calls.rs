@@ -1,18 +1,11 @@
 //! The exported calls over the accounts where they lie, as words.
 
-use super::{numbers, Amount, BlockReply, CGrants, CHandle, RangeReply};
+use super::{numbers, AmountReply, BlockReply, CGrants, CHandle, HandleReply, RangeReply};
 use crate::run::words::WORDS;
 use crate::state::{Answer, Call, Choice};
 
-/// What a call that makes an object gives back.
-#[repr(C)]
-struct GivenHandle {
-    refusal: u32,
-    handle: CHandle,
-}
-
 extern "C" {
-    fn lokhazim_in_place_open(
+    fn lokhazim_raw_open(
         heap: *mut u8,
         heap_length: usize,
         words: *mut u32,
@@ -20,64 +13,64 @@ extern "C" {
         kind: u32,
         edition: u32,
     ) -> u32;
-    fn lokhazim_in_place_allocate(
+    fn lokhazim_raw_allocate(
         heap: *mut u8,
         heap_length: usize,
         words: *mut u32,
         quota: u32,
         length: u32,
-    ) -> GivenHandle;
-    fn lokhazim_in_place_allocate_array(
+    ) -> HandleReply;
+    fn lokhazim_raw_allocate_array(
         heap: *mut u8,
         heap_length: usize,
         words: *mut u32,
         quota: u32,
         count: u32,
         size: u32,
-    ) -> GivenHandle;
-    fn lokhazim_in_place_claim(
+    ) -> HandleReply;
+    fn lokhazim_raw_claim(
         heap: *const u8,
         heap_length: usize,
         words: *mut u32,
         quota: u32,
         handle: CHandle,
-    ) -> Amount;
-    fn lokhazim_in_place_release(
+    ) -> AmountReply;
+    fn lokhazim_raw_release(
         heap: *mut u8,
         heap_length: usize,
         words: *mut u32,
         quota: u32,
         handle: CHandle,
-    ) -> Amount;
-    fn lokhazim_in_place_free_all(
+    ) -> AmountReply;
+    fn lokhazim_raw_free_all(
         heap: *mut u8,
         heap_length: usize,
         words: *mut u32,
         quota: u32,
-    ) -> Amount;
-    fn lokhazim_in_place_clear_permissions(
+    ) -> AmountReply;
+    fn lokhazim_raw_clear_permissions(
         heap: *const u8,
         heap_length: usize,
         words: *mut u32,
         quota: u32,
         bits: u32,
-    ) -> Amount;
-    fn lokhazim_in_place_reallocate(
+    ) -> AmountReply;
+    fn lokhazim_raw_reallocate(
         heap: *mut u8,
         heap_length: usize,
         words: *mut u32,
         quota: u32,
         handle: CHandle,
         length: u32,
-    ) -> GivenHandle;
-    fn lokhazim_in_place_sweep(heap: *mut u8, heap_length: usize, words: *const u32) -> Amount;
-    fn lokhazim_in_place_lend(
+    ) -> HandleReply;
+    fn lokhazim_raw_sweep(heap: *mut u8, heap_length: usize, words: *const u32) -> AmountReply;
+    fn lokhazim_raw_lend(
         heap: *const u8,
         heap_length: usize,
         words: *const u32,
         handle: CHandle,
     ) -> RangeReply;
-    fn lokhazim_in_place_write(
+    fn lokhazim_raw_write(
         heap: *mut u8,
         heap_length: usize,
         words: *const u32,
@@ -85,33 +78,26 @@ extern "C" {
         at: u32,
         byte: u8,
     ) -> u32;
-    fn lokhazim_in_place_remaining(
+    fn lokhazim_raw_remaining(
         heap: *const u8,
         heap_length: usize,
         words: *const u32,
         quota: u32,
-    ) -> Amount;
-    fn lokhazim_in_place_can_release(
+    ) -> AmountReply;
+    fn lokhazim_raw_can_release(
         heap: *const u8,
         heap_length: usize,
         words: *const u32,
         quota: u32,
         handle: CHandle,
     ) -> u32;
-    fn lokhazim_in_place_list_block(
+    fn lokhazim_raw_list_block(
         heap: *const u8,
         heap_length: usize,
         words: *const u32,
         at: usize,
     ) -> BlockReply;
-    fn lokhazim_in_place_check(heap: *const u8, heap_length: usize, words: *const u32) -> u32;
-}
-
-impl GivenHandle {
-    /// Gives the numbers as an answer.
-    fn answer(self) -> Answer {
-        numbers(self.refusal, &self.handle.numbers())
-    }
+    fn lokhazim_raw_check(heap: *const u8, heap_length: usize, words: *const u32) -> u32;
 }
 
 /// Makes a call by the proved code on heap and words, and gives the answer.
@@ -123,33 +109,30 @@ pub fn perform(heap: &mut [u8], words: &mut [u32; WORDS], call: Call) -> Answer 
         match call {
             Call::Open(values, Choice { kind, edition }) => {
                 let grants = CGrants { values };
-                numbers(
-                    lokhazim_in_place_open(p, len, w, grants, kind, edition),
-                    &[],
-                )
+                numbers(lokhazim_raw_open(p, len, w, grants, kind, edition), &[])
             }
-            Call::Allocate(q, n) => lokhazim_in_place_allocate(p, len, w, q, n).answer(),
-            Call::Array(q, n, s) => lokhazim_in_place_allocate_array(p, len, w, q, n, s).answer(),
-            Call::Claim(q, h) => lokhazim_in_place_claim(p, len, w, q, h.into()).answer(),
-            Call::Release(q, h) => lokhazim_in_place_release(p, len, w, q, h.into()).answer(),
-            Call::FreeAll(q) => lokhazim_in_place_free_all(p, len, w, q).answer(),
+            Call::Allocate(q, n) => lokhazim_raw_allocate(p, len, w, q, n).answer(),
+            Call::Array(q, n, s) => lokhazim_raw_allocate_array(p, len, w, q, n, s).answer(),
+            Call::Claim(q, h) => lokhazim_raw_claim(p, len, w, q, h.into()).answer(),
+            Call::Release(q, h) => lokhazim_raw_release(p, len, w, q, h.into()).answer(),
+            Call::FreeAll(q) => lokhazim_raw_free_all(p, len, w, q).answer(),
             Call::Reallocate(q, h, n) => {
-                lokhazim_in_place_reallocate(p, len, w, q, h.into(), n).answer()
+                lokhazim_raw_reallocate(p, len, w, q, h.into(), n).answer()
             }
             Call::ClearPermissions(q, n) => {
-                lokhazim_in_place_clear_permissions(p, len, w, q, n).answer()
+                lokhazim_raw_clear_permissions(p, len, w, q, n).answer()
             }
-            Call::Sweep => lokhazim_in_place_sweep(p, len, w).answer(),
-            Call::Lend(h) => lokhazim_in_place_lend(p, len, w, h.into()).answer(),
+            Call::Sweep => lokhazim_raw_sweep(p, len, w).answer(),
+            Call::Lend(h) => lokhazim_raw_lend(p, len, w, h.into()).answer(),
             Call::Write(h, at, byte) => {
-                numbers(lokhazim_in_place_write(p, len, w, h.into(), at, byte), &[])
+                numbers(lokhazim_raw_write(p, len, w, h.into(), at, byte), &[])
             }
-            Call::Remaining(q) => lokhazim_in_place_remaining(p, len, w, q).answer(),
+            Call::Remaining(q) => lokhazim_raw_remaining(p, len, w, q).answer(),
             Call::CanRelease(q, h) => {
-                numbers(lokhazim_in_place_can_release(p, len, w, q, h.into()), &[])
+                numbers(lokhazim_raw_can_release(p, len, w, q, h.into()), &[])
             }
-            Call::List(at) => lokhazim_in_place_list_block(p, len, w, at).answer(),
-            Call::Check => numbers(lokhazim_in_place_check(p, len, w), &[]),
+            Call::List(at) => lokhazim_raw_list_block(p, len, w, at).answer(),
+            Call::Check => numbers(lokhazim_raw_check(p, len, w), &[]),
         }
     }
 }

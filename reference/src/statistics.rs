@@ -1,4 +1,4 @@
-//! The figures of a heap and of a quota (rules, section 25): each byte is counted by the block that it is in, and every length is tried.
+//! The statistics of a heap and of a quota (rules, section 25): each byte is counted by the block that it is in, and every length is tried.
 
 use std::collections::BTreeSet;
 
@@ -9,26 +9,26 @@ use crate::sound::sound_layout;
 
 /// Some blocks: how many, and their bytes with the headers.
 #[derive(Clone, Copy, Debug, Default, PartialEq, Eq)]
-pub struct Part {
+pub struct BlockCount {
     /// How many there are.
     pub blocks: usize,
     /// How many bytes they have.
     pub bytes: usize,
 }
 
-/// The figures of a heap.
+/// The statistics of a heap.
 #[derive(Clone, Copy, Debug, Default, PartialEq, Eq)]
-pub struct Stats {
+pub struct Statistics {
     /// The last serial given.
     pub last_serial: u32,
     /// The used hold records.
     pub records: usize,
     /// The free blocks.
-    pub free: Part,
+    pub free: BlockCount,
     /// The blocks of objects.
-    pub live: Part,
+    pub live: BlockCount,
     /// The blocks in quarantine.
-    pub quarantined: Part,
+    pub quarantined: BlockCount,
     /// The bytes of the largest free block.
     pub largest_free: usize,
     /// The bytes of the other free blocks.
@@ -37,9 +37,9 @@ pub struct Stats {
     pub largest: [usize; 4],
 }
 
-/// The figures of a quota.
+/// The statistics of a quota.
 #[derive(Clone, Copy, Debug, Default, PartialEq, Eq)]
-pub struct QuotaStats {
+pub struct QuotaStatistics {
     /// What it was granted.
     pub grant: u32,
     /// What remains.
@@ -50,20 +50,20 @@ pub struct QuotaStats {
     pub shared: usize,
 }
 
-/// The units of which there are figures.
+/// The units of which there are statistics.
 const UNITS: [u32; 4] = [8, 16, 32, 64];
 
-/// Gives the figures of a heap (rules 25.1 to 25.8).
-pub fn stats(heap: &[u8], accounts: &Accounts) -> Result<Stats, Refusal> {
+/// Gives the statistics of a heap (rules 25.1 to 25.8).
+pub fn statistics(heap: &[u8], accounts: &Accounts) -> Result<Statistics, Refusal> {
     let layout = sound_layout(heap, accounts)?;
     let blocks = layout.blocks();
     let edition = accounts.options().ok_or(Refusal::NotSound)?.edition;
     let owners = owners(&blocks);
-    let part = |test: fn(Block) -> bool| Part {
+    let counted = |test: fn(Block) -> bool| BlockCount {
         blocks: blocks.iter().filter(|block| test(**block)).count(),
         bytes: owners.iter().filter(|block| test(**block)).count(),
     };
-    let free = part(Block::is_free);
+    let free = counted(Block::is_free);
     let sizes = blocks.iter().filter(|block| block.is_free());
     let largest_free = sizes.map(|block| block.size as usize).max().unwrap_or(0);
     let runs = runs(&owners);
@@ -80,12 +80,12 @@ pub fn stats(heap: &[u8], accounts: &Accounts) -> Result<Stats, Refusal> {
             largest[place] = request;
         }
     }
-    Ok(Stats {
+    Ok(Statistics {
         last_serial: accounts.last_serial,
         records: accounts.holds.iter().filter(|hold| hold.is_used()).count(),
         free,
-        live: part(Block::is_live),
-        quarantined: part(Block::is_quarantined),
+        live: counted(Block::is_live),
+        quarantined: counted(Block::is_quarantined),
         largest_free,
         fragmented: free.bytes - largest_free,
         largest,
@@ -120,8 +120,12 @@ fn longest_at(unit: usize, runs: &[usize]) -> usize {
     places.map(|place| runs[place]).max().unwrap_or(0)
 }
 
-/// Gives the figures of a quota (rules 25.1, 25.9 and 25.10).
-pub fn quota_stats(heap: &[u8], accounts: &Accounts, quota: u32) -> Result<QuotaStats, Refusal> {
+/// Gives the statistics of a quota (rules 25.1, 25.9 and 25.10).
+pub fn quota_statistics(
+    heap: &[u8],
+    accounts: &Accounts,
+    quota: u32,
+) -> Result<QuotaStatistics, Refusal> {
     sound_layout(heap, accounts)?;
     let number = QuotaNumber::new(quota)?;
     let held = |own: bool| -> BTreeSet<u32> {
@@ -131,7 +135,7 @@ pub fn quota_stats(heap: &[u8], accounts: &Accounts, quota: u32) -> Result<Quota
             .collect()
     };
     let (own, others) = (held(true), held(false));
-    Ok(QuotaStats {
+    Ok(QuotaStatistics {
         grant: accounts.quotas[quota as usize].grant,
         remaining: accounts.remainder(number),
         objects: own.len(),

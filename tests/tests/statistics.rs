@@ -1,19 +1,19 @@
-//! The figures of a heap and of a quota (rules, section 25): the proved code and the reference give the same, and each figure is what its rule says.
+//! The statistics of a heap and of a quota (rules, section 25): the proved code and the reference give the same, and each number is what its rule says.
 
 use lokhazim_reference::{
-    allocate, claim, open_with, quota_stats, release, stats, sweep, Accounts, Edition, Handle,
-    Kind, Options, Part, Refusal, Stats, HOLDS, QUOTAS,
+    allocate, claim, open_with, quota_statistics, release, statistics, sweep, Accounts, BlockCount,
+    Edition, Handle, Kind, Options, Refusal, Statistics, HOLDS, QUOTAS,
 };
 use lokhazim_tests::cases::damage::{damaged_alone, damaged_together, DAMAGES};
 use lokhazim_tests::cases::states::sound;
-use lokhazim_tests::run::boundary::stats as proved;
+use lokhazim_tests::run::boundary::statistics as proved;
 use lokhazim_tests::seed::Seed;
 use lokhazim_tests::state::State;
 
 /// The seed of every case.
 const SEED: u64 = 25;
 
-/// An answer as the boundary gives it: the refusal's number with zeros, or the figures.
+/// An answer as the boundary gives it: the refusal's number with zeros, or the statistics.
 fn numbered<T: Default>(answer: Result<T, Refusal>) -> (u32, T) {
     match answer {
         Ok(told) => (0, told),
@@ -21,16 +21,16 @@ fn numbered<T: Default>(answer: Result<T, Refusal>) -> (u32, T) {
     }
 }
 
-/// Asks both for the figures of a state and of every quota, and of numbers that no quota has. Gives
-/// the figures.
-fn both(state: &State) -> (u32, Stats) {
+/// Asks both for the statistics of a state and of every quota, and of numbers that no quota has. Gives
+/// the statistics.
+fn both(state: &State) -> (u32, Statistics) {
     let (heap, accounts) = (&state.heap, &state.accounts);
-    let told = numbered(stats(heap, accounts));
-    assert_eq!(proved::stats(heap, accounts), told);
+    let told = numbered(statistics(heap, accounts));
+    assert_eq!(proved::statistics(heap, accounts), told);
     for quota in (0..=QUOTAS as u32).chain([255, 256, u32::MAX]) {
-        let wanted = numbered(quota_stats(heap, accounts, quota));
+        let wanted = numbered(quota_statistics(heap, accounts, quota));
         assert_eq!(
-            proved::quota_stats(heap, accounts, quota),
+            proved::quota_statistics(heap, accounts, quota),
             wanted,
             "{quota}"
         );
@@ -39,7 +39,7 @@ fn both(state: &State) -> (u32, Stats) {
 }
 
 #[test]
-fn sound_states_have_the_same_figures() {
+fn sound_states_have_the_same_statistics() {
     let mut shared = 0;
     for n in 0..600 {
         let state = sound(&mut Seed::of_case(SEED, n));
@@ -48,7 +48,7 @@ fn sound_states_have_the_same_figures() {
         let bytes = told.free.bytes + told.live.bytes + told.quarantined.bytes;
         assert_eq!(bytes, state.heap.len());
         let quotas: Vec<_> = (0..QUOTAS as u32)
-            .filter_map(|quota| quota_stats(&state.heap, &state.accounts, quota).ok())
+            .filter_map(|quota| quota_statistics(&state.heap, &state.accounts, quota).ok())
             .collect();
         let objects: usize = quotas.iter().map(|told| told.objects).sum();
         assert_eq!(objects, told.records);
@@ -83,7 +83,7 @@ fn step(seed: &mut Seed, state: &mut State, live: &mut Vec<(u32, Handle)>) {
 }
 
 #[test]
-fn histories_have_the_same_figures_at_every_point() {
+fn histories_have_the_same_statistics_at_every_point() {
     let (mut waiting, mut scattered, mut full) = (0, 0, 0);
     let mut reached = [0; 4];
     for n in 0..40 {
@@ -115,7 +115,7 @@ fn damaged_states_are_refused_alike() {
         for k in 0..4 {
             let mut seed = Seed::of_case(SEED + 1, 10 * n + k);
             if let Some(state) = damaged_alone(&mut seed, damage) {
-                assert_eq!(both(&state), (2, Stats::default()), "{}", damage.name);
+                assert_eq!(both(&state), (2, Statistics::default()), "{}", damage.name);
                 refused += 1;
             }
         }
@@ -124,7 +124,7 @@ fn damaged_states_are_refused_alike() {
         if let Some(state) = damaged_together(&mut Seed::of_case(SEED + 2, n)) {
             let (refusal, told) = both(&state);
             assert_ne!(refusal, 0);
-            assert_eq!(told, Stats::default());
+            assert_eq!(told, Statistics::default());
             refused += 1;
         }
     }
@@ -138,7 +138,7 @@ fn lengths_that_no_heap_has_are_refused() {
             heap: vec![0; length],
             accounts: Accounts::default(),
         };
-        assert_eq!(both(&state), (1, Stats::default()), "{length}");
+        assert_eq!(both(&state), (1, Statistics::default()), "{length}");
     }
 }
 
@@ -173,7 +173,7 @@ fn the_longest_request_is_the_last_that_has_a_base() {
             let (_, told) = both(&state);
             assert_eq!(
                 told.free,
-                Part {
+                BlockCount {
                     blocks: 1,
                     bytes: length
                 }

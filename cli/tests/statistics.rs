@@ -7,7 +7,7 @@ use std::fs;
 use support::{expect, folder, lokhazim, names, open};
 
 /// The figures of the script `calls`, behind an opening of 256 bytes.
-const FIGURES: &str = "\
+const STATISTICS: &str = "\
 heap of 256 bytes, plain, edition 1
 
                       blocks   bytes
@@ -49,10 +49,10 @@ fn calls() -> String {
 
 #[test]
 fn a_script_has_figures_and_marks() {
-    let folder = folder("stats");
+    let folder = folder("statistics");
     fs::write(folder.join("a"), calls()).unwrap();
-    let run = lokhazim(&folder, &["stats", "a"]);
-    expect(&run, 0, &format!("{FIGURES}{MARKS}"), "");
+    let run = lokhazim(&folder, &["statistics", "a"]);
+    expect(&run, 0, &format!("{STATISTICS}{MARKS}"), "");
 }
 
 #[test]
@@ -60,14 +60,22 @@ fn an_image_has_figures_alone() {
     let folder = folder("stats-image");
     fs::write(folder.join("a"), calls()).unwrap();
     lokhazim(&folder, &["image", "save", "a", "a.image"]);
-    expect(&lokhazim(&folder, &["stats", "a.image"]), 0, FIGURES, "");
+    expect(
+        &lokhazim(&folder, &["statistics", "a.image"]),
+        0,
+        STATISTICS,
+        "",
+    );
 }
 
 #[test]
 fn quarantine_and_edition_2_are_told() {
     let folder = folder("stats-quarantine");
     fs::write(folder.join("a"), calls() + "sweep\n").unwrap();
-    let run = lokhazim(&folder, &["stats", "--quarantine", "a", "--edition", "2"]);
+    let run = lokhazim(
+        &folder,
+        &["statistics", "--quarantine", "a", "--edition", "2"],
+    );
     let text = String::from_utf8_lossy(&run.stdout).into_owned();
     for line in [
         "heap of 256 bytes, quarantine, edition 2\n",
@@ -86,20 +94,32 @@ fn wrong_words_and_files_have_no_figures() {
     lokhazim(&folder, &["image", "save", "a", "a.image"]);
     fs::write(folder.join("short"), open(56, &[])).unwrap();
     fs::write(folder.join("bad"), open(64, &[]) + "lend 8 16 1\n").unwrap();
-    let usage = "say 'lokhazim stats SCRIPT|IMAGE'";
+    let usage = "say 'lokhazim statistics SCRIPT|IMAGE'";
     for (words, status, said) in [
-        (&["stats"][..], 2, usage),
-        (&["stats", "a", "a"], 2, "'a' is one too many"),
-        (&["stats", "a", "--edition", "3"], 2, "--edition is 1 or 2"),
-        (&["stats", "a", "--json"], 2, "'--json' is not understood"),
+        (&["statistics"][..], 2, usage),
+        (&["statistics", "a", "a"], 2, "'a' is one too many"),
         (
-            &["stats", "a.image", "--quarantine"],
+            &["statistics", "a", "--edition", "3"],
+            2,
+            "--edition is 1 or 2",
+        ),
+        (
+            &["statistics", "a", "--json"],
+            2,
+            "'--json' is not understood",
+        ),
+        (
+            &["statistics", "a.image", "--quarantine"],
             2,
             "an image has its own kind",
         ),
-        (&["stats", "missing"], 2, "missing can't be read"),
-        (&["stats", "short"], 1, "short: the opening: refusal 1:"),
-        (&["stats", "bad"], 1, "bad: line 2 is not one"),
+        (&["statistics", "missing"], 2, "missing can't be read"),
+        (
+            &["statistics", "short"],
+            1,
+            "short: the opening: refusal 1:",
+        ),
+        (&["statistics", "bad"], 1, "bad: line 2 is not one"),
     ] {
         expect(&lokhazim(&folder, words), status, "", said);
     }

@@ -1,7 +1,8 @@
 /*
- * Random calls by value and in place, each on its own copy of a heap with its accounts. Refusals, answers, fields and heap
- * bytes have to be the same. The accounts in place have any bytes as padding: a refused call changes no byte of them, an
- * accepted one no byte of padding, and an opening sets padding to zero.
+ * Random calls by the library's own functions and by those of the header, each on its own copy of a heap with its
+ * accounts. Refusals, answers, fields and heap bytes have to be the same. The header's accounts have any bytes as
+ * padding, the others zeros: a refused call changes no byte of the accounts, an accepted one no byte of padding, and
+ * an opening sets padding to zero.
  */
 #include "check.h"
 #include "lokhazim.h"
@@ -14,15 +15,19 @@
 #define CALLS_OF_AN_OPENING 300
 
 static size_t length;
-static _Alignas(LOKHAZIM_ALIGNMENT) uint8_t value_heap[LOKHAZIM_HEAP_MAX + 8];
-static _Alignas(LOKHAZIM_ALIGNMENT) uint8_t heap[LOKHAZIM_HEAP_MAX + 8];
-static struct lokhazim_accounts value;
+static _Alignas(LOKHAZIM_ALIGNMENT) uint8_t raw_memory[LOKHAZIM_HEAP_MAX + 8];
+static _Alignas(LOKHAZIM_ALIGNMENT) uint8_t memory[LOKHAZIM_HEAP_MAX + 8];
+static struct lokhazim_accounts raw;
 static struct lokhazim_accounts place;
+static struct lokhazim_heap heap = { memory, 0, &place };
 static uint8_t is_padding[sizeof place];
 
 static struct lokhazim_handle handles[LOKHAZIM_HOLDS];
 static uint32_t handle_count;
 static uint32_t refusals[13];
+
+/* What the library's own functions take first. */
+#define RAW raw_memory, length, &raw
 
 /* The numbers of a call; a call takes those that it needs. */
 struct numbers {
@@ -32,7 +37,7 @@ struct numbers {
     struct lokhazim_handle handle;
 };
 
-/* Makes a call by value and in place, checks that the answers are the same, and gives the refusal. */
+/* Makes a call by both, checks that the answers are the same, and gives the refusal. */
 typedef uint32_t call(struct numbers it);
 
 /* ---- Numbers ---- */
@@ -76,110 +81,106 @@ static struct numbers any_numbers(void)
 
 /* ---- Calls ---- */
 
-static uint32_t handle_made(struct lokhazim_handle_reply by_value, uint32_t refusal, struct lokhazim_handle given)
+static uint32_t handle_made(struct lokhazim_handle_reply reply, uint32_t refusal, struct lokhazim_handle given)
 {
-    value = by_value.accounts;
-    CHECK(by_value.handle.base == given.base && by_value.handle.length == given.length);
-    CHECK(by_value.handle.serial == given.serial && by_value.refusal == refusal);
+    CHECK(reply.handle.base == given.base && reply.handle.length == given.length);
+    CHECK(reply.handle.serial == given.serial && reply.refusal == refusal);
     if (refusal == LOKHAZIM_ACCEPTED && handle_count < LOKHAZIM_HOLDS) {
         handles[handle_count++] = given;
     }
     return refusal;
 }
 
-static uint32_t amount_told(struct lokhazim_amount_reply by_value, uint32_t refusal, uint32_t amount)
+static uint32_t amount_told(struct lokhazim_amount_reply reply, uint32_t refusal, uint32_t amount)
 {
-    value = by_value.accounts;
-    CHECK(by_value.amount == amount && by_value.refusal == refusal);
+    CHECK(reply.amount == amount && reply.refusal == refusal);
     return refusal;
 }
 
 static uint32_t allocate(struct numbers it)
 {
     struct lokhazim_handle given;
-    const uint32_t refusal = lokhazim_heap_allocate(heap, length, &place, it.quota, it.bytes, &given);
-    return handle_made(lokhazim_allocate(value_heap, length, value, it.quota, it.bytes), refusal, given);
+    const uint32_t refusal = lokhazim_heap_allocate(&heap, it.quota, it.bytes, &given);
+    return handle_made(lokhazim_raw_allocate(RAW, it.quota, it.bytes), refusal, given);
 }
 
 static uint32_t allocate_array(struct numbers it)
 {
     struct lokhazim_handle given;
-    const uint32_t refusal = lokhazim_heap_allocate_array(heap, length, &place, it.quota, it.bytes, it.count, &given);
-    return handle_made(lokhazim_allocate_array(value_heap, length, value, it.quota, it.bytes, it.count), refusal, given);
+    const uint32_t refusal = lokhazim_heap_allocate_array(&heap, it.quota, it.bytes, it.count, &given);
+    return handle_made(lokhazim_raw_allocate_array(RAW, it.quota, it.bytes, it.count), refusal, given);
 }
 
 static uint32_t reallocate(struct numbers it)
 {
     struct lokhazim_handle given;
-    const uint32_t refusal = lokhazim_heap_reallocate(heap, length, &place, it.quota, it.handle, it.bytes, &given);
-    return handle_made(lokhazim_reallocate(value_heap, length, value, it.quota, it.handle, it.bytes), refusal, given);
+    const uint32_t refusal = lokhazim_heap_reallocate(&heap, it.quota, it.handle, it.bytes, &given);
+    return handle_made(lokhazim_raw_reallocate(RAW, it.quota, it.handle, it.bytes), refusal, given);
 }
 
 static uint32_t claim(struct numbers it)
 {
     uint32_t amount;
-    const uint32_t refusal = lokhazim_heap_claim(heap, length, &place, it.quota, it.handle, &amount);
-    return amount_told(lokhazim_claim(value_heap, length, value, it.quota, it.handle), refusal, amount);
+    const uint32_t refusal = lokhazim_heap_claim(&heap, it.quota, it.handle, &amount);
+    return amount_told(lokhazim_raw_claim(RAW, it.quota, it.handle), refusal, amount);
 }
 
 static uint32_t release(struct numbers it)
 {
     uint32_t amount;
-    const uint32_t can = lokhazim_heap_can_release(heap, length, &place, it.quota, it.handle);
-    CHECK(can == lokhazim_can_release(value_heap, length, value, it.quota, it.handle));
-    const uint32_t refusal = lokhazim_heap_release(heap, length, &place, it.quota, it.handle, &amount);
+    const uint32_t can = lokhazim_heap_can_release(&heap, it.quota, it.handle);
+    CHECK(can == lokhazim_raw_can_release(RAW, it.quota, it.handle));
+    const uint32_t refusal = lokhazim_heap_release(&heap, it.quota, it.handle, &amount);
     CHECK(refusal == can);
-    return amount_told(lokhazim_release(value_heap, length, value, it.quota, it.handle), refusal, amount);
+    return amount_told(lokhazim_raw_release(RAW, it.quota, it.handle), refusal, amount);
 }
 
 static uint32_t free_all(struct numbers it)
 {
     uint32_t amount;
-    const uint32_t refusal = lokhazim_heap_free_all(heap, length, &place, it.quota, &amount);
-    return amount_told(lokhazim_free_all(value_heap, length, value, it.quota), refusal, amount);
+    const uint32_t refusal = lokhazim_heap_free_all(&heap, it.quota, &amount);
+    return amount_told(lokhazim_raw_free_all(RAW, it.quota), refusal, amount);
 }
 
 static uint32_t clear_permissions(struct numbers it)
 {
     uint32_t amount;
-    const uint32_t refusal = lokhazim_heap_clear_permissions(heap, length, &place, it.quota, it.count, &amount);
-    return amount_told(lokhazim_clear_permissions(value_heap, length, value, it.quota, it.count), refusal, amount);
+    const uint32_t refusal = lokhazim_heap_clear_permissions(&heap, it.quota, it.count, &amount);
+    return amount_told(lokhazim_raw_clear_permissions(RAW, it.quota, it.count), refusal, amount);
 }
 
 static uint32_t sweep(struct numbers it)
 {
     uint32_t amount;
     (void)it;
-    const uint32_t refusal = lokhazim_heap_sweep(heap, length, &place, &amount);
-    return amount_told(lokhazim_sweep(value_heap, length, value), refusal, amount);
+    const uint32_t refusal = lokhazim_heap_sweep(&heap, &amount);
+    return amount_told(lokhazim_raw_sweep(RAW), refusal, amount);
 }
 
 static uint32_t lend(struct numbers it)
 {
     uint8_t *object;
-    const struct lokhazim_range_reply by_value = lokhazim_lend(value_heap, length, value, it.handle);
-    const struct lokhazim_range_reply in_place = lokhazim_in_place_lend(heap, length, &place, it.handle);
-    const uint32_t refusal = lokhazim_heap_lend(heap, length, &place, it.handle, &object);
-    CHECK(refusal == by_value.refusal && refusal == in_place.refusal);
-    CHECK(in_place.start == by_value.start && in_place.end == by_value.end);
-    CHECK(object == (refusal == LOKHAZIM_ACCEPTED ? heap + by_value.start : NULL));
+    const struct lokhazim_range_reply reply = lokhazim_raw_lend(RAW, it.handle);
+    const uint32_t refusal = lokhazim_heap_lend(&heap, it.handle, &object);
+    CHECK(refusal == reply.refusal);
+    CHECK(object == (refusal == LOKHAZIM_ACCEPTED ? memory + reply.start : NULL));
     return refusal;
 }
 
 static uint32_t write(struct numbers it)
 {
     const uint8_t byte = (uint8_t)random_below(256);
-    const uint32_t refusal = lokhazim_heap_write(heap, length, &place, it.handle, it.bytes, byte);
-    CHECK(refusal == lokhazim_write(value_heap, length, value, it.handle, it.bytes, byte));
+    const uint32_t refusal = lokhazim_heap_write(&heap, it.handle, it.bytes, byte);
+    CHECK(refusal == lokhazim_raw_write(RAW, it.handle, it.bytes, byte));
     return refusal;
 }
 
 static uint32_t remaining(struct numbers it)
 {
     uint32_t amount;
-    const struct lokhazim_amount by_value = lokhazim_remaining(value_heap, length, value, it.quota);
-    const uint32_t refusal = lokhazim_heap_remaining(heap, length, &place, it.quota, &amount);
-    CHECK(refusal == by_value.refusal && amount == by_value.amount);
+    const struct lokhazim_amount_reply reply = lokhazim_raw_remaining(RAW, it.quota);
+    const uint32_t refusal = lokhazim_heap_remaining(&heap, it.quota, &amount);
+    CHECK(refusal == reply.refusal && amount == reply.amount);
     return refusal;
 }
 
@@ -187,18 +188,18 @@ static uint32_t list_block(struct numbers it)
 {
     struct lokhazim_block_reply block;
     const size_t at = random_below(3) ? 0 : it.handle.base - LOKHAZIM_HEADER;
-    const struct lokhazim_block_reply by_value = lokhazim_list_block(value_heap, length, value, at);
-    const uint32_t refusal = lokhazim_heap_list_block(heap, length, &place, at, &block);
-    CHECK(refusal == by_value.refusal && block.found == by_value.found && block.serial == by_value.serial);
-    CHECK(block.offset == by_value.offset && block.size == by_value.size);
+    const struct lokhazim_block_reply reply = lokhazim_raw_list_block(RAW, at);
+    const uint32_t refusal = lokhazim_heap_list_block(&heap, at, &block);
+    CHECK(refusal == reply.refusal && block.found == reply.found && block.serial == reply.serial);
+    CHECK(block.offset == reply.offset && block.size == reply.size);
     return refusal;
 }
 
 static uint32_t check(struct numbers it)
 {
     (void)it;
-    const uint32_t refusal = lokhazim_heap_check(heap, length, &place);
-    CHECK(refusal == lokhazim_check(value_heap, length, value));
+    const uint32_t refusal = lokhazim_heap_check(&heap);
+    CHECK(refusal == lokhazim_raw_check(RAW));
     return refusal;
 }
 
@@ -235,8 +236,8 @@ static void set_padding(void)
 /* Both copies have the same fields and the same heap bytes. */
 static void copies_agree(void)
 {
-    CHECK(same(&value, &place));
-    CHECK(memcmp(value_heap, heap, sizeof heap) == 0);
+    CHECK(same(&raw, &place));
+    CHECK(memcmp(raw_memory, memory, sizeof memory) == 0);
 }
 
 /* Makes a call on both copies. */
@@ -257,20 +258,19 @@ static uint32_t make(call *one, struct numbers it)
 /* Opens both copies, over any bytes. */
 static void open(size_t heap_length, struct lokhazim_grants grants, uint32_t kind, uint32_t edition)
 {
-    length = heap_length;
+    length = heap.length = heap_length;
     handle_count = 0;
-    for (size_t i = 0; i < sizeof heap; i++) {
-        value_heap[i] = heap[i] = (uint8_t)random_below(256);
+    for (size_t i = 0; i < sizeof memory; i++) {
+        raw_memory[i] = memory[i] = (uint8_t)random_below(256);
     }
     memset(&place, (int)random_below(256), sizeof place);
-    const struct lokhazim_open_reply by_value = lokhazim_open(value_heap, length, grants, kind, edition);
-    value = by_value.accounts;
-    CHECK(lokhazim_heap_open(heap, length, &place, grants, kind, edition) == by_value.refusal);
+    const uint32_t refusal = lokhazim_raw_open(RAW, grants, kind, edition);
+    CHECK(lokhazim_heap_open(&heap, grants, kind, edition) == refusal);
     for (size_t i = 0; i < sizeof place; i++) {
         CHECK(!is_padding[i] || ((const uint8_t *)&place)[i] == 0);
     }
     copies_agree();
-    refusals[by_value.refusal]++;
+    refusals[refusal]++;
     set_padding();
 }
 
@@ -290,11 +290,11 @@ static void open_any(void)
 static void damage(void)
 {
     const size_t at = random_below((uint32_t)length);
-    const uint8_t kept = heap[at];
-    value_heap[at] = heap[at] = (uint8_t)random_below(256);
+    const uint8_t kept = memory[at];
+    raw_memory[at] = memory[at] = (uint8_t)random_below(256);
     make(check, any_numbers());
     if (random_below(4)) {
-        value_heap[at] = heap[at] = kept;
+        raw_memory[at] = memory[at] = kept;
     }
 }
 
@@ -330,7 +330,7 @@ static void limits(void)
     CHECK(make(claim, it) == LOKHAZIM_HOLDS_EXHAUSTED);
     it.quota = 0;
     CHECK(make(free_all, it) == LOKHAZIM_ACCEPTED);
-    value.last_serial = place.last_serial = LOKHAZIM_SERIAL_MAX - 1;
+    raw.last_serial = place.last_serial = LOKHAZIM_SERIAL_MAX - 1;
     CHECK(make(allocate, it) == LOKHAZIM_ACCEPTED);
     CHECK(make(allocate, it) == LOKHAZIM_SERIALS_EXHAUSTED);
 }
