@@ -1,6 +1,6 @@
 /*
- * Pointers that the headers check: each function gives refusal 100 where one is null or the heap is not aligned, changes
- * neither heap nor accounts, and leaves zeros as its answer. Where a pointer takes a number, null is taken.
+ * Pointers that the headers check: each function gives refusal 100 where one is null or the heap is not aligned,
+ * changes neither heap nor accounts, and leaves zeros as its answer. Where a pointer takes a number, null is taken.
  */
 #include "check.h"
 #include "lokhazim.h"
