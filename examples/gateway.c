@@ -9,7 +9,7 @@
  * queue gives the handle all the same, in its order, and its bytes are gone.
  *
  * After 'make lib':
- *     cc -std=c11 -Iinclude examples/gateway.c build/lib/liblokhazim.a build/lib/liblokhazim_queue.a -o build/gateway && build/gateway
+ *     cc -std=c11 -Iinclude examples/gateway.c build/lib/liblokhazim.a -o build/gateway && build/gateway
  * It prints what examples/gateway.out has.
  */
 #include "lokhazim_queue.h"

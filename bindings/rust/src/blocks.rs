@@ -41,7 +41,7 @@ impl Block {
     ///
     /// # let mut memory = [0; 128];
     /// let options = Options { kind: Kind::Quarantine, ..Options::default() };
-    /// let mut heap = Heap::open_with(&mut memory, [100; QUOTAS], settings)?;
+    /// let mut heap = Heap::open_with(&mut memory, [100; QUOTAS], options)?;
     /// let handle = heap.allocate(QuotaId::new(0), 10)?;
     /// heap.release(QuotaId::new(0), handle)?;
     /// assert!(heap.block_at(0)?.unwrap().is_quarantined());

@@ -63,7 +63,7 @@ impl<'a> Heap<'a> {
     ///
     /// let mut memory = [7; 128];
     /// let options = Options { kind: Kind::Quarantine, edition: Edition::Second };
-    /// let heap = Heap::open_with(&mut memory, [100; QUOTAS], settings)?;
+    /// let heap = Heap::open_with(&mut memory, [100; QUOTAS], options)?;
     /// assert_eq!(heap.kind(), Kind::Quarantine);
     /// assert_eq!(heap.edition(), Edition::Second);
     /// # Ok::<(), lokhazim::Refusal>(())

@@ -77,11 +77,9 @@ pub struct Handle {
 /// conversion from a number but [`QuotaId::new`], which says what the number is:
 ///
 /// ```compile_fail,E0308
-/// use lokhazim::QuotaId;
-///
 /// # let mut memory = [0; 128];
 /// let mut heap = lokhazim::Heap::open(&mut memory, [100; lokhazim::QUOTAS])?;
-/// heap.allocate(QuotaId::new(10), 0)?;
+/// heap.allocate(10, 0)?;
 /// # Ok::<(), lokhazim::Refusal>(())
 /// ```
 #[derive(Clone, Copy, Debug, Default, PartialEq, Eq, PartialOrd, Ord, Hash)]

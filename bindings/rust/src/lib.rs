@@ -144,7 +144,7 @@ pub const fn grants<const N: usize>(first: [u32; N]) -> [u32; QUOTAS] {
 ///
 /// let mut memory = Aligned([0; 32_768]);
 /// let options = Options { edition: Edition::Second, ..Options::default() };
-/// let mut heap = Heap::open_with(&mut memory.0, [40_000; QUOTAS], settings)?;
+/// let mut heap = Heap::open_with(&mut memory.0, [40_000; QUOTAS], options)?;
 /// let handle = heap.allocate(QuotaId::new(0), 20_000)?;
 /// assert!(heap.lend(handle)?.as_ptr().addr().is_multiple_of(64));
 /// # Ok::<(), lokhazim::Refusal>(())

@@ -132,10 +132,10 @@ impl Queue {
     /// is. Heap and queue are as they were.
     ///
     /// ```
-    /// use lokhazim::{grants, Aligned, Heap, Queue, QueueRefusal, Refusal};
+    /// use lokhazim::{grants, Aligned, Heap, Queue, QueueRefusal, QuotaId, Refusal};
     ///
-    /// const RADIO: u32 = 0;
-    /// const LOGGER: u32 = 1;
+    /// const RADIO: QuotaId = QuotaId::new(0);
+    /// const LOGGER: QuotaId = QuotaId::new(1);
     ///
     /// let mut memory = Aligned([0; 256]);
     /// let mut heap = Heap::open(&mut memory.0, grants([100, 40])).unwrap();

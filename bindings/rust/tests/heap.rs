@@ -22,9 +22,12 @@ fn fill(bytes: &mut [u8]) -> Result<(Heap<'_>, Vec<Handle>), Refusal> {
     let mut heap = Heap::open(bytes, core::array::from_fn(|i| 100_000 + 1_000 * i as u32))?;
     let mut handles = Vec::new();
     for place in 0..HOLDS {
-        let handle = heap.allocate(quota_of(place), length_of(place))?;
+        let handle = heap.allocate(QuotaId::new(quota_of(place)), length_of(place))?;
         for _ in 1..count_of(place) {
-            assert_eq!(heap.claim(quota_of(place), handle)?, length_of(place));
+            assert_eq!(
+                heap.claim(QuotaId::new(quota_of(place)), handle)?,
+                length_of(place)
+            );
         }
         handles.push(handle);
     }
@@ -122,7 +125,10 @@ fn the_calls_leave_each_field_as_it_should_be() -> Result<(), Refusal> {
     for (number, quota) in heap.accounts().quotas.iter().enumerate() {
         assert_eq!(quota.grant, 100_000 + 1_000 * number as u32);
         assert_eq!(quota.remainder, quota.grant - spent[number]);
-        assert_eq!(heap.remaining(number as u32)?, quota.remainder);
+        assert_eq!(
+            heap.remaining(QuotaId::new(number as u32))?,
+            quota.remainder
+        );
         assert_eq!(
             Permissions::from_bits(quota.permissions),
             Some(Permissions::ALL)
@@ -139,7 +145,7 @@ fn is_noticed(bytes: &mut [u8], accounts: &Accounts, change: impl Fn(&mut Accoun
     change(&mut changed);
     let refused = Heap::from_parts(bytes, &changed).map(|_| ());
     assert_eq!(refused, Err(Refusal::Inconsistent));
-    assert!(Heap::from_parts(bytes, &accounts).is_ok());
+    assert!(Heap::from_parts(bytes, accounts).is_ok());
 }
 
 #[test]
@@ -237,7 +243,10 @@ fn refused_calls_change_nothing() -> Result<(), Refusal> {
     let mut memory = [0; HEAP_MAX];
     let (mut heap, handles) = fill(&mut memory)?;
     let before = heap.accounts().clone();
-    assert_eq!(heap.allocate(QUOTAS as u32, 1), Err(Refusal::QuotaNumber));
+    assert_eq!(
+        heap.allocate(QuotaId::new(QUOTAS as u32), 1),
+        Err(Refusal::QuotaNumber)
+    );
     assert_eq!(
         heap.allocate(QuotaId::new(0), 0),
         Err(Refusal::ObjectLength)
@@ -262,7 +271,10 @@ fn refused_calls_change_nothing() -> Result<(), Refusal> {
         heap.can_release(QuotaId::new(1), handles[0]),
         Err(Refusal::NotHeld)
     );
-    assert_eq!(heap.free_all(u32::MAX), Err(Refusal::QuotaNumber));
+    assert_eq!(
+        heap.free_all(QuotaId::new(u32::MAX)),
+        Err(Refusal::QuotaNumber)
+    );
     assert_eq!(heap.accounts(), &before);
     assert_eq!(heap.check(), Ok(()));
     Ok(())
@@ -276,19 +288,19 @@ type Guarded = (
 
 const GUARDED: [Guarded; 5] = [
     (Permissions::ALLOCATE, |heap, quota, _| {
-        heap.allocate(quota, 8).map(drop)
+        heap.allocate(QuotaId::new(quota), 8).map(drop)
     }),
     (Permissions::ALLOCATE, |heap, quota, _| {
-        heap.allocate_array(quota, 2, 4).map(drop)
+        heap.allocate_array(QuotaId::new(quota), 2, 4).map(drop)
     }),
     (Permissions::ALLOCATE, |heap, quota, handle| {
-        heap.reallocate(quota, handle, 8).map(drop)
+        heap.reallocate(QuotaId::new(quota), handle, 8).map(drop)
     }),
     (Permissions::CLAIM, |heap, quota, handle| {
-        heap.claim(quota, handle).map(drop)
+        heap.claim(QuotaId::new(quota), handle).map(drop)
     }),
     (Permissions::FREE_ALL, |heap, quota, _| {
-        heap.free_all(quota).map(drop)
+        heap.free_all(QuotaId::new(quota)).map(drop)
     }),
 ];
 

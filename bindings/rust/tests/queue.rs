@@ -6,6 +6,8 @@ mod support;
 
 use std::error::Error;
 
+use support::{in_capitals, refusals_of_header, text_of};
+
 use lokhazim::{
     grants, Aligned, Handle, Heap, Queue, QueueRefusal, QuotaId, Refusal, QUEUE_PLACES,
 };
@@ -24,13 +26,13 @@ fn with_objects(memory: &mut [u8], count: usize) -> (Heap<'_>, Vec<Handle>) {
 
 #[test]
 fn the_header_has_the_same_numbers() {
-    let header = support::repository("include/lokhazim_queue.h");
-    let header = std::fs::read_to_string(header).expect("the header is there");
-    let names = ["FULL", "EMPTY", "DAMAGED"];
-    for (refusal, name) in QueueRefusal::OWN.into_iter().zip(names) {
-        let line = format!("    LOKHAZIM_QUEUE_{name} = {}", refusal.number());
-        assert!(header.contains(&line), "the header lacks the line '{line}'");
+    let refusals = refusals_of_header();
+    for refusal in QueueRefusal::OWN {
+        let name = in_capitals(&format!("{refusal:?}"));
+        let line = format!("QUEUE_{name} = {}", refusal.number());
+        assert!(refusals.contains(&line), "the header lacks '{line}'");
     }
+    let header = text_of("include/lokhazim_queue.h");
     assert!(header.contains(&format!("#define LOKHAZIM_QUEUE_PLACES {QUEUE_PLACES}\n")));
 }
 
