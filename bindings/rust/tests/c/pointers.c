@@ -149,6 +149,11 @@ int main(void)
         const struct lokhazim_heap shifted = { memory + at, 1024, &accounts };
         no_call(&shifted);
     }
+    for (size_t at = 1; at < sizeof(uint32_t); at++) {
+        void *const place = (uint8_t *)&accounts + at;
+        const struct lokhazim_heap shifted = { memory, 1024, place };
+        no_call(&shifted);
+    }
     no_answer();
     beside_the_heap();
     CHECK(memcmp(before, memory, sizeof memory) == 0 && memcmp(&owed, &accounts, sizeof owed) == 0);
