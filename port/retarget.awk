@@ -1,14 +1,15 @@
 # Takes the text of the proved build's LLVM module and takes off what is for x86-64 alone: the data layout, the target, the attributes of that processor, and
 # the wrappers that pass structs as C does there. What a wrapper calls becomes visible as lokhazim_core_NAME; it takes every struct and every lent slice by
 # pointer, which all processors pass alike. The files port/*.c give C's functions over these.
+# A function that is to be left out stays hidden, so that the compiler drops it with all that it alone calls.
 # Nothing else is changed. It stops where the module is not of the form that it knows.
-# Usage: awk -v crate=NAME -f port/retarget.awk MODULE.ll >CORE.ll
+# Usage: awk -v crate=NAME -v without=EXPORTED_NAME -f port/retarget.awk MODULE.ll >CORE.ll
 
 BEGIN { function_inside = "@\"" crate "::[a-z_]+::lokhazim_[a-z0-9_]+\"" }
 
 function complain(text) { print "port/retarget.awk: line " NR ": " text >"/dev/stderr"; bad = 1 }
 
-# The exported function's name out of a text such as c_api::in_place::lokhazim_in_place_check.
+# The exported function's name out of a text such as exports::heaps::lokhazim_raw_check.
 function exported(text) { sub(/.*::/, "", text); sub(/"$/, "", text); return text }
 
 # The line with each call's name as it is visible from outside.
@@ -37,8 +38,9 @@ function renamed(line,    name) {
 }
 inside { if (/^}/) inside = 0; next }
 /^define internal / && match($0, function_inside) {
-    core[exported(substr($0, RSTART, RLENGTH))]++
-    sub(/^define internal /, "define ")
+    name = exported(substr($0, RSTART, RLENGTH))
+    core[name]++
+    if (name != without) sub(/^define internal /, "define ")
 }
 /^define / && !/^define internal / && !/::lokhazim_/ { complain("a function is visible from outside that is no call of the library.") }
 /^declare / && !/@llvm\.(mem(cpy|move|set)\.p0|ctlz|cttz|ctpop|bswap|trap|assume|fsh[lr]|[us](min|max)|[us](add|sub|mul)\.)/ {
