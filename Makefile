@@ -6,9 +6,9 @@
 # make test      prove everything from nothing, try every must-fail edit, run every test
 # make check     run every check that takes seconds and proves nothing: documents, layout, lints
 #
-# make lib       prove the exported calls, and write build/lib/liblokhazim.a with its header
+# make lib       prove the exported calls, and write build/lib/liblokhazim.a with its headers
 # make cli       prove the library and build the command build/bin/lokhazim over it
-# make install   install libraries, headers, command and manual: PREFIX=/usr/local DESTDIR=
+# make install   install library, headers, command and manual: PREFIX=/usr/local DESTDIR=
 # make uninstall remove what install has put there: PREFIX=/usr/local DESTDIR=
 # make dist      write archives of the sources and of an installed tree to build/dist
 #
