@@ -24,7 +24,7 @@ use Rattle.model.specs.declared.Refusal.{Refusal}
 use Rattle.model.specs.declared.Refusal.the-variants.{NoSuchObject, NotHeld}
 use Rattle.model.specs.declared.HandleAnswer.the-variants.{Given, Refused as NotGiven}
 use Rattle.model.proofs.Lists.{first-some}
-use Rattle.model.proofs.Consistent.{consistent-facts}
+use Rattle.model.proofs.Consistent.{accounted-facts}
 use Rattle.invariant.proofs.Recorded.{Limits}
 use Rattle.results.specs.declared.AmountResult.{AmountResult}
 use Rattle.results.specs.declared.HandleResult.{HandleResult}
@@ -118,7 +118,7 @@ module _ {s : List ℕ} {k : Accounts} {w : Wanted} {r : Surveyed} (y : Exchange
         unfolding objects-of lookup
         serial-given =
             let there = first-some (names h) (objects-of s) (object-met old) (located-old .named) .0 in
-            consistent-facts s k (y .requested .checked .consistent) .given (object-met old) there
+            accounted-facts s k (y .requested .checked .accounted) .given (object-met old) there
 
         -- what grant refuses is refused
         pub not-granted : {n : ℕ} → Rounded (k .edition) n (w .need) (w .unit) → (t : List ℕ) (x : HandleResult) (f : Refusal) → x .answer ≡ NotGiven f

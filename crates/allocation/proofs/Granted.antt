@@ -174,19 +174,19 @@ module _ (unit : ℕ → ℕ) (units : Units unit) (s : List ℕ) (k : Accounts)
         unfolding line-11 is-none
         refused-11 h e =
             refused-by unit s k q n r NoSpace e
-            (to-11 ∙ line-refuses 11 (is-none (base-for unit s n)) [] (rw (no-base unit units s k n (y .checked .consistent) h)))
+            (to-11 ∙ line-refuses 11 (is-none (base-for unit s n)) [] (rw (no-base unit units s k n (y .checked .accounted) h)))
 
         module _ (m : Met) (b : ℕ) (fit : find-fit (alignment unit n) (object-length unit n) s ≡ Fits m b) where
           to-end : number unit s k q n ≡ 0
           unfolding line-11 is-none first-refusal
-          to-end = to-11 ∙ line-passes 11 (is-none (base-for unit s n)) [] (rw (the-base unit units s k n (y .checked .consistent) m b fit))
+          to-end = to-11 ∙ line-passes 11 (is-none (base-for unit s n)) [] (rw (the-base unit units s k n (y .checked .accounted) m b fit))
 
           granted-whole : Octets s → (t : List ℕ)
               → t ≡ carve-bytes (m .at) (m .at + m .size) b (object-length unit n) (m .back) (k .«last_serial» + 1) s
               → r ≡ result-of q (object-length unit n) place b k → handle-outcome t r ≡ allocate unit s k q n
           unfolding allocate handle-values allocated new-object or-else
           granted-whole o t w e =
-              let ok = y .checked .consistent in
+              let ok = y .checked .accounted in
               let serial = k .«last_serial» + 1 in
               let h : Handle = record { base = b; length = object-length unit n; serial = serial } in
               let x = the-base unit units s k n ok m b fit in
@@ -202,6 +202,6 @@ module _ (unit : ℕ → ℕ) (units : Units unit) (s : List ℕ) (k : Accounts)
               → r ≡ result-of q z place b k → handle-outcome t r ≡ allocate unit s k q n
           granted o t z ez w e =
               let serial = k .«last_serial» + 1 in
-              let room = room-test m b (object-length unit n) (the-room unit units s k n (y .checked .consistent) m b fit (y .checked .extent)) in
+              let room = room-test m b (object-length unit n) (the-room unit units s k n (y .checked .accounted) m b fit (y .checked .extent)) in
               granted-whole o t (w ∙ ap (λ (l : ℕ). carve-in m b l serial s) ez ∙ sym (carves m b (object-length unit n) serial s room))
               (e ∙ ap (λ (l : ℕ). result-of q l place b k) ez)

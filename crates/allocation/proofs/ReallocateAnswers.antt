@@ -38,11 +38,11 @@ use Rattle.allocation.proofs.Reallocated.{whole-named}
 module _ (unit : ℕ → ℕ) (s : List ℕ) (k : Accounts) (q : ℕ) (h : Handle) (c : Checked unit s k q) where
   whole-met-there : List·Memᴰ h (objects-of s) → (x : Lookup) → find-object h s ≡ x → find-whole h s ≡ Missing → ⊥
   whole-met-there m Missing f e =
-      let n = sym (unnamed unit s k Accepted (accepted-check unit s k q c) refl h f) ∙ own-found s k (c .consistent) h m in
+      let n = sym (unnamed unit s k Accepted (accepted-check unit s k q c) refl h f) ∙ own-found s k (c .accounted) h m in
       let z : _≡_ {A = ℕ} 0 1 = cc in
       absurd (omega arith)
   whole-met-there m (Found b) f e =
-      let n = sym (located unit s k Accepted (accepted-check unit s k q c) refl h b f .named) ∙ own-found s k (c .consistent) h m in
+      let n = sym (located unit s k Accepted (accepted-check unit s k q c) refl h b f .named) ∙ own-found s k (c .accounted) h m in
       let o : object-met b ≡ h = cc in
       let w = sym (whole-same h s b f (sym (ap (λ (x : Handle). x .length) o))) ∙ e in
       let z : _≡_ {A = ℕ} 0 1 = cc in

@@ -1,4 +1,4 @@
--- The tests of `consistent-blocks` (rules 5.3 to 5.8) about objects, records and what the quotas owe, and how they go on from one object to the
+-- The tests of `accounted-blocks` (rules 5.3 to 5.8) about objects, records and what the quotas owe, and how they go on from one object to the
 -- others: they hold of a first object and the others exactly if its serial is given and held, the quotas can pay for it, and they hold of the others once
 -- its records are struck and it is paid for. With no object left, they hold exactly if no record is used and nothing is owed.
 use Prim.Native.Nat.{ℕ, _+_, _<_, _≤_}

@@ -1,5 +1,5 @@
 -- Records of one serial that are struck, that is, set to zero: what is said of other serials stays, and nothing of that serial is left. So the tests
--- of `consistent-blocks` about records and objects hold of a table exactly if they hold of its first object and, for the other objects, of the table
+-- of `accounted-blocks` about records and objects hold of a table exactly if they hold of its first object and, for the other objects, of the table
 -- with that object's records struck.
 use Prim.Native.Nat.{ℕ, suc}
 use mathlib.Core.Path.{_≡_, refl, ap, sym, _∙_}

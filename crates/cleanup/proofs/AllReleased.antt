@@ -28,7 +28,7 @@ use Rattle.invariant.proofs.Recorded.{good-recorded}
 use Rattle.cleanup.specs.Releases.{Drop, cleaned, accepted-throughout, Fits}
 use Rattle.cleanup.specs.FreeAll.{all-for, AsFreeAll, releases-of, AllReleased}
 use Rattle.cleanup.proofs.Answers.{permuted-sum}
-use Rattle.cleanup.proofs.Accepting.{Sound, after, Accepted}
+use Rattle.cleanup.proofs.Accepting.{Consistent, after, Accepted}
 use Rattle.cleanup.proofs.Permuted.{any-order-by}
 use Rattle.cleanup.proofs.Drained.{ends, again, begun, exists, freed-by}
 use Rattle.cleanup.proofs.Enough.{one, times, Enough, enough-accepted, enough-counts}
@@ -97,7 +97,7 @@ module _ (q : ℕ) (hs : List Hold) where
       go false true e f a b = ap (λ (n : ℕ). n + times serial j (releases-of q hs os)) a ∙ zero-add _ ∙ b
       go false false e f a b = omega (arith, a, b)
 
-module _ (unit : ℕ → ℕ) (q : ℕ) (t : State) (g : Sound unit t) (there : q < QUOTAS) where
+module _ (unit : ℕ → ℕ) (q : ℕ) (t : State) (g : Consistent unit t) (there : q < QUOTAS) where
   abbrev everything : List Drop
   everything = releases-of q (t .accounts .holds) (objects (t .blocks))
 

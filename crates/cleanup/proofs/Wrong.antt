@@ -123,7 +123,7 @@ refuted-sweeps-first a =
     omega arith
 
 -- an object of 4,096 bytes at 8, which edition 2 would not place there, and one of 8 bytes: released first, the short
--- one leaves a heap that is not sound by edition 2
+-- one leaves a heap that is not consistent by edition 2
 made-long : Outcome
 made-long =
     let a = opened-heap 4120 5000 0 in

@@ -54,7 +54,7 @@ module _ (from to : Form) (i o h : List ℕ) (read : read-image i h .refusal ≡
   -- and they are those that the writer has of the state read
   pub moved-writes : moved from to i o ≡ write-image to o (heap-in i) (accounts-in i)
   unfolding moved write-image write-lines line-1 line-2 first-refusal
-  moved-writes = rw (only-puts, is-allowed, accepted-right i h read .sound)
+  moved-writes = rw (only-puts, is-allowed, accepted-right i h read .consistent)
 
 -- what an accepted move is of
 pub record Movable (from to : Form) (i o : List ℕ) : Type 0 where

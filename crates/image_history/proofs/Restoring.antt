@@ -34,7 +34,7 @@ module _ (i h : List ℕ) (octets : Octets i) (accepted : read-image i h .refusa
       rw (accepted-read i h accepted) (record {
         extent = a .extent;
         octets = a .octets;
-        sound = a .sound;
+        consistent = a .consistent;
         quotas = a .typed .quotas;
         records = a .typed .holds;
         narrow = a .typed .grant;
@@ -65,7 +65,7 @@ restorable-given s k r =
       known = known-2;
       extent = r .extent;
       octets = r .octets;
-      sound = r .sound;
+      consistent = r .consistent;
       typed = restorable-typed (table (k .edition)) s k r;
       carried = full-carries form-2 k refl;
     } in

@@ -17,7 +17,7 @@ use Rattle.model.specs.Objects.{blocks-of}
 use Rattle.model.specs.Consistent.{in-range}
 use Rattle.model.proofs.Bools.{and-left, and-right}
 use Rattle.model.proofs.Lists.{getD-member}
-use Rattle.model.proofs.Consistent.{Facts, consistent-facts, sound-consistent, sound-permissible, sound-range}
+use Rattle.model.proofs.Consistent.{Facts, accounted-facts, consistent-accounted, consistent-permissible, consistent-range}
 use Rattle.model.proofs.Consistent.{range-serial, range-kind}
 use Rattle.model.proofs.Consistent.{range-edition}
 use Rattle.ledger.specs.History.{Restorable}
@@ -48,10 +48,10 @@ unused-zero h e =
 
 module _ (unit : ℕ → ℕ) (s : List ℕ) (k : Accounts) (r : Restorable unit s k) where
   facts : Facts (blocks-of s) k
-  facts = consistent-facts s k (sound-consistent unit s k (r .sound))
+  facts = accounted-facts s k (consistent-accounted unit s k (r .consistent))
 
   range : in-range k ≡ true
-  range = sound-range unit s k (r .sound)
+  range = consistent-range unit s k (r .consistent)
 
   -- what remains is at most the grant
   solvent : (q : ℕ) → getD (k .quotas) q zero-quota .remainder < 2 ^ 32
@@ -93,7 +93,7 @@ module _ (unit : ℕ → ℕ) (s : List ℕ) (k : Accounts) (r : Restorable unit
         last = omega (arith, range-serial k range);
         grant = r .narrow;
         remainder = solvent;
-        permissions = λ q. omega (arith, permitted (k .quotas) (sound-permissible unit s k (r .sound)) q);
+        permissions = λ q. omega (arith, permitted (k .quotas) (consistent-permissible unit s k (r .consistent)) q);
         serial = λ i. record-narrow i .0;
         quota = λ i. record-narrow i .1;
         count = r .counts;

@@ -16,7 +16,7 @@ use Rattle.accounts.specs.Accounts.{clear-permissions, with-holds, charge, perm
 use Rattle.accounts.proofs.Laws.{clear-kept}
 use Rattle.model.specs.Lists.{all, any, first, change-first, or-else, is-none}
 use Rattle.model.specs.Objects.{lookup, found}
-use Rattle.model.specs.Consistent.{charge-of, allowed, sound}
+use Rattle.model.specs.Consistent.{charge-of, allowed, consistent}
 use Rattle.model.specs.Holds.{count-of, with-count, take-record, raise-count, less-one, lower-count}
 use Rattle.model.specs.Refusals.{first-refusal, line-holds, claims-first, line-1, line-2, line-3, line-5, line-7, row-lines}
 use Rattle.model.specs.Refusals.{line-12}
@@ -133,7 +133,7 @@ module _ (unit : ℕ → ℕ) (s : List ℕ) (k : Accounts) (q : ℕ) (h : Handl
   unfolding any row-lines line-1 line-2 line-3 line-12 line-5 line-7
   none-holds a =
       let b = or-neither (not (allowed (length s))) _ a in
-      let c = or-neither (not (sound unit s k)) _ (b .1) in
+      let c = or-neither (not (consistent unit s k)) _ (b .1) in
       let d = or-neither (leb QUOTAS q) _ (c .1) in
       let f = or-neither (not (permits CLAIM q k)) _ (d .1) in
       let g = or-neither (is-none (lookup h s)) _ (f .1) in

@@ -29,7 +29,7 @@ use Rattle.model.specs.declared.Call.the-variants.{ListBlock, ClearPermissions}
 use Rattle.model.proofs.Refusals.{accepted-exactly, by-lines}
 use Rattle.model.proofs.Lookup.{lookup-named, found-serial, lookup-whole-exactly}
 use Rattle.model.proofs.Consistent.{range-serial, range-like}
-use Rattle.model.proofs.Permissions.{clear-consistent}
+use Rattle.model.proofs.Permissions.{clear-accounted}
 use Rattle.invariant.proofs.Good.{Good}
 use Rattle.invariant.proofs.Heaps.{good-heap, heap-good, heap-again}
 use Rattle.invariant.proofs.Kinded.{written-kinds}
@@ -173,7 +173,7 @@ clear-agrees l s k a q n =
     record {
       extent = a .extent;
       octets = a .octets;
-      passes = clear-consistent q n k s ∙ a .passes;
+      passes = clear-accounted q n k s ∙ a .passes;
       quotas = c .same-count ∙ a .quotas;
       narrow = λ j. rw (same-grant q k (clear-permissions q n k) c j) (a .narrow j);
       kinded = (

@@ -19,7 +19,7 @@ use Rattle.model.specs.Calls.{Outcome}
 use Rattle.model.specs.Step.{step, own-step}
 use Rattle.model.specs.declared.Handle.{Handle}
 use Rattle.model.proofs.Lists.{getD-member}
-use Rattle.model.proofs.Consistent.{serials-exactly, sound-permissible}
+use Rattle.model.proofs.Consistent.{serials-exactly, consistent-permissible}
 use Rattle.model.proofs.StepFrame.{step-keeps}
 use Rattle.model.proofs.Permissions.{step-permissible}
 use Rattle.model.specs.Answers.{Values}
@@ -40,7 +40,7 @@ use Rattle.ledger.proofs.Fields.{live-once-of, apart-of, off-headers-of
 use Rattle.ledger.proofs.Fields.{balanced-of, answered-of}
 use Rattle.ledger.proofs.Space.{space-decided}
 use Rattle.ledger.proofs.Lasting.{step-lasts}
-use Rattle.ledger.proofs.Fitted.{Fitted, restored-fits, beginning-fits, step-fits, sound-of}
+use Rattle.ledger.proofs.Fitted.{Fitted, restored-fits, beginning-fits, step-fits, consistent-of}
 use Rattle.ledger.proofs.Wrong
 
 -- no two objects of the ledger, at two places, share a byte: their serials differ, and each is the object of a live block
@@ -153,7 +153,7 @@ module _ (tables : ℕ → ℕ → ℕ) (units : (e : ℕ) → Units (tables e))
       (step-permissible (tables (h .1 .edition)) c (h .0) (h .1) (history-permissible begun es (h .0) (h .1) (h .2)))
   history-permissible begun (Wrote ∷ es) s k h = history-permissible begun es (h .0) k (h .1)
   history-permissible begun (Saved s₀ k₀ ∷ es) s k h = history-permissible begun es s k (h .0)
-  history-permissible begun (Restored s₁ k₁ ∷ es) s k h = sound-permissible (tables (k .edition)) s k (h .4 .sound)
+  history-permissible begun (Restored s₁ k₁ ∷ es) s k h = consistent-permissible (tables (k .edition)) s k (h .4 .consistent)
 
   -- an event takes away no object whose serial is held after it
   history-lasts : (begun : Ledger) (front back : List Event) (s : List ℕ) (k : Accounts) → History tables (by-own tables) begun (back ++ front) s k
@@ -196,11 +196,11 @@ module _ (tables : ℕ → ℕ → ℕ) (units : (e : ℕ) → Units (tables e))
         edition-kept = e;
         grants-kept = a .grants;
         balanced = balanced-of l s k a;
-        answered = answered-of l s k a unit (sound-of unit l s k a f p);
+        answered = answered-of l s k a unit (consistent-of unit l s k a f p);
         no-space = λ c r e x. space-decided unit (units (k .edition)) s k c r e x .no-space;
         space = λ c r e x. space-decided unit (units (k .edition)) s k c r e x .space;
         length-allowed = a .extent;
-        kept-sound = sound-of unit l s k a f p;
+        kept-consistent = consistent-of unit l s k a f p;
       }
 
   -- along a history it does so of the ledger of all events

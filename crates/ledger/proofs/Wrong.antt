@@ -198,11 +198,11 @@ refuted-leaks d =
     said plain leaks d (Release 0 first ∷ Allocate 0 8 ∷ []) .live-recorded first (List·Memᴰ·head refl) in
     List·Memᴰ·not-nil m
 
--- `kept-sound`: two free blocks side by side
+-- `kept-consistent`: two free blocks side by side
 pub refuted-never-joins : Demand3 table never-joins → ⊥
 unfolding computing listing never-joins choosing
 refuted-never-joins d =
-    let e : false ≡ true = said plain never-joins d (Release 0 first ∷ Allocate 0 8 ∷ []) .kept-sound in
+    let e : false ≡ true = said plain never-joins d (Release 0 first ∷ Allocate 0 8 ∷ []) .kept-consistent in
     false≢true e
 
 -- `grants-kept`: quota 0 was granted 1,000 and has a grant of 1,016

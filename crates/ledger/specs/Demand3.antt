@@ -15,7 +15,7 @@ use Rattle.rounding.specs.Rounding.{object-length, alignment}
 use Rattle.model.specs.Lists.{any, keep, total}
 use Rattle.model.specs.Answers.{amount-of, zero-handle}
 use Rattle.model.specs.Objects.{blocks-of, objects-of}
-use Rattle.model.specs.Consistent.{allowed, sound, serials-differ, records-differ}
+use Rattle.model.specs.Consistent.{allowed, consistent, serials-differ, records-differ}
 use Rattle.model.specs.Refusals.{Line, line-number, line-holds, has}
 use Rattle.model.specs.Rows.{row-of, arguments-of, call-lines}
 use Rattle.model.specs.Calls.{listing-from}
@@ -109,7 +109,7 @@ pub record AsRecorded (unit : ℕ → ℕ) (run : Run) (l : Ledger) (s : List �
       → (b : ℕ) → SuitableRun unit s (r .asked) b → run c s k .values .refusal ≡ 0
   -- rule 10.10: no call is refused by 1 or 2
   pub length-allowed : allowed (length s) ≡ true
-  pub kept-sound : sound unit s k ≡ true
+  pub kept-consistent : consistent unit s k ≡ true
 
 -- what holds after a history: the events of the back came after those of the front
 pub record Holds (unit : ℕ → ℕ) (run : Run) (begun : Ledger) (front back : List Event) (s : List ℕ) (k : Accounts) : Type 0 where

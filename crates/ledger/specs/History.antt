@@ -11,7 +11,7 @@ use Rattle.layout.specs.Bytes.{Octets}
 use Rattle.model.specs.Lists.{any}
 use Rattle.model.specs.Answers.{accepted}
 use Rattle.model.specs.Objects.{objects-of}
-use Rattle.model.specs.Consistent.{allowed, sound as is-sound}
+use Rattle.model.specs.Consistent.{allowed, consistent as is-consistent}
 use Rattle.model.specs.Calls.{Outcome, open-heap}
 use Rattle.model.specs.Step.{step}
 use Rattle.model.specs.declared.Handle.{Handle}
@@ -38,7 +38,7 @@ pub record Opened (settings : Settings) (grants : List ℕ) (s : List ℕ) (k : 
 pub record Restorable (unit : ℕ → ℕ) (s : List ℕ) (k : Accounts) : Type 0 where
   pub extent : allowed (length s) ≡ true
   pub octets : Octets s
-  pub sound : is-sound unit s k ≡ true
+  pub consistent : is-consistent unit s k ≡ true
   pub quotas : length (k .quotas) ≡ QUOTAS
   pub records : length (k .holds) ≡ HOLDS
   pub narrow : (q : ℕ) → getD (k .quotas) q zero-quota .grant < 2 ^ 32

@@ -1,4 +1,4 @@
--- Every definition that a computed run unfolds, under one name; and all of them but `sound`, which costs most.
+-- Every definition that a computed run unfolds, under one name; and all of them but `consistent`, which costs most.
 use Rattle.accounts.specs.Accounts.{opened, remaining, change-quota, less-paid, paid-back, charge, refund, used, unused, is-for, drop-records, permits}
 use Rattle.accounts.specs.Accounts.{clear-permissions}
 use Rattle.layout.specs.Bytes.{bytes, number}
@@ -7,8 +7,8 @@ use Rattle.rounding.specs.Rounding.{unit, unit-2, table, object-length, alignme
 use Rattle.model.specs.Lists.{all, any, keep, total, first, change-first, is-none, or-else}
 use Rattle.model.specs.Objects.{objects-from, objects, blocks-of, objects-of, whole, names, lookup, lookup-whole, found}
 use Rattle.model.specs.Consistent.{allowed, long-enough, starts-free, free-apart, well-cut, serials-differ, serials-given, record-valid, records-differ}
-use Rattle.model.specs.Consistent.{is-of, held, has-record, charged-for, charges, balanced-from, consistent-blocks, consistent-parsed, consistent}
-use Rattle.model.specs.Consistent.{in-units, in-kind, in-range, sound}
+use Rattle.model.specs.Consistent.{is-of, held, has-record, charged-for, charges, balanced-from, accounted-blocks, accounted-parsed, accounted}
+use Rattle.model.specs.Consistent.{in-units, in-kind, in-range, consistent}
 use Rattle.model.specs.Space.{outside-occupied, suitable, first-candidate, lowest-base, left-over, cut-block, carve-from, carve, vacate, changed}
 use Rattle.model.specs.Space.{join-front, join-free, reclaim, settle, swept, body-of, copy-into}
 use Rattle.model.specs.Holds.{count-of, take-record, raise-count, less-one, lower-count}
@@ -19,14 +19,14 @@ use Rattle.model.specs.Calls.{unless, fresh, open-heap, allocated, claim
 use Rattle.model.specs.Calls.{claim, release, free-all, reallocate, lend, remaining-of, can-release, check, listing-from, list-block, clear, sweep}
 use Rattle.model.specs.Step.{step}
 
-unfoldable pub computing-but-sound : Unit {0}
+unfoldable pub computing-but-consistent : Unit {0}
 unfolding opened remaining change-quota less-paid paid-back charge refund used unused is-for permits clear-permissions
     bytes number header-bytes read-header starts-block render-from render read-block in-front parse-from parse
     unit unit-2 table object-length alignment
     all any keep total first change-first is-none or-else
     objects-from objects blocks-of objects-of whole names lookup lookup-whole found
     allowed long-enough starts-free free-apart well-cut serials-differ serials-given record-valid records-differ is-of held has-record charged-for
-    charges balanced-from consistent-blocks consistent-parsed consistent in-units in-kind in-range
+    charges balanced-from accounted-blocks accounted-parsed accounted in-units in-kind in-range
     outside-occupied suitable first-candidate lowest-base left-over cut-block carve-from carve vacate changed join-front join-free
     reclaim settle swept body-of copy-into
     count-of take-record raise-count less-one lower-count drop-records
@@ -35,8 +35,8 @@ unfolding opened remaining change-quota less-paid paid-back charge refund used u
     unless fresh open-heap allocated claimed given-back released freed copied new-object
     allocate allocate-array claim release free-all sweep reallocate lend remaining-of can-release check listing-from list-block clear
     step
-computing-but-sound = tt
+computing-but-consistent = tt
 
 unfoldable pub computing : Unit {0}
-unfolding computing-but-sound sound
+unfolding computing-but-consistent consistent
 computing = tt

@@ -20,7 +20,7 @@ pub mod Permissions
 pub mod Refusals
 pub mod Answers
 pub mod Consistent
-pub mod Sound
+pub mod Exactly
 pub mod Lookup
 pub mod Narrowing
 pub mod Listing

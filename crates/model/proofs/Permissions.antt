@@ -21,7 +21,7 @@ use Rattle.accounts.proofs.Permissions.{cleared-bits}
 use Rattle.layout.specs.Blocks.{Block, parse}
 use Rattle.model.specs.Lists.{all}
 use Rattle.model.specs.Objects.{objects, objects-of, lookup, lookup-whole, found}
-use Rattle.model.specs.Consistent.{charge-of, charges, balanced-from, consistent-blocks, consistent-parsed, consistent}
+use Rattle.model.specs.Consistent.{charge-of, charges, balanced-from, accounted-blocks, accounted-parsed, accounted}
 use Rattle.model.specs.Holds.{take-record, raise-count}
 use Rattle.model.specs.Refusals.{first-refusal, claims-first, quota-lines, free-all-lines, release-lines, claim-lines, allocate-lines, reallocate-lines}
 use Rattle.model.specs.Refusals.{lend-lines, check-lines}
@@ -267,13 +267,13 @@ balanced-after os hs from (x ∷ xs) zero p = refl
 balanced-after os hs from (x ∷ xs) (suc i) p =
     ap (λ (t : Bool). eqb (x .grant) (x .remainder + charges hs from os) && t) (balanced-after os hs (suc from) xs i p)
 
--- so clearing leaves a state consistent, or not
+-- so clearing leaves a state accounted for, or not
 module _ (q n : ℕ) (k : Accounts) where
-  same-parsed : (b : Option (List Block)) → consistent-parsed b (put-quota q (without n (quota-at q k)) k) ≡ consistent-parsed b k
-  unfolding consistent-parsed consistent-blocks
+  same-parsed : (b : Option (List Block)) → accounted-parsed b (put-quota q (without n (quota-at q k)) k) ≡ accounted-parsed b k
+  unfolding accounted-parsed accounted-blocks
   same-parsed none = refl
   same-parsed (some bs) = rw (balanced-after (objects bs) (k .holds) 0 (k .quotas) q (left-permissions q n k))
 
-  pub clear-consistent : (s : List ℕ) → consistent s (clear-permissions q n k) ≡ consistent s k
-  unfolding clear-permissions consistent
-  clear-consistent s = change-case q (without n) k (λ (l : Accounts). consistent s l ≡ consistent s k) (same-parsed (parse s)) refl
+  pub clear-accounted : (s : List ℕ) → accounted s (clear-permissions q n k) ≡ accounted s k
+  unfolding clear-permissions accounted
+  clear-accounted s = change-case q (without n) k (λ (l : Accounts). accounted s l ≡ accounted s k) (same-parsed (parse s)) refl

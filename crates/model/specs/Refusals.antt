@@ -11,7 +11,7 @@ use Rattle.accounts.specs.Accounts.{QUOTAS, ALLOCATE, CLAIM, FREE-ALL, used, re
 use Rattle.rounding.specs.Rounding.{object-length, alignment}
 use Rattle.model.specs.Lists.{all, is-none}
 use Rattle.model.specs.Objects.{blocks-of, lookup, lookup-whole, found}
-use Rattle.model.specs.Consistent.{allowed, sound, greatest-serial, charge-of, has-record}
+use Rattle.model.specs.Consistent.{allowed, consistent, greatest-serial, charge-of, has-record}
 use Rattle.model.specs.Space.{lowest-base}
 use Rattle.model.specs.Answers.{refusal-number, zero-handle}
 use Rattle.model.specs.Holds.{count-of}
@@ -53,7 +53,7 @@ line-1 s = 1 when not (allowed (length s))
 
 -- line 2: the state is not consistent (rules, section 5)
 unfoldable pub line-2 : (ℕ → ℕ) → List ℕ → Accounts → Line
-line-2 unit s k = 2 when not (sound unit s k)
+line-2 unit s k = 2 when not (consistent unit s k)
 
 -- line 3: there is no such quota
 unfoldable pub line-3 : ℕ → Line

@@ -22,7 +22,7 @@ use Rattle.model.specs.declared.Refusal.{Refusal}
 use Rattle.model.specs.declared.Refusal.the-variants.{NoSuchObject}
 use Rattle.model.specs.declared.Verdict.{Verdict}
 use Rattle.model.specs.declared.Verdict.the-variants.{Accepted, Refused}
-use Rattle.model.proofs.Consistent.{consistent-cut}
+use Rattle.model.proofs.Consistent.{accounted-cut}
 use Rattle.lookup.specs.declared.Met.{Met}
 use Rattle.lookup.specs.declared.Lookup.the-variants.{Found, Missing}
 use Rattle.lookup.specs.Walk.{object-met, find-object}
@@ -31,7 +31,7 @@ use Rattle.lookup.proofs.Reached.{found-narrowed}
 use Rattle.lookup.proofs.Named.{Named, lookup-found, lookup-missing}
 use Rattle.queries.specs.Lending.{written, write-object, Spans}
 use Rattle.results.proofs.Lookups.{line-5-refuses, line-5-passes}
-use Rattle.results.proofs.Lines.{check-refuses, check-accepts, check-consistent, refused-is, accepted-is}
+use Rattle.results.proofs.Lines.{check-refuses, check-accepts, check-accounted, refused-is, accepted-is}
 
 -- a block of the heap has its header, and ends in the heap
 pub stands-inside : (s : List ℕ) (bs : List Block) → parse s ≡ some bs → (m : Met) → Stands bs m → (8 ≤ m .size) × (m .at + m .size ≤ length s)
@@ -52,7 +52,7 @@ module _ (unit : ℕ → ℕ) (s : List ℕ) (k : Accounts) (h : Handle) (v : Ve
 
   module _ (e : v ≡ Accepted) where
     cut : parse s ≡ some (blocks-of s)
-    cut = consistent-cut s k (check-consistent unit s k v told e .1) .0
+    cut = accounted-cut s k (check-accounted unit s k v told e .1) .0
 
     -- where the lookup finds none, it is refused
     pub lend-missing : find-object h s ≡ Missing → first-refusal (lend-lines unit s k h) ≡ refusal-number NoSuchObject

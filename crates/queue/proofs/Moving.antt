@@ -14,7 +14,7 @@ use Rattle.rounding.specs.Rounding.{Units}
 use Rattle.model.specs.Lists.{or-else}
 use Rattle.model.specs.Answers.{amount-of}
 use Rattle.model.specs.Objects.{blocks-of, objects, objects-of, lookup, found}
-use Rattle.model.specs.Consistent.{consistent, sound, has-record}
+use Rattle.model.specs.Consistent.{accounted, consistent, has-record}
 use Rattle.model.specs.Holds.{count-of, lower-count}
 use Rattle.model.specs.Refusals.{first-refusal, claim-lines}
 use Rattle.model.specs.Calls.{Outcome, State, leaves, unless, unchanged, state-of, claimed, given-back, released, claim, release, can-release}
@@ -33,7 +33,7 @@ use Rattle.invariant.proofs.Counts.{record-counted, held-counted, lower-ordered
 use Rattle.invariant.proofs.Payments.{themselves}
 use Rattle.invariant.proofs.Transitions.{claimed-counts, released-objects}
 use Rattle.invariant.proofs.Passed.{Claimable, claim-passed, Releasable, release-passed}
-use Rattle.invariant.proofs.Releasing.{sound-fitting, Possible, Fitting, possible-good, does}
+use Rattle.invariant.proofs.Releasing.{consistent-fitting, Possible, Fitting, possible-good, does}
 use Rattle.ledger.specs.Ledger.{Ledger, Event, Called, ledger-of}
 use Rattle.ledger.specs.History.{by-own, History}
 use Rattle.ledger.proofs.Agreement.{Agrees}
@@ -110,9 +110,9 @@ module _ (tables : ℕ → ℕ → ℕ) (units : (e : ℕ) → Units (tables e))
 
   held-fitting : Fitting unit held
   held-fitting =
-      sound-fitting unit s (claimed to object k)
-      (subst (λ (n : ℕ). sound (tables n) s (claimed to object k) ≡ true) held-edition
-      (demand-3-of tables units .always begun claimed-events [] s (claimed to object k) claimed-past .agrees .kept-sound))
+      consistent-fitting unit s (claimed to object k)
+      (subst (λ (n : ℕ). consistent (tables n) s (claimed to object k) ≡ true) held-edition
+      (demand-3-of tables units .always begun claimed-events [] s (claimed to object k) claimed-past .agrees .kept-consistent))
 
   held-ordered : Ordered (claimed to object k .holds)
   held-ordered = good-ordered held held-good

@@ -27,7 +27,7 @@ module _ (s : List ℕ) (k : Accounts) (r : Reached s k) where
 
   pub reached-checked : first-refusal (check-lines (table (k .edition)) s k) ≡ 0
   unfolding first-refusal row-lines line-1 line-2
-  reached-checked = rw (reached-agrees .length-allowed, reached-agrees .kept-sound)
+  reached-checked = rw (reached-agrees .length-allowed, reached-agrees .kept-consistent)
 
   pub reached-length : length s ≤ 32768
   unfolding allowed

@@ -29,8 +29,8 @@ use Rattle.model.specs.declared.Handle.{Handle}
 use Rattle.model.specs.declared.Verdict.{Verdict}
 use Rattle.model.specs.declared.Verdict.the-variants.{Accepted}
 use Rattle.model.proofs.Bools.{and-right}
-use Rattle.model.proofs.Consistent.{consistent-cut}
-use Rattle.results.proofs.Lines.{check-accepts, check-consistent, accepted-is, line-refuses, line-passes, line-3-passes}
+use Rattle.model.proofs.Consistent.{accounted-cut}
+use Rattle.results.proofs.Lines.{check-accepts, check-accounted, accepted-is, line-refuses, line-passes, line-3-passes}
 use Rattle.results.proofs.Records.{found-some, nothing-some}
 
 -- a quota's number as a byte
@@ -55,12 +55,12 @@ pub record Located (s : List ℕ) (h : Handle) (m : Met) : Type 0 where
 
 module _ (unit : ℕ → ℕ) (s : List ℕ) (k : Accounts) (v : Verdict) (told : verdict-values v ≡ check unit s k .values) (accepts : v ≡ Accepted) where
   cut : parse s ≡ some (blocks-of s)
-  cut = consistent-cut s k (check-consistent unit s k v told accepts .1) .0
+  cut = accounted-cut s k (check-accounted unit s k v told accepts .1) .0
 
   short : length s ≤ 32768
   unfolding allowed
   short =
-      let e = check-consistent unit s k v told accepts .0 in
+      let e = check-accounted unit s k v told accepts .0 in
       leb-true (length s) 32768 (and-right (leb 64 (length s)) _ (and-right (eqb (length s % 8) 0) _ e))
 
   -- what the walk finds is the block of the object that the handle names, and where it finds none, the handle names none

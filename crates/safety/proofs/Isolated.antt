@@ -14,7 +14,7 @@ use Rattle.rounding.specs.Rounding.{table}
 use Rattle.model.specs.Lists.{total}
 use Rattle.model.specs.Answers.{given, amount-of}
 use Rattle.model.specs.Objects.{blocks-of, objects, objects-of, lookup, lookup-whole, found}
-use Rattle.model.specs.Consistent.{consistent, sound, has-record, charged-for, charges}
+use Rattle.model.specs.Consistent.{accounted, consistent, has-record, charged-for, charges}
 use Rattle.model.specs.Refusals.{Line, first-refusal, line-2, line-6, line-7, line-8, line-9, line-10, line-12, claims-first, quota-lines, free-all-lines, row-lines}
 use Rattle.model.specs.Refusals.{check-lines, lend-lines, release-lines, claim-lines, allocate-lines, reallocate-lines}
 use Rattle.model.specs.Calls.{Outcome, unless, new-object, given-back, allocate, allocate-array, claim, release, free-all, sweep, reallocate, lend}
@@ -26,7 +26,7 @@ use Rattle.model.specs.declared.Call.the-variants.{Allocate, AllocateArray, Cla
 use Rattle.model.specs.declared.Call.the-variants.{ClearPermissions, Sweep}
 use Rattle.model.proofs.Bools.{fails, implied, and-both}
 use Rattle.model.proofs.Lists.{member-all}
-use Rattle.model.proofs.Consistent.{tests-exactly, valid-exactly, consistent-cut, sound-consistent}
+use Rattle.model.proofs.Consistent.{tests-exactly, valid-exactly, accounted-cut, consistent-accounted}
 use Rattle.invariant.proofs.Good.{proper, Ordered}
 use Rattle.invariant.proofs.Counts.{record-counted}
 use Rattle.ledger.specs.History.{by-own}
@@ -34,10 +34,10 @@ use Rattle.safety.specs.Isolated.{MadeFor, Alike, Isolated}
 use Rattle.safety.proofs.Wrong
 
 -- the records of a consistent state are in order
-pub consistent-ordered : (s : List ℕ) (k : Accounts) → consistent s k ≡ true → Ordered (k .holds)
+pub accounted-ordered : (s : List ℕ) (k : Accounts) → accounted s k ≡ true → Ordered (k .holds)
 unfolding proper
-consistent-ordered s k c =
-    let t = tests-exactly (blocks-of s) k .0 (consistent-cut s k c .1) in
+accounted-ordered s k c =
+    let t = tests-exactly (blocks-of s) k .0 (accounted-cut s k c .1) in
     let valid = valid-exactly (objects (blocks-of s)) (k .holds) .0 (t .valid) in
     record {
       each =
@@ -59,7 +59,7 @@ unless-same zero (suc n) s k k′ x y e v = absurd (omega (arith, e))
 unless-same (suc m) zero s k k′ x y e v = absurd (omega (arith, e))
 unless-same (suc m) (suc n) s k k′ x y e v = rw e
 
-module _ (unit : ℕ → ℕ) (q : ℕ) (s : List ℕ) (k k′ : Accounts) (c : sound unit s k ≡ true) (c′ : sound unit s k′ ≡ true) (a : Alike q k k′) where
+module _ (unit : ℕ → ℕ) (q : ℕ) (s : List ℕ) (k k′ : Accounts) (c : consistent unit s k ≡ true) (c′ : consistent unit s k′ ≡ true) (a : Alike q k k′) where
   remains : remaining q k ≡ remaining q k′
   unfolding remaining
   remains = ap (λ (x : Quota). x .remainder) (a .quota)
@@ -70,8 +70,8 @@ module _ (unit : ℕ → ℕ) (q : ℕ) (s : List ℕ) (k k′ : Accounts) (c : 
 
   records : (serial : ℕ) → has-record (k .holds) q serial ≡ has-record (k′ .holds) q serial
   records serial =
-      let r = record-counted (k .holds) (consistent-ordered s k (sound-consistent unit s k c)) serial q in
-      let r′ = record-counted (k′ .holds) (consistent-ordered s k′ (sound-consistent unit s k′ c′)) serial q in
+      let r = record-counted (k .holds) (accounted-ordered s k (consistent-accounted unit s k c)) serial q in
+      let r′ = record-counted (k′ .holds) (accounted-ordered s k′ (consistent-accounted unit s k′ c′)) serial q in
       same-test _ _ (λ e. r′ .1 (rw (a .holds serial) at (r .0 e))) (λ e. r .1 (rw (a .holds serial) (r′ .0 e)))
 
   -- what it pays for
@@ -149,7 +149,7 @@ isolated-of tables =
     record {
       always = λ q s k k′ c c′ a d m.
           subst (λ (e : ℕ). step (tables (k .edition)) d s k .values ≡ step (tables e) d s k′ .values) (a .edition)
-          (answers (tables (k .edition)) q s k k′ c (subst (λ (e : ℕ). sound (tables e) s k′ ≡ true) (sym (a .edition)) c′) a d m);
+          (answers (tables (k .edition)) q s k k′ c (subst (λ (e : ℕ). consistent (tables e) s k′ ≡ true) (sym (a .edition)) c′) a d m);
     }
 
 pub isolated : Isolated table own-step

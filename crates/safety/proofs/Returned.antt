@@ -27,7 +27,7 @@ use Rattle.model.specs.Step.{own-step}
 use Rattle.model.proofs.Bools.{and-left, and-right}
 use Rattle.model.proofs.Lists.{all-member}
 use Rattle.model.proofs.Blocks.{apart-head}
-use Rattle.model.proofs.Consistent.{Tests, tests-exactly, consistent-cut, consistent-apart}
+use Rattle.model.proofs.Consistent.{Tests, tests-exactly, accounted-cut, accounted-apart}
 use Rattle.invariant.proofs.Heaps.{heap-again, render-total}
 use Rattle.ledger.specs.Ledger.{Ledger, Event, Called, Wrote, Saved, Restored, spans-from, quarantined-of, empty, unrestored, ledger-of}
 use Rattle.ledger.specs.History.{Begins, Opening, Restoring, History, by-own}
@@ -163,7 +163,7 @@ module _ (tables : ℕ → ℕ → ℕ) (begun : Ledger) where
 -- a blank heap that agrees with an empty ledger, and its records
 module _ (l : Ledger) (s : List ℕ) (k : Accounts) (a : Agrees l s k) (none : NobodyHolds l) (b : blank s ≡ true) (rs : length (k .holds) ≡ HOLDS) where
   tests : Tests (blocks-of s) k
-  tests = tests-exactly (blocks-of s) k .0 (consistent-cut s k (a .passes) .1)
+  tests = tests-exactly (blocks-of s) k .0 (accounted-cut s k (a .passes) .1)
 
   no-objects : objects (blocks-of s) ≡ []
   unfolding objects-of
@@ -186,7 +186,7 @@ module _ (l : Ledger) (s : List ℕ) (k : Accounts) (a : Agrees l s k) (none : N
   -- one free block covers the heap
   one : (b : Block) × (blocks-of s ≡ b ∷ []) × (occupied b ≡ false) × (live b ≡ false)
   unfolding objects
-  one = one-block 0 (blocks-of s) no-objects no-spans (consistent-apart s k (a .passes)) (omega (arith, extent, long))
+  one = one-block 0 (blocks-of s) no-objects no-spans (accounted-apart s k (a .passes)) (omega (arith, extent, long))
 
   module _ (g : Settings) where
     covers : blocks-of s ≡ fresh g (length s) (grants k) .blocks

@@ -20,11 +20,11 @@ use Rattle.layout.specs.Blocks.{size, free, live, quarantined, greatest-heap, p
 use Rattle.model.specs.Answers.{refusal-number}
 use Rattle.model.specs.Lists.{all, total, is-none}
 use Rattle.model.specs.Objects.{blocks-of}
-use Rattle.model.specs.Consistent.{consistent}
+use Rattle.model.specs.Consistent.{accounted}
 use Rattle.model.specs.Refusals.{_when_, line-11, base-for}
 use Rattle.model.specs.declared.Refusal.{Refusal}
 use Rattle.model.proofs.Blocks.{total-is}
-use Rattle.model.proofs.Consistent.{consistent-cut, consistent-apart, tests-exactly}
+use Rattle.model.proofs.Consistent.{accounted-cut, accounted-apart, tests-exactly}
 use Rattle.audit.specs.Keys.{well-formed}
 use Rattle.audit.proofs.Consistency.{tests-well}
 use Rattle.lookup.specs.Walk.{met}
@@ -62,9 +62,9 @@ pub other-units : (e n : ℕ) → Told (alignment (table e) n) ⊎ (alignment (t
 unfolding alignment
 other-units e n = units-told e (object-length (table e) n)
 
-module _ (s : List ℕ) (k : Accounts) (ok : consistent s k ≡ true) where
+module _ (s : List ℕ) (k : Accounts) (ok : accounted s k ≡ true) where
   pub cut : parse s ≡ some (blocks-of s)
-  cut = consistent-cut s k ok .0
+  cut = accounted-cut s k ok .0
 
   whole : total size (blocks-of s) ≡ length s
   whole = sym (total-is (blocks-of s)) ∙ total-parsed s (blocks-of s) cut
@@ -84,7 +84,7 @@ module _ (s : List ℕ) (k : Accounts) (ok : consistent s k ≡ true) where
   -- every record is well-formed
   pub held-all : (q : ℕ) → holdings q (k .holds) ≡ record { objects = how-many (is-own q) (k .holds); shared = how-many (is-shared (k .holds) q) (k .holds) }
   unfolding holdings
-  held-all q = rw (tests-well (blocks-of s) k (tests-exactly (blocks-of s) k .0 (consistent-cut s k ok .1)))
+  held-all q = rw (tests-well (blocks-of s) k (tests-exactly (blocks-of s) k .0 (accounted-cut s k ok .1)))
 
   module _ (short : length s ≤ greatest-heap) (e : ℕ) {a : ℕ} (told : Told a) where
     few : most (room-in a) (met s) ≤ length s - 8
@@ -95,7 +95,7 @@ module _ (s : List ℕ) (k : Accounts) (ok : consistent s k ≡ true) where
     unfolding base-for
     based n l q =
         let p = at-least-8 (table e) (table-is e) n l in
-        rw q (room-exactly s (blocks-of s) cut (consistent-apart s k ok) a (object-length (table e) n) (some-unit told) (omega arith))
+        rw q (room-exactly s (blocks-of s) cut (accounted-apart s k ok) a (object-length (table e) n) (some-unit told) (omega arith))
 
     -- the greatest length in a unit, by the room for it
     pub largest-by-room : reach (most (room-in a) (met s)) a (most-units e) ≡ largest (table e) s a
@@ -120,5 +120,5 @@ module _ (s : List ℕ) (k : Accounts) (ok : consistent s k ≡ true) where
       let long = unit-128 e x q (table-is e .stable n) in
       let few : most (room-in 128) (met s) ≤ length s - 8 =
       rw (sym whole) (rooms-inside s (blocks-of s) cut 128 (omega arith)) in
-      let none = room-exactly s (blocks-of s) cut (consistent-apart s k ok) 128 x (omega arith) (omega arith) in
+      let none = room-exactly s (blocks-of s) cut (accounted-apart s k ok) 128 x (omega arith) (omega arith) in
       ap (λ t. 11 when t) (rw q (none ∙ lt-ltb (most (room-in 128) (met s)) x (omega arith)))

@@ -27,7 +27,7 @@ use Rattle.model.specs.declared.Refusal.the-variants.{HeapLength, Inconsistent}
 use Rattle.model.specs.declared.Verdict.the-variants.{Accepted, Refused}
 use Rattle.model.specs.Lists.{all}
 use Rattle.model.specs.Answers.{verdict-values}
-use Rattle.model.specs.Consistent.{allowed, in-range, sound, greatest-serial}
+use Rattle.model.specs.Consistent.{allowed, in-range, consistent, greatest-serial}
 use Rattle.model.specs.Refusals.{first-refusal, line-1, line-2, row-lines}
 use Rattle.model.specs.Calls.{unless, check}
 use Rattle.model.proofs.Bools.{and-left, and-right, and-no, and-yes}
@@ -35,8 +35,8 @@ use Rattle.audit.specs.Keys.{well-formed, keys-of}
 use Rattle.audit.specs.Audit.{owes, solvent, entry-valid, all-zero, begin, audit, audit-parsed, audited}
 use Rattle.audit.specs.Contracts.{Owing}
 use Rattle.audit.specs.Fitting.{fitting}
-use Rattle.audit.proofs.Fitting.{fitting-sound, unranged}
-use Rattle.audit.proofs.Consistency.{audited-is-consistent}
+use Rattle.audit.proofs.Fitting.{fitting-consistent, unranged}
+use Rattle.audit.proofs.Consistency.{audited-is-accounted}
 
 -- the two tests of each quota, one after the other
 valid-parts : (xs : List Quota) → all entry-valid xs ≡ (all solvent xs && all permissible (map (λ (x : Quota). x .permissions) xs))
@@ -70,8 +70,8 @@ module _ (unit : ℕ → ℕ) (s : List ℕ) (k : Accounts) where
     abbrev beside : Bool
     beside = fitting unit (k .kind) 0 (parse s) && all permissible (permissions k)
 
-    same-verdict : (audited (parse s) k && beside) ≡ sound unit s k
-    same-verdict = ap (λ (x : Bool). x && beside) (audited-is-consistent s k long) ∙ fitting-sound unit s k ranged
+    same-verdict : (audited (parse s) k && beside) ≡ consistent unit s k
+    same-verdict = ap (λ (x : Bool). x && beside) (audited-is-accounted s k long) ∙ fitting-consistent unit s k ranged
 
     -- an audit that fails, and one that passes
     verdict-fails : (audited (parse s) k && beside) ≡ false → verdict-values (Refused Inconsistent) ≡ check unit s k .values

@@ -53,10 +53,10 @@ fn checks() -> bool {
     let mut heap = bytes();
     let mut words = [0u32; WORDS];
     start(&mut heap, &mut words);
-    let sound = c_api::lokhazim_in_place_check(&heap, &words);
+    let consistent = c_api::lokhazim_in_place_check(&heap, &words);
     heap[0] = 0;
     let spoiled = c_api::lokhazim_in_place_check(&heap, &words);
-    sound == 0 && spoiled == 2
+    consistent == 0 && spoiled == 2
 }
 
 fn checks_by_value() -> bool {
@@ -64,10 +64,10 @@ fn checks_by_value() -> bool {
     let mut words = [0u32; WORDS];
     start(&mut heap, &mut words);
     let accounts = words::accounts_of(&words);
-    let sound = c_api::lokhazim_check(&heap, accounts);
+    let consistent = c_api::lokhazim_check(&heap, accounts);
     heap[0] = 0;
     let spoiled = c_api::lokhazim_check(&heap, accounts);
-    sound == 0 && spoiled == 2
+    consistent == 0 && spoiled == 2
 }
 
 pub(crate) fn all() {

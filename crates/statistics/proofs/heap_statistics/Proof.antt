@@ -12,9 +12,9 @@ use Rattle.rounding.specs.Rounding.{table}
 use Rattle.layout.specs.Blocks.{greatest-heap}
 use Rattle.words.specs.Words.{edition-of, accounts-of}
 use Rattle.model.specs.Objects.{blocks-of}
-use Rattle.model.specs.Consistent.{consistent}
+use Rattle.model.specs.Consistent.{accounted}
 use Rattle.model.specs.Refusals.{first-refusal, row-lines}
-use Rattle.results.proofs.Lines.{check-refuses, check-accepts, check-consistent}
+use Rattle.results.proofs.Lines.{check-refuses, check-accepts, check-accounted}
 use Rattle.survey.proofs.Surveys.{allowed-range}
 use Rattle.lookup.specs.Walk.{met}
 use Rattle.statistics.specs.declared.tallying.Tally.{Tally}
@@ -61,12 +61,12 @@ short : (c : tie.After-enum-told) → length (heap c) ≤ greatest-heap
 short c =
     let e = asked c .check in
     allowed-range (length (heap c))
-    (check-consistent (table (edition-of (words c))) (heap c) (accounts c) (e .result) (e .ensures) (c .enum-told .given .1) .0) .1
+    (check-accounted (table (edition-of (words c))) (heap c) (accounts c) (e .result) (e .ensures) (c .enum-told .given .1) .0) .1
 
-fine : (c : tie.After-enum-told) → consistent (heap c) (accounts c) ≡ true
+fine : (c : tie.After-enum-told) → accounted (heap c) (accounts c) ≡ true
 fine c =
     let e = asked c .check in
-    check-consistent (table (edition-of (words c))) (heap c) (accounts c) (e .result) (e .ensures) (c .enum-told .given .1) .1
+    check-accounted (table (edition-of (words c))) (heap c) (accounts c) (e .result) (e .ensures) (c .enum-told .given .1) .1
 
 walk-requires : tie.Need-walk-requires
 walk-requires c κs = short c

@@ -11,7 +11,7 @@ use Rattle.words.specs.Words.{edition-of, holds-of, accounts-of}
 use Rattle.words.proofs.Readings.{quota-is}
 use Rattle.model.specs.Refusals.{first-refusal, line-3, row-lines}
 use Rattle.model.specs.declared.Refusal.the-variants.{QuotaNumber}
-use Rattle.results.proofs.Lines.{check-refuses, check-accepts, check-consistent, line-3-refuses, line-3-passes}
+use Rattle.results.proofs.Lines.{check-refuses, check-accepts, check-accounted, line-3-refuses, line-3-passes}
 use Rattle.survey.specs.declared.sharing.Holdings.{Holdings}
 use Rattle.statistics.specs.Statistics.{quota-statistics, quota-counted, no-quota-statistics}
 use Rattle.statistics.proofs.Laws.{quota-refused, quota-accepted, held-all}
@@ -71,7 +71,7 @@ returns-3 c =
     let k = accounts-of w in
     let u = table (edition-of w) in
     let t = o .enum-told .given .1 in
-    let ok = check-consistent u s k (e .check .result) (e .check .ensures) t .1 in
+    let ok = check-accounted u s k (e .check .result) (e .check .ensures) t .1 in
     let held = h .held-by .ensures ∙ held-all s k ok (a .quota) in
     (λ j. record {
       refusal = 0;

@@ -8,9 +8,9 @@ use Rattle.words.specs.Words.{accounts-of}
 use Rattle.framing.specs.Frames.{padded, stream-of}
 use Rattle.framing.proofs.Padding.{length-padded}
 use Rattle.model.specs.Consistent.{allowed}
-use Rattle.image.proofs.Restores.{check-sound, check-unsound}
-use Rattle.image.proofs.reading.is_sound_in.Statement.{statement}
-use Rattle.image.proofs.reading.is_sound_in.Tie as tie
+use Rattle.image.proofs.Restores.{check-consistent, check-unsound}
+use Rattle.image.proofs.reading.is_consistent_in.Statement.{statement}
+use Rattle.image.proofs.reading.is_consistent_in.Tie as tie
 
 -- the bytes of the stream from the place on, and the heap that they are
 abbrev stream : tie.Start → List ℕ
@@ -33,7 +33,8 @@ returns-2 : tie.Need-returns-2
 returns-2 c =
     let k = c .before .before in
     let s = k .before .before in
-    check-sound (heap s) (heap s) (accounts-of (s .args .words .now)) (k .check-in-frames .result) (k .check-in-frames .ensures) refl (c .enum-told .given .1)
+    check-consistent (heap s) (heap s) (accounts-of (s .args .words .now)) (k .check-in-frames .result) (k .check-in-frames .ensures) refl
+    (c .enum-told .given .1)
 
-pub is-sound-in-spec : {M : Type 1} → statement M
-is-sound-in-spec = tie.close (tie.spec (λ c κs. search needs) enum-told (λ c. search needs) returns returns-2)
+pub is-consistent-in-spec : {M : Type 1} → statement M
+is-consistent-in-spec = tie.close (tie.spec (λ c κs. search needs) enum-told (λ c. search needs) returns returns-2)

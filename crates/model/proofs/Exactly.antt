@@ -1,5 +1,5 @@
 -- Section 5 of the rules as one law: line 2 passes a state exactly if each sentence of the section holds of it. What the
--- test of rules 5.1 to 5.8 says is `Consistent`; the rest of the section is said here, of objects, quotas, blocks and
+-- test of rules 5.1 to 5.8 says is `Accounted`; the rest of the section is said here, of objects, quotas, blocks and
 -- the numbers of the accounts.
 use mathlib.Core.Path.{_≡_, refl, ap, sym, subst, _∙_}
 use Prim.Native.Nat.{ℕ, _%_, _≤_, _<_}
@@ -17,11 +17,11 @@ use Rattle.layout.specs.Blocks.{Block, quarantined, parse}
 use Rattle.layout.proofs.Parse.{parse-is}
 use Rattle.model.specs.Lists.{all}
 use Rattle.model.specs.Objects.{objects, objects-of, blocks-of}
-use Rattle.model.specs.Consistent.{in-units, in-kind, in-range, greatest-serial, consistent, sound}
+use Rattle.model.specs.Consistent.{in-units, in-kind, in-range, greatest-serial, accounted, consistent}
 use Rattle.model.specs.declared.Handle.{Handle}
 use Rattle.model.proofs.Bools.{and-left, and-right, and-both, implies, implied}
 use Rattle.model.proofs.Lists.{all-exactly}
-use Rattle.model.proofs.Consistent.{Consistent, consistent-is, blocks-parsed}
+use Rattle.model.proofs.Consistent.{Accounted, accounted-is, blocks-parsed}
 
 -- rule 5.10, of the objects: length and base are multiples of the length's unit
 abbrev pub InUnits : (ℕ → ℕ) → List Handle → Type 0
@@ -89,21 +89,21 @@ range-exactly k = (
 )
 
 -- all of section 5: 5.1 to 5.8, 5.10, 5.11 and 5.12 (5.9 says that there is no other)
-pub record Sound (unit : ℕ → ℕ) (s : List ℕ) (k : Accounts) : Type 0 where
-  pub consistent : Consistent s k
-  pub units : InUnits unit (objects (consistent .blocks))
+pub record Consistent (unit : ℕ → ℕ) (s : List ℕ) (k : Accounts) : Type 0 where
+  pub accounted : Accounted s k
+  pub units : InUnits unit (objects (accounted .blocks))
   pub permitted : Permitted (k .quotas)
-  pub kinds : Kinds (k .kind) (consistent .blocks)
+  pub kinds : Kinds (k .kind) (accounted .blocks)
   pub ranged : Ranged k
 
 -- the test is the five parts
-parts-exactly : (unit : ℕ → ℕ) (s : List ℕ) (k : Accounts) → (sound unit s k ≡ true)
-    ↔ ((consistent s k ≡ true) × (all (in-units unit) (objects-of s) ≡ true) × (all permissible (permissions k) ≡ true)
+parts-exactly : (unit : ℕ → ℕ) (s : List ℕ) (k : Accounts) → (consistent unit s k ≡ true)
+    ↔ ((accounted s k ≡ true) × (all (in-units unit) (objects-of s) ≡ true) × (all permissible (permissions k) ≡ true)
     × (all (in-kind (k .kind)) (blocks-of s) ≡ true) × (in-range k ≡ true))
-unfolding sound
+unfolding consistent
 parts-exactly unit s k = (
   λ e.
-      (let e₁ = and-right (consistent s k) _ e in
+      (let e₁ = and-right (accounted s k) _ e in
       let e₂ = and-right (all (in-units unit) (objects-of s)) _ e₁ in
       let e₃ = and-right (all permissible (permissions k)) _ e₂ in (
         and-left _ _ e,
@@ -116,15 +116,15 @@ parts-exactly unit s k = (
 )
 
 -- the law: of any bytes and accounts, with any table of units
-pub sound-is : (unit : ℕ → ℕ) (s : List ℕ) (k : Accounts) → Octets s → (sound unit s k ≡ true) ↔ Sound unit s k
+pub consistent-is : (unit : ℕ → ℕ) (s : List ℕ) (k : Accounts) → Octets s → (consistent unit s k ≡ true) ↔ Consistent unit s k
 unfolding objects-of
-sound-is unit s k o = (
+consistent-is unit s k o = (
   λ e.
       (let p = parts-exactly unit s k .0 e in
-      let c = consistent-is s k o .0 (p .0) in
+      let c = accounted-is s k o .0 (p .0) in
       let b = cut-is c in
       record {
-        consistent = c;
+        accounted = c;
         units = units-exactly unit (objects (c .blocks)) .0
             (subst (λ (bs : List Block). all (in-units unit) (objects bs) ≡ true) b (p .1));
         permitted = permitted-exactly k .0 (p .2);
@@ -133,18 +133,18 @@ sound-is unit s k o = (
         ranged = range-exactly k .0 (p .4);
       }),
   λ f.
-      (let b = sym (cut-is (f .consistent)) in
+      (let b = sym (cut-is (f .accounted)) in
       parts-exactly unit s k .1 (
-        consistent-is s k o .1 (f .consistent),
+        accounted-is s k o .1 (f .accounted),
         subst (λ (bs : List Block). all (in-units unit) (objects bs) ≡ true) b
-            (units-exactly unit (objects (f .consistent .blocks)) .1 (f .units)),
+            (units-exactly unit (objects (f .accounted .blocks)) .1 (f .units)),
         permitted-exactly k .1 (f .permitted),
         subst (λ (bs : List Block). all (in-kind (k .kind)) bs ≡ true) b
-            (kinds-exactly (k .kind) (f .consistent .blocks) .1 (f .kinds)),
+            (kinds-exactly (k .kind) (f .accounted .blocks) .1 (f .kinds)),
         range-exactly k .1 (f .ranged),
       )),
 )
   where
     -- the blocks of the heap are those that it is cut into
-    cut-is : (c : Consistent s k) → blocks-of s ≡ c .blocks
+    cut-is : (c : Accounted s k) → blocks-of s ≡ c .blocks
     cut-is c = blocks-parsed s (c .blocks) (parse-is s (c .blocks) o .1 (c .cut, c .writable))
