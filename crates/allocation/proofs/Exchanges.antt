@@ -14,7 +14,7 @@ use Rattle.lookup.specs.declared.Met.{Met}
 use Rattle.lookup.specs.declared.Lookup.the-variants.{Found, Missing}
 use Rattle.lookup.specs.Walk.{object-met, whole-met, find-object, find-whole}
 use Rattle.lookup.proofs.Reached.{whole-same, whole-other, whole-found}
-use Rattle.model.specs.Lists.{any}
+use Rattle.lists.specs.Lists.{any}
 use Rattle.model.specs.Answers.{given}
 use Rattle.model.specs.Objects.{names, objects-of, lookup}
 use Rattle.model.specs.Consistent.{has-record}
@@ -23,7 +23,7 @@ use Rattle.model.specs.declared.Handle.{Handle}
 use Rattle.model.specs.declared.Refusal.{Refusal}
 use Rattle.model.specs.declared.Refusal.the-variants.{NoSuchObject, NotHeld}
 use Rattle.model.specs.declared.HandleAnswer.the-variants.{Given, Refused as NotGiven}
-use Rattle.model.proofs.Lists.{first-some}
+use Rattle.lists.proofs.Lists.{first-some}
 use Rattle.model.proofs.Consistent.{accounted-facts}
 use Rattle.invariant.proofs.Recorded.{Limits}
 use Rattle.results.specs.declared.AmountResult.{AmountResult}

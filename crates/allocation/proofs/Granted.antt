@@ -17,7 +17,7 @@ use Rattle.accounts.specs.Accounts.{QUOTAS, ALLOCATE, quota-at, permits, used, 
 use Rattle.accounts.proofs.Laws.{charge-kept, charge-last}
 use Rattle.layout.specs.Bytes.{Octets}
 use Rattle.model.specs.Answers.{refusal-number, given, verdict-values, handle-values}
-use Rattle.model.specs.Lists.{all, is-none, or-else}
+use Rattle.lists.specs.Lists.{all, is-none, or-else}
 use Rattle.model.specs.Consistent.{charge-of, greatest-serial}
 use Rattle.model.specs.Holds.{take-record}
 use Rattle.model.specs.Refusals.{Line, first-refusal, line-3, line-4, line-8, line-9, line-10, line-11, line-12, base-for, allocate-lines, row-lines}

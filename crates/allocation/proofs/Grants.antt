@@ -19,7 +19,7 @@ use Rattle.layout.specs.Bytes.{Octets}
 use Rattle.lookup.specs.declared.Met.{Met}
 use Rattle.lookup.specs.declared.Fit.the-variants.{At as Fits, Nowhere}
 use Rattle.lookup.specs.Walk.{fitted, find-fit}
-use Rattle.model.specs.Lists.{any}
+use Rattle.lists.specs.Lists.{any}
 use Rattle.model.specs.Consistent.{is-of, greatest-serial}
 use Rattle.model.specs.Refusals.{greatest-length}
 use Rattle.model.specs.Calls.{allocate}

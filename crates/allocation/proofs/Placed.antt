@@ -15,12 +15,12 @@ use Rattle.layout.specs.Bytes.{Octets}
 use Rattle.layout.specs.Blocks.{Block, size, total-size, back-after, render, occupied}
 use Rattle.layout.proofs.Parse.{parse-is}
 use Rattle.layout.proofs.Render.{size-append}
-use Rattle.model.specs.Lists.{all, total}
+use Rattle.lists.specs.Lists.{all, total}
 use Rattle.model.specs.Objects.{blocks-of}
 use Rattle.model.specs.Consistent.{allowed, long-enough, free-apart, well-cut, accounted}
 use Rattle.model.specs.Space.{cut-block, carve-from, carve}
 use Rattle.model.specs.Refusals.{base-for}
-use Rattle.model.proofs.Bools.{and-right, and-no}
+use Rattle.lists.proofs.Bools.{and-right, and-no}
 use Rattle.model.proofs.Blocks.{total-is, writable-whole}
 use Rattle.model.proofs.Consistent.{accounted-cut, tests-exactly}
 use Rattle.model.proofs.Carve.{Carved}

@@ -16,7 +16,7 @@ use Rattle.model.specs.Refusals.{Line, first-refusal, line-1, line-2, line-3, l
 use Rattle.model.specs.Calls.{unless, check}
 use Rattle.model.specs.declared.Verdict.{Verdict}
 use Rattle.model.specs.declared.Verdict.the-variants.{Accepted}
-use Rattle.model.proofs.Bools.{or-right}
+use Rattle.lists.proofs.Bools.{or-right}
 use Rattle.results.proofs.Lines.{line-refuses, line-passes, line-3-passes, line-12-passes, check-accounted}
 use Rattle.model.proofs.Consistent.{consistent-range, range-serial}
 use Rattle.allocation.specs.Ready.{Checked, Ready}

@@ -15,12 +15,12 @@ use Rattle.rounding.specs.Rounding.{Units}
 use Rattle.layout.specs.Bytes.{Octets, copy-part}
 use Rattle.layout.specs.Blocks.{Block, render}
 use Rattle.model.specs.Answers.{given, handle-values}
-use Rattle.model.specs.Lists.{all, or-else, change-first}
+use Rattle.lists.specs.Lists.{all, or-else, change-first}
 use Rattle.model.specs.Holds.{take-record}
 use Rattle.model.specs.Objects.{blocks-of, objects, objects-of, lookup, lookup-whole, found}
 use mathlib.Core.Logic.{⊎-elim}
 use Rattle.model.specs.Consistent.{allowed, has-record, in-units, consistent as is-consistent}
-use Rattle.model.proofs.Lists.{member-all}
+use Rattle.lists.proofs.Lists.{member-all}
 use Rattle.model.specs.Refusals.{Line, first-refusal, line-5, line-6, release-lines, allocate-lines, reallocate-lines, row-lines}
 use Rattle.model.specs.Calls.{Outcome, State, unless, leaves, state-of, allocated, copied, released, new-object, allocate, release, reallocate}
 use Rattle.model.specs.Step.{step}
@@ -29,7 +29,7 @@ use Rattle.model.specs.declared.Refusal.{Refusal}
 use Rattle.model.specs.declared.HandleAnswer.{HandleAnswer}
 use Rattle.model.specs.declared.HandleAnswer.the-variants.{Given, Refused}
 use Rattle.model.specs.declared.Call.the-variants.{Allocate}
-use Rattle.model.proofs.Bools.{fails, and-both}
+use Rattle.lists.proofs.Bools.{fails, and-both}
 use Rattle.model.proofs.Consistent.{consistent-fits, consistent-permissible, consistent-kinds, consistent-range}
 use Rattle.model.proofs.StepFrame.{step-keeps}
 use Rattle.model.proofs.Permissions.{allocated-permissions}

@@ -18,7 +18,7 @@ use Rattle.accounts.proofs.Laws.{found-first, refund-kept, refund-nothing}
 use Rattle.layout.specs.Bytes.{Octets}
 use Rattle.layout.specs.Blocks.{Block, size, live, render, AllWritable}
 use Rattle.layout.proofs.Parse.{parse-is}
-use Rattle.model.specs.Lists.{all, any, total, or-else}
+use Rattle.lists.specs.Lists.{all, any, total, or-else}
 use Rattle.model.specs.Answers.{amount-of}
 use Rattle.model.specs.Objects.{names, object, objects-from, objects, blocks-of, objects-of, lookup}
 use Rattle.model.specs.Consistent.{accounted, free-apart, has-serial, serials-differ, is-of, held}
@@ -26,8 +26,8 @@ use Rattle.model.specs.Holds.{count-of, with-count, less-one, lower-count}
 use Rattle.model.specs.Space.{settle, stays}
 use Rattle.model.specs.Calls.{given-back, released}
 use Rattle.model.specs.declared.Handle.{Handle}
-use Rattle.model.proofs.Bools.{and-left, and-right, or-neither, implies, implied}
-use Rattle.model.proofs.Lists.{first-some, all-member, member-all, all-append, getD-member}
+use Rattle.lists.proofs.Bools.{and-left, and-right, or-neither, implies, implied}
+use Rattle.lists.proofs.Lists.{first-some, all-member, member-all, all-append, getD-member}
 use Rattle.model.proofs.Blocks.{objects-live, objects-free, objects-append, live-occupied}
 use Rattle.model.proofs.Consistent.{Tests, tests-exactly, accounted-cut, accounted-apart, accounted-facts, is-for-exactly}
 use Rattle.model.proofs.Settle.{stays-objects, settle-same, settle-one}

@@ -13,12 +13,11 @@ use Rattle.accounts.specs.declared.Hold.{Hold}
 use Rattle.accounts.specs.declared.Place.the-variants.{At}
 use Rattle.accounts.specs.Accounts.{zero-hold, used, is-for, find-hold}
 use Rattle.accounts.proofs.Laws.{found-first}
-use Rattle.model.specs.Lists.{any}
+use Rattle.lists.specs.Lists.{any}
 use Rattle.model.specs.Consistent.{accounted, is-of, held}
-use Rattle.model.proofs.Bools.{and-left, and-right}
+use Rattle.lists.proofs.Bools.{and-left, and-right, by-eq}
 use Rattle.model.proofs.Consistent.{accounted-facts, is-for-exactly}
 use Rattle.allocation.proofs.Released.{zero-of}
-use Rattle.words.proofs.Words.{by-eq}
 use Rattle.survey.specs.Survey.{shares}
 
 -- tests that agree at each place

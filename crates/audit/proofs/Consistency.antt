@@ -19,15 +19,14 @@ use Rattle.accounts.specs.declared.Accounts.{Accounts}
 use Rattle.accounts.specs.Accounts.{QUOTAS, zero-quota, used}
 use Rattle.layout.specs.Blocks.{Block, size, QUARANTINED, parse}
 use Rattle.model.specs.declared.Handle.{Handle}
-use Rattle.model.specs.Lists.{all, any}
+use Rattle.lists.specs.Lists.{all, any}
 use Rattle.model.specs.Objects.{object, objects-from, objects}
 use Rattle.model.specs.Consistent.{has-serial, record-valid, charge-of, accounted-blocks, accounted-parsed, accounted}
-use Rattle.model.proofs.Bools.{and-left, and-right, and-both, and-no, implies, implied}
-use Rattle.model.proofs.Lists.{all-member, member-all}
+use Rattle.lists.proofs.Bools.{and-left, and-right, and-both, and-no, implies, implied, by-eq, same-test}
+use Rattle.lists.proofs.Lists.{all-member, member-all}
 use Rattle.model.proofs.Consistent.{Tests, tests-exactly, balance-exactly}
 use Rattle.audit.specs.Keys.{well-formed, keys-of, strike, Payment, pay, unpaid}
 use Rattle.audit.specs.Audit.{owes, solvent, State, begin, visit, audit, audit-parsed, audited}
-use Rattle.audit.proofs.Cases.{by-eq, same-test}
 use Rattle.audit.proofs.Tables.{all-at, all-places}
 use Rattle.audit.proofs.Struck.{strike-holds, strike-well, strike-keys, struck-held}
 use Rattle.audit.proofs.Agreement.{Agrees, settles, first-agrees, agrees-first, agrees-none}

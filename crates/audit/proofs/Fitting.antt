@@ -12,12 +12,11 @@ use lib.ListN.{length}
 use Rattle.accounts.specs.declared.Accounts.{Accounts}
 use Rattle.accounts.specs.Accounts.{permissions, permissible}
 use Rattle.layout.specs.Blocks.{Block, size, QUARANTINED, in-front, parse}
-use Rattle.model.specs.Lists.{all, or-else}
+use Rattle.lists.specs.Lists.{all, or-else}
 use Rattle.model.specs.Objects.{object, objects-from, objects, blocks-of, objects-of}
 use Rattle.model.specs.Consistent.{fits-unit, in-units, in-kind, in-range, accounted-blocks, accounted-parsed, accounted, consistent}
-use Rattle.model.proofs.Bools.{and-no}
+use Rattle.lists.proofs.Bools.{and-no, by-eq}
 use Rattle.audit.specs.Fitting.{fits-block, fitting}
-use Rattle.audit.proofs.Cases.{by-eq}
 
 -- a block's size is its object's length and the header; behind the header is the object's base
 own-length : (b : Block) → size b - 8 ≡ length (b .body)

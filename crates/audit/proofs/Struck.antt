@@ -11,13 +11,12 @@ use lib.Dec.{eqb}
 use Rattle.accounts.specs.declared.Hold.{Hold}
 use Rattle.accounts.specs.Accounts.{QUOTAS, zero-hold, used, is-for}
 use Rattle.model.specs.declared.Handle.{Handle}
-use Rattle.model.specs.Lists.{all, any, total}
+use Rattle.lists.specs.Lists.{all, any, total}
 use Rattle.model.specs.Consistent.{has-serial, record-valid, records-differ, is-of, held, has-record, charged-for, charges}
-use Rattle.model.proofs.Bools.{and-left, and-right, and-both, or-neither, fails}
-use Rattle.model.proofs.Lists.{all-member, any-member}
+use Rattle.lists.proofs.Bools.{and-left, and-right, and-both, or-neither, fails, by-test}
+use Rattle.lists.proofs.Lists.{all-member, any-member}
 use Rattle.model.proofs.Consistent.{is-of-exactly, is-for-exactly}
 use Rattle.audit.specs.Keys.{well-formed, key-of, keys-of, strike, struck}
-use Rattle.audit.proofs.Cases.{by-test}
 use Rattle.audit.proofs.Records.{well-used, key-is-of}
 
 abbrev pub strike-hold : ℕ → Hold → Hold

@@ -6,11 +6,11 @@ use mathlib.Core.Bool.{true}
 use borrow.Author.Tests.{eqb-true}
 use Rattle.accounts.specs.declared.Accounts.{Accounts}
 use Rattle.layout.specs.Blocks.{Block, render}
-use Rattle.model.specs.Lists.{all}
+use Rattle.lists.specs.Lists.{all}
 use Rattle.model.specs.Objects.{blocks-of}
 use Rattle.model.specs.Calls.{Outcome, State, state-of, released, release}
 use Rattle.model.specs.declared.Handle.{Handle}
-use Rattle.model.proofs.Bools.{and-left}
+use Rattle.lists.proofs.Bools.{and-left}
 use Rattle.invariant.proofs.Good.{Good}
 use Rattle.invariant.proofs.Heaps.{good-heap, heap-again}
 use Rattle.invariant.proofs.Releasing.{Possible, Fitting, possible-good, possible-fitting, does, did, did-good, did-fitting, did-accounted}

@@ -14,14 +14,14 @@ use borrow.Author.Tests.{eqb-true, eq-eqb, not-true}
 use Rattle.accounts.specs.declared.Hold.{Hold}
 use Rattle.accounts.specs.declared.Accounts.{Accounts}
 use Rattle.accounts.specs.Accounts.{QUOTAS, used, record-of}
-use Rattle.model.specs.Lists.{all, any, total}
+use Rattle.lists.specs.Lists.{all, any, total}
 use Rattle.model.specs.Objects.{objects, objects-of}
 use Rattle.model.specs.Consistent.{has-serial, serials-differ}
 use Rattle.model.specs.Holds.{count-of}
 use Rattle.model.specs.Calls.{State, state-of, free-all, release}
 use Rattle.model.specs.declared.Handle.{Handle}
-use Rattle.model.proofs.Bools.{and-left, and-right}
-use Rattle.model.proofs.Lists.{total-append, member-all, none-exactly}
+use Rattle.lists.proofs.Bools.{and-left, and-right}
+use Rattle.lists.proofs.Lists.{total-append, member-all, none-exactly}
 use Rattle.invariant.proofs.Heaps.{good-ordered}
 use Rattle.invariant.proofs.Counts.{ordered-member, count-member}
 use Rattle.invariant.proofs.Recorded.{good-recorded}

@@ -14,7 +14,7 @@ use Rattle.accounts.specs.declared.Accounts.{Accounts}
 use Rattle.accounts.specs.Accounts.{QUOTAS, used, is-for, remaining, record-of, dropped, drop-records}
 use Rattle.accounts.proofs.Laws.{refund-but, refund-kept}
 use Rattle.layout.specs.Blocks.{render}
-use Rattle.model.specs.Lists.{any, all, total, change-first}
+use Rattle.lists.specs.Lists.{any, all, total, change-first}
 use Rattle.model.specs.Answers.{amount-of}
 use Rattle.model.specs.Objects.{blocks-of, objects, objects-of}
 use Rattle.model.specs.Consistent.{allowed, accounted, consistent, held, charges, long-enough, free-apart, well-cut}
@@ -25,7 +25,7 @@ use Rattle.model.specs.Calls.{State, leaves, unless, state-of, given-back, rele
 use Rattle.model.specs.Step.{step}
 use Rattle.model.specs.declared.Handle.{Handle}
 use Rattle.model.specs.declared.Call.the-variants.{FreeAll}
-use Rattle.model.proofs.Bools.{and-left, and-right, and-both, or-neither}
+use Rattle.lists.proofs.Bools.{and-left, and-right, and-both, or-neither}
 use Rattle.model.proofs.Consistent.{is-for-exactly, consistent-accounted, consistent-range, range-serial}
 use Rattle.model.proofs.Settle.{stays-objects, settle-same, settle-twice, drop-none}
 use Rattle.model.proofs.Refusals.{by-lines, refusal-of-lines, call-accepted-exactly}

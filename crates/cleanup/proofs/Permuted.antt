@@ -7,7 +7,7 @@ use mathlib.Core.List.{List, [], _∷_, List·Permᴰ, List·Permᴰ·nil, List�
 use mathlib.Core.Bool.{true}
 use Rattle.accounts.specs.declared.Accounts.{Accounts}
 use Rattle.layout.specs.Blocks.{render}
-use Rattle.model.specs.Lists.{all}
+use Rattle.lists.specs.Lists.{all}
 use Rattle.model.specs.Calls.{State, state-of, released, release}
 use Rattle.cleanup.specs.Releases.{Drop, cleaned, accepted-throughout, Fits, SameCleanup, AnyOrder}
 use Rattle.cleanup.proofs.Exchange.{answer, exchanged}

@@ -11,11 +11,11 @@ use Rattle.accounts.specs.declared.Quota.{Quota}
 use Rattle.accounts.specs.declared.Accounts.{Accounts}
 use Rattle.accounts.specs.Accounts.{QUOTAS, zero-quota, zero-hold, remaining}
 use Rattle.rounding.specs.Rounding.{unit}
-use Rattle.model.specs.Lists.{all}
+use Rattle.lists.specs.Lists.{all}
 use Rattle.model.specs.Calls.{Outcome, allocate}
 use Rattle.model.specs.Cases.{opened-heap}
 use Rattle.model.specs.Quarantine.{waiting-heap}
-use Rattle.model.proofs.Bools.{and-left, and-right}
+use Rattle.lists.proofs.Bools.{and-left, and-right}
 use Rattle.model.proofs.Computing.{computing}
 use Rattle.cleanup.specs.Releases.{Run, own-release, Drop, cleaned, accepted-throughout, Fits}
 use Rattle.cleanup.specs.Releases.{SameCleanup, AnyOrder}

@@ -9,10 +9,10 @@ use Prim.Native.Nat.{ℕ, _≤_}
 use lib.ListN.{length, drop}
 use lib.Dec.{ltb, eqb}
 use borrow.Author.Tests.{eqb-true, eq-eqb, ltb-false, le-ltb, not-false}
-use Rattle.model.specs.Lists.{all, any}
+use Rattle.lists.specs.Lists.{all, any}
 use Rattle.model.specs.Consistent.{allowed}
 use Rattle.model.specs.Refusals.{line-holds, first-refusal, line-1, line-2}
-use Rattle.model.proofs.Bools.{and-left, or-neither}
+use Rattle.lists.proofs.Bools.{and-left, or-neither}
 use Rattle.model.proofs.Refusals.{Numbered}
 use Rattle.framing.specs.Frames.{stream-of}
 use Rattle.framing.proofs.Padding.{length-padded}

@@ -18,7 +18,7 @@ use Rattle.lookup.specs.declared.Met.{Met}
 use Rattle.lookup.specs.declared.Lookup.the-variants.{Found, Missing}
 use Rattle.lookup.specs.Walk.{object-met, find-object}
 use Rattle.model.specs.Answers.{verdict-values, amount-values, amount-of}
-use Rattle.model.specs.Lists.{all, any, or-else}
+use Rattle.lists.specs.Lists.{all, any, or-else}
 use Rattle.model.specs.Objects.{lookup, found}
 use Rattle.model.specs.Consistent.{charge-of}
 use Rattle.model.specs.Holds.{with-count, count-of, take-record, raise-count}
@@ -28,7 +28,7 @@ use Rattle.model.specs.declared.Handle.{Handle}
 use Rattle.model.specs.declared.Refusal.the-variants.{CountLimit, QuotaExceeded, HoldsExhausted}
 use Rattle.model.specs.declared.Verdict.{Verdict}
 use Rattle.model.specs.declared.Verdict.the-variants.{Accepted}
-use Rattle.model.proofs.Lists.{first-none}
+use Rattle.lists.proofs.Lists.{first-none}
 use Rattle.results.specs.Results.{amount-outcome}
 use Rattle.holding.specs.Claims.{not-claimed, claimed-length, claim-again, claim-in, claim-first}
 use Rattle.results.proofs.Lines.{refused-is, accepted-is, line-refuses, line-passes, line-12-refuses, line-12-passes}

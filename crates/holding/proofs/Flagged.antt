@@ -12,7 +12,7 @@ use Rattle.accounts.specs.declared.Hold.{Hold}
 use Rattle.accounts.specs.declared.Accounts.{Accounts}
 use Rattle.accounts.specs.Accounts.{HOLDS}
 use Rattle.layout.specs.Blocks.{Block, size, units, QUARANTINED, live}
-use Rattle.model.specs.Lists.{all, total, keep}
+use Rattle.lists.specs.Lists.{all, total, keep}
 use Rattle.model.specs.Objects.{objects-from, objects, blocks-of}
 use Rattle.model.specs.Consistent.{accounted, held}
 use Rattle.model.proofs.Blocks.{objects-live, objects-free}

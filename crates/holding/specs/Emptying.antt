@@ -8,7 +8,7 @@ use lib.Dec.{eqb}
 use Rattle.accounts.specs.declared.Hold.{Hold}
 use Rattle.accounts.specs.Accounts.{HOLDS}
 use Rattle.layout.specs.Blocks.{Block, live, total-size, render, AllWritable, greatest-heap, QUARANTINED}
-use Rattle.model.specs.Lists.{all}
+use Rattle.lists.specs.Lists.{all}
 use Rattle.model.specs.Consistent.{free-apart, held}
 use Rattle.model.specs.Space.{settle, stays}
 use Rattle.lookup.specs.declared.Met.{Met}

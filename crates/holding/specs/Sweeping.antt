@@ -5,7 +5,7 @@ use mathlib.Core.List.{List, _++_}
 use mathlib.Core.Bool.{true, cond}
 use lib.Dec.{eqb}
 use Rattle.layout.specs.Blocks.{Block, size, QUARANTINED, quarantined, total-size, render, AllWritable}
-use Rattle.model.specs.Lists.{all, total, keep}
+use Rattle.lists.specs.Lists.{all, total, keep}
 use Rattle.model.specs.Consistent.{free-apart}
 use Rattle.model.specs.Space.{swept, not-quarantined}
 use Rattle.lookup.specs.declared.Met.{Met}

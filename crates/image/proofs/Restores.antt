@@ -16,11 +16,11 @@ use Rattle.model.specs.declared.Refusal.{Refusal}
 use Rattle.model.specs.declared.Verdict.{Verdict}
 use Rattle.model.specs.declared.Verdict.the-variants.{Accepted, Refused}
 use Rattle.model.specs.Answers.{verdict-values}
-use Rattle.model.specs.Lists.{all}
+use Rattle.lists.specs.Lists.{all}
 use Rattle.model.specs.Consistent.{allowed}
 use Rattle.model.specs.Refusals.{Line, _when_, first-refusal, line-1, line-2}
 use Rattle.model.specs.Calls.{check}
-use Rattle.model.proofs.Bools.{and-left, and-right}
+use Rattle.lists.proofs.Bools.{and-left, and-right}
 use Rattle.model.proofs.Refusals.{Numbered}
 use Rattle.results.proofs.Lines.{check-refuses, check-accounted, number-some}
 use Rattle.framing.specs.Frames.{padded, stream-of}

@@ -12,11 +12,11 @@ use Rattle.accounts.specs.declared.Quota.{Quota}
 use Rattle.accounts.specs.declared.Hold.{Hold}
 use Rattle.accounts.specs.declared.Accounts.{Accounts}
 use Rattle.accounts.specs.Accounts.{zero-quota, zero-hold, permissible, used}
-use Rattle.model.specs.Lists.{all}
+use Rattle.lists.specs.Lists.{all}
 use Rattle.model.specs.Objects.{blocks-of}
 use Rattle.model.specs.Consistent.{in-range}
-use Rattle.model.proofs.Bools.{and-left, and-right}
-use Rattle.model.proofs.Lists.{getD-member}
+use Rattle.lists.proofs.Bools.{and-left, and-right}
+use Rattle.lists.proofs.Lists.{getD-member}
 use Rattle.model.proofs.Consistent.{Facts, accounted-facts, consistent-accounted, consistent-permissible, consistent-range}
 use Rattle.model.proofs.Consistent.{range-serial, range-kind}
 use Rattle.model.proofs.Consistent.{range-edition}

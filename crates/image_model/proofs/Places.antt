@@ -16,8 +16,8 @@ use Rattle.accounts.specs.declared.Accounts.{Accounts}
 use Rattle.accounts.specs.Accounts.{QUOTAS, HOLDS, ALL-PERMISSIONS, permissible, zero-hold, with-permissions, granted, opened, used, unused}
 use Rattle.accounts.specs.Accounts.{with-kind, with-edition}
 use Rattle.layout.specs.Bytes.{bytes, Octets}
-use Rattle.model.specs.Lists.{all}
-use Rattle.model.proofs.Bools.{and-left, and-right}
+use Rattle.lists.specs.Lists.{all}
+use Rattle.lists.proofs.Bools.{and-left, and-right}
 use Rattle.image_model.specs.Items.{all-zero}
 use Rattle.image_model.specs.Stream.{form-1, form-2, form-numbered, entry-tail, tail-width, tail-of, tail-right, marks-of, marks-right, with-marks}
 use Rattle.image_model.specs.Stream.{no-grant, all-permitted, carries, blank, head-length, Typed}

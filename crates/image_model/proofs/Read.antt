@@ -11,10 +11,10 @@ use lib.Dec.{eqb}
 use borrow.Author.Tests.{eqb-true, not-false}
 use Rattle.layout.specs.Bytes.{Octets, number}
 use Rattle.layout.proofs.Numbers.{octets-drop}
-use Rattle.model.specs.Lists.{any, is-none, or-else}
+use Rattle.lists.specs.Lists.{any, is-none, or-else}
 use Rattle.model.specs.Consistent.{allowed}
 use Rattle.model.specs.Refusals.{line-holds}
-use Rattle.model.proofs.Bools.{and-left, and-right, or-neither}
+use Rattle.lists.proofs.Bools.{and-left, and-right, or-neither}
 use Rattle.framing.specs.Frames.{padded, frames-for, cut-from, cut, stream-of, frames-right}
 use Rattle.framing.proofs.Padding.{length-padded, padded-whole}
 use Rattle.framing.proofs.Cut.{cut-uncut}

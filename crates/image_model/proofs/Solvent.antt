@@ -12,10 +12,10 @@ use Rattle.accounts.specs.declared.Hold.{Hold}
 use Rattle.accounts.specs.declared.Accounts.{Accounts}
 use Rattle.accounts.specs.Accounts.{permissible}
 use Rattle.model.specs.declared.Handle.{Handle}
-use Rattle.model.specs.Lists.{all}
+use Rattle.lists.specs.Lists.{all}
 use Rattle.model.specs.Objects.{blocks-of, objects}
 use Rattle.model.specs.Consistent.{charges, balanced-from}
-use Rattle.model.proofs.Bools.{and-left, and-right}
+use Rattle.lists.proofs.Bools.{and-left, and-right}
 use Rattle.model.proofs.Consistent.{balance-exactly, accounted-facts, consistent-accounted, consistent-permissible}
 use Rattle.image_model.specs.Images.{own-consistent}
 use Rattle.image_model.proofs.Items.{All, all-two}

@@ -14,10 +14,10 @@ use borrow.Author.Tests.{ltb-false, le-ltb, not-false}
 use Rattle.accounts.specs.declared.Accounts.{Accounts}
 use Rattle.layout.specs.Bytes.{Octets, overwrite}
 use Rattle.layout.proofs.Overwrite.{overwrite-fits}
-use Rattle.model.specs.Lists.{any}
+use Rattle.lists.specs.Lists.{any}
 use Rattle.model.specs.Consistent.{allowed}
 use Rattle.model.specs.Refusals.{line-holds, line-1, line-2}
-use Rattle.model.proofs.Bools.{or-neither}
+use Rattle.lists.proofs.Bools.{or-neither}
 use Rattle.image_model.specs.Stream.{carries, image-of, image-length, Typed}
 use Rattle.image_model.specs.Reading.{form-of, heap-in, accounts-in}
 use Rattle.image_model.specs.Answers.{Imaged, Restored-to}

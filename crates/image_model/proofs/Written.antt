@@ -11,10 +11,10 @@ use lib.Dec.{leb, eqb}
 use borrow.Author.Tests.{leb-true, eq-eqb, ne-eqb}
 use Rattle.rounding.specs.Rounding.{table}
 use Rattle.accounts.specs.declared.Accounts.{Accounts}
-use Rattle.model.specs.Lists.{is-none, or-else}
+use Rattle.lists.specs.Lists.{is-none, or-else}
 use Rattle.model.specs.Consistent.{allowed}
 use Rattle.model.specs.Refusals.{_when_, first-refusal}
-use Rattle.model.proofs.Bools.{and-right}
+use Rattle.lists.proofs.Bools.{and-right}
 use Rattle.model.proofs.Consistent.{consistent-range, range-kind, range-edition}
 use Rattle.framing.specs.Frames.{frames-for, cut, stream-of, frames-right}
 use Rattle.framing.proofs.Cut.{cut-right}

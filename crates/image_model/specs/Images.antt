@@ -11,7 +11,7 @@ use Rattle.rounding.specs.Rounding.{table}
 use Rattle.accounts.specs.declared.Accounts.{Accounts}
 use Rattle.accounts.specs.Accounts.{zero-accounts}
 use Rattle.layout.specs.Bytes.{Octets, overwrite}
-use Rattle.model.specs.Lists.{is-none}
+use Rattle.lists.specs.Lists.{is-none}
 use Rattle.model.specs.Consistent.{allowed, consistent as is-consistent}
 use Rattle.model.specs.Refusals.{Line, _when_, first-refusal, line-1, line-2}
 use Rattle.framing.specs.Frames.{frames-right, stream-of}

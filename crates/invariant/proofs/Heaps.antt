@@ -15,12 +15,12 @@ use Rattle.layout.specs.Bytes.{Octets}
 use Rattle.layout.specs.Blocks.{Block, size, QUARANTINED, render, parse, AllWritable}
 use Rattle.layout.proofs.Render.{length-render, octets-render}
 use Rattle.layout.proofs.Parse.{parse-is, parse-octets}
-use Rattle.model.specs.Lists.{total}
+use Rattle.lists.specs.Lists.{total}
 use Rattle.model.specs.Objects.{blocks-of, objects, objects-of}
 use Rattle.model.specs.Consistent.{allowed, accounted}
 use Rattle.model.specs.Calls.{State, state-of}
-use Rattle.model.proofs.Bools.{and-both, implied}
-use Rattle.model.proofs.Lists.{member-all}
+use Rattle.lists.proofs.Bools.{and-both, implied}
+use Rattle.lists.proofs.Lists.{member-all}
 use Rattle.model.proofs.Consistent.{tests-exactly, valid-exactly, blocks-parsed, accounted-exactly, accounted-cut}
 use Rattle.model.proofs.Blocks.{total-is}
 use Rattle.invariant.proofs.Good.{proper, Good, Ordered}

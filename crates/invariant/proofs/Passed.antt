@@ -9,7 +9,7 @@ use lib.Dec.{ltb, eqb}
 use borrow.Author.Tests.{leb-false, ltb-false, eqb-false}
 use Rattle.accounts.specs.declared.Accounts.{Accounts}
 use Rattle.accounts.specs.Accounts.{QUOTAS, ALLOCATE, CLAIM, used, remaining}
-use Rattle.model.specs.Lists.{any, all, is-none}
+use Rattle.lists.specs.Lists.{any, all, is-none}
 use Rattle.rounding.specs.Rounding.{object-length}
 use Rattle.model.specs.Objects.{lookup, lookup-whole, found}
 use Rattle.model.specs.Consistent.{charge-of, has-record}
@@ -17,7 +17,7 @@ use Rattle.model.specs.Refusals.{Line, _when_, line-holds, line-1, line-2, line
 use Rattle.model.specs.Refusals.{only-if, claims-first, base-for, free-all-lines, release-lines, claim-lines, allocate-lines, reallocate-lines}
 use Rattle.layout.specs.Blocks.{QUARANTINED}
 use Rattle.model.specs.declared.Handle.{Handle}
-use Rattle.model.proofs.Bools.{or-neither}
+use Rattle.lists.proofs.Bools.{or-neither}
 
 -- a list of which no line holds: the first does not, and none of the others
 passed : (l : Line) (ls : List Line) → any line-holds (l ∷ ls) ≡ false → (line-holds l ≡ false) × (any line-holds ls ≡ false)

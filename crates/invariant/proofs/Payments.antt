@@ -16,7 +16,7 @@ use Rattle.accounts.proofs.Laws.{Kept, remaining-put, charge-pays, refund-pays,
 use Rattle.model.specs.Consistent.{charge-of, serials-differ}
 use Rattle.model.specs.Holds.{count-of}
 use Rattle.model.specs.declared.Handle.{Handle}
-use Rattle.model.proofs.Bools.{and-no, and-both}
+use Rattle.lists.proofs.Bools.{and-no, and-both}
 use Rattle.invariant.proofs.Charges.{cost, total-members, total-more}
 use Rattle.invariant.proofs.Recorded.{due, owed, Limits}
 

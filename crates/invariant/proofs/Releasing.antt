@@ -11,7 +11,7 @@ use Rattle.accounts.specs.declared.Accounts.{Accounts}
 use Rattle.accounts.specs.Accounts.{QUOTAS, zero-quota, permissible, permissions}
 use Rattle.layout.specs.Bytes.{Octets}
 use Rattle.layout.specs.Blocks.{render}
-use Rattle.model.specs.Lists.{all, any, first, or-else, is-none}
+use Rattle.lists.specs.Lists.{all, any, first, or-else, is-none}
 use Rattle.model.specs.Answers.{amount-of}
 use Rattle.model.specs.Objects.{objects, objects-of, names, lookup, found}
 use Rattle.model.specs.Consistent.{allowed, accounted, consistent, has-record, in-units}
@@ -20,8 +20,8 @@ use Rattle.model.specs.Calls.{State, leaves, unless, state-of, given-back, rele
 use Rattle.model.specs.Step.{step}
 use Rattle.model.specs.declared.Handle.{Handle}
 use Rattle.model.specs.declared.Call.the-variants.{Release}
-use Rattle.model.proofs.Bools.{and-both, or-neither}
-use Rattle.model.proofs.Lists.{first-some, all-member, member-all}
+use Rattle.lists.proofs.Bools.{and-both, or-neither}
+use Rattle.lists.proofs.Lists.{first-some, all-member, member-all}
 use Rattle.model.proofs.Consistent.{consistent-accounted, consistent-fits, consistent-permissible, consistent-kinds, consistent-range, range-serial}
 use Rattle.model.proofs.Permissions.{released-permissions}
 use Rattle.model.proofs.Refusals.{call-accepted-exactly}

@@ -14,7 +14,7 @@ use Rattle.accounts.specs.declared.Accounts.{Accounts}
 use Rattle.accounts.specs.Accounts.{QUOTAS, HOLDS, CLAIM, zero-hold, unused, is-for, record-of, dropped, drop-records}
 use Rattle.accounts.specs.Accounts.{clear-permissions, with-holds, charge, permits}
 use Rattle.accounts.proofs.Laws.{clear-kept}
-use Rattle.model.specs.Lists.{all, any, first, change-first, or-else, is-none}
+use Rattle.lists.specs.Lists.{all, any, first, change-first, or-else, is-none}
 use Rattle.model.specs.Objects.{lookup, found}
 use Rattle.model.specs.Consistent.{charge-of, allowed, consistent}
 use Rattle.model.specs.Holds.{count-of, with-count, take-record, raise-count, less-one, lower-count}
@@ -31,8 +31,8 @@ use Rattle.model.specs.declared.Handle.{Handle}
 use Rattle.model.specs.declared.Call.{Call}
 use Rattle.model.specs.declared.Call.the-variants.{Allocate, AllocateArray, Claim, Release, FreeAll, Reallocate}
 use Rattle.model.specs.declared.Call.the-variants.{Lend, Remaining, CanRelease, ListBlock, ClearPermissions, Sweep}
-use Rattle.model.proofs.Bools.{and-left, and-right, and-both, or-neither}
-use Rattle.model.proofs.Lists.{all-member, first-some}
+use Rattle.lists.proofs.Bools.{and-left, and-right, and-both, or-neither}
+use Rattle.lists.proofs.Lists.{all-member, first-some}
 use Rattle.model.proofs.Refusals.{accepted-exactly, by-lines, unless-has, unless-where}
 use Rattle.model.proofs.StepFrame.{step-keeps}
 use Rattle.ledger.specs.Ledger.{Ledger, Event, Called, Wrote, Saved, Restored}

@@ -16,7 +16,7 @@ use Rattle.accounts.specs.Accounts.{QUOTAS, zero-quota, used, remaining}
 use Rattle.layout.specs.Blocks.{render}
 use Rattle.layout.proofs.Render.{length-render}
 use Rattle.layout.proofs.Parse.{parse-is}
-use Rattle.model.specs.Lists.{total}
+use Rattle.lists.specs.Lists.{total}
 use Rattle.model.specs.Answers.{amount-of}
 use Rattle.model.specs.Objects.{objects, blocks-of, objects-of}
 use Rattle.model.specs.Consistent.{serials-differ, records-differ, charges, consistent}

@@ -23,10 +23,10 @@ use Rattle.model.specs.declared.Call.{Call}
 use Rattle.model.specs.declared.Call.the-variants.{Allocate, AllocateArray, Claim, Release, FreeAll, Reallocate, Lend, Remaining, CanRelease}
 use Rattle.model.specs.declared.Call.the-variants.{ListBlock}
 use Rattle.model.specs.declared.Call.the-variants.{ClearPermissions, Sweep}
-use Rattle.model.proofs.Bools.{and-both}
+use Rattle.lists.proofs.Bools.{and-both}
 use Rattle.model.proofs.Consistent.{consistent-fits}
-use Rattle.model.specs.Lists.{all}
-use Rattle.model.proofs.Lists.{member-all}
+use Rattle.lists.specs.Lists.{all}
+use Rattle.lists.proofs.Lists.{member-all}
 use Rattle.invariant.proofs.Requested.{new-in-units}
 use Rattle.model.proofs.Refusals.{accepted-exactly, by-lines}
 use Rattle.invariant.proofs.Passed.{allocate-passed, reallocate-passed}

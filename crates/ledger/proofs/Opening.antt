@@ -19,14 +19,14 @@ use Rattle.accounts.specs.declared.settings.Kind.the-variants.{Plain, Quarantin
 use Rattle.accounts.specs.declared.settings.Edition.{Edition}
 use Rattle.accounts.specs.declared.settings.Edition.the-variants.{First, Second}
 use Rattle.layout.specs.Blocks.{render}
-use Rattle.model.specs.Lists.{all, total}
+use Rattle.lists.specs.Lists.{all, total}
 use Rattle.model.specs.Answers.{accepted}
 use Rattle.model.specs.Objects.{objects-from, objects, blocks-of}
 use Rattle.model.specs.Consistent.{allowed, long-enough, starts-free, free-apart, well-cut, serials-differ, serials-given, record-valid, records-differ}
 use Rattle.model.specs.Consistent.{charges, in-kind, in-range, greatest-serial}
 use Rattle.model.specs.Refusals.{first-refusal, line-1, open-lines}
 use Rattle.model.specs.Calls.{Outcome, unless, fresh, open-heap}
-use Rattle.model.proofs.Bools.{and-left, and-right}
+use Rattle.lists.proofs.Bools.{and-left, and-right}
 use Rattle.model.proofs.Consistent.{Tests, balance-exactly, consistent-accounted, consistent-permissible, consistent-kinds, consistent-range}
 use Rattle.ledger.specs.Ledger.{Ledger, empty, spans-from, read-ledger}
 use Rattle.ledger.specs.Demand3.{spans-differ}

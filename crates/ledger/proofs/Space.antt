@@ -17,7 +17,7 @@ use Rattle.accounts.specs.Accounts.{ALLOCATE}
 use Rattle.rounding.specs.Rounding.{Units, object-length, alignment}
 use Rattle.rounding.proofs.Rounding.{alignment-positive}
 use Rattle.layout.specs.Blocks.{Block, size, occupied, quarantined}
-use Rattle.model.specs.Lists.{any, keep, is-none}
+use Rattle.lists.specs.Lists.{any, keep, is-none}
 use Rattle.model.specs.Objects.{object, objects-from, objects, blocks-of, objects-of, lookup-whole, found}
 use Rattle.model.specs.Space.{suitable}
 use Rattle.model.specs.Refusals.{Line, _when_, line-holds, first-refusal, line-1, line-2, line-3, line-4, line-5, line-6, line-8, line-9, line-10, row-lines}

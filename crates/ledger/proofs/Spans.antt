@@ -12,13 +12,13 @@ use lib.Dec.{eqb}
 use borrow.Author.Tests.{eqb-true, not-true, ne-eqb}
 use Rattle.accounts.specs.declared.Hold.{Hold}
 use Rattle.layout.specs.Blocks.{Block, size, occupied, QUARANTINED, quarantined, live}
-use Rattle.model.specs.Lists.{all, total, keep}
+use Rattle.lists.specs.Lists.{all, total, keep}
 use Rattle.model.specs.Objects.{object, objects-from}
 use Rattle.model.specs.Consistent.{held}
 use Rattle.model.specs.Space.{cut-block, join-front, join-free, vacate, changed, reclaim, settle, swept, copy-into, not-quarantined}
 use Rattle.model.specs.declared.Handle.{Handle}
-use Rattle.model.proofs.Bools.{and-left, and-right}
-use Rattle.model.proofs.Lists.{total-append}
+use Rattle.lists.proofs.Bools.{and-left, and-right}
+use Rattle.lists.proofs.Lists.{total-append}
 use Rattle.model.proofs.Blocks.{Whole, objects-live, objects-free}
 use Rattle.model.proofs.Carve.{Carved, cut-all, carved-total, place}
 use Rattle.model.proofs.Join.{joined, joined-size, join-elim}

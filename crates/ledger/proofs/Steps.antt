@@ -13,7 +13,7 @@ use Rattle.accounts.specs.Accounts.{QUOTAS, clear-permissions}
 use Rattle.accounts.proofs.Laws.{clear-kept}
 use Rattle.rounding.specs.Rounding.{Units}
 use Rattle.layout.specs.Blocks.{render}
-use Rattle.model.specs.Lists.{or-else}
+use Rattle.lists.specs.Lists.{or-else}
 use Rattle.model.specs.Objects.{blocks-of, objects, objects-of, lookup, lookup-whole, found}
 use Rattle.model.specs.Consistent.{charges, has-record}
 use Rattle.model.specs.Refusals.{first-refusal, quota-lines, free-all-lines, lend-lines, release-lines, claim-lines, check-lines, allocate-lines}

@@ -13,12 +13,12 @@ use Rattle.accounts.specs.declared.Accounts.{Accounts}
 use Rattle.accounts.specs.Accounts.{permissions, permissible}
 use Rattle.rounding.specs.Rounding.{Units, table}
 use Rattle.rounding.proofs.Editions.{table-is}
-use Rattle.model.specs.Lists.{all}
+use Rattle.lists.specs.Lists.{all}
 use Rattle.model.specs.Answers.{zero-handle}
 use Rattle.model.specs.Calls.{Outcome}
 use Rattle.model.specs.Step.{step, own-step}
 use Rattle.model.specs.declared.Handle.{Handle}
-use Rattle.model.proofs.Lists.{getD-member}
+use Rattle.lists.proofs.Lists.{getD-member}
 use Rattle.model.proofs.Consistent.{serials-exactly, consistent-permissible}
 use Rattle.model.proofs.StepFrame.{step-keeps}
 use Rattle.model.proofs.Permissions.{step-permissible}

@@ -19,12 +19,12 @@ use Rattle.layout.specs.Blocks.{Block, size, live, units, header-of, header-byt
 use Rattle.layout.proofs.Fields.{header-length}
 use Rattle.layout.proofs.Render.{written-length, written-behind}
 use Rattle.layout.proofs.Parse.{parse-is}
-use Rattle.model.specs.Lists.{all}
+use Rattle.lists.specs.Lists.{all}
 use Rattle.model.specs.Objects.{object, objects-from, objects, blocks-of, objects-of}
 use Rattle.model.specs.Consistent.{long-enough, starts-free, free-apart, well-cut, in-kind, accounted-blocks, accounted}
 use Rattle.model.specs.declared.Handle.{Handle}
-use Rattle.model.proofs.Bools.{and-left, and-right, and-both}
-use Rattle.model.proofs.Lists.{none-exactly}
+use Rattle.lists.proofs.Bools.{and-left, and-right, and-both}
+use Rattle.lists.proofs.Lists.{none-exactly}
 use Rattle.model.proofs.Blocks.{objects-free}
 use Rattle.model.proofs.Consistent.{blocks-parsed, accounted-cut, accounted-exactly}
 use Rattle.ledger.specs.Ledger.{Ledger, spans-from, quarantined-of}

@@ -18,7 +18,7 @@ use Rattle.model.specs.Calls.{Outcome, open-heap}
 use Rattle.model.specs.declared.Handle.{Handle}
 use Rattle.model.specs.declared.Call.{Call}
 use Rattle.model.specs.declared.Call.the-variants.{Allocate, Claim, Release, Sweep}
-use Rattle.model.proofs.Lists.{all-member}
+use Rattle.lists.proofs.Lists.{all-member}
 use Rattle.model.proofs.Computing.{computing}
 use Rattle.ledger.specs.Ledger.{Event, Called, in-span, empty, ledger-of}
 use Rattle.ledger.specs.History.{Begins, Opening}

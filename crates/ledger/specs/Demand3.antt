@@ -12,7 +12,7 @@ use Rattle.accounts.specs.declared.Hold.{Hold}
 use Rattle.accounts.specs.declared.Accounts.{Accounts}
 use Rattle.accounts.specs.Accounts.{QUOTAS, used, remaining}
 use Rattle.rounding.specs.Rounding.{object-length, alignment}
-use Rattle.model.specs.Lists.{any, keep, total}
+use Rattle.lists.specs.Lists.{any, keep, total}
 use Rattle.model.specs.Answers.{amount-of, zero-handle}
 use Rattle.model.specs.Objects.{blocks-of, objects-of}
 use Rattle.model.specs.Consistent.{allowed, consistent, serials-differ, records-differ}

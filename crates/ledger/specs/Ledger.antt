@@ -13,7 +13,7 @@ use Rattle.accounts.specs.Accounts.{QUOTAS, kind-number, edition-number}
 use Rattle.layout.specs.Blocks.{Block, size, quarantined}
 use Rattle.model.specs.Objects.{blocks-of, objects-of}
 use Rattle.model.specs.Holds.{count-of}
-use Rattle.model.specs.Lists.{any, keep}
+use Rattle.lists.specs.Lists.{any, keep}
 use Rattle.model.specs.Answers.{Values}
 use Rattle.model.specs.declared.Handle.{Handle}
 use Rattle.model.specs.declared.Call.{Call}

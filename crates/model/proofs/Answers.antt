@@ -12,7 +12,7 @@ use mathlib.Core.Option.{Option, none, some}
 use lib.Dec.{eqb}
 use borrow.Author.Tests.{ne-eqb, eqb-true}
 use Rattle.accounts.specs.declared.Accounts.{Accounts}
-use Rattle.model.specs.Lists.{all}
+use Rattle.lists.specs.Lists.{all}
 use Rattle.model.specs.Refusals.{Line, _when_, line-number, first-refusal}
 use Rattle.model.specs.Calls.{Outcome, unless}
 use Rattle.model.specs.Calls.{allocate, allocate-array, claim, release, free-all, sweep, reallocate, lend, remaining-of, can-release, list-block, clear}
@@ -20,7 +20,8 @@ use Rattle.model.specs.Step.{Answered, step, performed}
 use Rattle.model.specs.Answers.{Values, refusal-number, zero-handle, zero-range, refused, accepted, listed}
 use Rattle.model.specs.Answers.{verdict-values, handle-values, amount-values, range-values, block-values, answer-values}
 use Rattle.model.specs.Answers.{refusals, refusal-at, answer-from, verdict-from, handle-from, amount-from, range-from, listed-from, block-from, answer-of}
-use Rattle.model.proofs.Bools.{and-left, and-right}
+use Rattle.model.proofs.Rows
+use Rattle.lists.proofs.Bools.{and-left, and-right}
 use Rattle.model.specs.Rows.{call-lines}
 use Rattle.model.proofs.Refusals.{tables}
 use Rattle.model.specs.declared.ListedBlock.{ListedBlock}

@@ -4,7 +4,7 @@ use Rattle.accounts.specs.Accounts.{clear-permissions}
 use Rattle.layout.specs.Bytes.{bytes, number}
 use Rattle.layout.specs.Blocks.{header-bytes, read-header, starts-block, render-from, render, read-block, in-front, parse-from, parse}
 use Rattle.rounding.specs.Rounding.{unit, unit-2, table, object-length, alignment}
-use Rattle.model.specs.Lists.{all, any, keep, total, first, change-first, is-none, or-else}
+use Rattle.lists.specs.Lists.{all, any, keep, total, first, change-first, is-none, or-else}
 use Rattle.model.specs.Objects.{objects-from, objects, blocks-of, objects-of, whole, names, lookup, lookup-whole, found}
 use Rattle.model.specs.Consistent.{allowed, long-enough, starts-free, free-apart, well-cut, serials-differ, serials-given, record-valid, records-differ}
 use Rattle.model.specs.Consistent.{is-of, held, has-record, charged-for, charges, balanced-from, accounted-blocks, accounted-parsed, accounted}

@@ -18,16 +18,17 @@ use Rattle.accounts.specs.Accounts.{QUOTAS, zero-quota, zero-hold, used, is-for
 use Rattle.layout.specs.Bytes.{Octets}
 use Rattle.layout.specs.Blocks.{Block, size, QUARANTINED, live, occupied, render, parse, AllWritable}
 use Rattle.layout.proofs.Parse.{parse-is}
-use Rattle.model.specs.Lists.{all, any, or-else}
+use Rattle.lists.specs.Lists.{all, any, or-else}
 use Rattle.model.specs.Answers.{zero-handle}
 use Rattle.model.specs.Objects.{objects, objects-of, blocks-of}
 use Rattle.model.specs.Consistent.{long-enough, starts-free, free-apart, well-cut, has-serial, serials-differ, serials-given, record-valid}
 use Rattle.model.specs.Consistent.{records-differ, is-of, held, charges, balanced-from, accounted-blocks, accounted-parsed, accounted, consistent}
 use Rattle.model.specs.Consistent.{in-units, in-kind, in-range, greatest-serial}
 use Rattle.model.specs.declared.Handle.{Handle}
-use Rattle.model.proofs.Bools.{and-left, and-right, and-both, or-cases, or-left, or-right, implies, implied, fails}
-use Rattle.model.proofs.Lists.{all-member, member-all, none-member, all-exactly, any-exactly, any-and, unrelated}
-use Rattle.model.proofs.Lists.{unrelated-places, places-unrelated}
+use Rattle.model.proofs.Rows
+use Rattle.lists.proofs.Bools.{and-left, and-right, and-both, or-cases, or-left, or-right, implies, implied, fails}
+use Rattle.lists.proofs.Lists.{all-member, member-all, none-member, all-exactly, any-exactly, any-and, unrelated}
+use Rattle.lists.proofs.Lists.{unrelated-places, places-unrelated}
 
 -- the seven tests, for rules 5.2 to 5.8 in their order
 pub record Tests (bs : List Block) (k : Accounts) : Type 0 where

@@ -15,12 +15,13 @@ use Rattle.accounts.specs.Accounts.{permissible, permissions}
 use Rattle.layout.specs.Bytes.{Octets}
 use Rattle.layout.specs.Blocks.{Block, quarantined, parse}
 use Rattle.layout.proofs.Parse.{parse-is}
-use Rattle.model.specs.Lists.{all}
+use Rattle.lists.specs.Lists.{all}
 use Rattle.model.specs.Objects.{objects, objects-of, blocks-of}
 use Rattle.model.specs.Consistent.{in-units, in-kind, in-range, greatest-serial, accounted, consistent}
 use Rattle.model.specs.declared.Handle.{Handle}
-use Rattle.model.proofs.Bools.{and-left, and-right, and-both, implies, implied}
-use Rattle.model.proofs.Lists.{all-exactly}
+use Rattle.model.proofs.Rows
+use Rattle.lists.proofs.Bools.{and-left, and-right, and-both, implies, implied}
+use Rattle.lists.proofs.Lists.{all-exactly}
 use Rattle.model.proofs.Consistent.{Accounted, accounted-is, blocks-parsed}
 
 -- rule 5.10, of the objects: length and base are multiples of the length's unit

@@ -15,13 +15,14 @@ use Rattle.accounts.specs.declared.Hold.{Hold}
 use Rattle.accounts.specs.declared.Accounts.{Accounts}
 use Rattle.accounts.specs.Accounts.{zero-quota, zero-hold, charge, refund, clear-permissions, with-holds, used, unused, is-for, drop-records}
 use Rattle.accounts.proofs.Laws.{Kept as KeptBut, charge-kept, refund-kept, clear-kept}
-use Rattle.model.specs.Lists.{change-first}
+use Rattle.lists.specs.Lists.{change-first}
 use Rattle.model.specs.Holds.{with-count, take-record, raise-count, less-one, lower-count}
 use Rattle.model.specs.Refusals.{claims-first}
 use Rattle.model.specs.Consistent.{charge-of}
 use Rattle.model.specs.Calls.{State, allocated, claimed, given-back, released, freed, copied}
 use Rattle.model.specs.declared.Handle.{Handle}
-use Rattle.model.proofs.Bools.{and-left, and-right, and-both, and-no}
+use Rattle.model.proofs.Rows
+use Rattle.lists.proofs.Bools.{and-left, and-right, and-both, and-no}
 
 -- from k to k′ every grant stays, every quota but those that pay, each record at a place that passes a test, how many quotas and records there are, and the
 -- heap's kind and edition

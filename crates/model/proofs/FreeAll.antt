@@ -16,17 +16,18 @@ use Rattle.accounts.proofs.Laws.{refund-nothing}
 use Rattle.layout.specs.Bytes.{Octets}
 use Rattle.layout.specs.Blocks.{render}
 use Rattle.layout.proofs.Parse.{parse-is}
-use Rattle.model.specs.Lists.{all, any, total}
+use Rattle.lists.specs.Lists.{all, any, total}
 use Rattle.model.specs.Answers.{amount-of}
 use Rattle.model.specs.Objects.{blocks-of, objects, objects-of}
 use Rattle.model.specs.Consistent.{accounted, has-record, charged-for, charges}
 use Rattle.model.specs.Refusals.{first-refusal, free-all-lines}
 use Rattle.model.specs.Calls.{State, leaves, unless, unchanged, state-of, freed, free-all}
 use Rattle.model.specs.declared.Handle.{Handle}
-use Rattle.model.proofs.Bools.{and-both}
+use Rattle.model.proofs.Rows
+use Rattle.lists.proofs.Bools.{and-both}
 use Rattle.model.proofs.Consistent.{Tests, tests-exactly, accounted-cut, accounted-apart, accounted-facts, is-for-exactly}
 use Rattle.model.proofs.Settle.{stays-objects, drop-none, settle-none}
-use Rattle.model.proofs.Lists.{none-exactly}
+use Rattle.lists.proofs.Lists.{none-exactly}
 use Rattle.model.specs.Space.{stays}
 
 -- in a consistent state the sum of a quota's charges is what it has spent

@@ -6,8 +6,7 @@ pub mod Lines
 pub mod Inconsistent
 pub mod Quarantine
 pub mod Editions
-pub mod Bools
-pub mod Lists
+pub mod Rows
 pub mod Base
 pub mod Blocks
 pub mod Carve

@@ -14,13 +14,14 @@ use Rattle.accounts.specs.declared.Hold.{Hold}
 use Rattle.accounts.specs.declared.Accounts.{Accounts}
 use Rattle.layout.specs.Blocks.{Block, size, live}
 use Rattle.accounts.specs.Accounts.{used}
-use Rattle.model.specs.Lists.{first}
+use Rattle.lists.specs.Lists.{first}
 use Rattle.model.specs.Objects.{object, objects-from, objects, blocks-of, objects-of, whole, names, lookup, lookup-whole}
 use Rattle.model.specs.Consistent.{accounted, has-serial, serials-differ, records-differ}
 use Rattle.model.specs.declared.Handle.{Handle}
 use Rattle.model.proofs.Blocks.{live-occupied}
-use Rattle.model.proofs.Bools.{and-left, and-right, and-both}
-use Rattle.model.proofs.Lists.{first-some, first-none, first-found, member-any, search-some, search-none, unrelated-same}
+use Rattle.model.proofs.Rows
+use Rattle.lists.proofs.Bools.{and-left, and-right, and-both}
+use Rattle.lists.proofs.Lists.{first-some, first-none, first-found, member-any, search-some, search-none, unrelated-same}
 use Rattle.model.proofs.Consistent.{is-for-exactly, serials-unrelated, records-unrelated, same-hold, tests-exactly, accounted-cut}
 use Rattle.model.proofs.Consistent.{accounted-facts}
 

@@ -19,7 +19,7 @@ use Rattle.accounts.specs.Accounts.{with-permissions, permissions, permissible,
 use Rattle.accounts.proofs.Laws.{change-there, change-case, change-but}
 use Rattle.accounts.proofs.Permissions.{cleared-bits}
 use Rattle.layout.specs.Blocks.{Block, parse}
-use Rattle.model.specs.Lists.{all}
+use Rattle.lists.specs.Lists.{all}
 use Rattle.model.specs.Objects.{objects, objects-of, lookup, lookup-whole, found}
 use Rattle.model.specs.Consistent.{charge-of, charges, balanced-from, accounted-blocks, accounted-parsed, accounted}
 use Rattle.model.specs.Holds.{take-record, raise-count}
@@ -32,7 +32,8 @@ use Rattle.model.specs.declared.Handle.{Handle}
 use Rattle.model.specs.declared.Call.{Call}
 use Rattle.model.specs.declared.Call.the-variants.{Allocate, AllocateArray, Claim, Release, FreeAll, Reallocate, Lend, Remaining, CanRelease, ListBlock}
 use Rattle.model.specs.declared.Call.the-variants.{ClearPermissions, Sweep}
-use Rattle.model.proofs.Bools.{and-both, and-left, and-right, and-no, and-yes}
+use Rattle.model.proofs.Rows
+use Rattle.lists.proofs.Bools.{and-both, and-left, and-right, and-no, and-yes}
 
 -- payments leave the permissions
 refund-permissions : (q n : ℕ) (k : Accounts) → permissions (refund q n k) ≡ permissions k

@@ -10,7 +10,7 @@ use Rattle.accounts.specs.Accounts.{zero-accounts, opened, with-holds, with-las
 use Rattle.accounts.specs.Accounts.{clear-permissions}
 use Rattle.layout.specs.Blocks.{Block, size, render, quarantined}
 use Rattle.rounding.specs.Rounding.{object-length}
-use Rattle.model.specs.Lists.{first, or-else, total, keep}
+use Rattle.lists.specs.Lists.{first, or-else, total, keep}
 use Rattle.model.specs.Answers.{Values, zero-handle, refused, accepted, given, amount-of, lent, listed}
 use Rattle.model.specs.Objects.{blocks-of, objects-of, lookup, lookup-whole, found}
 use Rattle.model.specs.Consistent.{charge-of, charges}

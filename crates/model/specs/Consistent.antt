@@ -10,7 +10,7 @@ use Rattle.accounts.specs.declared.Hold.{Hold}
 use Rattle.accounts.specs.declared.Accounts.{Accounts}
 use Rattle.accounts.specs.Accounts.{QUOTAS, used, is-for, permissible, permissions}
 use Rattle.layout.specs.Blocks.{Block, size, occupied, parse, greatest-heap, quarantined}
-use Rattle.model.specs.Lists.{all, any, total}
+use Rattle.lists.specs.Lists.{all, any, total}
 use Rattle.model.specs.Objects.{objects, blocks-of, objects-of}
 use Rattle.model.specs.declared.Handle.{Handle}
 

@@ -9,7 +9,7 @@ use lib.Dec.{leb, ltb, eqb}
 use Rattle.accounts.specs.declared.Accounts.{Accounts}
 use Rattle.accounts.specs.Accounts.{QUOTAS, ALLOCATE, CLAIM, FREE-ALL, used, remaining, permits}
 use Rattle.rounding.specs.Rounding.{object-length, alignment}
-use Rattle.model.specs.Lists.{all, is-none}
+use Rattle.lists.specs.Lists.{all, is-none}
 use Rattle.model.specs.Objects.{blocks-of, lookup, lookup-whole, found}
 use Rattle.model.specs.Consistent.{allowed, consistent, greatest-serial, charge-of, has-record}
 use Rattle.model.specs.Space.{lowest-base}

@@ -12,7 +12,7 @@ use lib.Dec.{ltb}
 use Rattle.accounts.specs.declared.Accounts.{Accounts}
 use Rattle.layout.specs.Blocks.{Block, total-size, parse}
 use Rattle.layout.proofs.Render.{size-append}
-use Rattle.model.specs.Lists.{or-else}
+use Rattle.lists.specs.Lists.{or-else}
 use Rattle.model.specs.Answers.{accepted, refused, lent, refusal-number, verdict-values}
 use Rattle.model.specs.Objects.{blocks-of, lookup, found}
 use Rattle.model.specs.Refusals.{first-refusal, line-5, lend-lines, row-lines}

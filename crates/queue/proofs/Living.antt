@@ -15,7 +15,7 @@ use Rattle.accounts.specs.declared.Hold.{Hold}
 use Rattle.accounts.specs.declared.Accounts.{Accounts}
 use Rattle.rounding.specs.Rounding.{Units, table}
 use Rattle.rounding.proofs.Editions.{table-is}
-use Rattle.model.specs.Lists.{is-none}
+use Rattle.lists.specs.Lists.{is-none}
 use Rattle.model.specs.Answers.{lent, zero-handle}
 use Rattle.model.specs.Objects.{objects-of, lookup}
 use Rattle.model.specs.Consistent.{allowed, consistent}

@@ -11,7 +11,7 @@ use lib.Dec.{eqb}
 use borrow.Author.Tests.{eqb-true, eq-eqb}
 use Rattle.accounts.specs.declared.Accounts.{Accounts}
 use Rattle.rounding.specs.Rounding.{Units}
-use Rattle.model.specs.Lists.{or-else}
+use Rattle.lists.specs.Lists.{or-else}
 use Rattle.model.specs.Answers.{amount-of}
 use Rattle.model.specs.Objects.{blocks-of, objects, objects-of, lookup, found}
 use Rattle.model.specs.Consistent.{accounted, consistent, has-record}
@@ -21,7 +21,7 @@ use Rattle.model.specs.Calls.{Outcome, State, leaves, unless, unchanged, state-
 use Rattle.model.specs.Step.{step}
 use Rattle.model.specs.declared.Handle.{Handle}
 use Rattle.model.specs.declared.Call.the-variants.{Claim, CanRelease}
-use Rattle.model.proofs.Bools.{and-right}
+use Rattle.lists.proofs.Bools.{and-right}
 use Rattle.model.proofs.Refusals.{call-accepted-exactly}
 use Rattle.model.proofs.Lookup.{lookup-named}
 use Rattle.model.proofs.Settle.{object-held}

@@ -14,7 +14,7 @@ use Rattle.model.specs.Consistent.{allowed}
 use Rattle.model.specs.Refusals.{first-refusal, line-1, line-2, check-lines, row-lines}
 use Rattle.model.specs.Step.{own-step}
 use Rattle.model.specs.declared.Call.{Call}
-use Rattle.model.proofs.Bools.{and-right}
+use Rattle.lists.proofs.Bools.{and-right}
 use Rattle.ledger.specs.Ledger.{Called, empty, ledger-of}
 use Rattle.ledger.specs.Demand3.{AsRecorded}
 use Rattle.ledger.proofs.Theorem.{demand-3}

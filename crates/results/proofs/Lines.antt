@@ -12,13 +12,13 @@ use Rattle.accounts.specs.declared.Accounts.{Accounts}
 use Rattle.accounts.specs.Accounts.{QUOTAS, quota-at, permits}
 use Rattle.model.specs.Answers.{Values, refused, refusal-number, verdict-values}
 use Rattle.model.specs.Refusals.{Line, _when_, first-refusal, line-1, line-2, line-3, line-12, check-lines, row-lines}
-use Rattle.model.specs.Lists.{all, any}
+use Rattle.lists.specs.Lists.{all, any}
 use Rattle.model.specs.Consistent.{allowed, accounted, consistent}
 use Rattle.model.specs.Calls.{Outcome, unless, unchanged, check}
 use Rattle.model.specs.declared.Refusal.{Refusal}
 use Rattle.model.specs.declared.Verdict.{Verdict}
 use Rattle.model.specs.declared.Verdict.the-variants.{Accepted, Refused}
-use Rattle.model.proofs.Bools.{and-left, and-right, or-neither}
+use Rattle.lists.proofs.Bools.{and-left, and-right, or-neither}
 use Rattle.model.proofs.Answers.{refusal-number-is}
 use Rattle.model.proofs.Consistent.{consistent-accounted}
 use Rattle.model.proofs.Refusals.{Numbered, check-by-lines, refusal-of-lines, answers-none, unless-refused}

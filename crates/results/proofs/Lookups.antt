@@ -20,7 +20,7 @@ use Rattle.lookup.specs.Walk.{object-met, find-object}
 use Rattle.lookup.proofs.Parsed.{total-parsed}
 use Rattle.lookup.proofs.Named.{lookup-found, lookup-missing}
 use Rattle.model.specs.Answers.{verdict-values, lent}
-use Rattle.model.specs.Lists.{is-none, or-else}
+use Rattle.lists.specs.Lists.{is-none, or-else}
 use Rattle.model.specs.Objects.{blocks-of, lookup, found}
 use Rattle.model.specs.Consistent.{allowed, has-record}
 use Rattle.model.specs.Refusals.{Line, first-refusal, line-1, line-2, line-3, line-5, line-6, lend-lines, release-lines, row-lines}
@@ -28,7 +28,7 @@ use Rattle.model.specs.Calls.{unchanged, check, lend}
 use Rattle.model.specs.declared.Handle.{Handle}
 use Rattle.model.specs.declared.Verdict.{Verdict}
 use Rattle.model.specs.declared.Verdict.the-variants.{Accepted}
-use Rattle.model.proofs.Bools.{and-right}
+use Rattle.lists.proofs.Bools.{and-right}
 use Rattle.model.proofs.Consistent.{accounted-cut}
 use Rattle.results.proofs.Lines.{check-accepts, check-accounted, accepted-is, line-refuses, line-passes, line-3-passes}
 use Rattle.results.proofs.Records.{found-some, nothing-some}

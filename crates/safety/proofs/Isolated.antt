@@ -11,7 +11,7 @@ use Rattle.accounts.specs.declared.Quota.{Quota}
 use Rattle.accounts.specs.declared.Accounts.{Accounts}
 use Rattle.accounts.specs.Accounts.{QUOTAS, remaining, used, permits, left-permissions, cleared}
 use Rattle.rounding.specs.Rounding.{table}
-use Rattle.model.specs.Lists.{total}
+use Rattle.lists.specs.Lists.{total}
 use Rattle.model.specs.Answers.{given, amount-of}
 use Rattle.model.specs.Objects.{blocks-of, objects, objects-of, lookup, lookup-whole, found}
 use Rattle.model.specs.Consistent.{accounted, consistent, has-record, charged-for, charges}
@@ -24,8 +24,8 @@ use Rattle.model.specs.declared.Handle.{Handle}
 use Rattle.model.specs.declared.Call.{Call}
 use Rattle.model.specs.declared.Call.the-variants.{Allocate, AllocateArray, Claim, Release, FreeAll, Reallocate, Lend, Remaining, CanRelease, ListBlock}
 use Rattle.model.specs.declared.Call.the-variants.{ClearPermissions, Sweep}
-use Rattle.model.proofs.Bools.{fails, implied, and-both}
-use Rattle.model.proofs.Lists.{member-all}
+use Rattle.lists.proofs.Bools.{fails, implied, and-both, same-test}
+use Rattle.lists.proofs.Lists.{member-all}
 use Rattle.model.proofs.Consistent.{tests-exactly, valid-exactly, accounted-cut, consistent-accounted}
 use Rattle.invariant.proofs.Good.{proper, Ordered}
 use Rattle.invariant.proofs.Counts.{record-counted}
@@ -45,11 +45,6 @@ accounted-ordered s k c =
           (let v = valid h m u in and-both (ltb (h .quota) QUOTAS) (leb 1 (h .count)) (lt-ltb (h .quota) QUOTAS (v .3)) (le-leb 1 (h .count) (v .4)))));
       differ = t .unique;
     }
-
--- a test that passes exactly where another does is the same
-same-test : (a b : Bool) → (a ≡ true → b ≡ true) → (b ≡ true → a ≡ true) → a ≡ b
-same-test true b f g = sym (f refl)
-same-test false b f g = sym (fails b (λ e. absurd (false≢true (g e))))
 
 -- `unless` answers the same where the refusals and what is due are the same
 unless-same : (m n : ℕ) (s : List ℕ) (k k′ : Accounts) (x y : Outcome) → m ≡ n → x .values ≡ y .values → unless m s k x .values ≡ unless n s k′ y .values

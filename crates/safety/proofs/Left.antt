@@ -11,7 +11,7 @@ use Rattle.accounts.specs.declared.settings.Settings.{Settings}
 use Rattle.rounding.specs.Rounding.{Units, table}
 use Rattle.rounding.proofs.Editions.{table-is}
 use Rattle.layout.specs.Blocks.{Block, live, QUARANTINED, render}
-use Rattle.model.specs.Lists.{all}
+use Rattle.lists.specs.Lists.{all}
 use Rattle.model.specs.Objects.{blocks-of, objects, objects-of, lookup, lookup-whole, found}
 use Rattle.model.specs.Consistent.{long-enough, well-cut, charges}
 use Rattle.model.specs.Refusals.{first-refusal, quota-lines, free-all-lines, lend-lines, release-lines, claim-lines, check-lines, allocate-lines}
@@ -23,8 +23,8 @@ use Rattle.model.specs.declared.Handle.{Handle}
 use Rattle.model.specs.declared.Call.{Call}
 use Rattle.model.specs.declared.Call.the-variants.{Allocate, AllocateArray, Claim, Release, FreeAll, Reallocate, Lend, Remaining, CanRelease, ListBlock}
 use Rattle.model.specs.declared.Call.the-variants.{ClearPermissions, Sweep}
-use Rattle.model.proofs.Bools.{and-right, and-both}
-use Rattle.model.proofs.Lists.{all-member, member-all}
+use Rattle.lists.proofs.Bools.{and-right, and-both}
+use Rattle.lists.proofs.Lists.{all-member, member-all}
 use Rattle.model.proofs.Refusals.{unless-where}
 use Rattle.invariant.proofs.Good.{Good}
 use Rattle.invariant.proofs.Heaps.{good-heap, heap-again}

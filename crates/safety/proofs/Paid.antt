@@ -16,12 +16,12 @@ use Rattle.accounts.specs.declared.Accounts.{Accounts}
 use Rattle.accounts.specs.Accounts.{QUOTAS}
 use Rattle.rounding.specs.Rounding.{Units, table}
 use Rattle.rounding.proofs.Editions.{table-is}
-use Rattle.model.specs.Lists.{all, total}
+use Rattle.lists.specs.Lists.{all, total}
 use Rattle.model.specs.Objects.{blocks-of, objects, objects-of}
 use Rattle.model.specs.Consistent.{accounted, charge-of, held, charged-for, charges, balanced-from}
 use Rattle.model.specs.Step.{own-step}
 use Rattle.model.specs.declared.Handle.{Handle}
-use Rattle.model.proofs.Bools.{and-left, and-right}
+use Rattle.lists.proofs.Bools.{and-left, and-right}
 use Rattle.model.proofs.Consistent.{tests-exactly, accounted-cut}
 use Rattle.invariant.proofs.Good.{Ordered}
 use Rattle.invariant.proofs.Counts.{held-counted, counted-quota, record-counted}

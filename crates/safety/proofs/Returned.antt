@@ -17,15 +17,15 @@ use Rattle.accounts.specs.Accounts.{with-permissions, with-last-serial}
 use Rattle.rounding.specs.Rounding.{Units, table}
 use Rattle.rounding.proofs.Editions.{table-is}
 use Rattle.layout.specs.Blocks.{Block, size, occupied, quarantined, live, render}
-use Rattle.model.specs.Lists.{all, any, total}
+use Rattle.lists.specs.Lists.{all, any, total}
 use Rattle.model.specs.Answers.{accepted}
 use Rattle.model.specs.Objects.{blocks-of, objects-from, objects, objects-of}
 use Rattle.model.specs.Consistent.{allowed, starts-free, free-apart, record-valid, charges, balanced-from}
 use Rattle.model.specs.Refusals.{first-refusal, line-1, open-lines}
 use Rattle.model.specs.Calls.{Outcome, unless, fresh, open-heap}
 use Rattle.model.specs.Step.{own-step}
-use Rattle.model.proofs.Bools.{and-left, and-right}
-use Rattle.model.proofs.Lists.{all-member}
+use Rattle.lists.proofs.Bools.{and-left, and-right}
+use Rattle.lists.proofs.Lists.{all-member}
 use Rattle.model.proofs.Blocks.{apart-head}
 use Rattle.model.proofs.Consistent.{Tests, tests-exactly, accounted-cut, accounted-apart}
 use Rattle.invariant.proofs.Heaps.{heap-again, render-total}

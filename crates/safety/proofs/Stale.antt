@@ -13,7 +13,7 @@ use Rattle.accounts.specs.declared.Accounts.{Accounts}
 use Rattle.accounts.specs.Accounts.{ALLOCATE, CLAIM}
 use Rattle.rounding.specs.Rounding.{Units, table}
 use Rattle.rounding.proofs.Editions.{table-is}
-use Rattle.model.specs.Lists.{all, any, is-none}
+use Rattle.lists.specs.Lists.{all, any, is-none}
 use Rattle.model.specs.Answers.{Values, refused}
 use Rattle.model.specs.Objects.{objects-of, names, lookup, lookup-whole}
 use Rattle.model.specs.Consistent.{allowed, consistent}
@@ -24,8 +24,8 @@ use Rattle.model.specs.declared.Handle.{Handle}
 use Rattle.model.specs.declared.Call.{Call}
 use Rattle.model.specs.declared.Call.the-variants.{Allocate, AllocateArray, Claim, Release, FreeAll, Reallocate, Lend, Remaining, CanRelease, ListBlock}
 use Rattle.model.specs.declared.Call.the-variants.{ClearPermissions, Sweep}
-use Rattle.model.proofs.Bools.{and-right}
-use Rattle.model.proofs.Lists.{first-none, none-exactly}
+use Rattle.lists.proofs.Bools.{and-right}
+use Rattle.lists.proofs.Lists.{first-none, none-exactly}
 use Rattle.model.proofs.Refusals.{Numbered, by-lines, unless-refused}
 use Rattle.model.proofs.Lookup.{names-exactly, lookup-whole-none}
 use Rattle.model.proofs.StepFrame.{step-serial}

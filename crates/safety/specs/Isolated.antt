@@ -6,7 +6,7 @@ use mathlib.Core.Bool.{true}
 use mathlib.Core.Option.{some}
 use Rattle.accounts.specs.declared.Accounts.{Accounts}
 use Rattle.accounts.specs.Accounts.{quota-at, used}
-use Rattle.model.specs.Lists.{all}
+use Rattle.lists.specs.Lists.{all}
 use Rattle.model.specs.Consistent.{consistent as is-consistent}
 use Rattle.model.specs.Holds.{count-of}
 use Rattle.model.specs.declared.Call.{Call}

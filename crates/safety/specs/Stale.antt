@@ -8,7 +8,7 @@ use lib.Dec.{eqb}
 use lib.ListN.{drop}
 use Rattle.accounts.specs.declared.Accounts.{Accounts}
 use Rattle.rounding.specs.Rounding.{unit}
-use Rattle.model.specs.Lists.{any}
+use Rattle.lists.specs.Lists.{any}
 use Rattle.model.specs.Answers.{refusal-number, refused}
 use Rattle.model.specs.Objects.{objects-of}
 use Rattle.model.specs.Refusals.{Line, _when_, line-holds, first-refusal, lines-of, line-for}

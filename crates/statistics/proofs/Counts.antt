@@ -9,7 +9,7 @@ use mathlib.Core.Option.{some}
 use borrow.Author.Tests.{eqb-true}
 use lib.Dec.{eqb}
 use Rattle.layout.specs.Blocks.{Block, size, units, free, quarantined, live, QUARANTINED, parse}
-use Rattle.model.specs.Lists.{total}
+use Rattle.lists.specs.Lists.{total}
 use Rattle.lookup.specs.declared.Met.{Met}
 use Rattle.lookup.specs.Walk.{met, live-met}
 use Rattle.lookup.proofs.Parsed.{met-of, met-parsed, placed}

@@ -18,7 +18,7 @@ use Rattle.rounding.proofs.Rounding.{at-least-8}
 use Rattle.rounding.proofs.Editions.{table-is}
 use Rattle.layout.specs.Blocks.{size, free, live, quarantined, greatest-heap, parse}
 use Rattle.model.specs.Answers.{refusal-number}
-use Rattle.model.specs.Lists.{all, total, is-none}
+use Rattle.lists.specs.Lists.{all, total, is-none}
 use Rattle.model.specs.Objects.{blocks-of}
 use Rattle.model.specs.Consistent.{accounted}
 use Rattle.model.specs.Refusals.{_when_, line-11, base-for}

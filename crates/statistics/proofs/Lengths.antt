@@ -11,10 +11,9 @@ use lib.Dec.{leb, ltb, eqb}
 use lib.ListN.{length}
 use Rattle.rounding.specs.Rounding.{object-length, alignment, Units}
 use Rattle.rounding.proofs.Rounding.{rounded, at-least-8}
-use Rattle.model.specs.Lists.{is-none}
+use Rattle.lists.specs.Lists.{is-none}
 use Rattle.model.specs.Refusals.{base-for}
-use Rattle.model.proofs.Bools.{and-left, and-right, and-no, fails}
-use Rattle.audit.proofs.Cases.{by-test, by-eq}
+use Rattle.lists.proofs.Bools.{and-left, and-right, and-no, fails, by-test, by-eq}
 use Rattle.statistics.specs.Statistics.{greatest, has-base, largest}
 use Rattle.statistics.specs.Tallies.{units-in, reach}
 use Rattle.statistics.proofs.Units.{Told, Makes, Rows, whole, under, counts, times, apart, some-unit, rounds}

@@ -10,7 +10,7 @@ use borrow.Author.Tests.{leb-true, leb-false, le-leb, lt-leb, lt-ltb, le-ltb}
 use lib.Dec.{leb, ltb, eqb}
 use lib.ListN.{length}
 use Rattle.layout.specs.Blocks.{Block, size, units, parse}
-use Rattle.model.specs.Lists.{first, total, is-none}
+use Rattle.lists.specs.Lists.{first, total, is-none}
 use Rattle.model.specs.Objects.{blocks-of}
 use Rattle.model.specs.Consistent.{free-apart}
 use Rattle.model.specs.Space.{lowest-base}

@@ -8,7 +8,7 @@ use Rattle.accounts.specs.declared.Accounts.{Accounts}
 use Rattle.accounts.specs.Accounts.{used, quota-at, remaining}
 use Rattle.layout.specs.Blocks.{Block, size, free, quarantined, live}
 use Rattle.rounding.specs.Rounding.{alignment}
-use Rattle.model.specs.Lists.{total, is-none}
+use Rattle.lists.specs.Lists.{total, is-none}
 use Rattle.model.specs.Objects.{blocks-of}
 use Rattle.model.specs.Refusals.{first-refusal, check-lines, quota-lines, base-for}
 use Rattle.survey.specs.Shares.{how-many, is-own, is-shared}

@@ -4,7 +4,7 @@ use mathlib.Core.List.{List}
 use mathlib.Core.Bool.{Bool, not, cond, _&&_}
 use lib.Dec.{leb, eqb}
 use Rattle.layout.specs.Blocks.{QUARANTINED}
-use Rattle.model.specs.Lists.{total}
+use Rattle.lists.specs.Lists.{total}
 use Rattle.lookup.specs.declared.Met.{Met}
 use Rattle.lookup.specs.Walk.{occupied-met, live-met, base-in}
 use Rattle.survey.specs.Shares.{one-if, how-many}

@@ -16,10 +16,10 @@ use Rattle.layout.specs.Blocks.{start-at}
 use Rattle.layout.specs.declared.Header.{Header}
 use Rattle.layout.specs.declared.Start.the-variants.{Block as Starts, Nothing}
 use Rattle.layout.proofs.Starts.{start-found}
-use Rattle.model.specs.Lists.{all, any, keep}
+use Rattle.lists.specs.Lists.{all, any, keep}
 use Rattle.model.specs.Objects.{blocks-of}
 use Rattle.model.specs.Consistent.{is-of, held, accounted}
-use Rattle.model.proofs.Bools.{and-left, and-right, and-both}
+use Rattle.lists.proofs.Bools.{and-left, and-right, and-both}
 use Rattle.model.proofs.Consistent.{tests-exactly, accounted-cut, is-of-exactly}
 use Rattle.lookup.specs.declared.Met.{Met}
 use Rattle.lookup.specs.Walk.{met-from, met, live-met}

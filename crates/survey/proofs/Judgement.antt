@@ -25,12 +25,12 @@ use Rattle.survey.proofs.Closing.{left-long}
 use Rattle.survey.proofs.Opening.{keyed, ready}
 use Rattle.model.specs.declared.Refusal.the-variants.{HeapLength, Inconsistent}
 use Rattle.model.specs.declared.Verdict.the-variants.{Accepted, Refused}
-use Rattle.model.specs.Lists.{all}
+use Rattle.lists.specs.Lists.{all}
 use Rattle.model.specs.Answers.{verdict-values}
 use Rattle.model.specs.Consistent.{allowed, in-range, consistent, greatest-serial}
 use Rattle.model.specs.Refusals.{first-refusal, line-1, line-2, row-lines}
 use Rattle.model.specs.Calls.{unless, check}
-use Rattle.model.proofs.Bools.{and-left, and-right, and-no, and-yes}
+use Rattle.lists.proofs.Bools.{and-left, and-right, and-no, and-yes}
 use Rattle.audit.specs.Keys.{well-formed, keys-of}
 use Rattle.audit.specs.Audit.{owes, solvent, entry-valid, all-zero, begin, audit, audit-parsed, audited}
 use Rattle.audit.specs.Contracts.{Owing}

@@ -9,7 +9,7 @@ use mathlib.Core.Logic.{_⊎_}
 use lib.Dec.{eqb, ltb, leb}
 use lib.ListN.{length, getD}
 use Rattle.accounts.specs.Accounts.{QUOTAS, HOLDS}
-use Rattle.model.specs.Lists.{all}
+use Rattle.lists.specs.Lists.{all}
 use Rattle.audit.specs.Keys.{well-formed, key-of, for-serial}
 use Rattle.words.specs.Words.{tabulate, hold-in, serial-in, holds-of}
 

@@ -8,17 +8,11 @@ use borrow.Author.Tests.{eqb-true, eqb-false}
 use lib.Dec.{eqb}
 use lib.ListN.{length, getD, set, length-set}
 use lib.Seq.{getD-set-same, getD-set-other, ext-getD}
+use Rattle.lists.proofs.Bools.{by-eq}
 use Rattle.accounts.specs.declared.Quota.{Quota}
 use Rattle.accounts.specs.declared.Hold.{Hold}
 use Rattle.accounts.specs.Accounts.{QUOTAS, HOLDS, zero-hold, zero-quota}
 use Rattle.words.specs.Words.{tabulate, hold-in, entry-in, holds-of, quotas-of}
-
-pub by-eq : {A : Type 0} (a b : ℕ) → (a ≡ b → A) → ((a ≡ b → ⊥) → A) → A
-by-eq {A} a b f g = go (eqb a b) refl
-  where
-    go : (t : Bool) → eqb a b ≡ t → A
-    go true e = f (eqb-true a b e)
-    go false e = g (eqb-false a b e)
 
 module _ {A : Type 0} where
   pub length-table : (n : ℕ) (f : ℕ → A) (i : ℕ) → length (tabulate n f i) ≡ n

@@ -6,7 +6,7 @@ use mathlib.Core.Path.{_≡_, refl, ap, sym, _∙_}
 use mathlib.Core.List.{List, [], _∷_}
 use mathlib.Core.Bool.{false}
 use Rattle.accounts.specs.declared.Accounts.{Accounts}
-use Rattle.model.specs.Lists.{any}
+use Rattle.lists.specs.Lists.{any}
 use Rattle.model.specs.Answers.{refused}
 use Rattle.model.specs.Refusals.{line-holds, first-refusal, lend-lines}
 use Rattle.model.specs.Calls.{Outcome, unchanged}

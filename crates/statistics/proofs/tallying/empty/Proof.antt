@@ -1,6 +1,6 @@
 -- `statistics::tallying::empty` meets its contract: every number of no block is 0.
 use borrow.Author.Needs.{needs}
-use Rattle.model.specs.Lists.{total}
+use Rattle.lists.specs.Lists.{total}
 use Rattle.survey.specs.Shares.{how-many}
 use Rattle.statistics.specs.Statistics.{most}
 use Rattle.statistics.specs.Tallies.{count-met, tally-of}

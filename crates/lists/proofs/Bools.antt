@@ -1,15 +1,10 @@
 -- What a test that is an `and`, an `or` or a `not` says of its parts: each law by the cases of a test.
--- Every law stands on these, and these name the computed tables, so that a wrong definition is refused at a row before it is at a law.
-use mathlib.Core.Path.{_≡_, refl}
+use Prim.Native.Nat.{ℕ}
+use mathlib.Core.Path.{_≡_, refl, sym}
 use mathlib.Core.Bool.{Bool, true, false, not, _&&_, _||_, false≢true, true≢false}
 use mathlib.Core.Logic.{_⊎_, inl, inr}
-use Rattle.model.proofs.Marked
-use Rattle.model.proofs.Cases
-use Rattle.model.proofs.Lines
-use Rattle.model.proofs.Inconsistent
-use Rattle.model.proofs.Units
-use Rattle.model.proofs.Quarantine
-use Rattle.model.proofs.Editions
+use borrow.Author.Tests.{eqb-true, eqb-false}
+use lib.Dec.{eqb}
 
 pub and-left : (a b : Bool) → (a && b) ≡ true → a ≡ true
 and-left true b e = refl
@@ -58,3 +53,21 @@ implied false b f = refl
 pub fails : (a : Bool) → (a ≡ true → ⊥) → a ≡ false
 fails true f = absurd (f refl)
 fails false f = refl
+
+-- both parts of an `and` that holds
+pub and-parts : (a b : Bool) → (a && b) ≡ true → (a ≡ true) × (b ≡ true)
+and-parts a b e = (and-left a b e, and-right a b e)
+
+-- cases of a test, and of two numbers
+pub by-test : {A : Type 0} (t : Bool) → (t ≡ true → A) → (t ≡ false → A) → A
+by-test true f g = f refl
+by-test false f g = g refl
+
+pub by-eq : {A : Type 0} (a b : ℕ) → (a ≡ b → A) → ((a ≡ b → ⊥) → A) → A
+by-eq a b f g = by-test (eqb a b) (λ e. f (eqb-true a b e)) (λ e. g (eqb-false a b e))
+
+-- two tests are the same if each passes where the other does
+pub same-test : (a b : Bool) → (a ≡ true → b ≡ true) → (b ≡ true → a ≡ true) → a ≡ b
+same-test true b f g = sym (f refl)
+same-test false true f g = g refl
+same-test false false f g = refl

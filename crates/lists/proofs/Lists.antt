@@ -10,8 +10,8 @@ use mathlib.Core.Option.{none, some, Option·none-ne-some, Option·some-ne-none,
 use mathlib.Core.Logic.{_⊎_, inl, inr, _↔_}
 use lib.ListN.{length, getD}
 use borrow.Author.Tests.{not-true}
-use Rattle.model.specs.Lists.{all, any, total, first}
-use Rattle.model.proofs.Bools.{and-left, and-right, and-both, or-cases, or-left, or-right, fails}
+use Rattle.lists.specs.Lists.{all, any, total, first}
+use Rattle.lists.proofs.Bools.{and-left, and-right, and-both, or-cases, or-left, or-right, fails}
 
 module _ {A : Type 0} (p : A → Bool) where
   -- a test holds of all exactly if it holds of each member
