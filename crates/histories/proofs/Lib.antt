@@ -1,3 +1,7 @@
+pub mod CallRows
+pub mod Histories
+pub mod Writes
+pub mod StaleWrites
 pub mod Typing
 pub mod Restoring
 pub mod Elsewhere

@@ -20,8 +20,8 @@ use Rattle.ledger.specs.History.{Begins, Opening, History}
 use Rattle.ledger.specs.Demand3.{Holds}
 use Rattle.ledger.proofs.Theorem.{demand-3}
 use Rattle.results.specs.Results.{opened-outcome, opened-result}
-use Rattle.call_history.specs.Performs.{Granted, Performs, Opens, Calls, Writes}
-use Rattle.call_history.proofs.Rows
+use Rattle.histories.specs.Performs.{Granted, Performs, Opens, Calls, Writes}
+use Rattle.histories.proofs.CallRows
 
 -- what the contracts of `in_place::open` and `in_place::perform` promise, word for word, are the first event and the
 -- next one

@@ -4,7 +4,7 @@ use lib.ListN.{replicate}
 use Rattle.accounts.specs.Accounts.{HOLDS, zero-hold, with-holds, with-edition}
 use Rattle.image_model.specs.Answers.{Restored-to}
 use Rattle.image_model.specs.Images.{read-image}
-use Rattle.image_history.specs.Restores.{Reader}
+use Rattle.histories.specs.Restores.{Reader}
 
 -- it gives back objects and grants, and no hold record
 unfoldable pub bare : Restored-to → Restored-to

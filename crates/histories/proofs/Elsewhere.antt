@@ -15,8 +15,8 @@ use Rattle.image_model.specs.declared.Form.{Form}
 use Rattle.image_model.specs.Images.{write-image, read-image}
 use Rattle.image_model.proofs.Places.{Known}
 use Rattle.image_model.proofs.Trips.{write-then-read}
-use Rattle.image_history.specs.Restores.{written-image, Elsewhere, ReadAnywhere}
-use Rattle.image_history.proofs.Typing.{restorable-typed}
+use Rattle.histories.specs.Restores.{written-image, Elsewhere, ReadAnywhere}
+use Rattle.histories.proofs.Typing.{restorable-typed}
 
 module _ (tables : ℕ → ℕ → ℕ) (units : (e : ℕ) → Units (tables e)) where
   module _ (begun : Ledger) (early : List Event) (s₁ : List ℕ) (k₁ : Accounts)

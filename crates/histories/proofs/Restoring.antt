@@ -23,8 +23,8 @@ use Rattle.image_model.proofs.Refusals.{refused-read, accepted-read}
 use Rattle.image_model.proofs.Read.{read-written}
 use Rattle.image_model.proofs.Written.{written-read}
 use Rattle.image_model.proofs.Trips.{write-then-read}
-use Rattle.image_history.specs.Restores.{written-image, Continues}
-use Rattle.image_history.proofs.Typing.{restorable-typed}
+use Rattle.histories.specs.Restores.{written-image, Continues}
+use Rattle.histories.proofs.Typing.{restorable-typed}
 
 module _ (i h : List ℕ) (octets : Octets i) (accepted : read-image i h .refusal ≡ 0) where
   -- what an image gives back may be restored

@@ -11,7 +11,7 @@ use Rattle.ledger.specs.History.{Run, History}
 use Rattle.image_model.specs.Answers.{Restored-to}
 use Rattle.image_model.specs.Images.{read-image, kept-unless, restore-image}
 use Rattle.image_model.proofs.Refusals.{refused-read}
-use Rattle.image_history.proofs.Restoring.{restored-goes-on}
+use Rattle.histories.proofs.Restoring.{restored-goes-on}
 
 module _ (i s : List ℕ) (k : Accounts) where
   -- accepted, it leaves what the reader gives

@@ -20,9 +20,9 @@ use Rattle.image_model.specs.Answers.{Restored-to}
 use Rattle.image_model.specs.Images.{write-image, read-image}
 use Rattle.image_model.proofs.Computing.{computing}
 use Rattle.image_model.proofs.Places.{known-2}
-use Rattle.image_history.specs.Restores.{written-image, Reader, Elsewhere, ReadAnywhere}
-use Rattle.image_history.specs.Wrong.{bare, forgets-holds, of-edition-1, forgets-edition}
-use Rattle.image_history.proofs.Elsewhere.{read-anywhere}
+use Rattle.histories.specs.Restores.{written-image, Reader, Elsewhere, ReadAnywhere}
+use Rattle.histories.specs.Wrong.{bare, forgets-holds, of-edition-1, forgets-edition}
+use Rattle.histories.proofs.Elsewhere.{read-anywhere}
 
 -- a heap of 64 bytes with an object of 8, which quota 0 holds; an image of it fits 5,120 bytes
 module _ (g : Settings) where

@@ -20,7 +20,7 @@ use Rattle.model.specs.declared.AmountAnswer.the-variants.{Amount, Refused as N
 use Rattle.model.specs.declared.Refusal.the-variants.{NoSuchObject}
 use Rattle.model.proofs.Computing.{computing}
 use Rattle.ledger.specs.Ledger.{Event, Called}
-use Rattle.call_history.specs.Performs.{Performs, Opens, Calls}
+use Rattle.histories.specs.Performs.{Performs, Opens, Calls}
 
 grants : List ℕ
 grants = 5000 ∷ replicate (QUOTAS - 1) 0
