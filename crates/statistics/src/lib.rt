@@ -1,4 +1,5 @@
-// The statistics of a heap (rules, section 25): what is free, live and quarantined, the greatest lengths that could be allocated now, and what a quota has. Each
+// The statistics of a heap (rules, section 25): what is free, live and quarantined, the greatest lengths that could be allocated now, and what a
+// quota has. Each
 // function checks heap and accounts for itself and changes nothing.
 use accounts::QUOTAS;
 use model::Refusal;
@@ -46,7 +47,8 @@ pub struct Statistics {
     pub largest_64: usize,
 }
 
-// The statistics of a quota: the refusal's number, what was granted and what remains, the objects that it holds, and those of them that another quota holds too.
+// The statistics of a quota: the refusal's number, what was granted and what remains, the objects that it holds, and those of them that another
+// quota holds too.
 #[repr(C)]
 pub struct QuotaStatistics {
     pub refusal: u32,
