@@ -5,9 +5,9 @@
 # make try       tell the story and run it at once, with nothing proved
 # make test      prove everything from nothing, try every must-fail edit, run every test
 #
-# make lib       prove the exported calls, and write build/lib/liblokhazim.a with its header
+# make lib       prove the exported calls, and write build/lib/liblokhazim.a with its headers
 # make cli       prove the library and build the command build/bin/lokhazim over it
-# make install   install libraries, headers, command and manual: PREFIX=/usr/local DESTDIR=
+# make install   install library, headers, command and manual: PREFIX=/usr/local DESTDIR=
 # make uninstall remove what install has put there: PREFIX=/usr/local DESTDIR=
 # make dist      write archives of the sources and of an installed tree to build/dist
 #

@@ -22,17 +22,17 @@
 /* The parts, each by the number of its quota. */
 enum part { RADIO = 0, LOGGER = 1 };
 
-/* The heap, and outside of it its accounts, which calls read and write where they lie, and the queue. */
+/* The heap: its bytes, and outside of them its accounts and the queue. */
 static _Alignas(LOKHAZIM_ALIGNMENT) uint8_t memory[256];
 static struct lokhazim_accounts accounts;
 static const struct lokhazim_heap heap = { memory, sizeof memory, &accounts };
 static struct lokhazim_queue queue;
 
 /* Stops the program where a call does not end as the story has it. */
-static void expect(uint32_t refusal, uint32_t expected)
+static void expect(enum lokhazim_refusal refusal, enum lokhazim_refusal expected)
 {
     if (refusal != expected) {
-        fprintf(stderr, "FAILED: refusal %" PRIu32 ", but this story has %" PRIu32 " here.\n", refusal, expected);
+        fprintf(stderr, "FAILED: refusal %d, but this story has %d here.\n", (int)refusal, (int)expected);
         exit(EXIT_FAILURE);
     }
 }
@@ -69,13 +69,13 @@ static struct lokhazim_handle hear(const char *words)
 }
 
 /* The radio sends a packet. */
-static void hand_on(struct lokhazim_handle packet, uint32_t expected)
+static void hand_on(struct lokhazim_handle packet, enum lokhazim_refusal expected)
 {
     const char *words = bytes_of(packet);
-    const uint32_t refusal = lokhazim_queue_send(&heap, &queue, packet);
+    const enum lokhazim_refusal refusal = lokhazim_queue_send(&heap, &queue, packet);
     expect(refusal, expected);
     if (refusal) {
-        printf("The radio can't send \"%s\": refusal %" PRIu32 ".", words, refusal);
+        printf("The radio can't send \"%s\": refusal %d.", words, (int)refusal);
     } else {
         printf("The radio sends \"%s\".", words);
     }

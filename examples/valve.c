@@ -25,7 +25,7 @@ enum part { VALVE = 0, LOGGER = 1, RADIO = 2 };
 
 static const char reading[] = "pressure 7 bar";
 
-/* The heap, and outside of it its accounts, which calls read and write where they lie. */
+/* The heap: its bytes, and outside of them its accounts, which calls read and write in place. */
 static _Alignas(LOKHAZIM_ALIGNMENT) uint8_t memory[256];
 static struct lokhazim_accounts accounts;
 static const struct lokhazim_heap heap = { memory, sizeof memory, &accounts };
@@ -95,8 +95,7 @@ static void ask_for_too_much(void)
     const uint32_t before = remaining(LOGGER);
     const uint32_t charge = 32 + LOKHAZIM_HEADER;
     struct lokhazim_handle none;
-    const enum lokhazim_refusal refusal =
-        lokhazim_heap_allocate(&heap, LOGGER, 32, &none);
+    const enum lokhazim_refusal refusal = lokhazim_heap_allocate(&heap, LOGGER, 32, &none);
     expect(refusal, LOKHAZIM_QUOTA_EXCEEDED);
     printf("It asks for 32 bytes more, which cost %" PRIu32 ": refusal %d.\n", charge, (int)refusal);
     printf("  Subtracted unseen, %" PRIu32 " would be left; %" PRIu32 " are.\n", before - charge, remaining(LOGGER));

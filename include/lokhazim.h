@@ -12,7 +12,7 @@
  *     static const struct lokhazim_heap heap = { bytes, sizeof bytes, &accounts };
  *
  * Programs call the functions lokhazim_heap_... at the end of this file. Link liblokhazim.a, which
- * has the functions of all headers; what is not called takes no byte of a program.
+ * has the functions of all headers; with -Wl,--gc-sections it takes no byte for what is not called.
  *
  * The functions of the headers check the pointers that they are given: LOKHAZIM_BAD_POINTER says
  * that one is null, or that the heap is not aligned. What nobody can check is the caller's duty:
@@ -313,8 +313,9 @@ LOKHAZIM_API struct lokhazim_block_reply lokhazim_raw_list_block(const uint8_t *
 LOKHAZIM_API uint32_t lokhazim_raw_check(const uint8_t *heap, size_t length,
     const struct lokhazim_accounts *accounts);
 
-/* Whether a call can be made over a heap: no pointer is null, and the addresses are aligned. */
-static inline int lokhazim_raw_usable(const struct lokhazim_heap *heap)
+/* The headers' own functions, lokhazim_own_...: this one tells whether a call can be made over a
+ * heap. No pointer is null, and the addresses are aligned. */
+static inline int lokhazim_own_usable(const struct lokhazim_heap *heap)
 {
     return heap && heap->bytes && heap->accounts
         && (uintptr_t)heap->bytes % LOKHAZIM_ALIGNMENT == 0
@@ -322,7 +323,7 @@ static inline int lokhazim_raw_usable(const struct lokhazim_heap *heap)
 }
 
 /* Hands a reply's handle out, and gives its refusal. */
-static inline enum lokhazim_refusal lokhazim_raw_handle(
+static inline enum lokhazim_refusal lokhazim_own_handle(
     struct lokhazim_handle_reply reply, struct lokhazim_handle *handle)
 {
     if (handle) {
@@ -332,7 +333,7 @@ static inline enum lokhazim_refusal lokhazim_raw_handle(
 }
 
 /* Hands a reply's amount out, if it is wanted, and gives its refusal. */
-static inline enum lokhazim_refusal lokhazim_raw_amount(
+static inline enum lokhazim_refusal lokhazim_own_amount(
     struct lokhazim_amount_reply reply, uint32_t *amount)
 {
     if (amount) {
@@ -474,7 +475,7 @@ LOKHAZIM_NODISCARD static inline struct lokhazim_handle lokhazim_handle_narrowed
 LOKHAZIM_CALL lokhazim_heap_open(const struct lokhazim_heap *heap, struct lokhazim_grants grants,
     enum lokhazim_kind kind, enum lokhazim_edition edition)
 {
-    return lokhazim_raw_usable(heap)
+    return lokhazim_own_usable(heap)
         ? (enum lokhazim_refusal)lokhazim_raw_open(
               heap->bytes, heap->length, heap->accounts, grants, (uint32_t)kind, (uint32_t)edition)
         : LOKHAZIM_BAD_POINTER;
@@ -486,10 +487,10 @@ LOKHAZIM_CALL lokhazim_heap_allocate(const struct lokhazim_heap *heap, uint32_t 
     uint32_t bytes, struct lokhazim_handle *handle)
 {
     struct lokhazim_handle_reply reply = { LOKHAZIM_BAD_POINTER, { 0, 0, 0 } };
-    if (handle && lokhazim_raw_usable(heap)) {
+    if (handle && lokhazim_own_usable(heap)) {
         reply = lokhazim_raw_allocate(heap->bytes, heap->length, heap->accounts, quota, bytes);
     }
-    return lokhazim_raw_handle(reply, handle);
+    return lokhazim_own_handle(reply, handle);
 }
 
 /* Makes an object for `count` elements of `size` bytes; their product is never cut to 32 bits.
@@ -498,11 +499,11 @@ LOKHAZIM_CALL lokhazim_heap_allocate_array(const struct lokhazim_heap *heap, uin
     uint32_t count, uint32_t size, struct lokhazim_handle *handle)
 {
     struct lokhazim_handle_reply reply = { LOKHAZIM_BAD_POINTER, { 0, 0, 0 } };
-    if (handle && lokhazim_raw_usable(heap)) {
+    if (handle && lokhazim_own_usable(heap)) {
         reply = lokhazim_raw_allocate_array(
             heap->bytes, heap->length, heap->accounts, quota, count, size);
     }
-    return lokhazim_raw_handle(reply, handle);
+    return lokhazim_own_handle(reply, handle);
 }
 
 /* Lets the quota hold the object, or hold it once more. *bytes becomes the length of the whole
@@ -512,10 +513,10 @@ LOKHAZIM_CALL lokhazim_heap_claim(const struct lokhazim_heap *heap, uint32_t quo
     struct lokhazim_handle handle, uint32_t *bytes)
 {
     struct lokhazim_amount_reply reply = { LOKHAZIM_BAD_POINTER, 0 };
-    if (lokhazim_raw_usable(heap)) {
+    if (lokhazim_own_usable(heap)) {
         reply = lokhazim_raw_claim(heap->bytes, heap->length, heap->accounts, quota, handle);
     }
-    return lokhazim_raw_amount(reply, bytes);
+    return lokhazim_own_amount(reply, bytes);
 }
 
 /* Drops one hold of the quota. *refund becomes what the quota gets back, 0 while it still holds the
@@ -526,10 +527,10 @@ LOKHAZIM_CALL lokhazim_heap_release(const struct lokhazim_heap *heap, uint32_t q
     struct lokhazim_handle handle, uint32_t *refund)
 {
     struct lokhazim_amount_reply reply = { LOKHAZIM_BAD_POINTER, 0 };
-    if (lokhazim_raw_usable(heap)) {
+    if (lokhazim_own_usable(heap)) {
         reply = lokhazim_raw_release(heap->bytes, heap->length, heap->accounts, quota, handle);
     }
-    return lokhazim_raw_amount(reply, refund);
+    return lokhazim_own_amount(reply, refund);
 }
 
 /* Drops every hold of the quota. *refund becomes what the quota gets back. Refusals 3, 12. */
@@ -537,10 +538,10 @@ LOKHAZIM_CALL lokhazim_heap_free_all(const struct lokhazim_heap *heap, uint32_t 
     uint32_t *refund)
 {
     struct lokhazim_amount_reply reply = { LOKHAZIM_BAD_POINTER, 0 };
-    if (lokhazim_raw_usable(heap)) {
+    if (lokhazim_own_usable(heap)) {
         reply = lokhazim_raw_free_all(heap->bytes, heap->length, heap->accounts, quota);
     }
-    return lokhazim_raw_amount(reply, refund);
+    return lokhazim_own_amount(reply, refund);
 }
 
 /* Clears the quota's permissions whose bits are set in `bits`, such as LOKHAZIM_MAY_CLAIM |
@@ -551,11 +552,11 @@ LOKHAZIM_CALL lokhazim_heap_clear_permissions(const struct lokhazim_heap *heap, 
     uint32_t bits, uint32_t *left)
 {
     struct lokhazim_amount_reply reply = { LOKHAZIM_BAD_POINTER, 0 };
-    if (lokhazim_raw_usable(heap)) {
+    if (lokhazim_own_usable(heap)) {
         reply = lokhazim_raw_clear_permissions(
             heap->bytes, heap->length, heap->accounts, quota, bits);
     }
-    return lokhazim_raw_amount(reply, left);
+    return lokhazim_own_amount(reply, left);
 }
 
 /* Makes *moved with the old object's bytes, as far as both lengths go, then drops one hold on the
@@ -567,11 +568,11 @@ LOKHAZIM_CALL lokhazim_heap_reallocate(const struct lokhazim_heap *heap, uint32_
     struct lokhazim_handle handle, uint32_t bytes, struct lokhazim_handle *moved)
 {
     struct lokhazim_handle_reply reply = { LOKHAZIM_BAD_POINTER, { 0, 0, 0 } };
-    if (moved && lokhazim_raw_usable(heap)) {
+    if (moved && lokhazim_own_usable(heap)) {
         reply = lokhazim_raw_reallocate(
             heap->bytes, heap->length, heap->accounts, quota, handle, bytes);
     }
-    return lokhazim_raw_handle(reply, moved);
+    return lokhazim_own_handle(reply, moved);
 }
 
 /* Makes every quarantined block free and joins neighbours that are free. *swept becomes the sum of
@@ -581,10 +582,10 @@ LOKHAZIM_CALL lokhazim_heap_reallocate(const struct lokhazim_heap *heap, uint32_
 LOKHAZIM_CALL lokhazim_heap_sweep(const struct lokhazim_heap *heap, uint32_t *swept)
 {
     struct lokhazim_amount_reply reply = { LOKHAZIM_BAD_POINTER, 0 };
-    if (lokhazim_raw_usable(heap)) {
+    if (lokhazim_own_usable(heap)) {
         reply = lokhazim_raw_sweep(heap->bytes, heap->length, heap->accounts);
     }
-    return lokhazim_raw_amount(reply, swept);
+    return lokhazim_own_amount(reply, swept);
 }
 
 /* Lends the handle's bytes: handle.length bytes at *object, until the object is freed; a null
@@ -594,7 +595,7 @@ LOKHAZIM_CALL lokhazim_heap_lend(const struct lokhazim_heap *heap, struct lokhaz
     uint8_t **object)
 {
     struct lokhazim_range_reply reply = { LOKHAZIM_BAD_POINTER, 0, 0 };
-    if (object && lokhazim_raw_usable(heap)) {
+    if (object && lokhazim_own_usable(heap)) {
         reply = lokhazim_raw_lend(heap->bytes, heap->length, heap->accounts, handle);
     }
     if (object) {
@@ -608,7 +609,7 @@ LOKHAZIM_CALL lokhazim_heap_lend(const struct lokhazim_heap *heap, struct lokhaz
 LOKHAZIM_CALL lokhazim_heap_write(const struct lokhazim_heap *heap, struct lokhazim_handle handle,
     uint32_t at, uint8_t byte)
 {
-    return lokhazim_raw_usable(heap)
+    return lokhazim_own_usable(heap)
         ? (enum lokhazim_refusal)lokhazim_raw_write(
               heap->bytes, heap->length, heap->accounts, handle, at, byte)
         : LOKHAZIM_BAD_POINTER;
@@ -619,17 +620,17 @@ LOKHAZIM_CALL lokhazim_heap_remaining(const struct lokhazim_heap *heap, uint32_t
     uint32_t *remainder)
 {
     struct lokhazim_amount_reply reply = { LOKHAZIM_BAD_POINTER, 0 };
-    if (lokhazim_raw_usable(heap)) {
+    if (lokhazim_own_usable(heap)) {
         reply = lokhazim_raw_remaining(heap->bytes, heap->length, heap->accounts, quota);
     }
-    return lokhazim_raw_amount(reply, remainder);
+    return lokhazim_own_amount(reply, remainder);
 }
 
 /* Gives the refusal that release would give, and changes nothing. Refusals 3, 5, 6. */
 LOKHAZIM_CALL lokhazim_heap_can_release(const struct lokhazim_heap *heap, uint32_t quota,
     struct lokhazim_handle handle)
 {
-    return lokhazim_raw_usable(heap)
+    return lokhazim_own_usable(heap)
         ? (enum lokhazim_refusal)lokhazim_raw_can_release(
               heap->bytes, heap->length, heap->accounts, quota, handle)
         : LOKHAZIM_BAD_POINTER;
@@ -641,7 +642,7 @@ LOKHAZIM_CALL lokhazim_heap_list_block(const struct lokhazim_heap *heap, size_t 
     struct lokhazim_block_reply *block)
 {
     struct lokhazim_block_reply reply = { LOKHAZIM_BAD_POINTER, 0, 0, 0, 0 };
-    if (block && lokhazim_raw_usable(heap)) {
+    if (block && lokhazim_own_usable(heap)) {
         reply = lokhazim_raw_list_block(heap->bytes, heap->length, heap->accounts, at);
     }
     if (block) {
@@ -653,7 +654,7 @@ LOKHAZIM_CALL lokhazim_heap_list_block(const struct lokhazim_heap *heap, size_t 
 /* Checks heap and accounts as every call but open does first. Nothing is written. */
 LOKHAZIM_CALL lokhazim_heap_check(const struct lokhazim_heap *heap)
 {
-    return lokhazim_raw_usable(heap)
+    return lokhazim_own_usable(heap)
         ? (enum lokhazim_refusal)lokhazim_raw_check(heap->bytes, heap->length, heap->accounts)
         : LOKHAZIM_BAD_POINTER;
 }

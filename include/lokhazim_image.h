@@ -146,7 +146,7 @@ LOKHAZIM_CALL lokhazim_heap_save(const struct lokhazim_heap *heap, uint8_t *imag
     size_t image_length, size_t *written)
 {
     struct lokhazim_image_reply reply = { LOKHAZIM_BAD_POINTER, 0 };
-    if (image && lokhazim_raw_usable(heap)) {
+    if (image && lokhazim_own_usable(heap)) {
         reply = lokhazim_raw_image_write(
             image, image_length, heap->bytes, heap->length, heap->accounts);
     }
@@ -161,7 +161,7 @@ LOKHAZIM_CALL lokhazim_heap_save_form_1(const struct lokhazim_heap *heap, uint8_
     size_t image_length, size_t *written)
 {
     struct lokhazim_image_reply reply = { LOKHAZIM_BAD_POINTER, 0 };
-    if (image && lokhazim_raw_usable(heap)) {
+    if (image && lokhazim_own_usable(heap)) {
         reply = lokhazim_raw_image_write_form_1(
             image, image_length, heap->bytes, heap->length, heap->accounts);
     }
@@ -179,7 +179,7 @@ LOKHAZIM_CALL lokhazim_heap_save_form_1(const struct lokhazim_heap *heap, uint8_
 LOKHAZIM_CALL lokhazim_heap_resume(const struct lokhazim_heap *heap, const uint8_t *image,
     size_t image_length)
 {
-    return image && lokhazim_raw_usable(heap)
+    return image && lokhazim_own_usable(heap)
         ? (enum lokhazim_refusal)lokhazim_raw_image_resume(
               image, image_length, heap->bytes, heap->length, heap->accounts)
         : LOKHAZIM_BAD_POINTER;
@@ -190,7 +190,7 @@ LOKHAZIM_CALL lokhazim_heap_resume(const struct lokhazim_heap *heap, const uint8
 LOKHAZIM_CALL lokhazim_heap_restore(const struct lokhazim_heap *heap, const uint8_t *image,
     size_t image_length)
 {
-    return image && lokhazim_raw_usable(heap)
+    return image && lokhazim_own_usable(heap)
         ? (enum lokhazim_refusal)lokhazim_raw_image_restore(
               image, image_length, heap->bytes, heap->length, heap->accounts)
         : LOKHAZIM_BAD_POINTER;

@@ -54,7 +54,7 @@ LOKHAZIM_API LOKHAZIM_NODISCARD struct lokhazim_queue lokhazim_queue_new(uint32_
 LOKHAZIM_CALL lokhazim_queue_send(const struct lokhazim_heap *heap, struct lokhazim_queue *queue,
     struct lokhazim_handle handle)
 {
-    return queue && lokhazim_raw_usable(heap)
+    return queue && lokhazim_own_usable(heap)
         ? (enum lokhazim_refusal)lokhazim_raw_queue_send(
               heap->bytes, heap->length, heap->accounts, queue, handle)
         : LOKHAZIM_BAD_POINTER;
@@ -68,7 +68,7 @@ LOKHAZIM_CALL lokhazim_queue_receive(struct lokhazim_queue *queue, struct lokhaz
     if (queue && handle) {
         reply = lokhazim_raw_queue_receive(queue);
     }
-    return lokhazim_raw_handle(reply, handle);
+    return lokhazim_own_handle(reply, handle);
 }
 
 #endif

@@ -76,7 +76,7 @@ LOKHAZIM_CALL lokhazim_heap_statistics(const struct lokhazim_heap *heap,
     struct lokhazim_statistics reply = {
         LOKHAZIM_BAD_POINTER, 0, 0, none, none, none, 0, 0, 0, 0, 0, 0
     };
-    if (statistics && lokhazim_raw_usable(heap)) {
+    if (statistics && lokhazim_own_usable(heap)) {
         reply = lokhazim_raw_statistics(heap->bytes, heap->length, heap->accounts);
     }
     if (statistics) {
@@ -90,7 +90,7 @@ LOKHAZIM_CALL lokhazim_heap_quota_statistics(const struct lokhazim_heap *heap, u
     struct lokhazim_quota_statistics *statistics)
 {
     struct lokhazim_quota_statistics reply = { LOKHAZIM_BAD_POINTER, 0, 0, 0, 0 };
-    if (statistics && lokhazim_raw_usable(heap)) {
+    if (statistics && lokhazim_own_usable(heap)) {
         reply = lokhazim_raw_quota_statistics(heap->bytes, heap->length, heap->accounts, quota);
     }
     if (statistics) {

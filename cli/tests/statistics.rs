@@ -1,4 +1,4 @@
-//! The figures that the command prints: of a script with its marks, with quarantine, of an image; and what has none.
+//! The statistics that the command prints: of a script with its marks, with quarantine, of an image; and what has none.
 
 mod support;
 
@@ -6,7 +6,7 @@ use std::fs;
 
 use support::{expect, folder, lokhazim, names, open};
 
-/// The figures of the script `calls`, behind an opening of 256 bytes.
+/// The statistics of the script `calls`, behind an opening of 256 bytes.
 const STATISTICS: &str = "\
 heap of 256 bytes, plain, edition 1
 
@@ -48,7 +48,7 @@ fn calls() -> String {
 }
 
 #[test]
-fn a_script_has_figures_and_marks() {
+fn a_script_has_statistics_and_marks() {
     let folder = folder("statistics");
     fs::write(folder.join("a"), calls()).unwrap();
     let run = lokhazim(&folder, &["statistics", "a"]);
@@ -56,7 +56,7 @@ fn a_script_has_figures_and_marks() {
 }
 
 #[test]
-fn an_image_has_figures_alone() {
+fn an_image_has_statistics_alone() {
     let folder = folder("stats-image");
     fs::write(folder.join("a"), calls()).unwrap();
     lokhazim(&folder, &["image", "save", "a", "a.image"]);
@@ -88,7 +88,7 @@ fn quarantine_and_edition_2_are_told() {
 }
 
 #[test]
-fn wrong_words_and_files_have_no_figures() {
+fn wrong_words_and_files_have_no_statistics() {
     let folder = folder("stats-refused");
     fs::write(folder.join("a"), open(64, &[])).unwrap();
     lokhazim(&folder, &["image", "save", "a", "a.image"]);

@@ -11,7 +11,7 @@ use crate::refusal::{verdict, Refusal};
 /// A heap that parts of a program share, each with its own quota.
 ///
 /// It owns the lent bytes together with their accounts, so that one can't be used with another's.
-/// The accounts are 4,488 bytes of it, which calls read and write where they lie.
+/// The accounts are 4,488 bytes of it, which calls read and write in place.
 /// A quota is named by its [`QuotaId`]; calls refuse numbers from [`QUOTAS`] on. Every call checks the whole
 /// heap first, so any of them can give [`Refusal::Inconsistent`]; it is proved that none does
 /// unless something outside of this type has written to the bytes.

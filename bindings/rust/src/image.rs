@@ -230,7 +230,8 @@ impl<'a> Heap<'a> {
     ///
     /// # Errors
     ///
-    /// [`ImageRefusal::Room`] where `image` is shorter than [`image_length`] says; it is as it was.
+    /// [`ImageRefusal::Call`] of what [`check`](Heap::check) gives, then [`ImageRefusal::Room`] where
+    /// `image` is shorter than [`image_length`] says; it is as it was.
     ///
     /// ```
     /// use lokhazim::{Heap, ImageRefusal, QuotaId, QUOTAS};
@@ -257,9 +258,9 @@ impl<'a> Heap<'a> {
     ///
     /// # Errors
     ///
-    /// [`ImageRefusal::NotCarried`] where form 1 can't carry the accounts, then
-    /// [`ImageRefusal::Room`] where `image` is shorter than [`image_length_form_1`] says; it is as
-    /// it was.
+    /// [`ImageRefusal::Call`] of what [`check`](Heap::check) gives, then [`ImageRefusal::NotCarried`]
+    /// where form 1 can't carry the accounts, then [`ImageRefusal::Room`] where `image` is shorter
+    /// than [`image_length_form_1`] says; it is as it was.
     ///
     /// ```
     /// use lokhazim::{examine_image, grants, Heap, ImageRefusal, Permissions, QuotaId};

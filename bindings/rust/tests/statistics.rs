@@ -1,4 +1,4 @@
-//! The figures of a heap through the crate: of each kind and edition, after calls, and where they are refused.
+//! The statistics of a heap through the crate: of each kind and edition, after calls, and where they are refused.
 
 use lokhazim::{
     Aligned, BlockCount, Edition, Heap, Kind, Options, QuotaId, QuotaStatistics, Refusal,
@@ -58,7 +58,7 @@ fn every_field_is_told() -> Result<(), Refusal> {
 }
 
 #[test]
-fn a_request_of_the_figure_is_made_and_one_more_is_refused() -> Result<(), Refusal> {
+fn the_longest_request_is_made_and_one_more_is_refused() -> Result<(), Refusal> {
     for edition in [Edition::First, Edition::Second] {
         let options = Options {
             kind: Kind::Plain,

@@ -1,4 +1,4 @@
-//! The functions that give statistics. They read the accounts where they lie.
+//! The functions that give statistics. They read the accounts in place.
 
 use super::Words;
 use crate::statistics::{QuotaStatisticsReply, StatisticsReply};

@@ -267,7 +267,8 @@ static void parts_of_an_object(void)
         for (uint32_t bytes = 1; at + bytes <= 16; bytes++) {
             const struct lokhazim_handle part = lokhazim_handle_narrowed(whole, at, bytes);
             ACCEPTED(lokhazim_heap_lend(&heap, part, &object));
-            CHECK(object == memory + whole.base + at && lokhazim_raw_lend(memory, sizeof memory, &accounts, part).end == whole.base + at + bytes);
+            CHECK(object == memory + whole.base + at);
+            CHECK(lokhazim_raw_lend(memory, sizeof memory, &accounts, part).end == whole.base + at + bytes);
             ACCEPTED(lokhazim_heap_write(&heap, part, bytes - 1, (uint8_t)(at + 1)));
             CHECK(object[bytes - 1] == at + 1);
             ACCEPTED(lokhazim_heap_write(&heap, part, bytes, 99));

@@ -1,4 +1,4 @@
-/* What the compiler has to warn of: exchanged kind and edition, and answers that are dropped. It is compiled and not run. */
+/* What the compiler has to warn of: exchanged kind and edition, and answers that are dropped. It is not run. */
 #include "lokhazim.h"
 #include "lokhazim_queue.h"
 

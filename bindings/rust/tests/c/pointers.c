@@ -1,6 +1,6 @@
 /*
- * Pointers that the headers check: each function gives refusal 100 where one is null or the heap is not aligned, changes
- * neither heap nor accounts, and leaves zeros as its answer. Where a pointer takes a number, null is taken.
+ * Pointers that the headers check: each function gives refusal 100 where one is null or the heap is not aligned,
+ * changes neither heap nor accounts, and leaves zeros as its answer. Where a pointer takes a number, null is taken.
  */
 #include "check.h"
 #include "lokhazim.h"
@@ -147,6 +147,11 @@ int main(void)
     no_call(&no_accounts);
     for (size_t at = 1; at < LOKHAZIM_ALIGNMENT; at++) {
         const struct lokhazim_heap shifted = { memory + at, 1024, &accounts };
+        no_call(&shifted);
+    }
+    for (size_t at = 1; at < sizeof(uint32_t); at++) {
+        void *const place = (uint8_t *)&accounts + at;
+        const struct lokhazim_heap shifted = { memory, 1024, place };
         no_call(&shifted);
     }
     no_answer();

@@ -10,7 +10,8 @@ static void say(uint32_t refusal)
 
 int main(void)
 {
-    printf("version %s %d.%d.%d\n", LOKHAZIM_VERSION, LOKHAZIM_VERSION_MAJOR, LOKHAZIM_VERSION_MINOR, LOKHAZIM_VERSION_PATCH);
+    printf("version %s %d.%d.%d\n",
+           LOKHAZIM_VERSION, LOKHAZIM_VERSION_MAJOR, LOKHAZIM_VERSION_MINOR, LOKHAZIM_VERSION_PATCH);
     for (uint32_t number = 0; number <= 200; number++) {
         say(number);
     }
