@@ -14,8 +14,8 @@ use Rattle.survey.specs.Shares.{how-many, is-own, is-shared}
 use Rattle.statistics.specs.declared.BlockCount.{BlockCount}
 use Rattle.statistics.specs.declared.Statistics.{Statistics}
 use Rattle.statistics.specs.declared.QuotaStatistics.{QuotaStatistics}
-use Rattle.statistics.specs.Statistics.{higher, most, count-of, largest-free, fragmented, greatest, has-base, largest, no-statistics, counted}
-use Rattle.statistics.specs.Statistics.{unless-refused, heap-statistics}
+use Rattle.statistics.specs.Statistics.{higher, most, count-of, largest-free, fragmented, greatest}
+use Rattle.statistics.specs.Statistics.{has-base, largest, no-statistics, counted, unless-refused, heap-statistics}
 use Rattle.statistics.specs.Statistics.{no-quota-statistics, quota-counted, quota-unless-refused, quota-statistics}
 use Rattle.statistics.specs.Tallies.{reach}
 

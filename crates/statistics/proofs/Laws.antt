@@ -33,8 +33,8 @@ use Rattle.results.proofs.Lines.{number-some}
 use Rattle.survey.specs.Shares.{how-many, is-own, is-shared, holdings}
 use Rattle.statistics.specs.declared.Statistics.{Statistics}
 use Rattle.statistics.specs.declared.QuotaStatistics.{QuotaStatistics}
-use Rattle.statistics.specs.Statistics.{most, count-of, largest-free, fragmented, largest, no-statistics, unless-refused, no-quota-statistics}
-use Rattle.statistics.specs.Statistics.{quota-unless-refused}
+use Rattle.statistics.specs.Statistics.{most, count-of, largest-free, fragmented, largest}
+use Rattle.statistics.specs.Statistics.{no-statistics, unless-refused, no-quota-statistics, quota-unless-refused}
 use Rattle.statistics.specs.Tallies.{room-in, most-units, reach, tally-of}
 use Rattle.statistics.proofs.Rooms.{rooms-inside, room-exactly}
 use Rattle.statistics.proofs.Units.{Told, some-unit, rows, units-told, unit-128}

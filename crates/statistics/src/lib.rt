@@ -1,6 +1,5 @@
-// The statistics of a heap (rules, section 25): what is free, live and quarantined, the greatest lengths that could be allocated now, and what a
-// quota has. Each
-// function checks heap and accounts for itself and changes nothing.
+// The statistics of a heap (rules, section 25): what is free, live and quarantined, the greatest lengths that could be
+// allocated now, and what a quota has. Each function checks heap and accounts for itself and changes nothing.
 use accounts::QUOTAS;
 use model::Refusal;
 use model::Verdict;
@@ -28,9 +27,9 @@ pub struct BlockCount {
     pub bytes: usize,
 }
 
-// The statistics of a heap: the refusal's number, 0 where there is none; the last serial given; the hold records that are used; the free, live and quarantined
-// blocks; the bytes of the largest free block, and those of all other free blocks; and the greatest length in each unit that an allocation could get now if
-// quota, records and serials allowed it.
+// The statistics of a heap: the refusal's number, 0 where there is none; the last serial given; the hold records that are
+// used; the free, live and quarantined blocks; the bytes of the largest free block, and those of all other free blocks;
+// and the greatest length in each unit that an allocation could get now if quota, records and serials allowed it.
 #[repr(C)]
 pub struct Statistics {
     pub refusal: u32,
@@ -47,8 +46,8 @@ pub struct Statistics {
     pub largest_64: usize,
 }
 
-// The statistics of a quota: the refusal's number, what was granted and what remains, the objects that it holds, and those of them that another
-// quota holds too.
+// The statistics of a quota: the refusal's number, what was granted and what remains, the objects that it holds, and
+// those of them that another quota holds too.
 #[repr(C)]
 pub struct QuotaStatistics {
     pub refusal: u32,

@@ -1,16 +1,5 @@
-// Calls the functions on settings that no other Rattle code calls, found and refused, and compares every byte of the
-// stores. It prints a line for each. (It is a program beside `tried`: `accounts` has a module of the name `settings`,
-// so no crate can name both.)
-
-// The function's name, and whether all was as expected.
-fn tell(name: &[u8], good: bool) {
-    io::write_all(1, name);
-    if good {
-        io::write_all(1, b": ok\n");
-    } else {
-        io::write_all(1, b": DIFFERS\n");
-    }
-}
+// Stores of settings, found and refused: every byte of a store is compared.
+use crate::telling::tell;
 
 // The board has name 3 at version 2, the bytes 7 and 8; behind the entry's six bytes nothing is used.
 fn board() -> [u8; 10] {
@@ -22,13 +11,7 @@ fn defaults() -> [u8; 10] {
     [1, 0, 3, 1, 5, 1, 0, 4, 1, 6]
 }
 
-fn is_place(
-    reply: settings_api::FindReply,
-    refusal: u32,
-    store: u32,
-    start: usize,
-    end: usize,
-) -> bool {
+fn is_place(reply: exports::FindReply, refusal: u32, store: u32, start: usize, end: usize) -> bool {
     if reply.refusal != refusal || reply.store != store {
         return false;
     }
@@ -37,10 +20,10 @@ fn is_place(
 
 // In the board's store, in the defaults, nowhere, and in a store whose entry is cut off.
 fn finds() -> bool {
-    let own = settings_api::lokhazim_settings_find(&board(), 6, &defaults(), 10, 3, 2);
-    let other = settings_api::lokhazim_settings_find(&board(), 6, &defaults(), 10, 4, 2);
-    let none = settings_api::lokhazim_settings_find(&board(), 6, &defaults(), 10, 5, 2);
-    let cut = settings_api::lokhazim_settings_find(&board(), 5, &defaults(), 10, 4, 2);
+    let own = exports::lokhazim_raw_settings_find(&board(), 6, &defaults(), 10, 3, 2);
+    let other = exports::lokhazim_raw_settings_find(&board(), 6, &defaults(), 10, 4, 2);
+    let none = exports::lokhazim_raw_settings_find(&board(), 6, &defaults(), 10, 5, 2);
+    let cut = exports::lokhazim_raw_settings_find(&board(), 5, &defaults(), 10, 4, 2);
     if !is_place(own, 0, 1, 4, 6) || !is_place(other, 0, 2, 9, 10) {
         return false;
     }
@@ -68,7 +51,7 @@ fn looks_up() -> bool {
 // An entry behind the first; a version that falls, a value that is too long, and no room: the store stays.
 fn adds() -> bool {
     let mut store = board();
-    let reply = settings_api::lokhazim_settings_add(&mut store, 6, 9, 258, &[]);
+    let reply = exports::lokhazim_raw_settings_add(&mut store, 6, 9, 258, &[]);
     if reply.refusal != 0 || reply.used != 10 {
         return false;
     }
@@ -76,23 +59,17 @@ fn adds() -> bool {
         return false;
     }
     let mut kept = board();
-    let falls = settings_api::lokhazim_settings_add(&mut kept, 6, 9, 1, &[]);
-    let long = settings_api::lokhazim_settings_add(&mut kept, 6, 9, 2, &[0u8; 65]);
-    let full = settings_api::lokhazim_settings_add(&mut kept, 6, 9, 2, &[1]);
-    let cut = settings_api::lokhazim_settings_add(&mut kept, 11, 9, 2, &[1]);
+    let falls = exports::lokhazim_raw_settings_add(&mut kept, 6, 9, 1, &[]);
+    let long = exports::lokhazim_raw_settings_add(&mut kept, 6, 9, 2, &[0u8; 65]);
+    let full = exports::lokhazim_raw_settings_add(&mut kept, 6, 9, 2, &[1]);
+    let cut = exports::lokhazim_raw_settings_add(&mut kept, 11, 9, 2, &[1]);
     if falls.refusal != 44 || long.refusal != 43 || full.refusal != 45 || cut.refusal != 41 {
         return false;
     }
     check::same(&kept, &board()) && full.used == 0
 }
 
-fn is_entry(
-    reply: settings_api::EntryReply,
-    version: u16,
-    name: u8,
-    start: usize,
-    end: usize,
-) -> bool {
+fn is_entry(reply: exports::EntryReply, version: u16, name: u8, start: usize, end: usize) -> bool {
     if reply.refusal != 0 || reply.there != 1 || reply.version != version {
         return false;
     }
@@ -101,10 +78,10 @@ fn is_entry(
 
 // The entries of the defaults, the end behind them, and a store whose last entry is cut off.
 fn goes_on() -> bool {
-    let one = settings_api::lokhazim_settings_entry(&defaults(), 10, 0);
-    let two = settings_api::lokhazim_settings_entry(&defaults(), 10, 1);
-    let end = settings_api::lokhazim_settings_entry(&defaults(), 10, 2);
-    let cut = settings_api::lokhazim_settings_entry(&defaults(), 9, 0);
+    let one = exports::lokhazim_raw_settings_entry(&defaults(), 10, 0);
+    let two = exports::lokhazim_raw_settings_entry(&defaults(), 10, 1);
+    let end = exports::lokhazim_raw_settings_entry(&defaults(), 10, 2);
+    let cut = exports::lokhazim_raw_settings_entry(&defaults(), 9, 0);
     if !is_entry(one, 1, 3, 4, 5) || !is_entry(two, 1, 4, 9, 10) {
         return false;
     }
@@ -114,9 +91,9 @@ fn goes_on() -> bool {
     cut.refusal == 41 && cut.there == 0
 }
 
-fn main() {
-    tell(b"lokhazim_settings_find", finds());
+pub(crate) fn all() {
+    tell(b"lokhazim_raw_settings_find", finds());
     tell(b"settings::lookup", looks_up());
-    tell(b"lokhazim_settings_add", adds());
-    tell(b"lokhazim_settings_entry", goes_on());
+    tell(b"lokhazim_raw_settings_add", adds());
+    tell(b"lokhazim_raw_settings_entry", goes_on());
 }
