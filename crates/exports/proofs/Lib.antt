@@ -6,4 +6,3 @@ pub mod ComparisonReplies
 pub mod ReportReplies
 pub mod StoreReplies
 pub mod QueueReplies
-pub mod ReplayReplies

@@ -5,4 +5,3 @@ pub mod ComparisonReplies
 pub mod ReportReplies
 pub mod StoreReplies
 pub mod QueueReplies
-pub mod ReplayReplies

@@ -11,7 +11,6 @@ mod moving;
 mod opening;
 mod performing;
 mod queues;
-mod replaying;
 mod reports;
 mod starting;
 mod stores;
@@ -29,5 +28,4 @@ fn main() {
     reports::all();
     counts::all();
     stores::all();
-    replaying::all();
 }
