@@ -191,7 +191,7 @@ module _ (unit : ℕ → ℕ) (units : Units unit) (s : List ℕ) (k : Accounts)
     filled-fits =
         let may = ap (all permissible) filled-permissions ∙ consistent-permissible unit s k (r .checked .consistent) in
         let d = allocated-objects q new (state-of s k) start room in
-        and-both _ _ (written .consistent)
+        and-both _ _ (written .passes)
         (and-both _ _
         (member-all (in-units unit) (objects-of (render (filled .blocks)))
         (λ x m. ⊎-elim (λ (e : x ≡ new). rw e (new-in-units unit units s k q n p)) (λ y. consistent-fits unit s k (r .checked .consistent) x y)
@@ -199,7 +199,7 @@ module _ (unit : ℕ → ℕ) (units : Units unit) (s : List ℕ) (k : Accounts)
         (and-both _ _ may (and-both _ _ (filled-kinds .0) (filled-kinds .1))))
 
     filled-checked : Checked unit (render (filled .blocks)) (filled .accounts) q
-    filled-checked = record { extent = written .allowed; accounted = written .consistent; consistent = filled-fits; exists = r .checked .exists }
+    filled-checked = record { extent = written .allowed; accounted = written .passes; consistent = filled-fits; exists = r .checked .exists }
 
     -- the old object can be released in it: its handle names it, the quota has its record
     filled-named : lookup h (render (filled .blocks)) ≡ some old
