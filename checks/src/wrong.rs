@@ -1,5 +1,4 @@
-//! Every wrong program says truly what it breaks and where it is refused, every public function has two, and every
-//! exported one has one that the gate tries. The table of them is written to build/WRONG-PROGRAMS.md.
+//! Every wrong program says truly what it breaks and where it is refused, and every public function has two. The table of them is written to build/WRONG-PROGRAMS.md.
 
 use crate::declared::{self, Declaration, Kind};
 use crate::edits::{self, Edit, Tried};
@@ -38,7 +37,6 @@ pub struct Wrong {
     pub rows: HashMap<(String, String), Vec<Row>>,
     pub definitions: HashMap<String, Vec<String>>,
     pub firsts: HashMap<String, (Tried, Place)>,
-    in_gate: HashSet<String>,
     bad: Vec<String>,
 }
 
@@ -191,9 +189,6 @@ impl Wrong {
                     .push(name.clone());
             }
             rows.push(row.clone());
-            if edit.tried == Tried::Gate {
-                self.in_gate.insert(name);
-            }
         }
     }
 
@@ -223,11 +218,6 @@ impl Wrong {
             if count < 2 {
                 let text = "a public function has two wrong programs or more, this one has";
                 bad.push(format!("{}: {text} {count}.", function.name));
-            }
-            if function.kind == Kind::ExportedFunction && !self.in_gate.contains(&function.name) {
-                let text =
-                    "an exported function has a wrong program in the gate, this one has none";
-                bad.push(format!("{}: {text}.", function.name));
             }
         }
         bad
@@ -365,6 +355,5 @@ mod tests {
         assert!(wrong.bad[0].contains("has no such fact"));
         assert!(wrong.bad[1].contains("has no such function"));
         assert!(wrong.bad[2].contains("twice"));
-        assert!(wrong.lacks()[1].contains("in the gate"));
     }
 }
