@@ -1,9 +1,10 @@
 # Takes the text of the proved build's LLVM module and takes off what is for x86-64 alone: the data layout, the target, the attributes of that processor, and
 # the wrappers that pass structs as C does there. What a wrapper calls becomes visible as lokhazim_core_NAME; it takes every struct and every lent slice by
 # pointer, which all processors pass alike. The files port/*.c give C's functions over these.
-# A function that stands by itself in the proved library is not put into its caller: else its frame would be there while another function with a large one runs, and a call would need twice the stack.
+# A function that is to be left out stays hidden, so that the compiler drops it with all that it alone calls. A function that stands by itself in the proved
+# library is not put into its caller: else its frame would be there while another function with a large one runs, and a call would need twice the stack.
 # Nothing else is changed. It stops where the module is not of the form that it knows.
-# Usage: awk -v crate=NAME -f port/retarget.awk NAMES MODULE.ll >CORE.ll
+# Usage: awk -v crate=NAME -v without=EXPORTED_NAME -f port/retarget.awk NAMES MODULE.ll >CORE.ll
 #   NAMES: a file with the functions that stand by themselves, a line each, such as survey::survey
 
 BEGIN { function_inside = "@\"" crate "::[a-z_]+::lokhazim_[a-z0-9_]+\"" }
@@ -42,7 +43,7 @@ inside { if (/^}/) inside = 0; next }
 /^define internal / && match($0, function_inside) {
     name = exported(substr($0, RSTART, RLENGTH))
     core[name]++
-    sub(/^define internal /, "define ")
+    if (name != without) sub(/^define internal /, "define ")
 }
 /^define internal / && match($0, /@"[^"]+"/) && (substr($0, RSTART + 2, RLENGTH - 3) in apart) { sub(/ #[0-9]+ \{$/, " noinline&"); kept_apart++ }
 /^define / && !/^define internal / && !/::lokhazim_/ { complain("a function is visible from outside that is no call of the library.") }

@@ -7,9 +7,6 @@
 
 #![deny(unsafe_code)]
 
-#[cfg(all(library_missing, not(clippy)))]
-compile_error!("liblokhazim_replay.a is missing: run 'make cli' in the repository");
-
 mod draw;
 mod failure;
 mod files;

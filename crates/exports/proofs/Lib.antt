@@ -6,3 +6,4 @@ pub mod ComparisonReplies
 pub mod ReportReplies
 pub mod StoreReplies
 pub mod QueueReplies
+pub mod ReplayReplies

@@ -5,3 +5,4 @@ pub mod ComparisonReplies
 pub mod ReportReplies
 pub mod StoreReplies
 pub mod QueueReplies
+pub mod ReplayReplies

@@ -11,6 +11,7 @@ mod moving;
 mod opening;
 mod performing;
 mod queues;
+mod replaying;
 mod reports;
 mod starting;
 mod stores;
@@ -28,4 +29,5 @@ fn main() {
     reports::all();
     counts::all();
     stores::all();
+    replaying::all();
 }

@@ -5,8 +5,8 @@ use mathlib.Core.List.{List}
 use Rattle.replay_text.specs.Answer.{Result, replayed}
 use Rattle.replay_text.specs.declared.Replayed.{Replayed}
 use Rattle.replay_text.specs.declared.Replayed.the-variants.{Written, TooShort}
-use Rattle.replay_api.specs.declared.ReplayReply.{ReplayReply}
-use Rattle.replay_api.specs.Replies.{reply-of}
+use Rattle.exports.specs.declared.replays.ReplayReply.{ReplayReply}
+use Rattle.exports.specs.ReplayReplies.{reply-of}
 
 -- what the replay answers and leaves, as the reply and the output
 pub replied : (s out left : List ℕ) (a b : Replayed) → a ≡ b → _≡_ {A = Result} (record { answer = a; output = left }) (replayed s out)

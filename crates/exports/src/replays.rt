@@ -1,8 +1,8 @@
-// The replay for programs in C and Rust, under a plain name.
+// The replay.
 use replay_text::Replayed;
 ghost use mathlib.Core.Path.{_≡_};
 ghost use Rattle.replay_text.specs.Answer.{replayed};
-ghost use Rattle.replay_api.specs.Replies.{reply-of};
+ghost use Rattle.exports.specs.ReplayReplies.{reply-of};
 
 // What the replay gives: done is 1 and length the bytes that are written, or both are 0 where the output is too short.
 #[repr(C)]
@@ -11,7 +11,8 @@ pub struct ReplayReply {
     pub length: usize,
 }
 
-// What the lines of an input print, at the front of the output, which has at least 589,824 bytes; nothing is written to a shorter one.
+// What the lines of an input print, at the front of the output, which has at least 589,824 bytes; nothing is written to a
+// shorter one.
 #[no_mangle]
 pub extern "C" fn lokhazim_replay(input: &[u8], output: &mut [u8]) -> ReplayReply
     ensures replies { λ r. ⌜ r ≡ reply-of (replayed (now (input .entry)) (now (output .entry)) .answer) ⌝ }

@@ -1,10 +1,10 @@
--- `replay_api::lokhazim_replay` meets its contract: the reply is that of the answer that the replay gives, and the output is the replay's (`replied`).
+-- The reply is that of the answer that the replay gives, and the output is the replay's (`replied`).
 use borrow.Author.Needs.{needs}
 use Rattle.replay_text.specs.declared.Replayed.the-variants.{Written, TooShort}
-use Rattle.replay_api.specs.Replies.{reply-of}
-use Rattle.replay_api.proofs.Replies.{replied}
-use Rattle.replay_api.proofs.lokhazim_replay.Statement.{statement}
-use Rattle.replay_api.proofs.lokhazim_replay.Tie as tie
+use Rattle.exports.specs.ReplayReplies.{reply-of}
+use Rattle.exports.proofs.ReplayReplies.{replied}
+use Rattle.exports.proofs.replays.lokhazim_replay.Statement.{statement}
+use Rattle.exports.proofs.replays.lokhazim_replay.Tie as tie
 
 enum-told : tie.Need-enum-told
 enum-told c = search needs
