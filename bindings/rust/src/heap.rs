@@ -141,7 +141,7 @@ impl<'a> Heap<'a> {
 
     /// Makes an object of at least `length` bytes, all zero, that the quota holds once.
     ///
-    /// The length is rounded up to a multiple of its unit, and the base is a multiple of the unit of
+    /// The object has the next multiple of its unit, and its base is a multiple of the unit of
     /// the rounded length. In the first edition the unit is 8, from 8,192 bytes on 16, from 16,384
     /// on 32. In the second it is 8, from 4,089 on 16, from 8,177 on 32, from 16,353 on 64 (see
     /// [`Edition`](crate::Edition)). The quota pays the rounded length plus 8.
