@@ -12,7 +12,7 @@
 # make uninstall remove what install has put there: PREFIX=/usr/local DESTDIR=
 # make dist      write archives of the sources and of an installed tree to build/dist
 #
-# make port      prove calls, images and queues, and compile them for other processors: TARGET=cortex-m3
+# make port      prove the exported functions, and compile them for other processors: TARGET=cortex-m3
 # make port-test compare those libraries with the proved one, each on its processor under qemu: TARGET=..
 #
 # make wrong     try the wrong programs that the gate leaves out

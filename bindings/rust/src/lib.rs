@@ -70,6 +70,7 @@ mod image;
 mod layout;
 mod moves;
 mod opening;
+mod parts;
 mod permissions;
 mod queries;
 mod queue;

@@ -27,8 +27,7 @@ use Rattle.model.specs.Consistent.{in-units, in-kind, in-range, greatest
 use Rattle.model.specs.declared.Handle.{Handle}
 use Rattle.model.proofs.Rows
 use Rattle.lists.proofs.Bools.{and-left, and-right, and-both, or-cases, or-left, or-right, implies, implied, fails}
-use Rattle.lists.proofs.Lists.{all-member, member-all, none-member, all-exactly, any-exactly, any-and, unrelated}
-use Rattle.lists.proofs.Lists.{unrelated-places, places-unrelated}
+use Rattle.lists.proofs.Lists.{all-member, member-all, none-member, all-exactly, any-exactly, any-and, unrelated, unrelated-places, places-unrelated}
 
 -- the seven tests, for rules 5.2 to 5.8 in their order
 pub record Tests (bs : List Block) (k : Accounts) : Type 0 where
@@ -348,8 +347,7 @@ accounted-is s k o = (
   λ c. accounted-exactly s k .1 (c .blocks, parse-is s (c .blocks) o .1 (c .cut, c .writable), facts-exactly (c .blocks) k .1 (c .facts)),
 )
 
--- what is consistent is accounted for, each of its objects fits its unit, each quota's permissions are such, each block is of the kind, and the
--- numbers are in range
+-- what is consistent is accounted for; objects fit their units, permissions are such, blocks are of the kind, numbers in range
 module _ (unit : ℕ → ℕ) (s : List ℕ) (k : Accounts) (e : consistent unit s k ≡ true) where
   pub consistent-accounted : accounted s k ≡ true
   unfolding consistent
