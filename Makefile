@@ -4,14 +4,15 @@
 # make run       tell a story, prove the heap and the replay program (minutes), and run the story
 # make try       tell the story and run it at once, with nothing proved
 # make test      prove everything from nothing, try every must-fail edit, run every test
+# make check     run every check that takes seconds and proves nothing: documents, layout, lints
 #
-# make lib       prove the exported calls, and write build/lib/liblokhazim.a with its header
+# make lib       prove the exported calls, and write build/lib/liblokhazim.a with its headers
 # make cli       prove the library and build the command build/bin/lokhazim over it
-# make install   install libraries, headers, command and manual: PREFIX=/usr/local DESTDIR=
+# make install   install library, headers, command and manual: PREFIX=/usr/local DESTDIR=
 # make uninstall remove what install has put there: PREFIX=/usr/local DESTDIR=
 # make dist      write archives of the sources and of an installed tree to build/dist
 #
-# make port      prove calls, images and queues, and compile them for other processors: TARGET=cortex-m3
+# make port      prove the exported functions, and compile them for other processors: TARGET=cortex-m3
 # make port-test compare those libraries with the proved one, each on its processor under qemu: TARGET=..
 #
 # make wrong     try the wrong programs that the gate leaves out
@@ -27,7 +28,7 @@ PREFIX ?= /usr/local
 DESTDIR ?=
 TARGET :=
 
-.PHONY: help run try test lib cli install uninstall dist port port-test wrong figures bench fuzz sanitize clean
+.PHONY: help run try test check lib cli install uninstall dist port port-test wrong figures bench fuzz sanitize clean
 
 help:
 	@sed -n '/^#/!q; s/^# \{0,1\}//p' Makefile
@@ -40,6 +41,9 @@ try:
 
 test:
 	@scripts/test
+
+check:
+	@scripts/check
 
 lib:
 	@scripts/lib

@@ -1,4 +1,4 @@
-/* What bench/peer.c needs of a peer: bench/mcheck.c, bench/dmalloc.c, bench/nano.c or bench/by_value.c.
+/* What bench/peer.c needs of a peer: bench/mcheck.c, bench/dmalloc.c or bench/nano.c.
  * The names call_... are those that the instruction counts look for. */
 
 #ifndef PEER_H

@@ -25,9 +25,10 @@ enum part { VALVE = 0, LOGGER = 1, RADIO = 2 };
 
 static const char reading[] = "pressure 7 bar";
 
-/* The heap, and outside of it its accounts, which calls read and write where they lie. */
-static _Alignas(LOKHAZIM_ALIGNMENT) uint8_t heap[256];
+/* The heap: its bytes, and outside of them its accounts, which calls read and write in place. */
+static _Alignas(LOKHAZIM_ALIGNMENT) uint8_t memory[256];
 static struct lokhazim_accounts accounts;
+static const struct lokhazim_heap heap = { memory, sizeof memory, &accounts };
 
 /* Stops the program where a call does not end as the story has it. */
 static void expect(enum lokhazim_refusal refusal, enum lokhazim_refusal expected)
@@ -42,7 +43,7 @@ static void expect(enum lokhazim_refusal refusal, enum lokhazim_refusal expected
 static uint32_t remaining(enum part part)
 {
     uint32_t remainder;
-    expect(lokhazim_heap_remaining(heap, sizeof heap, &accounts, part, &remainder), LOKHAZIM_ACCEPTED);
+    expect(lokhazim_heap_remaining(&heap, part, &remainder), LOKHAZIM_ACCEPTED);
     return remainder;
 }
 
@@ -50,7 +51,7 @@ static uint32_t remaining(enum part part)
 static struct lokhazim_handle make(enum part part, uint32_t bytes)
 {
     struct lokhazim_handle handle;
-    expect(lokhazim_heap_allocate(heap, sizeof heap, &accounts, part, bytes, &handle), LOKHAZIM_ACCEPTED);
+    expect(lokhazim_heap_allocate(&heap, part, bytes, &handle), LOKHAZIM_ACCEPTED);
     return handle;
 }
 
@@ -58,7 +59,7 @@ static struct lokhazim_handle make(enum part part, uint32_t bytes)
 static uint8_t *bytes_of(struct lokhazim_handle handle)
 {
     uint8_t *object;
-    expect(lokhazim_heap_lend(heap, sizeof heap, &accounts, handle, &object), LOKHAZIM_ACCEPTED);
+    expect(lokhazim_heap_lend(&heap, handle, &object), LOKHAZIM_ACCEPTED);
     return object;
 }
 
@@ -66,7 +67,7 @@ static uint8_t *bytes_of(struct lokhazim_handle handle)
 static uint32_t release(enum part part, struct lokhazim_handle handle)
 {
     uint32_t refund;
-    expect(lokhazim_heap_release(heap, sizeof heap, &accounts, part, handle, &refund), LOKHAZIM_ACCEPTED);
+    expect(lokhazim_heap_release(&heap, part, handle, &refund), LOKHAZIM_ACCEPTED);
     return refund;
 }
 
@@ -74,7 +75,7 @@ static uint32_t release(enum part part, struct lokhazim_handle handle)
 static void open_heap(void)
 {
     const struct lokhazim_grants grants = { { 48, 120, 64 } };
-    expect(lokhazim_heap_open(heap, sizeof heap, &accounts, grants, LOKHAZIM_PLAIN, LOKHAZIM_EDITION_1), LOKHAZIM_ACCEPTED);
+    expect(lokhazim_heap_open(&heap, grants, LOKHAZIM_PLAIN, LOKHAZIM_EDITION_1), LOKHAZIM_ACCEPTED);
     printf("The heap is open: 48 for the valve, 120 for the logger, 64 for the radio.\n");
 }
 
@@ -94,8 +95,7 @@ static void ask_for_too_much(void)
     const uint32_t before = remaining(LOGGER);
     const uint32_t charge = 32 + LOKHAZIM_HEADER;
     struct lokhazim_handle none;
-    const enum lokhazim_refusal refusal =
-        lokhazim_heap_allocate(heap, sizeof heap, &accounts, LOGGER, 32, &none);
+    const enum lokhazim_refusal refusal = lokhazim_heap_allocate(&heap, LOGGER, 32, &none);
     expect(refusal, LOKHAZIM_QUOTA_EXCEEDED);
     printf("It asks for 32 bytes more, which cost %" PRIu32 ": refusal %d.\n", charge, (int)refusal);
     printf("  Subtracted unseen, %" PRIu32 " would be left; %" PRIu32 " are.\n", before - charge, remaining(LOGGER));
@@ -107,7 +107,7 @@ static struct lokhazim_handle hand_over(struct lokhazim_handle buffer)
     const struct lokhazim_handle part = lokhazim_handle_narrowed(buffer, 0, sizeof reading);
     uint32_t bytes;
     printf("The radio gets a handle of %" PRIu32 " bytes of the first buffer.\n", part.length);
-    expect(lokhazim_heap_claim(heap, sizeof heap, &accounts, RADIO, part, &bytes), LOKHAZIM_ACCEPTED);
+    expect(lokhazim_heap_claim(&heap, RADIO, part, &bytes), LOKHAZIM_ACCEPTED);
     printf("  It claims by that the whole buffer, %" PRIu32 " bytes; %" PRIu32 " of its quota remain.\n",
            bytes, remaining(RADIO));
     printf("The logger releases the buffer and gets %" PRIu32 " back.\n", release(LOGGER, buffer));
@@ -127,8 +127,8 @@ static void close_valve(void)
 /* A helper works with the radio's quota: it may release what the radio hands it, but not drop everything. */
 static void lend_quota(void)
 {
-    expect(lokhazim_heap_clear_permissions(heap, sizeof heap, &accounts, RADIO, LOKHAZIM_MAY_FREE_ALL, NULL), LOKHAZIM_ACCEPTED);
-    const enum lokhazim_refusal refusal = lokhazim_heap_free_all(heap, sizeof heap, &accounts, RADIO, NULL);
+    expect(lokhazim_heap_clear_permissions(&heap, RADIO, LOKHAZIM_MAY_FREE_ALL, NULL), LOKHAZIM_ACCEPTED);
+    const enum lokhazim_refusal refusal = lokhazim_heap_free_all(&heap, RADIO, NULL);
     expect(refusal, LOKHAZIM_NOT_PERMITTED);
     printf("A helper with the radio's quota may not drop everything: refusal %d.\n", (int)refusal);
 }
@@ -138,7 +138,7 @@ static void drop_last_hold(struct lokhazim_handle part)
 {
     uint8_t *object;
     printf("The radio releases its claim and gets %" PRIu32 " back.\n", release(RADIO, part));
-    expect(lokhazim_heap_lend(heap, sizeof heap, &accounts, part, &object), LOKHAZIM_NO_SUCH_OBJECT);
+    expect(lokhazim_heap_lend(&heap, part, &object), LOKHAZIM_NO_SUCH_OBJECT);
     printf("  The handle is of no use now: refusal %d.\n", (int)LOKHAZIM_NO_SUCH_OBJECT);
 }
 
@@ -151,6 +151,6 @@ int main(void)
     close_valve();
     lend_quota();
     drop_last_hold(part);
-    expect(lokhazim_heap_check(heap, sizeof heap, &accounts), LOKHAZIM_ACCEPTED);
+    expect(lokhazim_heap_check(&heap), LOKHAZIM_ACCEPTED);
     return EXIT_SUCCESS;
 }

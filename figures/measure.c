@@ -17,9 +17,10 @@
 #define PAINT 0xA5
 #define OBJECTS 24
 
-static _Alignas(LOKHAZIM_ALIGNMENT) uint8_t heap[4096];
+static _Alignas(LOKHAZIM_ALIGNMENT) uint8_t memory[4096];
 static struct lokhazim_accounts accounts;
-static uint32_t kind = LOKHAZIM_PLAIN;
+static const struct lokhazim_heap heap = { memory, sizeof memory, &accounts };
+static enum lokhazim_kind kind = LOKHAZIM_PLAIN;
 static const struct lokhazim_grants grants = { { 4000, 4000 } };
 static struct lokhazim_handle objects[OBJECTS];
 static struct lokhazim_handle middle;
@@ -34,7 +35,7 @@ static enum lokhazim_refusal refusal;
     void call_##name(void);                                                         \
     __attribute__((noinline)) void call_##name(void)                                \
     {                                                                               \
-        refusal = lokhazim_heap_##name(heap, sizeof heap, &accounts, __VA_ARGS__);  \
+        refusal = lokhazim_heap_##name(&heap, __VA_ARGS__);                         \
     }
 
 CALL(open, grants, kind, LOKHAZIM_EDITION_1)
@@ -55,7 +56,7 @@ CALL(sweep, &amount)
 void call_check(void);
 __attribute__((noinline)) void call_check(void)
 {
-    refusal = lokhazim_heap_check(heap, sizeof heap, &accounts);
+    refusal = lokhazim_heap_check(&heap);
 }
 
 static uint8_t image[LOKHAZIM_IMAGE_MAX];
@@ -64,19 +65,19 @@ static size_t image_length;
 void call_save(void);
 __attribute__((noinline)) void call_save(void)
 {
-    refusal = (enum lokhazim_refusal)lokhazim_heap_save(heap, sizeof heap, &accounts, image, sizeof image, &image_length);
+    refusal = lokhazim_heap_save(&heap, image, sizeof image, &image_length);
 }
 
 void call_restore(void);
 __attribute__((noinline)) void call_restore(void)
 {
-    refusal = (enum lokhazim_refusal)lokhazim_heap_restore(heap, sizeof heap, &accounts, image, image_length);
+    refusal = lokhazim_heap_restore(&heap, image, image_length);
 }
 
 void call_resume(void);
 __attribute__((noinline)) void call_resume(void)
 {
-    refusal = (enum lokhazim_refusal)lokhazim_heap_resume(heap, sizeof heap, &accounts, image, image_length);
+    refusal = lokhazim_heap_resume(&heap, image, image_length);
 }
 
 void call_examine(void);
@@ -107,13 +108,13 @@ static struct lokhazim_queue queue;
 void call_send(void);
 __attribute__((noinline)) void call_send(void)
 {
-    refusal = (enum lokhazim_refusal)lokhazim_queue_put(heap, sizeof heap, &accounts, &queue, middle);
+    refusal = lokhazim_queue_send(&heap, &queue, middle);
 }
 
 void call_receive(void);
 __attribute__((noinline)) void call_receive(void)
 {
-    refusal = (enum lokhazim_refusal)lokhazim_queue_take(&queue, &given);
+    refusal = lokhazim_queue_receive(&queue, &given);
 }
 
 static void expect_accepted(const char *name)

@@ -27,12 +27,20 @@ struct core_block {
     uint32_t serial;
 };
 
+/* A reply of a refusal and a length: of an image, of a report, of a store. */
+struct core_written {
+    _Alignas(8) uint32_t refusal;
+    _Alignas(8) uint64_t length;
+};
+
 LOKHAZIM_ASSERT(sizeof(struct slice) == 16 && offsetof(struct slice, length) == 8, "a slice is not as the module has it");
 LOKHAZIM_ASSERT(sizeof(struct core_range) == 24 && offsetof(struct core_range, start) == 8 && offsetof(struct core_range, end) == 16,
                 "a range is not as the module has it");
 LOKHAZIM_ASSERT(sizeof(struct core_block) == 32 && offsetof(struct core_block, offset) == 8 && offsetof(struct core_block, size) == 16 &&
                     offsetof(struct core_block, serial) == 24,
                 "a block is not as the module has it");
+
+LOKHAZIM_ASSERT(sizeof(struct core_written) == 16 && offsetof(struct core_written, length) == 8, "a length is not as the module has it");
 
 static inline struct slice lent(const uint8_t *heap, size_t length)
 {

@@ -10,39 +10,18 @@ struct lokhazim_queue lokhazim_queue_new(uint32_t sender, uint32_t receiver)
     return queue;
 }
 
-uint32_t lokhazim_core_queue_in_place_send(const struct slice *, struct lokhazim_accounts *, struct lokhazim_queue *, const struct lokhazim_handle *);
-uint32_t lokhazim_queue_in_place_send(
+uint32_t lokhazim_core_raw_queue_send(const struct slice *, struct lokhazim_accounts *, struct lokhazim_queue *, const struct lokhazim_handle *);
+uint32_t lokhazim_raw_queue_send(
     uint8_t *heap, size_t length, struct lokhazim_accounts *accounts, struct lokhazim_queue *queue, struct lokhazim_handle handle)
 {
     const struct slice slice = lent(heap, length);
-    return lokhazim_core_queue_in_place_send(&slice, accounts, queue, &handle);
+    return lokhazim_core_raw_queue_send(&slice, accounts, queue, &handle);
 }
 
-void lokhazim_core_queue_in_place_receive(struct lokhazim_given_handle *, struct lokhazim_queue *);
-struct lokhazim_given_handle lokhazim_queue_in_place_receive(struct lokhazim_queue *queue)
+void lokhazim_core_raw_queue_receive(struct lokhazim_handle_reply *, struct lokhazim_queue *);
+struct lokhazim_handle_reply lokhazim_raw_queue_receive(struct lokhazim_queue *queue)
 {
-    struct lokhazim_given_handle reply;
-    lokhazim_core_queue_in_place_receive(&reply, queue);
-    return reply;
-}
-
-/* With the accounts or the queue by value. */
-
-void lokhazim_core_queue_send(
-    struct lokhazim_send_reply *, const struct slice *, const struct lokhazim_accounts *, const struct lokhazim_queue *, const struct lokhazim_handle *);
-struct lokhazim_send_reply lokhazim_queue_send(
-    uint8_t *heap, size_t length, struct lokhazim_accounts accounts, struct lokhazim_queue queue, struct lokhazim_handle handle)
-{
-    const struct slice slice = lent(heap, length);
-    struct lokhazim_send_reply reply;
-    lokhazim_core_queue_send(&reply, &slice, &accounts, &queue, &handle);
-    return reply;
-}
-
-void lokhazim_core_queue_receive(struct lokhazim_receive_reply *, const struct lokhazim_queue *);
-struct lokhazim_receive_reply lokhazim_queue_receive(struct lokhazim_queue queue)
-{
-    struct lokhazim_receive_reply reply;
-    lokhazim_core_queue_receive(&reply, &queue);
+    struct lokhazim_handle_reply reply;
+    lokhazim_core_raw_queue_receive(&reply, queue);
     return reply;
 }

@@ -5,7 +5,7 @@ use std::fmt::Write;
 use std::hint::black_box;
 use std::time::Instant;
 
-use lokhazim::{compare_images, image_length, Heap, HEAP_MAX, QUOTAS};
+use lokhazim::{compare_images, image_length, Heap, QuotaId, HEAP_MAX, QUOTAS};
 
 /// The heaps' lengths: each four times the one before.
 const LENGTHS: [usize; 3] = [HEAP_MAX / 16, HEAP_MAX / 4, HEAP_MAX];
@@ -29,7 +29,7 @@ fn image(length: usize, contents: Contents) -> Vec<u8> {
     let mut memory = vec![0; length];
     let mut heap = Heap::open(&mut memory, [u32::MAX; QUOTAS]).expect("the length is allowed");
     let handle = heap
-        .allocate(0, length as u32 - 64)
+        .allocate(QuotaId::new(0), length as u32 - 64)
         .expect("the object fits");
     let object = heap.lend_mut(handle).expect("the object is live");
     match contents {

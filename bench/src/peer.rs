@@ -32,7 +32,7 @@ pub const ABOUT_REFERENCE: About = About {
 };
 
 /// The peers in C.
-pub const PEERS: [About; 4] = [
+pub const PEERS: [About; 3] = [
     About {
         file: "mcheck",
         title: MCHECK,
@@ -54,12 +54,6 @@ pub const PEERS: [About; 4] = [
         title: "nano malloc",
         has_claims: false,
         text: "newlib's malloc for small machines, compiled for this one. It checks nothing.",
-    },
-    About {
-        file: "by_value",
-        title: "by value",
-        has_claims: true,
-        text: "the proved calls that take the accounts, 4,488 bytes, by value and hand them back.",
     },
 ];
 

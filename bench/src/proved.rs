@@ -1,7 +1,7 @@
 //! A heap of the proved calls, by the Rust crate over their library.
 
 pub use lokhazim::Accounts;
-use lokhazim::{Heap, Refusal};
+use lokhazim::{Heap, QuotaId, Refusal};
 use lokhazim_reference::{Handle, QUOTAS};
 
 use crate::engine::{buffer, refused, Engine};
@@ -19,7 +19,7 @@ impl Proved {
 
     /// Takes up a heap again.
     pub fn from_parts(bytes: &'static mut [u8], accounts: Accounts) -> Proved {
-        Proved(Some(accepted("check", Heap::from_parts(bytes, accounts))))
+        Proved(Some(accepted("check", Heap::from_parts(bytes, &accounts))))
     }
 
     /// Gives the bytes back, with the accounts.
@@ -79,40 +79,57 @@ fn from_proved(handle: lokhazim::Handle) -> Handle {
 impl Engine for Proved {
     #[inline(never)]
     fn call_allocate(&mut self, quota: u32, length: u32) -> Handle {
-        from_proved(accepted("allocate", self.get().allocate(quota, length)))
+        from_proved(accepted(
+            "allocate",
+            self.get().allocate(QuotaId::new(quota), length),
+        ))
     }
 
     #[inline(never)]
     fn call_release(&mut self, quota: u32, handle: Handle) -> u32 {
-        accepted("release", self.get().release(quota, to_proved(handle)))
+        accepted(
+            "release",
+            self.get().release(QuotaId::new(quota), to_proved(handle)),
+        )
     }
 
     #[inline(never)]
     fn call_claim(&mut self, quota: u32, handle: Handle) -> u32 {
-        accepted("claim", self.get().claim(quota, to_proved(handle)))
+        accepted(
+            "claim",
+            self.get().claim(QuotaId::new(quota), to_proved(handle)),
+        )
     }
 
     #[inline(never)]
     fn call_reallocate(&mut self, quota: u32, handle: Handle, length: u32) -> Handle {
-        let answer = self.get().reallocate(quota, to_proved(handle), length);
+        let answer = self
+            .get()
+            .reallocate(QuotaId::new(quota), to_proved(handle), length);
         from_proved(accepted("reallocate", answer))
     }
 
     #[inline(never)]
     fn hold(&mut self, quota: u32, handle: Handle) {
-        accepted("claim", self.get().claim(quota, to_proved(handle)));
+        accepted(
+            "claim",
+            self.get().claim(QuotaId::new(quota), to_proved(handle)),
+        );
     }
 
     #[inline(never)]
     fn drop_hold(&mut self, quota: u32, handle: Handle) {
-        accepted("release", self.get().release(quota, to_proved(handle)));
+        accepted(
+            "release",
+            self.get().release(QuotaId::new(quota), to_proved(handle)),
+        );
     }
 
     fn look<A>(&mut self, look: impl FnOnce(&mut [u8]) -> A) -> A {
         let heap = self.0.take().expect("the heap is put back");
         let (bytes, accounts) = heap.into_parts();
         let seen = look(bytes);
-        self.0 = Some(accepted("check", Heap::from_parts(bytes, accounts)));
+        self.0 = Some(accepted("check", Heap::from_parts(bytes, &accounts)));
         seen
     }
 }

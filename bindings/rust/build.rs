@@ -1,30 +1,20 @@
-//! Finds the libraries of lokhazim: in the folder that `LOKHAZIM_LIB_DIR` names, else
-//! where `make lib` writes them.
+//! Finds `liblokhazim.a`: in the folder that `LOKHAZIM_LIB_DIR` names, else where `make lib` writes
+//! it.
 
 use std::env;
-use std::path::{Path, PathBuf};
+use std::path::PathBuf;
 
-/// The libraries, as the linker names them.
-const LIBRARIES: [&str; 7] = [
-    "lokhazim",
-    "lokhazim_image",
-    "lokhazim_compare",
-    "lokhazim_report",
-    "lokhazim_settings",
-    "lokhazim_queue",
-    "lokhazim_stats",
-];
+/// The library's file.
+const LIBRARY: &str = "liblokhazim.a";
 
-/// Tells cargo where the libraries are. Where one is missing, the crate says so itself when it is
+/// Tells cargo where the library is. Where it is missing, the crate says so itself when it is
 /// built, and where it was looked for; lints and documentation need no library.
 fn main() {
     let folders = folders();
-    let found = folders.iter().find(|folder| has_all(folder));
+    let found = folders.iter().find(|folder| folder.join(LIBRARY).is_file());
     println!("cargo:rerun-if-env-changed=LOKHAZIM_LIB_DIR");
     for folder in &folders {
-        for name in LIBRARIES {
-            println!("cargo:rerun-if-changed={}", file(folder, name).display());
-        }
+        println!("cargo:rerun-if-changed={}", folder.join(LIBRARY).display());
     }
     println!("cargo:rustc-check-cfg=cfg(library_missing)");
     let Some(folder) = found else {
@@ -36,22 +26,10 @@ fn main() {
     };
     println!("cargo:rustc-env=LOKHAZIM_LIBRARIES={}", folder.display());
     println!("cargo:rustc-link-search=native={}", folder.display());
-    for name in LIBRARIES {
-        println!("cargo:rustc-link-lib=static={name}");
-    }
+    println!("cargo:rustc-link-lib=static=lokhazim");
 }
 
-/// A library's file in a folder.
-fn file(folder: &Path, name: &str) -> PathBuf {
-    folder.join(format!("lib{name}.a"))
-}
-
-/// Whether a folder has every library.
-fn has_all(folder: &Path) -> bool {
-    LIBRARIES.iter().all(|name| file(folder, name).is_file())
-}
-
-/// The folders that may have the libraries; the first that has them is taken. A relative
+/// The folders that may have the library; the first that has it is taken. A relative
 /// `LOKHAZIM_LIB_DIR` counts from the folder in which cargo was started, and else from this crate's.
 fn folders() -> Vec<PathBuf> {
     let this_crate =

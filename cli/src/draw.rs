@@ -16,7 +16,7 @@ mod strip;
 mod svg;
 mod timeline;
 
-use lokhazim::{examine_image, Heap, ImageRefusal, Settings};
+use lokhazim::{examine_image, Heap, ImageRefusal, Options};
 
 use crate::failure::Failure;
 use crate::files;
@@ -32,7 +32,7 @@ struct Wish<'w> {
     /// The file to write.
     out: &'w str,
     /// How a script's heap is opened; none where the words don't say.
-    settings: Option<Settings>,
+    options: Option<Options>,
 }
 
 /// What kind of file is written.
@@ -68,7 +68,7 @@ fn usage(what: &str) -> Failure {
 
 /// Reads the words behind `draw`, in any order.
 fn wished<'w>(words: &[&'w str]) -> Result<Wish<'w>, Failure> {
-    let (mut input, mut out, mut settings) = (None, None, None::<Settings>);
+    let (mut input, mut out, mut options) = (None, None, None::<Options>);
     let mut words = words.iter().copied();
     while let Some(word) = words.next() {
         let taken = match word {
@@ -76,7 +76,7 @@ fn wished<'w>(words: &[&'w str]) -> Result<Wish<'w>, Failure> {
                 let file = words.next().ok_or_else(|| usage("-o names no file"))?;
                 out.replace(file).is_some()
             }
-            other => match options::setting(other, &mut words, &mut settings).map_err(usage)? {
+            other => match options::option(other, &mut words, &mut options).map_err(usage)? {
                 Some(taken) => taken,
                 None if other == "-" || !other.starts_with('-') => input.replace(other).is_some(),
                 None => return Err(usage(&format!("'{other}' is not understood"))),
@@ -89,7 +89,7 @@ fn wished<'w>(words: &[&'w str]) -> Result<Wish<'w>, Failure> {
     Ok(Wish {
         input: input.ok_or_else(|| usage("nothing is named that could be drawn"))?,
         out: out.ok_or_else(|| usage("no file is named to draw into"))?,
-        settings,
+        options,
     })
 }
 
@@ -116,13 +116,13 @@ fn called(input: &str) -> String {
 /// The story of an image: one state.
 fn from_image(wish: &Wish, image: &[u8]) -> Result<Story, Failure> {
     let name = wish.input;
-    if wish.settings.is_some() {
+    if wish.options.is_some() {
         return Err(Failure::Usage(format!("{name}: {}", options::OF_IMAGES)));
     }
     let refused = |refusal: ImageRefusal| Failure::Refused(format!("{name}: {refusal}"));
     let facts = examine_image(image).map_err(refused)?;
     let mut memory = vec![0; facts.heap_length];
-    let heap = Heap::restore(&mut memory, image).map_err(refused)?;
+    let heap = Heap::resume(&mut memory, image).map_err(refused)?;
     let mut recorder = Recorder::new(name);
     recorder.look(&heap)?;
     Ok(recorder.told(called(name), Source::Image(facts.form), &heap))
@@ -131,15 +131,15 @@ fn from_image(wish: &Wish, image: &[u8]) -> Result<Story, Failure> {
 /// The story of a script: the state behind each call.
 fn from_script(wish: &Wish, script: &[u8]) -> Result<Story, Failure> {
     let name = wish.input;
-    let settings = wish.settings.unwrap_or_default();
+    let options = wish.options.unwrap_or_default();
     let mut recorder = Recorder::new(name);
     let each = |call, heap: &Heap| recorder.call(call, heap);
-    let ended = followed(name, script, settings, each, |heap| {
+    let ended = followed(name, script, options, each, |heap| {
         let (bytes, accounts) = heap.parts();
         Ok((bytes.to_vec(), accounts.clone()))
     })?;
     let (mut bytes, accounts) = ended;
-    let heap = Heap::from_parts(&mut bytes, accounts)
+    let heap = Heap::from_parts(&mut bytes, &accounts)
         .map_err(|refusal| Failure::Refused(format!("{name}: {refusal}")))?;
     Ok(recorder.told(called(name), Source::Script, &heap))
 }

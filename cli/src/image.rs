@@ -4,8 +4,7 @@ use std::fmt::Write;
 
 use lokhazim::{
     compare_images, examine_image, image_length, image_length_form_1, move_image_down,
-    move_image_up, Block, Difference, Edition, Heap, Hold, ImageRefusal, Kind, Permissions, Quota,
-    Which, IMAGE_MAX,
+    move_image_up, Block, Heap, Hold, ImageRefusal, Permissions, Quota, Which, IMAGE_MAX,
 };
 
 use crate::failure::Failure;
@@ -58,22 +57,6 @@ pub fn save(form: Form, script: &str, out: &str) -> Result<(), Failure> {
     files::print(format!("ok {}\n", image.len()).as_bytes())
 }
 
-/// The word for a kind of heap.
-const fn kind_word(kind: Kind) -> &'static str {
-    match kind {
-        Kind::Plain => "plain",
-        Kind::Quarantine => "quarantine",
-    }
-}
-
-/// The number by which an edition is named, from 1.
-pub const fn edition_number(edition: Edition) -> u8 {
-    match edition {
-        Edition::First => 1,
-        Edition::Second => 2,
-    }
-}
-
 /// What is shown for the serial of a block: a word for one in quarantine, which has none.
 fn serial_word(block: &Block) -> String {
     match block.is_quarantined() {
@@ -87,7 +70,7 @@ pub fn show(name: &str) -> Result<(), Failure> {
     let image = files::read(name)?;
     let facts = examine_image(&image).map_err(refused(name))?;
     let mut memory = vec![0; facts.heap_length];
-    let heap = Heap::restore(&mut memory, &image).map_err(refused(name))?;
+    let heap = Heap::resume(&mut memory, &image).map_err(refused(name))?;
     let mut text = String::new();
     let accounts = heap.accounts();
     let _ = writeln!(
@@ -95,8 +78,8 @@ pub fn show(name: &str) -> Result<(), Failure> {
         "ok {} {} {}",
         facts.form, facts.heap_length, accounts.last_serial
     );
-    let _ = writeln!(text, "kind {}", kind_word(heap.kind()));
-    let _ = writeln!(text, "edition {}", edition_number(heap.edition()));
+    let _ = writeln!(text, "kind {}", heap.kind());
+    let _ = writeln!(text, "edition {}", heap.edition());
     for (number, quota) in accounts.quotas.iter().enumerate() {
         if *quota != UNGRANTED {
             let _ = writeln!(
@@ -141,14 +124,7 @@ pub fn compare(first: &str, second: &str) -> Result<(), Failure> {
     })?;
     let mut text = String::new();
     for difference in differences {
-        let _ = match difference {
-            Difference::LastSerial => writeln!(text, "serial"),
-            Difference::Kind => writeln!(text, "kind"),
-            Difference::Edition => writeln!(text, "edition"),
-            Difference::Quota(number) => writeln!(text, "quota {number}"),
-            Difference::Record(place) => writeln!(text, "record {place}"),
-            Difference::Bytes { offset, length } => writeln!(text, "bytes {offset} {length}"),
-        };
+        let _ = writeln!(text, "{difference}");
     }
     files::print(text.as_bytes())?;
     match text.is_empty() {

@@ -1,4 +1,4 @@
-//! The command `lokhazim`: replays and draws scripts, gives figures, works on images and settings, and
+//! The command `lokhazim`: replays and draws scripts, gives statistics, works on images and settings, and
 //! reads audit reports. Every rule is in the proved library; this program reads files, calls it and
 //! prints.
 //!
@@ -6,9 +6,6 @@
 //! can't be read or written.
 
 #![deny(unsafe_code)]
-
-#[cfg(all(library_missing, not(clippy)))]
-compile_error!("liblokhazim_replay.a is missing: run 'make cli' in the repository");
 
 mod draw;
 mod failure;
@@ -22,7 +19,7 @@ mod proved;
 mod report;
 mod script;
 mod settings;
-mod stats;
+mod statistics;
 
 use std::env;
 use std::process::ExitCode;
@@ -58,7 +55,7 @@ lokhazim: a heap that parts of a firmware share, by its proved library
                                       script each object over the calls; FILE.html has a table too;
                                       '--quarantine' and '--edition 2' open a script's heap so, and with
                                       quarantine a line can be 'sweep'
-    lokhazim stats SCRIPT|IMAGE       print the figures of the heap that a script leaves or an image
+    lokhazim statistics SCRIPT|IMAGE  print the statistics of the heap that a script leaves or an image
                                       holds: free, live and quarantined blocks and bytes, the longest
                                       request in each unit, fragmentation, records, and what each quota
                                       has; of a script the highest and lowest ones too, and after which
@@ -66,7 +63,7 @@ lokhazim: a heap that parts of a firmware share, by its proved library
     lokhazim report import FILE       print the grants in an audit report, to stand behind 'open H': FILE
                                       has a line for each quota, or is the linker's JSON
     lokhazim report export G..        print grants as a report of 32 lines; missing ones are 0
-    lokhazim settings get BOARD DEFAULTS NAME VERSION [--hex]
+    lokhazim settings find BOARD DEFAULTS NAME VERSION [--hex]
                                       print the value of a name at a version, from the first file,
                                       else from the second: its bytes, or its digits on a line
     lokhazim settings add FILE NAME VERSION VALUE [--hex]
@@ -125,14 +122,14 @@ fn run(words: &[&str]) -> Result<(), Failure> {
         ["image", "move", "up", image, out] => image::move_to(Form::Second, image, out),
         ["image", "move", "down", image, out] => image::move_to(Form::First, image, out),
         ["draw", words @ ..] => draw::draw(words),
-        ["stats", words @ ..] => stats::stats(words),
+        ["statistics", words @ ..] => statistics::statistics(words),
         ["report", "import", file] => report::import(file),
         ["report", "export", grants @ ..] if !grants.is_empty() => report::export(grants),
-        ["settings", "get", board, defaults, name, version] => {
-            settings::get(board, defaults, name, version, ValueForm::Text)
+        ["settings", "find", board, defaults, name, version] => {
+            settings::find(board, defaults, name, version, ValueForm::Text)
         }
-        ["settings", "get", board, defaults, name, version, "--hex"] => {
-            settings::get(board, defaults, name, version, ValueForm::Hex)
+        ["settings", "find", board, defaults, name, version, "--hex"] => {
+            settings::find(board, defaults, name, version, ValueForm::Hex)
         }
         ["settings", "add", file, name, version, value] => {
             settings::add(file, name, version, value, ValueForm::Text)

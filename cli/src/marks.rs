@@ -1,10 +1,10 @@
-//! The highest and the lowest figures over the calls of a script, each with the first line behind which it stood.
+//! The highest and the lowest values over the calls of a script, each with the first line behind which it stood.
 
 use std::fmt::Write;
 
-use lokhazim::{Quota, Stats};
+use lokhazim::{Quota, Statistics};
 
-/// A figure and the line behind which it first stood.
+/// A value and the line behind which it first stood.
 type Mark = (usize, usize);
 
 /// The marks so far; none before the first call.
@@ -19,28 +19,28 @@ pub struct Marks {
     spent: Vec<Option<Mark>>,
 }
 
-/// Keeps the higher figure, and of equal ones the first.
-fn higher(mark: &mut Option<Mark>, figure: usize, line: usize) {
-    if mark.is_none_or(|(most, _)| most < figure) {
-        *mark = Some((figure, line));
+/// Keeps the higher value, and of equal ones the first.
+fn higher(mark: &mut Option<Mark>, value: usize, line: usize) {
+    if mark.is_none_or(|(most, _)| most < value) {
+        *mark = Some((value, line));
     }
 }
 
-/// Keeps the lower figure, and of equal ones the first.
-fn lower(mark: &mut Option<Mark>, figure: usize, line: usize) {
-    if mark.is_none_or(|(least, _)| figure < least) {
-        *mark = Some((figure, line));
+/// Keeps the lower value, and of equal ones the first.
+fn lower(mark: &mut Option<Mark>, value: usize, line: usize) {
+    if mark.is_none_or(|(least, _)| value < least) {
+        *mark = Some((value, line));
     }
 }
 
 impl Marks {
-    /// Notes the figures behind a line.
-    pub fn note(&mut self, line: usize, stats: &Stats, quotas: &[Quota]) {
-        higher(&mut self.live, stats.live.bytes, line);
-        higher(&mut self.quarantined, stats.quarantined.bytes, line);
-        lower(&mut self.free, stats.free.bytes, line);
-        lower(&mut self.request, stats.largest_request(), line);
-        higher(&mut self.records, stats.records, line);
+    /// Notes the statistics behind a line.
+    pub fn note(&mut self, line: usize, now: &Statistics, quotas: &[Quota]) {
+        higher(&mut self.live, now.live.bytes, line);
+        higher(&mut self.quarantined, now.quarantined.bytes, line);
+        lower(&mut self.free, now.free.bytes, line);
+        lower(&mut self.request, now.largest_request(), line);
+        higher(&mut self.records, now.records, line);
         self.spent.resize(quotas.len(), None);
         for (mark, quota) in self.spent.iter_mut().zip(quotas) {
             let spent = quota.grant.saturating_sub(quota.remainder);
@@ -58,8 +58,8 @@ impl Marks {
             ("least longest request", self.request),
             ("most records", self.records),
         ] {
-            let (figure, line) = mark.unwrap_or_default();
-            let _ = writeln!(text, "{name:<28}{figure:>8}{line:>12}");
+            let (value, line) = mark.unwrap_or_default();
+            let _ = writeln!(text, "{name:<28}{value:>8}{line:>12}");
         }
         for (quota, mark) in self.spent.iter().enumerate() {
             if let Some((spent @ 1.., line)) = mark {

@@ -1,4 +1,5 @@
-//! The proved replay. All unsafe code of the command is here.
+//! The proved replay, which `liblokhazim.a` has beside what the crate `lokhazim` calls. All unsafe
+//! code of the command is here.
 
 /// What the replay gives: `done` is 1 and `length` the bytes written, or both are 0.
 #[repr(C)]

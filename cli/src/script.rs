@@ -2,12 +2,12 @@
 //!
 //! What a line means is decided by the proved replay. To get at the heap that a script leaves, its
 //! calls are made again by the library's own functions, and each answer is held against what the
-//! proved replay prints. A heap of other settings than the replay's has its answers from the
+//! proved replay prints. A heap of other options than the replay's has its answers from the
 //! library's functions alone; the form of each line is the replay's.
 
 use std::borrow::Cow;
 
-use lokhazim::{Handle, Heap, Kind, Refusal, Settings, QUOTAS};
+use lokhazim::{Handle, Heap, Kind, Options, QuotaId, Refusal, QUOTAS};
 
 use crate::failure::Failure;
 use crate::proved::{replay, LONGEST};
@@ -45,7 +45,7 @@ pub struct Call {
     /// The line's words.
     pub words: String,
     /// The quota that it names; none in an opening and a sweep.
-    pub quota: Option<u32>,
+    pub quota: Option<QuotaId>,
     /// The numbers of its answer.
     pub answer: Result<Vec<u32>, Refusal>,
 }
@@ -68,19 +68,19 @@ pub fn left_by<T>(
     script: &[u8],
     use_heap: impl FnOnce(&Heap) -> Result<T, Failure>,
 ) -> Result<T, Failure> {
-    followed(name, script, Settings::default(), |_, _| Ok(()), use_heap)
+    followed(name, script, Options::default(), |_, _| Ok(()), use_heap)
 }
 
-/// Runs a script on a heap of these settings. Hands each call, the opening first, to a function with
+/// Runs a script on a heap of these options. Hands each call, the opening first, to a function with
 /// the heap behind it, and the heap that the script leaves to another.
 pub fn followed<T>(
     name: &str,
     script: &[u8],
-    settings: Settings,
+    options: Options,
     mut each: impl FnMut(Call, &Heap) -> Result<(), Failure>,
     end: impl FnOnce(&Heap) -> Result<T, Failure>,
 ) -> Result<T, Failure> {
-    let printed = printed(name, &judged(script, settings.kind));
+    let printed = printed(name, &judged(script, options.kind));
     if let Some(bad) = printed.bad {
         return Err(Failure::Refused(bad));
     }
@@ -94,12 +94,12 @@ pub fn followed<T>(
     let opened = opening(lines.next().unwrap_or_default());
     let (call, length, grants) = opened.ok_or_else(|| differs(name, 1))?;
     let mut memory = vec![0; length];
-    let mut heap = Heap::open_with(&mut memory, grants, settings).map_err(refused)?;
+    let mut heap = Heap::open_with(&mut memory, grants, options).map_err(refused)?;
     each(call, &heap)?;
     for (line, words) in (2..).zip(lines) {
         let call = made(&mut heap, line, words).ok_or_else(|| differs(name, line))?;
         let same = answers.next() == Some(call.printed().as_str());
-        if !same && settings == Settings::default() {
+        if !same && options == Options::default() {
             return Err(differs(name, line));
         }
         each(call, &heap)?;
@@ -148,20 +148,24 @@ fn made(heap: &mut Heap, line: usize, words: &str) -> Option<Call> {
         serial: s,
     };
     let (word, values) = parted(words);
-    let answer = match (word, values.as_slice()) {
-        ("alloc", &[q, n]) => heap.allocate(q, n).map(of_handle),
-        ("array", &[q, n, s]) => heap.allocate_array(q, n, s).map(of_handle),
-        ("claim", &[q, b, l, s]) => heap.claim(q, handle(b, l, s)).map(of_amount),
-        ("free", &[q, b, l, s]) => heap.release(q, handle(b, l, s)).map(of_amount),
-        ("all", &[q]) => heap.free_all(q).map(of_amount),
-        ("realloc", &[q, b, l, s, n]) => heap.reallocate(q, handle(b, l, s), n).map(of_handle),
-        ("sweep", &[]) => heap.sweep().map(of_amount),
+    let quota = values.first().copied().map(QuotaId::new);
+    let others = values.get(1..).unwrap_or(&[]);
+    let answer = match (word, quota, others) {
+        ("alloc", Some(q), &[n]) => heap.allocate(q, n).map(of_handle),
+        ("array", Some(q), &[n, s]) => heap.allocate_array(q, n, s).map(of_handle),
+        ("claim", Some(q), &[b, l, s]) => heap.claim(q, handle(b, l, s)).map(of_amount),
+        ("free", Some(q), &[b, l, s]) => heap.release(q, handle(b, l, s)).map(of_amount),
+        ("all", Some(q), &[]) => heap.free_all(q).map(of_amount),
+        ("realloc", Some(q), &[b, l, s, n]) => {
+            heap.reallocate(q, handle(b, l, s), n).map(of_handle)
+        }
+        ("sweep", None, &[]) => heap.sweep().map(of_amount),
         _ => return None,
     };
     Some(Call {
         line,
         words: words.to_owned(),
-        quota: values.first().copied(),
+        quota,
         answer,
     })
 }

@@ -1,9 +1,9 @@
-//! Settings: a value asked for, an entry added, and a store listed. A file holds exactly the used
+//! Settings: a value found, an entry added, and a store listed. A file holds exactly the used
 //! bytes of a store.
 
 use std::fmt::Write;
 
-use lokhazim::{add_setting, lookup, SettingsRefusal, Store, ENTRY_FRONT};
+use lokhazim::{add_setting, find_setting, SettingsRefusal, Store, ENTRY_FRONT};
 
 use crate::failure::Failure;
 use crate::files;
@@ -66,7 +66,7 @@ fn hex(value: &[u8]) -> String {
 }
 
 /// Prints the value of a name at a version: its bytes and nothing else, or its digits on a line.
-pub fn get(
+pub fn find(
     board: &str,
     defaults: &str,
     name: &str,
@@ -76,7 +76,7 @@ pub fn get(
     let (number, at) = name_and_version(name, version)?;
     let (own, given) = (files::read(board)?, files::read(defaults)?);
     let value =
-        lookup(Store::whole(&own), Store::whole(&given), number, at).map_err(|refusal| {
+        find_setting(Store::whole(&own), Store::whole(&given), number, at).map_err(|refusal| {
             let about = match refusal {
                 SettingsRefusal::Malformed if is_malformed(&own) => board.to_string(),
                 SettingsRefusal::Malformed => defaults.to_string(),

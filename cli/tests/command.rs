@@ -7,7 +7,7 @@ use std::path::Path;
 
 use support::{expect, folder, lokhazim, names, open};
 
-use lokhazim::{grants, Edition, Heap, Kind, Settings, FORM_1_QUOTAS};
+use lokhazim::{grants, Edition, Heap, Kind, Options, QuotaId, FORM_1_QUOTAS};
 
 /// The example of the rule book's replay section.
 fn script() -> String {
@@ -129,9 +129,9 @@ fn permissions_are_shown() {
     let folder = folder("permissions");
     let mut memory = [0; 64];
     let mut heap = Heap::open(&mut memory, grants([9])).unwrap();
-    heap.clear_permissions(0, lokhazim::Permissions::CLAIM)
+    heap.clear_permissions(QuotaId::new(0), lokhazim::Permissions::CLAIM)
         .unwrap();
-    heap.clear_permissions(31, lokhazim::Permissions::ALL)
+    heap.clear_permissions(QuotaId::new(31), lokhazim::Permissions::ALL)
         .unwrap();
     let mut image = [0; 5_120];
     heap.save(&mut image).unwrap();
@@ -155,14 +155,14 @@ fn quarantined_images(folder: &Path) {
     ];
     for (name, kind) in kinds {
         let mut memory = [0; 64];
-        let settings = Settings {
+        let options = Options {
             kind,
-            ..Settings::default()
+            ..Options::default()
         };
-        let mut heap = Heap::open_with(&mut memory, grants([100]), settings).unwrap();
-        let first = heap.allocate(0, 16).unwrap();
-        heap.allocate(0, 8).unwrap();
-        heap.release(0, first).unwrap();
+        let mut heap = Heap::open_with(&mut memory, grants([100]), options).unwrap();
+        let first = heap.allocate(QuotaId::new(0), 16).unwrap();
+        heap.allocate(QuotaId::new(0), 8).unwrap();
+        heap.release(QuotaId::new(0), first).unwrap();
         if name == "swept" {
             assert_eq!(heap.sweep(), Ok(24));
         }
@@ -206,8 +206,8 @@ fn editions_are_shown_and_compared() {
     let folder = folder("editions");
     let image_of = |name: &str, kind, edition| {
         let mut memory = [0; 64];
-        let settings = Settings { kind, edition };
-        let heap = Heap::open_with(&mut memory, grants([100]), settings).unwrap();
+        let options = Options { kind, edition };
+        let heap = Heap::open_with(&mut memory, grants([100]), options).unwrap();
         let mut image = [0; 5_120];
         heap.save(&mut image).unwrap();
         fs::write(folder.join(name), image).unwrap();

@@ -11,7 +11,7 @@ use std::path::Path;
 use support::{expect, folder, lokhazim, names, open};
 use xml::Element;
 
-use lokhazim::{grants, Heap, Kind, Permissions, Settings};
+use lokhazim::{grants, Heap, Kind, Options, Permissions, QuotaId};
 
 /// A script: an opening with these grants, then these calls.
 fn script(length: u32, first: &[u32], calls: &str) -> String {
@@ -235,16 +235,17 @@ fn images_of_both_forms_are_drawn() {
 #[test]
 fn quarantine_permissions_and_editions_are_drawn() {
     let folder = folder("draw-kinds");
-    let settings = Settings {
+    let options = Options {
         kind: Kind::Quarantine,
-        ..Settings::default()
+        ..Options::default()
     };
     let mut memory = [0; 128];
-    let mut heap = Heap::open_with(&mut memory, grants([100]), settings).unwrap();
-    let first = heap.allocate(0, 40).unwrap();
-    heap.allocate(0, 8).unwrap();
-    heap.release(0, first).unwrap();
-    heap.clear_permissions(0, Permissions::CLAIM).unwrap();
+    let mut heap = Heap::open_with(&mut memory, grants([100]), options).unwrap();
+    let quota = QuotaId::new(0);
+    let first = heap.allocate(quota, 40).unwrap();
+    heap.allocate(quota, 8).unwrap();
+    heap.release(quota, first).unwrap();
+    heap.clear_permissions(quota, Permissions::CLAIM).unwrap();
     let mut image = [0; 5_120];
     heap.save(&mut image).unwrap();
     fs::write(folder.join("a.image"), image).unwrap();

@@ -18,8 +18,8 @@ fn values_are_added_asked_for_and_listed() {
         fs::read(folder.join("b")).unwrap(),
         [1, 2, 7, 2, b'o', b'n']
     );
-    expect(&run(&["get", "b", "d", "7", "512"]), 0, "off", "");
-    expect(&run(&["get", "b", "d", "7", "513"]), 0, "on", "");
+    expect(&run(&["find", "b", "d", "7", "512"]), 0, "off", "");
+    expect(&run(&["find", "b", "d", "7", "513"]), 0, "on", "");
     expect(
         &run(&["add", "b", "7", "513", "0aFF", "--hex"]),
         0,
@@ -27,7 +27,7 @@ fn values_are_added_asked_for_and_listed() {
         "",
     );
     expect(
-        &run(&["get", "b", "d", "7", "65535", "--hex"]),
+        &run(&["find", "b", "d", "7", "65535", "--hex"]),
         0,
         "0aff\n",
         "",
@@ -51,19 +51,19 @@ fn each_refusal_names_file_number_and_reason() {
     fs::write(folder.join("cut"), &good[..5]).unwrap();
     fs::write(folder.join("e"), "").unwrap();
     expect(
-        &run(&["get", "cut", "b", "7", "513"]),
+        &run(&["find", "cut", "b", "7", "513"]),
         1,
         "",
         "lokhazim: cut: refusal 41: a store",
     );
     expect(
-        &run(&["get", "b", "cut", "7", "513"]),
+        &run(&["find", "b", "cut", "7", "513"]),
         1,
         "",
         "lokhazim: cut: refusal 41: a store",
     );
     expect(
-        &run(&["get", "b", "e", "7", "512"]),
+        &run(&["find", "b", "e", "7", "512"]),
         1,
         "",
         "b, e: name 7, version 512: refusal 42: neither",
@@ -105,8 +105,8 @@ fn wrong_words_and_files_change_nothing() {
         (["add", "b", "", "0", "x"], "'' is no name"),
         (["add", "b", "1", "65536", "x"], "'65536' is no version"),
         (["add", "b", "1", "99999999999", "x"], "is no version"),
-        (["get", "b", "b", "1", "v2"], "'v2' is no version"),
-        (["get", "b", "none", "1", "2"], "none can't be read"),
+        (["find", "b", "b", "1", "v2"], "'v2' is no version"),
+        (["find", "b", "none", "1", "2"], "none can't be read"),
         (["add", "none", "1", "2", "x"], "none can't be read"),
         (["add", "-", "1", "2", "x"], "name a file"),
     ];
@@ -118,7 +118,7 @@ fn wrong_words_and_files_change_nothing() {
         expect(&run(&words), 2, "", "two hexadecimal digits");
     }
     expect(&run(&["list", "none"]), 2, "", "none can't be read");
-    expect(&run(&["get", "b"]), 2, "", "is not understood");
+    expect(&run(&["find", "b"]), 2, "", "is not understood");
     assert_eq!(fs::read(folder.join("b")).unwrap(), b"");
     assert_eq!(names(&folder), ["b"]);
 }

@@ -13,10 +13,11 @@
 
 /* One object for all files, in memory that only the kernel may touch. */
 struct parts {
-    _Alignas(LOKHAZIM_ALIGNMENT) uint8_t heap[PARTS_HEAP];
+    _Alignas(LOKHAZIM_ALIGNMENT) uint8_t bytes[PARTS_HEAP];
     struct lokhazim_accounts accounts;
 };
 extern struct parts parts;
+static const struct lokhazim_heap parts_heap = { parts.bytes, sizeof parts.bytes, &parts.accounts };
 
 /* From the kernel: the quota of the part that runs, by the scheduler's own record; and what keeps everyone else from a call while one is made. */
 uint32_t kernel_part(void);
@@ -27,8 +28,7 @@ void kernel_leave(void);
 static inline enum lokhazim_refusal part_allocate(uint32_t bytes, struct lokhazim_handle *handle)
 {
     kernel_enter();
-    const enum lokhazim_refusal refusal =
-        lokhazim_heap_allocate(parts.heap, sizeof parts.heap, &parts.accounts, kernel_part(), bytes, handle);
+    const enum lokhazim_refusal refusal = lokhazim_heap_allocate(&parts_heap, kernel_part(), bytes, handle);
     kernel_leave();
     return refusal;
 }
@@ -37,8 +37,7 @@ static inline enum lokhazim_refusal part_allocate(uint32_t bytes, struct lokhazi
 static inline enum lokhazim_refusal part_claim(struct lokhazim_handle handle)
 {
     kernel_enter();
-    const enum lokhazim_refusal refusal =
-        lokhazim_heap_claim(parts.heap, sizeof parts.heap, &parts.accounts, kernel_part(), handle, NULL);
+    const enum lokhazim_refusal refusal = lokhazim_heap_claim(&parts_heap, kernel_part(), handle, NULL);
     kernel_leave();
     return refusal;
 }
@@ -47,8 +46,7 @@ static inline enum lokhazim_refusal part_claim(struct lokhazim_handle handle)
 static inline enum lokhazim_refusal part_release(struct lokhazim_handle handle)
 {
     kernel_enter();
-    const enum lokhazim_refusal refusal =
-        lokhazim_heap_release(parts.heap, sizeof parts.heap, &parts.accounts, kernel_part(), handle, NULL);
+    const enum lokhazim_refusal refusal = lokhazim_heap_release(&parts_heap, kernel_part(), handle, NULL);
     kernel_leave();
     return refusal;
 }
@@ -58,10 +56,9 @@ static inline enum lokhazim_refusal part_lend(struct lokhazim_handle handle, uin
 {
     *object = NULL;
     kernel_enter();
-    enum lokhazim_refusal refusal =
-        lokhazim_heap_can_release(parts.heap, sizeof parts.heap, &parts.accounts, kernel_part(), handle);
+    enum lokhazim_refusal refusal = lokhazim_heap_can_release(&parts_heap, kernel_part(), handle);
     if (refusal == LOKHAZIM_ACCEPTED) {
-        refusal = lokhazim_heap_lend(parts.heap, sizeof parts.heap, &parts.accounts, handle, object);
+        refusal = lokhazim_heap_lend(&parts_heap, handle, object);
     }
     kernel_leave();
     return refusal;

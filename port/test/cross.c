@@ -1,7 +1,7 @@
 /*
  * The same calls on every processor: random ones on random heaps, with damaged heaps and accounts among them, and a crowded heap in which all hold records are
- * used. Each answer, each byte of the heap and each number of the accounts goes into two sums after each call. BY_VALUE=1 makes every fourth call by value,
- * which answers the same. IMAGES=1 saves and reads images and hands packets on between the calls.
+ * used. Each answer, each byte of the heap and each number of the accounts goes into two sums after each call. IMAGES=1 saves and reads images and hands
+ * packets on between the calls; RESTORE=1 also restores, which needs a stack with room for second accounts and leaves the same.
  */
 #include "cross.h"
 
@@ -24,7 +24,7 @@ struct answer {
 };
 
 struct state {
-    _Alignas(LOKHAZIM_ALIGNMENT) uint8_t heap[HEAP];
+    _Alignas(LOKHAZIM_ALIGNMENT) uint8_t bytes[HEAP];
     struct lokhazim_accounts accounts;
 };
 
@@ -69,7 +69,7 @@ static void mix_accounts(const struct lokhazim_accounts *accounts)
 static void mix_state(void)
 {
     for (size_t i = 0; i < length; i += 4) {
-        mix(state.heap[i] | (uint32_t)state.heap[i + 1] << 8 | (uint32_t)state.heap[i + 2] << 16 | (uint32_t)state.heap[i + 3] << 24);
+        mix(state.bytes[i] | (uint32_t)state.bytes[i + 1] << 8 | (uint32_t)state.bytes[i + 2] << 16 | (uint32_t)state.bytes[i + 3] << 24);
     }
     mix_accounts(&state.accounts);
 }
@@ -92,66 +92,62 @@ static struct answer of_amount(uint32_t refusal, uint32_t amount)
     return answer;
 }
 
-static struct answer of_block(const struct lokhazim_block_reply *block)
+static struct answer of_block(uint32_t refusal, const struct lokhazim_block_reply *block)
 {
-    const struct answer answer = { block->refusal, { block->found, (uint32_t)block->offset, (uint32_t)block->size, block->serial } };
+    const struct answer answer = { refusal, { block->found, (uint32_t)block->offset, (uint32_t)block->size, block->serial } };
     return answer;
 }
 
-/* The call by the functions that programs call. */
-static struct answer in_place(const struct call *call)
+/* The call, and what it answers. */
+static struct answer perform(const struct call *call)
 {
-    struct lokhazim_accounts *accounts = &state.accounts;
-    uint8_t *heap = state.heap, *object = NULL;
+    const struct lokhazim_heap heap = { state.bytes, call->length, &state.accounts };
+    uint8_t *object = NULL;
     struct lokhazim_handle handle = { 0, 0, 0 };
     struct lokhazim_block_reply block;
     uint32_t amount = 0, refusal;
     switch (call->kind) {
     case ALLOCATE:
-        refusal = lokhazim_heap_allocate(heap, call->length, accounts, call->quota, call->bytes, &handle);
+        refusal = lokhazim_heap_allocate(&heap, call->quota, call->bytes, &handle);
         return of_handle(refusal, handle);
     case ALLOCATE_ARRAY:
-        refusal = lokhazim_heap_allocate_array(heap, call->length, accounts, call->quota, call->bytes, call->size, &handle);
+        refusal = lokhazim_heap_allocate_array(&heap, call->quota, call->bytes, call->size, &handle);
         return of_handle(refusal, handle);
     case CLAIM:
-        refusal = lokhazim_heap_claim(heap, call->length, accounts, call->quota, call->handle, &amount);
+        refusal = lokhazim_heap_claim(&heap, call->quota, call->handle, &amount);
         return of_amount(refusal, amount);
     case RELEASE:
-        refusal = lokhazim_heap_release(heap, call->length, accounts, call->quota, call->handle, &amount);
+        refusal = lokhazim_heap_release(&heap, call->quota, call->handle, &amount);
         return of_amount(refusal, amount);
     case FREE_ALL:
-        refusal = lokhazim_heap_free_all(heap, call->length, accounts, call->quota, &amount);
+        refusal = lokhazim_heap_free_all(&heap, call->quota, &amount);
         return of_amount(refusal, amount);
     case CLEAR:
-        refusal = lokhazim_heap_clear_permissions(heap, call->length, accounts, call->quota, call->size, &amount);
+        refusal = lokhazim_heap_clear_permissions(&heap, call->quota, call->size, &amount);
         return of_amount(refusal, amount);
     case REALLOCATE:
-        refusal = lokhazim_heap_reallocate(heap, call->length, accounts, call->quota, call->handle, call->bytes, &handle);
+        refusal = lokhazim_heap_reallocate(&heap, call->quota, call->handle, call->bytes, &handle);
         return of_handle(refusal, handle);
     case SWEEP:
-        refusal = lokhazim_heap_sweep(heap, call->length, accounts, &amount);
+        refusal = lokhazim_heap_sweep(&heap, &amount);
         return of_amount(refusal, amount);
     case LEND:
-        refusal = lokhazim_heap_lend(heap, call->length, accounts, call->handle, &object);
-        return of_amount(refusal, object ? (uint32_t)(object - heap) : 0);
+        refusal = lokhazim_heap_lend(&heap, call->handle, &object);
+        return of_amount(refusal, object ? (uint32_t)(object - state.bytes) : 0);
     case WRITE:
-        return of_amount(lokhazim_heap_write(heap, call->length, accounts, call->handle, call->size, (uint8_t)call->bytes), 0);
+        return of_amount(lokhazim_heap_write(&heap, call->handle, call->size, (uint8_t)call->bytes), 0);
     case REMAINING:
-        refusal = lokhazim_heap_remaining(heap, call->length, accounts, call->quota, &amount);
+        refusal = lokhazim_heap_remaining(&heap, call->quota, &amount);
         return of_amount(refusal, amount);
     case CAN_RELEASE:
-        return of_amount(lokhazim_heap_can_release(heap, call->length, accounts, call->quota, call->handle), 0);
+        return of_amount(lokhazim_heap_can_release(&heap, call->quota, call->handle), 0);
     case LIST_BLOCK:
-        lokhazim_heap_list_block(heap, call->length, accounts, call->handle.base - LOKHAZIM_HEADER, &block);
-        return of_block(&block);
+        refusal = lokhazim_heap_list_block(&heap, call->handle.base - LOKHAZIM_HEADER, &block);
+        return of_block(refusal, &block);
     default:
-        return of_amount(lokhazim_heap_check(heap, call->length, accounts), 0);
+        return of_amount(lokhazim_heap_check(&heap), 0);
     }
 }
-
-#if BY_VALUE
-#include "by_value.h"
-#endif
 
 #if IMAGES
 #include "images.h"
@@ -160,11 +156,7 @@ static struct answer in_place(const struct call *call)
 /* Makes a call, and counts it and what it gave. */
 static struct answer make(const struct call *call)
 {
-#if BY_VALUE
-    const struct answer answer = outcome.calls % 4 == 3 ? by_value(call) : in_place(call);
-#else
-    const struct answer answer = in_place(call);
-#endif
+    const struct answer answer = perform(call);
     outcome.calls++;
     outcome.tally[answer.refusal < REFUSALS ? answer.refusal : 0]++;
     mix(call->kind);
@@ -183,19 +175,21 @@ static struct answer make(const struct call *call)
 static void open_heap(int plenty)
 {
     struct lokhazim_grants grants;
-    const uint32_t kind = any(2), edition = any(2);
+    const enum lokhazim_kind kind = any(2) ? LOKHAZIM_QUARANTINE : LOKHAZIM_PLAIN;
+    const enum lokhazim_edition edition = any(2) ? LOKHAZIM_EDITION_2 : LOKHAZIM_EDITION_1;
     length = plenty ? HEAP : 64 + 8 * (size_t)any((HEAP - 64) / 8 + 1);
     for (int i = 0; i < LOKHAZIM_QUOTAS; i++) {
         grants.values[i] = plenty ? 60000 : any(1500);
     }
     for (size_t i = 0; i < HEAP; i++) {
-        state.heap[i] = (uint8_t)any(256);
+        state.bytes[i] = (uint8_t)any(256);
     }
     for (int i = 0; i < HANDLES; i++) {
         handles[i].serial = 0;
     }
+    const struct lokhazim_heap heap = { state.bytes, length, &state.accounts };
     outcome.calls++;
-    outcome.tally[lokhazim_heap_open(state.heap, length, &state.accounts, grants, kind, edition)]++;
+    outcome.tally[lokhazim_heap_open(&heap, grants, kind, edition)]++;
     mix_state();
 }
 
@@ -246,7 +240,7 @@ static void harm(struct call *call)
         ((uint8_t *)&state.accounts)[any(sizeof state.accounts)] ^= bit;
         break;
     default:
-        state.heap[header + any(8)] ^= bit;
+        state.bytes[header + any(8)] ^= bit;
         break;
     }
 }

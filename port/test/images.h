@@ -68,11 +68,12 @@ static size_t harm_image(size_t bytes)
 static size_t save(void)
 {
     const size_t room = any(8) ? IMAGE : any(IMAGE);
+    const struct lokhazim_heap heap = { state.bytes, length, &state.accounts };
     size_t bytes = 0;
     if (any(2)) {
-        noted(lokhazim_heap_save(state.heap, length, &state.accounts, image, room, &bytes));
+        noted(lokhazim_heap_save(&heap, image, room, &bytes));
     } else {
-        noted(lokhazim_heap_save_form_1(state.heap, length, &state.accounts, image, room, &bytes));
+        noted(lokhazim_heap_save_form_1(&heap, image, room, &bytes));
     }
     mix((uint32_t)bytes);
     mix_bytes(image, IMAGE);
@@ -84,7 +85,8 @@ static void read_image(size_t bytes)
 {
     static const struct lokhazim_accounts none;
     const size_t room = any(8) ? length : length + 8 - 16 * (size_t)any(2);
-    const uint32_t restored = any(2) && BY_VALUE;
+    const uint32_t restored = any(2) && RESTORE;
+    const struct lokhazim_heap heap = { saved.bytes, room < HEAP ? room : HEAP, &saved.accounts };
     const struct lokhazim_examine_reply reply = lokhazim_image_examine(image, bytes);
     uint32_t refusal;
     noted(reply.refusal);
@@ -92,16 +94,16 @@ static void read_image(size_t bytes)
     mix((uint32_t)reply.heap_length);
     saved = state;
     if (restored) {
-        refusal = lokhazim_heap_restore(saved.heap, room < HEAP ? room : HEAP, &saved.accounts, image, bytes);
+        refusal = lokhazim_heap_restore(&heap, image, bytes);
     } else {
-        refusal = lokhazim_heap_resume(saved.heap, room < HEAP ? room : HEAP, &saved.accounts, image, bytes);
+        refusal = lokhazim_heap_resume(&heap, image, bytes);
     }
-    if (noted(refusal) == LOKHAZIM_IMAGE_ACCEPTED) {
+    if (noted(refusal) == LOKHAZIM_ACCEPTED) {
         state = saved;
     } else if (restored) {
         saved.accounts = none;
     }
-    mix_bytes(saved.heap, HEAP);
+    mix_bytes(saved.bytes, HEAP);
     mix_accounts(&saved.accounts);
 }
 
@@ -116,6 +118,7 @@ static void image_step(void)
 /* Sends a handle and receives one; at times the queue is another one, or harmed. */
 static void queue_step(void)
 {
+    const struct lokhazim_heap heap = { state.bytes, length, &state.accounts };
     struct lokhazim_handle handle = { 0, 0, 0 };
     if (any(16) == 0) {
         const uint32_t sender = any(6), receiver = any(6);
@@ -124,9 +127,9 @@ static void queue_step(void)
     if (any(32) == 0) {
         queue.count = any(20);
     }
-    noted(lokhazim_queue_put(state.heap, length, &state.accounts, &queue, handles[any(HANDLES)]));
+    noted(lokhazim_queue_send(&heap, &queue, handles[any(HANDLES)]));
     if (any(3) == 0) {
-        noted(lokhazim_queue_take(&queue, &handle));
+        noted(lokhazim_queue_receive(&queue, &handle));
     }
     mix(handle.base);
     mix(handle.length);

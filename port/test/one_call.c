@@ -6,16 +6,17 @@
 
 enum { BYTES = 4096, OBJECTS = 100, OBJECT = 24, BLOCK = OBJECT + LOKHAZIM_HEADER, GRANT = 4000, PARTS = 4 };
 
-static _Alignas(LOKHAZIM_ALIGNMENT) uint8_t heap[BYTES];
+static _Alignas(LOKHAZIM_ALIGNMENT) uint8_t bytes[BYTES];
 static struct lokhazim_accounts accounts;
+static const struct lokhazim_heap heap = { bytes, BYTES, &accounts };
 
 /* A header: the block's size and that of the block before it, in units of 8, and the serial. */
 static void put_header(uint32_t at, uint32_t size, uint32_t before, uint32_t serial)
 {
-    heap[at] = (uint8_t)(size / 8);
-    heap[at + 1] = (uint8_t)(size / 8 >> 8);
-    heap[at + 2] = (uint8_t)(before / 8);
-    heap[at + 4] = (uint8_t)serial;
+    bytes[at] = (uint8_t)(size / 8);
+    bytes[at + 1] = (uint8_t)(size / 8 >> 8);
+    bytes[at + 2] = (uint8_t)(before / 8);
+    bytes[at + 4] = (uint8_t)serial;
 }
 
 static void prepare(void)
@@ -41,13 +42,13 @@ int main(void)
     enum lokhazim_refusal refusal = LOKHAZIM_ACCEPTED;
     prepare();
     /* the state counts as used, whether a call is made or not */
-    __asm__ volatile("" : : "r"(heap), "r"(&accounts) : "memory");
+    __asm__ volatile("" : : "r"(bytes), "r"(&accounts) : "memory");
 #if CALL == 1
-    refusal = lokhazim_heap_check(heap, BYTES, &accounts);
+    refusal = lokhazim_heap_check(&heap);
 #elif CALL == 2
-    refusal = lokhazim_heap_allocate(heap, BYTES, &accounts, 0, OBJECT, &handle);
+    refusal = lokhazim_heap_allocate(&heap, 0, OBJECT, &handle);
 #elif CALL == 3
-    refusal = lokhazim_heap_release(heap, BYTES, &accounts, 50 % PARTS, handle, NULL);
+    refusal = lokhazim_heap_release(&heap, 50 % PARTS, handle, NULL);
 #endif
     return refusal == LOKHAZIM_ACCEPTED && handle.serial != 0 ? 0 : 1;
 }

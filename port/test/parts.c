@@ -27,7 +27,7 @@ int main(void)
     struct lokhazim_handle handle, none;
     uint8_t *object;
     unsigned told[9], n = 0;
-    told[n++] = lokhazim_heap_open(parts.heap, sizeof parts.heap, &parts.accounts, grants, LOKHAZIM_PLAIN, LOKHAZIM_EDITION_1);
+    told[n++] = lokhazim_heap_open(&parts_heap, grants, LOKHAZIM_PLAIN, LOKHAZIM_EDITION_1);
     running = 0;
     told[n++] = part_allocate(40, &handle);
     told[n++] = part_allocate(60, &none);

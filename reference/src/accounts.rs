@@ -22,7 +22,7 @@ pub struct Quota {
     pub remainder: u32,
     /// The permissions that are left, one bit each.
     // OPEN: that they are kept as one byte of bits that are set is a choice; so is that a
-    // byte above 7 is not sound.
+    // byte above 7 is not consistent.
     pub permissions: u8,
 }
 
@@ -62,7 +62,7 @@ pub struct Accounts {
     pub last_serial: u32,
     /// The number of the heap's kind.
     // OPEN: that kind and edition are kept as bytes, and that other numbers than 0 and 1 are not
-    // sound, are choices.
+    // consistent, are choices.
     pub kind: u8,
     /// The number of the edition of the table of units.
     pub edition: u8,

@@ -27,7 +27,7 @@ pub enum ImageRefusal {
     FormTooSmall,
     /// 25: the lent image is too short, or the lent heap has another length.
     Room,
-    /// 26: the heap and the accounts in the image are not sound.
+    /// 26: the heap and the accounts in the image are not consistent.
     NotSound,
     /// 29: two images have different forms.
     TwoForms,
@@ -68,7 +68,7 @@ fn length_in(form: Form, heap_bytes: usize) -> usize {
     BLOCK_BYTES * blocks_for(form.stream_bytes(heap_bytes))
 }
 
-/// Writes the image, in form 2, of a sound state to the front of the lent bytes and gives its
+/// Writes the image, in form 2, of a consistent state to the front of the lent bytes and gives its
 /// length; bytes behind it stay.
 pub fn write_image(
     image: &mut [u8],
@@ -89,7 +89,7 @@ pub fn write_form_1(
 
 /// Writes the image in a form.
 ///
-/// Form 2 has room for all sound accounts, so 28 arises in form 1 alone.
+/// Form 2 has room for all consistent accounts, so 28 arises in form 1 alone.
 fn write_in(
     form: Form,
     image: &mut [u8],
@@ -126,7 +126,7 @@ pub(crate) struct Stored {
 }
 
 impl Stored {
-    /// Gives the same if heap and accounts are sound, else refusal 26.
+    /// Gives the same if heap and accounts are consistent, else refusal 26.
     fn sound(self) -> Result<Stored, ImageRefusal> {
         check(&self.heap, &self.accounts).map_err(|_| ImageRefusal::NotSound)?;
         Ok(self)

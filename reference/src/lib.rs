@@ -31,7 +31,7 @@ mod claims;
 mod clearing;
 mod image;
 mod queries;
-mod stats;
+mod statistics;
 
 mod allocation;
 mod comparison;
@@ -60,4 +60,4 @@ pub use report::{export_grants, import_grants, ReportRefusal, REPORT_BYTES};
 pub use rounding::{round_request, unit_of, Rounded, MAX_REQUEST};
 pub use settings::{add_setting, find_setting, setting, SettingRefusal, Source, Store};
 pub use sound::{check, MAX_HEAP, MIN_HEAP};
-pub use stats::{quota_stats, stats, Part, QuotaStats, Stats};
+pub use statistics::{quota_statistics, statistics, BlockCount, QuotaStatistics, Statistics};

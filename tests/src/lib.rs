@@ -11,7 +11,7 @@
 
 #[cfg(all(library_missing, not(clippy)))]
 compile_error!(
-    "a library of target/staticlib is missing: run 'make lib' in the repository's folder, then build again"
+    "target/staticlib/libexports.a is missing: run 'make lib' in the repository's folder, then build again"
 );
 
 pub mod cases;

@@ -257,7 +257,7 @@ fn form_1_has_plain_heaps_of_the_first_edition_alone() {
     }
 }
 
-/// The greatest last serial is read, and the one above it is not sound.
+/// The greatest last serial is read, and the one above it is not consistent.
 #[test]
 fn the_last_serial_of_an_image() {
     let mut pair = Pair::new();

@@ -29,6 +29,7 @@ impl Block {
     /// assert!(heap.block_at(0)?.unwrap().is_free());
     /// # Ok::<(), lokhazim::Refusal>(())
     /// ```
+    #[must_use]
     pub const fn is_free(&self) -> bool {
         self.serial == 0
     }
@@ -36,16 +37,17 @@ impl Block {
     /// Whether the block waits for a sweep.
     ///
     /// ```
-    /// use lokhazim::{Heap, Kind, Settings, QUOTAS};
+    /// use lokhazim::{Heap, Kind, Options, QuotaId, QUOTAS};
     ///
     /// # let mut memory = [0; 128];
-    /// let settings = Settings { kind: Kind::Quarantine, ..Settings::default() };
-    /// let mut heap = Heap::open_with(&mut memory, [100; QUOTAS], settings)?;
-    /// let handle = heap.allocate(0, 10)?;
-    /// heap.release(0, handle)?;
+    /// let options = Options { kind: Kind::Quarantine, ..Options::default() };
+    /// let mut heap = Heap::open_with(&mut memory, [100; QUOTAS], options)?;
+    /// let handle = heap.allocate(QuotaId::new(0), 10)?;
+    /// heap.release(QuotaId::new(0), handle)?;
     /// assert!(heap.block_at(0)?.unwrap().is_quarantined());
     /// # Ok::<(), lokhazim::Refusal>(())
     /// ```
+    #[must_use]
     pub const fn is_quarantined(&self) -> bool {
         self.serial == QUARANTINED
     }
@@ -53,13 +55,16 @@ impl Block {
     /// Whether the block has an object: it is neither free nor quarantined.
     ///
     /// ```
+    /// use lokhazim::QuotaId;
+    ///
     /// # let mut memory = [0; 128];
     /// let mut heap = lokhazim::Heap::open(&mut memory, [100; lokhazim::QUOTAS])?;
-    /// heap.allocate(0, 10)?;
+    /// heap.allocate(QuotaId::new(0), 10)?;
     /// assert!(heap.block_at(0)?.unwrap().is_live());
     /// assert!(!heap.block_at(24)?.unwrap().is_live());
     /// # Ok::<(), lokhazim::Refusal>(())
     /// ```
+    #[must_use]
     pub const fn is_live(&self) -> bool {
         !self.is_free() && !self.is_quarantined()
     }

@@ -5,10 +5,12 @@ use core::fmt;
 use core::iter::FusedIterator;
 
 use crate::image::{verdict, ImageRefusal};
+use crate::layout::QuotaId;
 use crate::raw;
 
 /// One difference between two images, named without its values.
 #[derive(Clone, Copy, Debug, PartialEq, Eq, Hash)]
+#[non_exhaustive]
 pub enum Difference {
     /// The last serial.
     LastSerial,
@@ -16,8 +18,8 @@ pub enum Difference {
     Kind,
     /// The edition of the heap's rounding table.
     Edition,
-    /// The quota of this number: its grant, its remainder or its permissions.
-    Quota(usize),
+    /// A quota: its grant, its remainder or its permissions.
+    Quota(QuotaId),
     /// The hold record at this place.
     Record(usize),
     /// A run of heap bytes, as long as it can be: every byte of it differs.
@@ -27,6 +29,21 @@ pub enum Difference {
         /// How many bytes it has.
         length: usize,
     },
+}
+
+impl fmt::Display for Difference {
+    /// Writes what differs: `serial`, `kind`, `edition`, `quota NUMBER`, `record PLACE` or
+    /// `bytes OFFSET LENGTH`.
+    fn fmt(&self, f: &mut fmt::Formatter<'_>) -> fmt::Result {
+        match self {
+            Difference::LastSerial => f.write_str("serial"),
+            Difference::Kind => f.write_str("kind"),
+            Difference::Edition => f.write_str("edition"),
+            Difference::Quota(quota) => write!(f, "quota {quota}"),
+            Difference::Record(place) => write!(f, "record {place}"),
+            Difference::Bytes { offset, length } => write!(f, "bytes {offset} {length}"),
+        }
+    }
 }
 
 /// Which of two images a refusal is about.
@@ -43,7 +60,7 @@ pub enum Which {
 /// Why two images are not compared.
 #[derive(Clone, Copy, Debug, PartialEq, Eq, Hash)]
 pub struct CompareRefusal {
-    /// The refusal: 21 to 24 or 26 of one image, or 29 or 27 of both.
+    /// The refusal, as [`compare_images`] names them.
     pub refusal: ImageRefusal,
     /// The image that it is about.
     pub which: Which,
@@ -68,14 +85,16 @@ impl Error for CompareRefusal {}
 ///
 /// # Errors
 ///
-/// Refusals 21 to 24 and 26 of the first image, then of the second, then 29 and 27.
+/// [`ImageRefusal::ImageLength`], [`ImageRefusal::FrameWrong`], [`ImageRefusal::FormNumber`],
+/// [`ImageRefusal::Contents`], [`ImageRefusal::Inconsistent`] of the first image, then of the second,
+/// then [`ImageRefusal::FormsDiffer`] and [`ImageRefusal::HeapLengths`].
 ///
 /// ```
-/// use lokhazim::{compare_images, Difference, Heap, QUOTAS};
+/// use lokhazim::{compare_images, Difference, Heap, QuotaId, QUOTAS};
 ///
 /// let mut memory = [0; 128];
 /// let mut heap = Heap::open(&mut memory, [100; QUOTAS])?;
-/// let handle = heap.allocate(0, 10)?;
+/// let handle = heap.allocate(QuotaId::new(0), 10)?;
 /// let (mut before, mut after) = ([0; 5_120], [0; 5_120]);
 /// heap.save(&mut before)?;
 /// heap.lend_mut(handle)?[2..5].fill(7);
@@ -121,7 +140,8 @@ impl Iterator for Differences<'_> {
         let reply = raw::image_next(self.first, self.second, self.part, self.at);
         let found = match reply.kind {
             1 => Difference::LastSerial,
-            2 => Difference::Quota(reply.place),
+            // A quota's number is below 32.
+            2 => Difference::Quota(QuotaId::new(reply.place as u32)),
             3 => Difference::Record(reply.place),
             4 => Difference::Bytes {
                 offset: reply.place,

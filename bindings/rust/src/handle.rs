@@ -18,18 +18,18 @@ impl Handle {
     /// whoever can fill in the three numbers can widen a handle again.
     ///
     /// ```
-    /// use lokhazim::{Heap, Refusal, QUOTAS};
+    /// use lokhazim::{Heap, QuotaId, Refusal, QUOTAS};
     ///
     /// # let mut memory = [0; 128];
     /// let mut heap = Heap::open(&mut memory, [100; QUOTAS])?;
-    /// let packet = heap.allocate(0, 16)?;
+    /// let packet = heap.allocate(QuotaId::new(0), 16)?;
     /// let body = packet.narrowed(4..).unwrap();
     /// heap.lend_mut(body)?.fill(7);
     /// assert_eq!(heap.lend(packet)?, [0, 0, 0, 0, 7, 7, 7, 7, 7, 7, 7, 7, 7, 7, 7, 7]);
     ///
-    /// assert_eq!(heap.claim(1, body)?, 16);
-    /// assert_eq!(heap.release(0, body)?, 24);
-    /// assert_eq!(heap.reallocate(1, body, 8), Err(Refusal::NoSuchObject));
+    /// assert_eq!(heap.claim(QuotaId::new(1), body)?, 16);
+    /// assert_eq!(heap.release(QuotaId::new(0), body)?, 24);
+    /// assert_eq!(heap.reallocate(QuotaId::new(1), body, 8), Err(Refusal::NoSuchObject));
     ///
     /// assert_eq!(body.narrowed(..12), Some(body));
     /// assert_eq!(body.narrowed(..13), None);

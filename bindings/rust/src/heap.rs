@@ -2,8 +2,8 @@
 
 use core::fmt;
 
-use crate::layout::{Accounts, Amount, GivenHandle, Grants, Handle, QUOTAS};
-use crate::opening::Settings;
+use crate::layout::{AmountReply, Grants, Handle, HandleReply, QuotaId, QUOTAS};
+use crate::opening::Options;
 use crate::permissions::Permissions;
 use crate::raw::{self, Words};
 use crate::refusal::{verdict, Refusal};
@@ -11,8 +11,8 @@ use crate::refusal::{verdict, Refusal};
 /// A heap that parts of a program share, each with its own quota.
 ///
 /// It owns the lent bytes together with their accounts, so that one can't be used with another's.
-/// The accounts are 4,488 bytes of it, which calls read and write where they lie.
-/// A quota is named by its number, from 0; calls refuse other numbers. Every call checks the whole
+/// The accounts are 4,488 bytes of it, which calls read and write in place.
+/// A quota is named by its [`QuotaId`]; calls refuse numbers from [`QUOTAS`] on. Every call checks the whole
 /// heap first, so any of them can give [`Refusal::Inconsistent`]; it is proved that none does
 /// unless something outside of this type has written to the bytes.
 ///
@@ -49,21 +49,21 @@ impl<'a> Heap<'a> {
     /// assert_eq!(Heap::open(&mut memory, [100; QUOTAS]).unwrap_err(), Refusal::HeapLength);
     /// ```
     pub fn open(bytes: &'a mut [u8], grants: [u32; QUOTAS]) -> Result<Heap<'a>, Refusal> {
-        Heap::open_with(bytes, grants, Settings::default())
+        Heap::open_with(bytes, grants, Options::default())
     }
 
-    /// Clears the bytes and gives each quota its grant and all permissions, with these settings.
+    /// Clears the bytes and gives each quota its grant and all permissions, with these options.
     ///
     /// # Errors
     ///
     /// [`Refusal::HeapLength`]; the bytes are as they were.
     ///
     /// ```
-    /// use lokhazim::{Edition, Heap, Kind, Settings, QUOTAS};
+    /// use lokhazim::{Edition, Heap, Kind, Options, QUOTAS};
     ///
     /// let mut memory = [7; 128];
-    /// let settings = Settings { kind: Kind::Quarantine, edition: Edition::Second };
-    /// let heap = Heap::open_with(&mut memory, [100; QUOTAS], settings)?;
+    /// let options = Options { kind: Kind::Quarantine, edition: Edition::Second };
+    /// let heap = Heap::open_with(&mut memory, [100; QUOTAS], options)?;
     /// assert_eq!(heap.kind(), Kind::Quarantine);
     /// assert_eq!(heap.edition(), Edition::Second);
     /// # Ok::<(), lokhazim::Refusal>(())
@@ -71,118 +71,79 @@ impl<'a> Heap<'a> {
     pub fn open_with(
         bytes: &'a mut [u8],
         grants: [u32; QUOTAS],
-        settings: Settings,
+        options: Options,
     ) -> Result<Heap<'a>, Refusal> {
-        let kind = u32::from(settings.kind.number());
-        let edition = u32::from(settings.edition.number());
+        let kind = u32::from(options.kind.number());
+        let edition = u32::from(options.edition.number());
         let mut words = Words::ZERO;
         let grants = Grants { values: grants };
         verdict(raw::open(bytes, &mut words, grants, kind, edition))?;
         Ok(Heap { bytes, words })
     }
 
-    /// Takes up a heap that was opened before, here or in C, with the accounts that belong to it.
-    ///
-    /// # Errors
-    ///
-    /// [`Refusal::HeapLength`] or [`Refusal::Inconsistent`]; the bytes are as they were.
-    ///
-    /// ```
-    /// use lokhazim::{Heap, Refusal, QUOTAS};
-    ///
-    /// let mut memory = [0; 128];
-    /// let mut heap = Heap::open(&mut memory, [100; QUOTAS])?;
-    /// let handle = heap.allocate(0, 10)?;
-    /// let (bytes, accounts) = heap.into_parts();
-    ///
-    /// let mut other = [0; 128];
-    /// let mixed_up = Heap::from_parts(&mut other, accounts.clone());
-    /// assert_eq!(mixed_up.unwrap_err(), Refusal::Inconsistent);
-    ///
-    /// let heap = Heap::from_parts(bytes, accounts)?;
-    /// assert_eq!(heap.lend(handle)?.len(), 16);
-    /// # Ok::<(), Refusal>(())
-    /// ```
-    pub fn from_parts(bytes: &'a mut [u8], accounts: Accounts) -> Result<Heap<'a>, Refusal> {
-        let words = Words::from(&accounts);
-        verdict(raw::check(bytes, &words))?;
-        Ok(Heap { bytes, words })
-    }
-
-    /// The bytes and the accounts that belong to them, to be read.
-    pub fn parts(&self) -> (&[u8], &Accounts) {
-        (self.bytes, self.accounts())
-    }
-
-    /// Gives the bytes back, with the accounts that belong to them.
-    pub fn into_parts(self) -> (&'a mut [u8], Accounts) {
-        (self.bytes, self.words.accounts().clone())
-    }
-
-    /// The accounts: each quota's grant, remainder and permissions, the last serial, the hold
-    /// records, the kind and the edition.
-    ///
-    /// ```
-    /// # let mut memory = [0; 128];
-    /// let mut heap = lokhazim::Heap::open(&mut memory, [100; lokhazim::QUOTAS])?;
-    /// heap.allocate(3, 10)?;
-    /// assert_eq!(heap.accounts().quotas[3].remainder, 76);
-    /// assert_eq!(heap.accounts().holds[0].quota, 3);
-    /// # Ok::<(), lokhazim::Refusal>(())
-    /// ```
-    pub fn accounts(&self) -> &Accounts {
-        self.words.accounts()
-    }
-
     /// Makes an object of at least `length` bytes, all zero, that the quota holds once.
     ///
-    /// The length is rounded up to a multiple of 8, from 8,192 on of 16, from 16,384 on of 32. The
-    /// base is a multiple of the same, by the rounded length. The quota pays that length plus 8.
+    /// The object has the next multiple of its unit, and its base is a multiple of the unit of
+    /// the rounded length. In the first edition the unit is 8, from 8,192 bytes on 16, from 16,384
+    /// on 32. In the second it is 8, from 4,089 on 16, from 8,177 on 32, from 16,353 on 64 (see
+    /// [`Edition`](crate::Edition)). The quota pays the rounded length plus 8.
     ///
     /// # Errors
     ///
-    /// Refusals 3, 12, 4 and 8 to 11.
+    /// [`Refusal::QuotaNumber`], [`Refusal::NotPermitted`], [`Refusal::ObjectLength`],
+    /// [`Refusal::QuotaExceeded`], [`Refusal::HoldsExhausted`], [`Refusal::SerialsExhausted`],
+    /// [`Refusal::NoSpace`], checked in this order.
     ///
     /// ```
-    /// use lokhazim::{grants, Heap, Refusal};
+    /// use lokhazim::{grants, Heap, QuotaId, Refusal};
     ///
     /// # let mut memory = [0; 128];
     /// let mut heap = Heap::open(&mut memory, grants([100]))?;
-    /// let handle = heap.allocate(0, 10)?;
+    /// let handle = heap.allocate(QuotaId::new(0), 10)?;
     /// assert_eq!((handle.base, handle.length), (8, 16));
-    /// assert_eq!(heap.allocate(0, 68), Err(Refusal::QuotaExceeded));
-    /// assert_eq!(heap.remaining(0)?, 76);
+    /// assert_eq!(heap.allocate(QuotaId::new(0), 68), Err(Refusal::QuotaExceeded));
+    /// assert_eq!(heap.remaining(QuotaId::new(0))?, 76);
     ///
     /// # let mut memory = [0; 16_384];
     /// # let mut heap = Heap::open(&mut memory, grants([10_000]))?;
-    /// let handle = heap.allocate(0, 8_185)?; // 8,192 bytes, so at a multiple of 16
+    /// let handle = heap.allocate(QuotaId::new(0), 8_185)?; // 8,192 bytes, so at a multiple of 16
     /// assert_eq!((handle.base, handle.length), (16, 8_192));
     /// # Ok::<(), Refusal>(())
     /// ```
-    pub fn allocate(&mut self, quota: u32, length: u32) -> Result<Handle, Refusal> {
-        given(raw::allocate(self.bytes, &mut self.words, quota, length))
+    pub fn allocate(&mut self, quota: QuotaId, length: u32) -> Result<Handle, Refusal> {
+        given(raw::allocate(
+            self.bytes,
+            &mut self.words,
+            quota.number(),
+            length,
+        ))
     }
 
     /// Makes an object for `count` elements of `size` bytes; their product is never cut to 32 bits.
     ///
     /// # Errors
     ///
-    /// Refusals 3, 12, 4 and 8 to 11.
+    /// As of [`allocate`](Heap::allocate).
     ///
     /// ```
-    /// use lokhazim::{Heap, Refusal, QUOTAS};
+    /// use lokhazim::{Heap, QuotaId, Refusal, QUOTAS};
     ///
     /// # let mut memory = [0; 128];
     /// let mut heap = Heap::open(&mut memory, [100; QUOTAS])?;
-    /// assert_eq!(heap.allocate_array(0, 5, 12)?.length, 64);
-    /// assert_eq!(heap.allocate_array(0, 65_536, 65_536), Err(Refusal::ObjectLength));
+    /// assert_eq!(heap.allocate_array(QuotaId::new(0), 5, 12)?.length, 64);
+    /// assert_eq!(heap.allocate_array(QuotaId::new(0), 65_536, 65_536), Err(Refusal::ObjectLength));
     /// # Ok::<(), Refusal>(())
     /// ```
-    pub fn allocate_array(&mut self, quota: u32, count: u32, size: u32) -> Result<Handle, Refusal> {
+    pub fn allocate_array(
+        &mut self,
+        quota: QuotaId,
+        count: u32,
+        size: u32,
+    ) -> Result<Handle, Refusal> {
         given(raw::allocate_array(
             self.bytes,
             &mut self.words,
-            quota,
+            quota.number(),
             count,
             size,
         ))
@@ -196,19 +157,28 @@ impl<'a> Heap<'a> {
     ///
     /// # Errors
     ///
-    /// Refusals 3, 12, 5, 7, 8 and 9.
+    /// [`Refusal::QuotaNumber`], [`Refusal::NotPermitted`], [`Refusal::NoSuchObject`],
+    /// [`Refusal::CountLimit`], [`Refusal::QuotaExceeded`], [`Refusal::HoldsExhausted`], checked in
+    /// this order.
     ///
     /// ```
+    /// use lokhazim::QuotaId;
+    ///
     /// # let mut memory = [0; 128];
     /// let mut heap = lokhazim::Heap::open(&mut memory, [100; lokhazim::QUOTAS])?;
-    /// let handle = heap.allocate(0, 10)?;
-    /// assert_eq!(heap.claim(1, handle)?, 16);
-    /// heap.release(0, handle)?;
+    /// let handle = heap.allocate(QuotaId::new(0), 10)?;
+    /// assert_eq!(heap.claim(QuotaId::new(1), handle)?, 16);
+    /// heap.release(QuotaId::new(0), handle)?;
     /// assert!(heap.lend(handle).is_ok());
     /// # Ok::<(), lokhazim::Refusal>(())
     /// ```
-    pub fn claim(&mut self, quota: u32, handle: Handle) -> Result<u32, Refusal> {
-        amount(raw::claim(self.bytes, &mut self.words, quota, handle))
+    pub fn claim(&mut self, quota: QuotaId, handle: Handle) -> Result<u32, Refusal> {
+        amount(raw::claim(
+            self.bytes,
+            &mut self.words,
+            quota.number(),
+            handle,
+        ))
     }
 
     /// Drops one hold of the quota; gives what the quota gets back, 0 while it still holds the
@@ -220,40 +190,48 @@ impl<'a> Heap<'a> {
     ///
     /// # Errors
     ///
-    /// Refusals 3, 5 and 6.
+    /// [`Refusal::QuotaNumber`], [`Refusal::NoSuchObject`], [`Refusal::NotHeld`], checked in this
+    /// order.
     ///
     /// ```
-    /// use lokhazim::{Heap, Refusal, QUOTAS};
+    /// use lokhazim::{Heap, QuotaId, Refusal, QUOTAS};
     ///
     /// # let mut memory = [0; 128];
     /// let mut heap = Heap::open(&mut memory, [100; QUOTAS])?;
-    /// let handle = heap.allocate(0, 10)?;
-    /// assert_eq!(heap.release(1, handle), Err(Refusal::NotHeld));
-    /// assert_eq!(heap.release(0, handle)?, 24);
-    /// assert_eq!(heap.release(0, handle), Err(Refusal::NoSuchObject));
+    /// let handle = heap.allocate(QuotaId::new(0), 10)?;
+    /// assert_eq!(heap.release(QuotaId::new(1), handle), Err(Refusal::NotHeld));
+    /// assert_eq!(heap.release(QuotaId::new(0), handle)?, 24);
+    /// assert_eq!(heap.release(QuotaId::new(0), handle), Err(Refusal::NoSuchObject));
     /// # Ok::<(), Refusal>(())
     /// ```
-    pub fn release(&mut self, quota: u32, handle: Handle) -> Result<u32, Refusal> {
-        amount(raw::release(self.bytes, &mut self.words, quota, handle))
+    pub fn release(&mut self, quota: QuotaId, handle: Handle) -> Result<u32, Refusal> {
+        amount(raw::release(
+            self.bytes,
+            &mut self.words,
+            quota.number(),
+            handle,
+        ))
     }
 
     /// Drops every hold of the quota; gives what the quota gets back.
     ///
     /// # Errors
     ///
-    /// Refusals 3 and 12.
+    /// [`Refusal::QuotaNumber`], then [`Refusal::NotPermitted`].
     ///
     /// ```
+    /// use lokhazim::QuotaId;
+    ///
     /// # let mut memory = [0; 128];
     /// let mut heap = lokhazim::Heap::open(&mut memory, [100; lokhazim::QUOTAS])?;
-    /// heap.allocate(0, 10)?;
-    /// heap.allocate(0, 20)?;
-    /// assert_eq!(heap.free_all(0)?, 24 + 32);
-    /// assert_eq!(heap.remaining(0)?, 100);
+    /// heap.allocate(QuotaId::new(0), 10)?;
+    /// heap.allocate(QuotaId::new(0), 20)?;
+    /// assert_eq!(heap.free_all(QuotaId::new(0))?, 24 + 32);
+    /// assert_eq!(heap.remaining(QuotaId::new(0))?, 100);
     /// # Ok::<(), lokhazim::Refusal>(())
     /// ```
-    pub fn free_all(&mut self, quota: u32) -> Result<u32, Refusal> {
-        amount(raw::free_all(self.bytes, &mut self.words, quota))
+    pub fn free_all(&mut self, quota: QuotaId) -> Result<u32, Refusal> {
+        amount(raw::free_all(self.bytes, &mut self.words, quota.number()))
     }
 
     /// Clears permissions of the quota; gives those that it still has.
@@ -264,31 +242,31 @@ impl<'a> Heap<'a> {
     ///
     /// # Errors
     ///
-    /// Refusal 3.
+    /// [`Refusal::QuotaNumber`].
     ///
     /// ```
-    /// use lokhazim::{Heap, Permissions, Refusal, QUOTAS};
+    /// use lokhazim::{Heap, Permissions, QuotaId, Refusal, QUOTAS};
     ///
     /// # let mut memory = [0; 128];
     /// let mut heap = Heap::open(&mut memory, [100; QUOTAS])?;
-    /// let handle = heap.allocate(0, 10)?;
-    /// let left = heap.clear_permissions(0, Permissions::ALLOCATE | Permissions::FREE_ALL)?;
+    /// let handle = heap.allocate(QuotaId::new(0), 10)?;
+    /// let left = heap.clear_permissions(QuotaId::new(0), Permissions::ALLOCATE | Permissions::FREE_ALL)?;
     /// assert_eq!(left, Permissions::CLAIM);
-    /// assert_eq!(heap.free_all(0), Err(Refusal::NotPermitted));
-    /// assert_eq!(heap.allocate(0, 10), Err(Refusal::NotPermitted));
-    /// assert_eq!(heap.release(0, handle)?, 24);
+    /// assert_eq!(heap.free_all(QuotaId::new(0)), Err(Refusal::NotPermitted));
+    /// assert_eq!(heap.allocate(QuotaId::new(0), 10), Err(Refusal::NotPermitted));
+    /// assert_eq!(heap.release(QuotaId::new(0), handle)?, 24);
     /// # Ok::<(), Refusal>(())
     /// ```
     pub fn clear_permissions(
         &mut self,
-        quota: u32,
+        quota: QuotaId,
         cleared: Permissions,
     ) -> Result<Permissions, Refusal> {
         let bits = u32::from(cleared.bits());
         amount(raw::clear_permissions(
             self.bytes,
             &mut self.words,
-            quota,
+            quota.number(),
             bits,
         ))
         .map(Permissions::left)
@@ -299,32 +277,37 @@ impl<'a> Heap<'a> {
     ///
     /// Both objects count at once, so quota and heap need room for both. The old object stays if
     /// anything else still holds it. The handle is the whole object's; one that was made narrower
-    /// gives refusal 5.
+    /// gives [`Refusal::NoSuchObject`].
     ///
     /// # Errors
     ///
-    /// Refusals 3, 12, 4 to 6 and 8 to 11; the old object is as it was.
+    /// [`Refusal::QuotaNumber`], [`Refusal::NotPermitted`], [`Refusal::ObjectLength`],
+    /// [`Refusal::NoSuchObject`], [`Refusal::NotHeld`], [`Refusal::QuotaExceeded`],
+    /// [`Refusal::HoldsExhausted`], [`Refusal::SerialsExhausted`], [`Refusal::NoSpace`], checked in
+    /// this order; the old object is as it was.
     ///
     /// ```
+    /// use lokhazim::QuotaId;
+    ///
     /// # let mut memory = [0; 128];
     /// let mut heap = lokhazim::Heap::open(&mut memory, [100; lokhazim::QUOTAS])?;
-    /// let handle = heap.allocate(0, 8)?;
+    /// let handle = heap.allocate(QuotaId::new(0), 8)?;
     /// heap.lend_mut(handle)?.copy_from_slice(b"pressure");
-    /// let longer = heap.reallocate(0, handle, 16)?;
+    /// let longer = heap.reallocate(QuotaId::new(0), handle, 16)?;
     /// assert_eq!(heap.lend(longer)?, b"pressure\0\0\0\0\0\0\0\0");
     /// assert!(heap.lend(handle).is_err());
     /// # Ok::<(), lokhazim::Refusal>(())
     /// ```
     pub fn reallocate(
         &mut self,
-        quota: u32,
+        quota: QuotaId,
         handle: Handle,
         length: u32,
     ) -> Result<Handle, Refusal> {
         given(raw::reallocate(
             self.bytes,
             &mut self.words,
-            quota,
+            quota.number(),
             handle,
             length,
         ))
@@ -341,18 +324,18 @@ impl<'a> Heap<'a> {
     /// None but [`Refusal::Inconsistent`].
     ///
     /// ```
-    /// use lokhazim::{grants, Heap, Kind, Refusal, Settings};
+    /// use lokhazim::{grants, Heap, Kind, Options, QuotaId, Refusal};
     ///
     /// # let mut memory = [0; 128];
-    /// let settings = Settings { kind: Kind::Quarantine, ..Settings::default() };
-    /// let mut heap = Heap::open_with(&mut memory, grants([200]), settings)?;
-    /// heap.allocate(0, 40)?;
-    /// heap.allocate(0, 72)?;
-    /// assert_eq!(heap.free_all(0)?, 128);
-    /// assert_eq!(heap.allocate(0, 8), Err(Refusal::NoSpace));
+    /// let options = Options { kind: Kind::Quarantine, ..Options::default() };
+    /// let mut heap = Heap::open_with(&mut memory, grants([200]), options)?;
+    /// heap.allocate(QuotaId::new(0), 40)?;
+    /// heap.allocate(QuotaId::new(0), 72)?;
+    /// assert_eq!(heap.free_all(QuotaId::new(0))?, 128);
+    /// assert_eq!(heap.allocate(QuotaId::new(0), 8), Err(Refusal::NoSpace));
     /// assert_eq!(heap.sweep()?, 128);
     /// assert_eq!(heap.sweep()?, 0);
-    /// assert_eq!(heap.allocate(0, 120)?.base, 8);
+    /// assert_eq!(heap.allocate(QuotaId::new(0), 120)?.base, 8);
     /// # Ok::<(), Refusal>(())
     /// ```
     pub fn sweep(&mut self) -> Result<u32, Refusal> {
@@ -361,12 +344,12 @@ impl<'a> Heap<'a> {
 }
 
 /// The handle that a reply gives.
-fn given(reply: GivenHandle) -> Result<Handle, Refusal> {
+fn given(reply: HandleReply) -> Result<Handle, Refusal> {
     verdict(reply.refusal).map(|()| reply.handle)
 }
 
 /// The amount that a reply gives.
-pub(crate) fn amount(reply: Amount) -> Result<u32, Refusal> {
+pub(crate) fn amount(reply: AmountReply) -> Result<u32, Refusal> {
     verdict(reply.refusal).map(|()| reply.amount)
 }
 

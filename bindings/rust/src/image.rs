@@ -30,6 +30,7 @@ pub const FORM_1_HOLDS: usize = 128;
 /// assert_eq!(lokhazim::image_length(lokhazim::HEAP_MAX), Some(lokhazim::IMAGE_MAX));
 /// assert_eq!(lokhazim::image_length(65), None);
 /// ```
+#[must_use]
 pub fn image_length(heap_length: usize) -> Option<usize> {
     some_length(raw::image_length(heap_length))
 }
@@ -43,6 +44,7 @@ pub fn image_length(heap_length: usize) -> Option<usize> {
 /// assert_eq!(image_length_form_1(64), Some(1_536));
 /// assert_eq!(image_length_form_1(HEAP_MAX), Some(IMAGE_MAX_FORM_1));
 /// ```
+#[must_use]
 pub fn image_length_form_1(heap_length: usize) -> Option<usize> {
     some_length(raw::image_length_form_1(heap_length))
 }
@@ -66,7 +68,8 @@ pub struct ImageFacts {
 ///
 /// # Errors
 ///
-/// Refusals 21 to 24.
+/// [`ImageRefusal::ImageLength`], [`ImageRefusal::FrameWrong`], [`ImageRefusal::FormNumber`],
+/// [`ImageRefusal::Contents`], checked in this order.
 ///
 /// ```
 /// use lokhazim::{examine_image, Heap, ImageRefusal, QUOTAS};
@@ -99,6 +102,7 @@ pub fn examine_image(image: &[u8]) -> Result<ImageFacts, ImageRefusal> {
 /// );
 /// ```
 #[derive(Clone, Copy, Debug, PartialEq, Eq, Hash)]
+#[non_exhaustive]
 pub enum ImageRefusal {
     /// 1 or 2: the heap's length is not allowed, or its bytes and accounts don't agree.
     Call(Refusal),
@@ -135,6 +139,7 @@ impl ImageRefusal {
     /// assert_eq!(ImageRefusal::FrameWrong.number(), 22);
     /// assert_eq!(ImageRefusal::Call(Refusal::Inconsistent).number(), 2);
     /// ```
+    #[must_use]
     pub const fn number(self) -> u32 {
         match self {
             ImageRefusal::Call(refusal) => refusal.number(),
@@ -158,6 +163,7 @@ impl ImageRefusal {
     /// assert_eq!(ImageRefusal::from_number(26), Some(ImageRefusal::Inconsistent));
     /// assert_eq!(ImageRefusal::from_number(3), None);
     /// ```
+    #[must_use]
     pub fn from_number(number: u32) -> Option<ImageRefusal> {
         let own = [
             ImageRefusal::Call(Refusal::HeapLength),
@@ -214,7 +220,7 @@ pub(crate) fn verdict(number: u32) -> Result<(), ImageRefusal> {
         return Ok(());
     }
     Err(ImageRefusal::from_number(number).unwrap_or_else(|| {
-        panic!("refusal {number} is unknown; link the liblokhazim_image.a of this crate's version")
+        panic!("refusal {number} is unknown; link the liblokhazim.a of this crate's version")
     }))
 }
 
@@ -224,19 +230,20 @@ impl<'a> Heap<'a> {
     ///
     /// # Errors
     ///
-    /// [`ImageRefusal::Room`] where `image` is shorter than [`image_length`] says; it is as it was.
+    /// [`ImageRefusal::Call`] of what [`check`](Heap::check) gives, then [`ImageRefusal::Room`] where
+    /// `image` is shorter than [`image_length`] says; it is as it was.
     ///
     /// ```
-    /// use lokhazim::{Heap, ImageRefusal, QUOTAS};
+    /// use lokhazim::{Heap, ImageRefusal, QuotaId, QUOTAS};
     ///
     /// let mut memory = [0; 128];
     /// let mut heap = Heap::open(&mut memory, [100; QUOTAS])?;
-    /// let handle = heap.allocate(0, 10)?;
+    /// let handle = heap.allocate(QuotaId::new(0), 10)?;
     /// let mut image = [0; lokhazim::IMAGE_MAX];
     /// let length = heap.save(&mut image)?;
     ///
     /// let mut elsewhere = [7; 128];
-    /// let again = Heap::restore(&mut elsewhere, &image[..length])?;
+    /// let again = Heap::resume(&mut elsewhere, &image[..length])?;
     /// assert_eq!(again.accounts(), heap.accounts());
     /// assert_eq!(again.lend(handle)?, [0; 16]);
     /// assert_eq!(heap.save(&mut image[..length - 1]), Err(ImageRefusal::Room));
@@ -251,12 +258,12 @@ impl<'a> Heap<'a> {
     ///
     /// # Errors
     ///
-    /// [`ImageRefusal::NotCarried`] where form 1 can't carry the accounts, then
-    /// [`ImageRefusal::Room`] where `image` is shorter than [`image_length_form_1`] says; it is as
-    /// it was.
+    /// [`ImageRefusal::Call`] of what [`check`](Heap::check) gives, then [`ImageRefusal::NotCarried`]
+    /// where form 1 can't carry the accounts, then [`ImageRefusal::Room`] where `image` is shorter
+    /// than [`image_length_form_1`] says; it is as it was.
     ///
     /// ```
-    /// use lokhazim::{examine_image, grants, Heap, ImageRefusal, Permissions};
+    /// use lokhazim::{examine_image, grants, Heap, ImageRefusal, Permissions, QuotaId};
     ///
     /// let mut memory = [0; 128];
     /// let mut heap = Heap::open(&mut memory, grants([100, 1_000]))?;
@@ -264,7 +271,7 @@ impl<'a> Heap<'a> {
     /// heap.save_form_1(&mut image)?;
     /// assert_eq!(examine_image(&image)?.form, 1);
     ///
-    /// heap.clear_permissions(1, Permissions::CLAIM)?;
+    /// heap.clear_permissions(QuotaId::new(1), Permissions::CLAIM)?;
     /// assert_eq!(heap.save_form_1(&mut image), Err(ImageRefusal::NotCarried));
     /// # Ok::<(), Box<dyn std::error::Error>>(())
     /// ```
@@ -273,7 +280,8 @@ impl<'a> Heap<'a> {
         verdict(reply.refusal).map(|()| reply.length)
     }
 
-    /// Takes up a heap from an image; the bytes have the length of the image's heap.
+    /// Resumes from an image, as a board that starts does; the bytes have the length of the image's
+    /// heap. For a heap in use see [`restore`](Heap::restore).
     ///
     /// A board that was stopped goes on where it was: handles from before the image are good. Drop every
     /// handle that was given out after it: serials are given again, so such a handle may name an object
@@ -283,43 +291,45 @@ impl<'a> Heap<'a> {
     ///
     /// # Errors
     ///
-    /// Refusals 21 to 26; the bytes are as they were.
+    /// [`ImageRefusal::ImageLength`], [`ImageRefusal::FrameWrong`], [`ImageRefusal::FormNumber`],
+    /// [`ImageRefusal::Contents`], [`ImageRefusal::Room`], [`ImageRefusal::Inconsistent`], checked in
+    /// this order; the bytes are as they were.
     ///
     /// ```
     /// use lokhazim::{Heap, ImageRefusal};
     ///
     /// let mut memory = [7; 128];
-    /// assert_eq!(Heap::restore(&mut memory, &[1; 1_536]).unwrap_err(), ImageRefusal::FrameWrong);
+    /// assert_eq!(Heap::resume(&mut memory, &[1; 1_536]).unwrap_err(), ImageRefusal::FrameWrong);
     /// assert_eq!(memory, [7; 128]);
     /// ```
-    pub fn restore(bytes: &'a mut [u8], image: &[u8]) -> Result<Heap<'a>, ImageRefusal> {
+    pub fn resume(bytes: &'a mut [u8], image: &[u8]) -> Result<Heap<'a>, ImageRefusal> {
         let mut words = Words::ZERO;
-        verdict(raw::image_read(image, bytes, &mut words))?;
+        verdict(raw::image_resume(image, bytes, &mut words))?;
         Ok(Heap { bytes, words })
     }
 
-    /// Takes this heap back to an image of a heap of the same length. What [`Heap::restore`] says of
-    /// handles that were given out after the image holds here too.
+    /// Restores this heap, which is in use, from an image of a heap of the same length. What
+    /// [`Heap::resume`] says of handles that were given out after the image holds here too.
     ///
     /// # Errors
     ///
-    /// Refusals 21 to 26; heap and accounts are as they were, and calls go on with them.
+    /// As of [`resume`](Heap::resume); heap and accounts are as they were, and calls go on with them.
     ///
     /// ```
-    /// use lokhazim::{Heap, ImageRefusal, QUOTAS};
+    /// use lokhazim::{Heap, ImageRefusal, QuotaId, QUOTAS};
     ///
     /// let mut memory = [0; 128];
     /// let mut heap = Heap::open(&mut memory, [100; QUOTAS])?;
     /// let mut image = [0; 5_120];
     /// heap.save(&mut image)?;
-    /// let handle = heap.allocate(0, 10)?;
-    /// assert_eq!(heap.go_back(&image[..512]), Err(ImageRefusal::FrameWrong));
+    /// let handle = heap.allocate(QuotaId::new(0), 10)?;
+    /// assert_eq!(heap.restore(&image[..512]), Err(ImageRefusal::FrameWrong));
     /// assert!(heap.lend(handle).is_ok());
-    /// heap.go_back(&image)?;
+    /// heap.restore(&image)?;
     /// assert!(heap.lend(handle).is_err());
     /// # Ok::<(), Box<dyn std::error::Error>>(())
     /// ```
-    pub fn go_back(&mut self, image: &[u8]) -> Result<(), ImageRefusal> {
+    pub fn restore(&mut self, image: &[u8]) -> Result<(), ImageRefusal> {
         verdict(raw::image_restore(image, self.bytes, &mut self.words))
     }
 }

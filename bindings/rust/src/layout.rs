@@ -2,6 +2,7 @@
 //!
 //! The headers in `include/` have the same structs for C, and the same numbers in their assertions.
 
+use core::fmt;
 use core::mem::{offset_of, size_of};
 
 /// The number of quotas; they are numbered from 0.
@@ -70,6 +71,49 @@ pub struct Handle {
     pub serial: u32,
 }
 
+/// The number of a quota, from 0. Any number may be given; calls refuse those from [`QUOTAS`] on.
+///
+/// It is a type of its own, so that a quota and a length can't be exchanged. So there is no
+/// conversion from a number but [`QuotaId::new`], which says what the number is:
+///
+/// ```compile_fail,E0308
+/// # let mut memory = [0; 128];
+/// let mut heap = lokhazim::Heap::open(&mut memory, [100; lokhazim::QUOTAS])?;
+/// heap.allocate(10, 0)?;
+/// # Ok::<(), lokhazim::Refusal>(())
+/// ```
+#[derive(Clone, Copy, Debug, Default, PartialEq, Eq, PartialOrd, Ord, Hash)]
+#[repr(transparent)]
+pub struct QuotaId(pub(crate) u32);
+
+impl QuotaId {
+    /// The quota of this number.
+    ///
+    /// ```
+    /// use lokhazim::QuotaId;
+    ///
+    /// const LOGGER: QuotaId = QuotaId::new(1);
+    /// assert_eq!(LOGGER.number(), 1);
+    /// ```
+    #[must_use]
+    pub const fn new(number: u32) -> QuotaId {
+        QuotaId(number)
+    }
+
+    /// Its number.
+    #[must_use]
+    pub const fn number(self) -> u32 {
+        self.0
+    }
+}
+
+impl fmt::Display for QuotaId {
+    /// Writes the number.
+    fn fmt(&self, f: &mut fmt::Formatter<'_>) -> fmt::Result {
+        self.0.fmt(f)
+    }
+}
+
 /// A queue of handles on their way from a sending quota to a receiving one, first in, first out.
 ///
 /// [`send`](Queue::send) makes the receiver hold the object and then takes the sender's hold, and
@@ -78,10 +122,10 @@ pub struct Handle {
 #[derive(Clone, Debug, PartialEq, Eq, Hash)]
 #[repr(C)]
 pub struct Queue {
-    /// The number of the sending quota.
-    pub sender: u32,
-    /// The number of the receiving quota.
-    pub receiver: u32,
+    /// The sending quota.
+    pub sender: QuotaId,
+    /// The receiving quota.
+    pub receiver: QuotaId,
     /// How many handles are on their way.
     pub count: u32,
     /// The places; the first `count` are the handles on their way, the oldest first.
@@ -97,8 +141,9 @@ pub struct Grants {
 }
 
 /// The reply of allocate, allocate array and reallocate.
+#[derive(Clone, Copy)]
 #[repr(C)]
-pub struct GivenHandle {
+pub struct HandleReply {
     /// The refusal's number, 0 where there is none; so in every reply.
     pub refusal: u32,
     /// The new object.
@@ -106,8 +151,9 @@ pub struct GivenHandle {
 }
 
 /// The reply of claim, release, free-all, clear permissions, sweep and remaining.
+#[derive(Clone, Copy)]
 #[repr(C)]
-pub struct Amount {
+pub struct AmountReply {
     /// The refusal's number.
     pub refusal: u32,
     /// The number that the call answers.
@@ -253,9 +299,12 @@ pub struct EntryReply {
     pub end: usize,
 }
 
+/// The bytes of a length, by which structs lie otherwise on machines of 32 bits.
+const W: usize = size_of::<usize>();
+
 /// Holds a struct to its size and to the offset of each field, when the crate is compiled.
 macro_rules! lies {
-    ($type:ty, $size:literal: $($field:ident at $offset:literal),+) => {
+    ($type:ty, $size:expr; $($field:ident at $offset:expr),+) => {
         const _: () = {
             assert!(size_of::<$type>() == $size);
             $(assert!(offset_of!($type, $field) == $offset);)+
@@ -263,22 +312,23 @@ macro_rules! lies {
     };
 }
 
-lies!(Quota, 12: grant at 0, remainder at 4, permissions at 8);
-lies!(Hold, 8: serial at 0, quota at 4, count at 5);
-lies!(Accounts, 4488: quotas at 0, last_serial at 384, holds at 388, kind at 4484, edition at 4485);
-lies!(Handle, 12: base at 0, length at 4, serial at 8);
-lies!(Grants, 128: values at 0);
-lies!(GivenHandle, 16: refusal at 0, handle at 4);
-lies!(Amount, 8: refusal at 0, amount at 4);
-lies!(RangeReply, 24: refusal at 0, start at 8, end at 16);
-lies!(BlockReply, 32: refusal at 0, found at 4, offset at 8, size at 16, serial at 24);
-lies!(ImageReply, 16: refusal at 0, length at 8);
-lies!(ExamineReply, 16: refusal at 0, form at 4, heap_length at 8);
-lies!(CompareReply, 32: refusal at 0, which at 4, kind at 8, place at 16, length at 24);
-lies!(NextReply, 48: refusal at 0, which at 4, kind at 8, place at 16, length at 24, part at 32, at at 40);
-lies!(ImportReply, 136: grants at 0, refusal at 128, line at 132);
-lies!(ExportReply, 16: refusal at 0, length at 8);
-lies!(FindReply, 24: refusal at 0, store at 4, start at 8, end at 16);
-lies!(AddReply, 16: refusal at 0, used at 8);
-lies!(EntryReply, 32: refusal at 0, there at 4, version at 8, name at 10, start at 16, end at 24);
-lies!(Queue, 204: sender at 0, receiver at 4, count at 8, handles at 12);
+lies!(Quota, 12; grant at 0, remainder at 4, permissions at 8);
+lies!(Hold, 8; serial at 0, quota at 4, count at 5);
+lies!(Accounts, 4488; quotas at 0, last_serial at 384, holds at 388, kind at 4484, edition at 4485);
+lies!(Handle, 12; base at 0, length at 4, serial at 8);
+lies!(Grants, 128; values at 0);
+lies!(HandleReply, 16; refusal at 0, handle at 4);
+lies!(AmountReply, 8; refusal at 0, amount at 4);
+lies!(RangeReply, 3 * W; refusal at 0, start at W, end at 2 * W);
+lies!(BlockReply, 8 + 3 * W; refusal at 0, found at 4, offset at 8, size at 8 + W, serial at 8 + 2 * W);
+lies!(ImageReply, 2 * W; refusal at 0, length at W);
+lies!(ExamineReply, 8 + W; refusal at 0, form at 4, heap_length at 8);
+lies!(CompareReply, 8 + 3 * W; refusal at 0, which at 4, kind at 8, place at 8 + W, length at 8 + 2 * W);
+lies!(NextReply, 8 + 5 * W; refusal at 0, which at 4, kind at 8, place at 8 + W, length at 8 + 2 * W);
+lies!(NextReply, 8 + 5 * W; part at 8 + 3 * W, at at 8 + 4 * W);
+lies!(ImportReply, 136; grants at 0, refusal at 128, line at 132);
+lies!(ExportReply, 2 * W; refusal at 0, length at W);
+lies!(FindReply, 8 + 2 * W; refusal at 0, store at 4, start at 8, end at 8 + W);
+lies!(AddReply, 2 * W; refusal at 0, used at W);
+lies!(EntryReply, 8 + 3 * W; refusal at 0, there at 4, version at 8, name at 10, start at 8 + W, end at 8 + 2 * W);
+lies!(Queue, 204; sender at 0, receiver at 4, count at 8, handles at 12);

@@ -13,11 +13,11 @@
 //! keeps a buffer alive by a claim, and the valve's close command still finds room.
 //!
 //! ```
-//! use lokhazim::{grants, Aligned, Heap, Refusal};
+//! use lokhazim::{grants, Aligned, Heap, QuotaId, Refusal};
 //!
-//! const VALVE: u32 = 0;
-//! const LOGGER: u32 = 1;
-//! const RADIO: u32 = 2;
+//! const VALVE: QuotaId = QuotaId::new(0);
+//! const LOGGER: QuotaId = QuotaId::new(1);
+//! const RADIO: QuotaId = QuotaId::new(2);
 //!
 //! let mut memory = Aligned([0; 256]);
 //! let mut heap = Heap::open(&mut memory.0, grants([48, 120, 64]))?;
@@ -45,18 +45,19 @@
 //! # Ok::<(), Refusal>(())
 //! ```
 //!
-//! `make lib` writes the libraries to `build/lib/`, where this crate looks for them; the variable
-//! `LOKHAZIM_LIB_DIR` names another folder, from the root or from where cargo is started. The crate is for x86-64; it needs `memcpy`, `memmove` and
-//! `memset`, no operating system and no memory of its own.
+//! `make lib` writes the library to `build/lib/`, where this crate looks for it; the variable
+//! `LOKHAZIM_LIB_DIR` names another folder, from the root or from where cargo is started. The crate
+//! is for x86-64; it needs `memcpy`, `memmove` and `memset`, no operating system and no memory of
+//! its own.
 
 #![no_std]
 #![deny(missing_docs)]
 #![deny(unsafe_code)]
+#![warn(clippy::must_use_candidate)]
 
 #[cfg(all(library_missing, not(clippy), not(doc)))]
 compile_error!(concat!(
-    "a library of lokhazim (liblokhazim.a, or one whose name ends in _image, _compare, _report, ",
-    "_settings, _queue or _stats) is missing in ",
+    "the library liblokhazim.a is missing in ",
     env!("LOKHAZIM_LOOKED"),
     ": run 'make lib' in the repository, or name its folder in LOKHAZIM_LIB_DIR, then build again"
 ));
@@ -69,6 +70,7 @@ mod image;
 mod layout;
 mod moves;
 mod opening;
+mod parts;
 mod permissions;
 mod queries;
 mod queue;
@@ -77,7 +79,7 @@ mod raw;
 mod refusal;
 mod report;
 mod settings;
-mod stats;
+mod statistics;
 
 pub use blocks::{Block, Blocks, QUARANTINED};
 pub use comparison::{compare_images, CompareRefusal, Difference, Differences, Which};
@@ -86,9 +88,9 @@ pub use image::{
     examine_image, image_length, image_length_form_1, ImageFacts, ImageRefusal, FORM_1_HOLDS,
     FORM_1_QUOTAS, IMAGE_MAX, IMAGE_MAX_FORM_1,
 };
-pub use layout::{Accounts, Handle, Hold, Queue, Quota, HOLDS, QUEUE_PLACES, QUOTAS};
+pub use layout::{Accounts, Handle, Hold, Queue, Quota, QuotaId, HOLDS, QUEUE_PLACES, QUOTAS};
 pub use moves::{move_image_down, move_image_up};
-pub use opening::{Edition, Kind, Settings};
+pub use opening::{Edition, Kind, Options};
 pub use permissions::Permissions;
 pub use queue::QueueRefusal;
 pub use refusal::Refusal;
@@ -96,9 +98,9 @@ pub use report::{
     export_grants, import_grants, ImportRefusal, ReportRefusal, REPORT_LENGTH, REPORT_LINE,
 };
 pub use settings::{
-    add_setting, lookup, Entries, Entry, SettingsRefusal, Store, ENTRY_FRONT, VALUE_MAX,
+    add_setting, find_setting, Entries, Entry, SettingsRefusal, Store, ENTRY_FRONT, VALUE_MAX,
 };
-pub use stats::{Part, QuotaStats, Stats, UNITS};
+pub use statistics::{BlockCount, QuotaStatistics, Statistics, UNITS};
 
 /// The length of the shortest heap; a heap's length is a multiple of 8.
 pub const HEAP_MIN: usize = 64;
@@ -120,6 +122,7 @@ pub const SERIAL_MAX: u32 = u32::MAX - 1;
 /// const GRANTS: [u32; QUOTAS] = grants([100, 1_000]);
 /// assert_eq!(GRANTS[..3], [100, 1_000, 0]);
 /// ```
+#[must_use]
 pub const fn grants<const N: usize>(first: [u32; N]) -> [u32; QUOTAS] {
     const { assert!(N <= QUOTAS, "there are more grants than quotas") };
     let mut all = [0; QUOTAS];
@@ -138,12 +141,12 @@ pub const fn grants<const N: usize>(first: [u32; N]) -> [u32; QUOTAS] {
 /// [`Edition`] gives to its length. In a heap of aligned bytes the address of the object is one too.
 ///
 /// ```
-/// use lokhazim::{Aligned, Edition, Heap, Settings, QUOTAS};
+/// use lokhazim::{Aligned, Edition, Heap, Options, QuotaId, QUOTAS};
 ///
 /// let mut memory = Aligned([0; 32_768]);
-/// let settings = Settings { edition: Edition::Second, ..Settings::default() };
-/// let mut heap = Heap::open_with(&mut memory.0, [40_000; QUOTAS], settings)?;
-/// let handle = heap.allocate(0, 20_000)?;
+/// let options = Options { edition: Edition::Second, ..Options::default() };
+/// let mut heap = Heap::open_with(&mut memory.0, [40_000; QUOTAS], options)?;
+/// let handle = heap.allocate(QuotaId::new(0), 20_000)?;
 /// assert!(heap.lend(handle)?.as_ptr().addr().is_multiple_of(64));
 /// # Ok::<(), lokhazim::Refusal>(())
 /// ```

@@ -9,8 +9,9 @@ use crate::raw;
 ///
 /// # Errors
 ///
-/// Refusals 21 to 24, with 23 also for an image of form 2, and 26; then [`ImageRefusal::Room`] where
-/// `out` is shorter than [`image_length`](crate::image_length) says. `out` is as it was.
+/// [`ImageRefusal::ImageLength`], [`ImageRefusal::FrameWrong`], [`ImageRefusal::FormNumber`], which
+/// an image of form 2 gives too, [`ImageRefusal::Contents`], [`ImageRefusal::Inconsistent`]; then
+/// [`ImageRefusal::Room`] where `out` is shorter than [`image_length`](crate::image_length) says. `out` is as it was.
 ///
 /// ```
 /// use lokhazim::{grants, move_image_down, move_image_up, Heap, ImageRefusal};
@@ -30,7 +31,7 @@ use crate::raw;
 /// # Ok::<(), Box<dyn std::error::Error>>(())
 /// ```
 pub fn move_image_up(image: &[u8], out: &mut [u8]) -> Result<usize, ImageRefusal> {
-    moved(raw::image_move_up(image, out))
+    moved(&raw::image_move_up(image, out))
 }
 
 /// Writes the image in form 1 of the state in an image of form 2 to the front of `out`, for a board
@@ -38,13 +39,14 @@ pub fn move_image_up(image: &[u8], out: &mut [u8]) -> Result<usize, ImageRefusal
 ///
 /// # Errors
 ///
-/// Refusals 21 to 24, with 23 also for an image of form 1, and 26; then
+/// [`ImageRefusal::ImageLength`], [`ImageRefusal::FrameWrong`], [`ImageRefusal::FormNumber`], which
+/// an image of form 1 gives too, [`ImageRefusal::Contents`], [`ImageRefusal::Inconsistent`]; then
 /// [`ImageRefusal::NotCarried`] where form 1 can't carry the accounts, then [`ImageRefusal::Room`]
 /// where `out` is shorter than [`image_length_form_1`](crate::image_length_form_1) says. `out` is as
 /// it was.
 ///
 /// ```
-/// use lokhazim::{grants, move_image_down, Heap, ImageRefusal, Permissions};
+/// use lokhazim::{grants, move_image_down, Heap, ImageRefusal, Permissions, QuotaId};
 ///
 /// let mut memory = [0; 128];
 /// let mut heap = Heap::open(&mut memory, grants([100]))?;
@@ -52,16 +54,16 @@ pub fn move_image_up(image: &[u8], out: &mut [u8]) -> Result<usize, ImageRefusal
 /// heap.save(&mut image)?;
 /// assert_eq!(move_image_down(&image, &mut [0; 1_536])?, 1_536);
 ///
-/// heap.clear_permissions(0, Permissions::FREE_ALL)?;
+/// heap.clear_permissions(QuotaId::new(0), Permissions::FREE_ALL)?;
 /// heap.save(&mut image)?;
 /// assert_eq!(move_image_down(&image, &mut [0; 1_536]), Err(ImageRefusal::NotCarried));
 /// # Ok::<(), Box<dyn std::error::Error>>(())
 /// ```
 pub fn move_image_down(image: &[u8], out: &mut [u8]) -> Result<usize, ImageRefusal> {
-    moved(raw::image_move_down(image, out))
+    moved(&raw::image_move_down(image, out))
 }
 
 /// The length that a reply answers.
-fn moved(reply: ImageReply) -> Result<usize, ImageRefusal> {
+fn moved(reply: &ImageReply) -> Result<usize, ImageRefusal> {
     verdict(reply.refusal).map(|()| reply.length)
 }

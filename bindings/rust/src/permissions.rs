@@ -37,6 +37,7 @@ impl Permissions {
     /// ```
     /// assert_eq!(lokhazim::Permissions::FREE_ALL.bits(), 4);
     /// ```
+    #[must_use]
     pub const fn bits(self) -> u8 {
         self.0
     }
@@ -50,6 +51,7 @@ impl Permissions {
     /// assert_eq!(Permissions::from_bits(3), Some(Permissions::ALLOCATE | Permissions::CLAIM));
     /// assert_eq!(Permissions::from_bits(8), None);
     /// ```
+    #[must_use]
     pub const fn from_bits(bits: u8) -> Option<Permissions> {
         match bits {
             0..=7 => Some(Permissions(bits)),
@@ -65,6 +67,7 @@ impl Permissions {
     /// assert!(Permissions::CLAIM.contains(Permissions::NONE));
     /// assert!(!Permissions::NONE.contains(Permissions::CLAIM));
     /// ```
+    #[must_use]
     pub const fn contains(self, other: Permissions) -> bool {
         self.0 & other.0 == other.0
     }

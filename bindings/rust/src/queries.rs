@@ -2,7 +2,7 @@
 
 use crate::blocks::{Block, Blocks};
 use crate::heap::{amount, Heap};
-use crate::layout::Handle;
+use crate::layout::{Handle, QuotaId};
 use crate::opening::{Edition, Kind};
 use crate::permissions::Permissions;
 use crate::raw;
@@ -14,12 +14,14 @@ impl Heap<'_> {
     ///
     /// # Errors
     ///
-    /// Refusal 5.
+    /// [`Refusal::NoSuchObject`].
     ///
     /// ```
+    /// use lokhazim::QuotaId;
+    ///
     /// # let mut memory = [0; 128];
     /// let mut heap = lokhazim::Heap::open(&mut memory, [100; lokhazim::QUOTAS])?;
-    /// let handle = heap.allocate(0, 10)?;
+    /// let handle = heap.allocate(QuotaId::new(0), 10)?;
     /// assert_eq!(heap.lend(handle)?, [0; 16]);
     /// # Ok::<(), lokhazim::Refusal>(())
     /// ```
@@ -32,23 +34,27 @@ impl Heap<'_> {
     /// Lends the handle's bytes to be read and written. No other call is possible meanwhile:
     ///
     /// ```compile_fail,E0499
+    /// use lokhazim::QuotaId;
+    ///
     /// # let mut memory = [0; 128];
     /// let mut heap = lokhazim::Heap::open(&mut memory, [100; lokhazim::QUOTAS])?;
-    /// let handle = heap.allocate(0, 10)?;
+    /// let handle = heap.allocate(QuotaId::new(0), 10)?;
     /// let object = heap.lend_mut(handle)?;
-    /// heap.release(0, handle)?;
+    /// heap.release(QuotaId::new(0), handle)?;
     /// object[0] = 1;
     /// # Ok::<(), lokhazim::Refusal>(())
     /// ```
     ///
     /// # Errors
     ///
-    /// Refusal 5.
+    /// [`Refusal::NoSuchObject`].
     ///
     /// ```
+    /// use lokhazim::QuotaId;
+    ///
     /// # let mut memory = [0; 128];
     /// let mut heap = lokhazim::Heap::open(&mut memory, [100; lokhazim::QUOTAS])?;
-    /// let handle = heap.allocate(0, 10)?;
+    /// let handle = heap.allocate(QuotaId::new(0), 10)?;
     /// heap.lend_mut(handle)?.fill(7);
     /// assert_eq!(heap.lend(handle)?, [7; 16]);
     /// # Ok::<(), lokhazim::Refusal>(())
@@ -64,12 +70,14 @@ impl Heap<'_> {
     ///
     /// # Errors
     ///
-    /// Refusal 5.
+    /// [`Refusal::NoSuchObject`].
     ///
     /// ```
+    /// use lokhazim::QuotaId;
+    ///
     /// # let mut memory = [0; 128];
     /// let mut heap = lokhazim::Heap::open(&mut memory, [100; lokhazim::QUOTAS])?;
-    /// let handle = heap.allocate(0, 8)?;
+    /// let handle = heap.allocate(QuotaId::new(0), 8)?;
     /// heap.write(handle, 1, 255)?;
     /// heap.write(handle, 8, 255)?;
     /// assert_eq!(heap.lend(handle)?, [0, 255, 0, 0, 0, 0, 0, 0]);
@@ -83,38 +91,40 @@ impl Heap<'_> {
     ///
     /// # Errors
     ///
-    /// Refusal 3.
+    /// [`Refusal::QuotaNumber`].
     ///
     /// ```
+    /// use lokhazim::QuotaId;
+    ///
     /// # let mut memory = [0; 128];
     /// let heap = lokhazim::Heap::open(&mut memory, [100; lokhazim::QUOTAS])?;
-    /// assert_eq!(heap.remaining(31)?, 100);
-    /// assert!(heap.remaining(32).is_err());
+    /// assert_eq!(heap.remaining(QuotaId::new(31))?, 100);
+    /// assert!(heap.remaining(QuotaId::new(32)).is_err());
     /// # Ok::<(), lokhazim::Refusal>(())
     /// ```
-    pub fn remaining(&self, quota: u32) -> Result<u32, Refusal> {
-        amount(raw::remaining(self.bytes, &self.words, quota))
+    pub fn remaining(&self, quota: QuotaId) -> Result<u32, Refusal> {
+        amount(raw::remaining(self.bytes, &self.words, quota.number()))
     }
 
     /// What the quota may do.
     ///
     /// # Errors
     ///
-    /// Refusal 3.
+    /// [`Refusal::QuotaNumber`].
     ///
     /// ```
-    /// use lokhazim::{Heap, Permissions, QUOTAS};
+    /// use lokhazim::{Heap, Permissions, QuotaId, QUOTAS};
     ///
     /// # let mut memory = [0; 128];
     /// let heap = Heap::open(&mut memory, [100; QUOTAS])?;
-    /// assert_eq!(heap.permissions(31)?, Permissions::ALL);
-    /// assert!(heap.permissions(32).is_err());
+    /// assert_eq!(heap.permissions(QuotaId::new(31))?, Permissions::ALL);
+    /// assert!(heap.permissions(QuotaId::new(32)).is_err());
     /// # Ok::<(), lokhazim::Refusal>(())
     /// ```
-    pub fn permissions(&self, quota: u32) -> Result<Permissions, Refusal> {
+    pub fn permissions(&self, quota: QuotaId) -> Result<Permissions, Refusal> {
         // What remains of a quota is told under the same refusals.
         self.remaining(quota)?;
-        let bits = self.accounts().quotas[quota as usize].permissions;
+        let bits = self.accounts().quotas[quota.number() as usize].permissions;
         Ok(Permissions::left(u32::from(bits)))
     }
 
@@ -128,6 +138,7 @@ impl Heap<'_> {
     /// assert_eq!(heap.kind(), Kind::Plain);
     /// # Ok::<(), lokhazim::Refusal>(())
     /// ```
+    #[must_use]
     pub fn kind(&self) -> Kind {
         // The library gives no other number than 0 and 1.
         match self.accounts().kind {
@@ -146,6 +157,7 @@ impl Heap<'_> {
     /// assert_eq!(heap.edition(), Edition::First);
     /// # Ok::<(), lokhazim::Refusal>(())
     /// ```
+    #[must_use]
     pub fn edition(&self) -> Edition {
         // The library gives no other number than 0 and 1.
         match self.accounts().edition {
@@ -158,20 +170,25 @@ impl Heap<'_> {
     ///
     /// # Errors
     ///
-    /// The refusal that release would give.
+    /// The refusal that [`release`](Heap::release) would give.
     ///
     /// ```
-    /// use lokhazim::{Heap, Refusal, QUOTAS};
+    /// use lokhazim::{Heap, QuotaId, Refusal, QUOTAS};
     ///
     /// # let mut memory = [0; 128];
     /// let mut heap = Heap::open(&mut memory, [100; QUOTAS])?;
-    /// let handle = heap.allocate(0, 10)?;
-    /// assert_eq!(heap.can_release(0, handle), Ok(()));
-    /// assert_eq!(heap.can_release(1, handle), Err(Refusal::NotHeld));
+    /// let handle = heap.allocate(QuotaId::new(0), 10)?;
+    /// assert_eq!(heap.can_release(QuotaId::new(0), handle), Ok(()));
+    /// assert_eq!(heap.can_release(QuotaId::new(1), handle), Err(Refusal::NotHeld));
     /// # Ok::<(), Refusal>(())
     /// ```
-    pub fn can_release(&self, quota: u32, handle: Handle) -> Result<(), Refusal> {
-        verdict(raw::can_release(self.bytes, &self.words, quota, handle))
+    pub fn can_release(&self, quota: QuotaId, handle: Handle) -> Result<(), Refusal> {
+        verdict(raw::can_release(
+            self.bytes,
+            &self.words,
+            quota.number(),
+            handle,
+        ))
     }
 
     /// The block that starts at an offset, if one does.
@@ -200,13 +217,16 @@ impl Heap<'_> {
     /// The blocks from the heap's first byte to its last: live, free and quarantined ones.
     ///
     /// ```
+    /// use lokhazim::QuotaId;
+    ///
     /// # let mut memory = [0; 128];
     /// let mut heap = lokhazim::Heap::open(&mut memory, [100; lokhazim::QUOTAS])?;
-    /// heap.allocate(0, 10)?;
+    /// heap.allocate(QuotaId::new(0), 10)?;
     /// let sizes: Result<Vec<usize>, _> = heap.blocks().map(|block| Ok(block?.size)).collect();
     /// assert_eq!(sizes?, [24, 104]);
     /// # Ok::<(), lokhazim::Refusal>(())
     /// ```
+    #[must_use]
     pub fn blocks(&self) -> Blocks<'_> {
         Blocks::new(self)
     }

@@ -4,7 +4,7 @@ use core::error::Error;
 use core::fmt;
 
 use crate::heap::Heap;
-use crate::layout::{Handle, Queue};
+use crate::layout::{Handle, Queue, QuotaId};
 use crate::raw;
 use crate::refusal::Refusal;
 
@@ -21,6 +21,7 @@ use crate::refusal::Refusal;
 /// assert_eq!(heap.to_string(), Refusal::NotHeld.to_string());
 /// ```
 #[derive(Clone, Copy, Debug, PartialEq, Eq, Hash)]
+#[non_exhaustive]
 pub enum QueueRefusal {
     /// 51: as many handles are on their way as the queue has room for.
     Full,
@@ -41,6 +42,7 @@ impl QueueRefusal {
     ];
 
     /// The refusal's number, the same as in C.
+    #[must_use]
     pub const fn number(self) -> u32 {
         match self {
             QueueRefusal::Full => 51,
@@ -59,6 +61,7 @@ impl QueueRefusal {
     /// assert_eq!(QueueRefusal::from_number(6), Some(QueueRefusal::Heap(Refusal::NotHeld)));
     /// assert_eq!(QueueRefusal::from_number(50), None);
     /// ```
+    #[must_use]
     pub fn from_number(number: u32) -> Option<QueueRefusal> {
         let mut own = QueueRefusal::OWN.into_iter();
         own.find(|refusal| refusal.number() == number)
@@ -93,7 +96,7 @@ fn verdict(number: u32) -> Result<(), QueueRefusal> {
         return Ok(());
     }
     Err(QueueRefusal::from_number(number).unwrap_or_else(|| {
-        panic!("refusal {number} is unknown; link the liblokhazim_queue.a of this crate's version")
+        panic!("refusal {number} is unknown; link the liblokhazim.a of this crate's version")
     }))
 }
 
@@ -102,16 +105,18 @@ impl Queue {
     /// quotas is told by the first send.
     ///
     /// ```
-    /// use lokhazim::Queue;
+    /// use lokhazim::{Queue, QuotaId};
     ///
-    /// let queue = Queue::new(0, 1);
+    /// let queue = Queue::new(QuotaId::new(0), QuotaId::new(1));
     /// assert!(queue.waiting().is_empty());
     /// ```
-    pub fn new(sender: u32, receiver: u32) -> Queue {
-        raw::queue_new(sender, receiver)
+    #[must_use]
+    pub fn new(sender: QuotaId, receiver: QuotaId) -> Queue {
+        raw::queue_new(sender.number(), receiver.number())
     }
 
     /// The handles on their way, the oldest first; none where the count is above the places.
+    #[must_use]
     pub fn waiting(&self) -> &[Handle] {
         self.handles.get(..self.count as usize).unwrap_or(&[])
     }
@@ -127,10 +132,10 @@ impl Queue {
     /// is. Heap and queue are as they were.
     ///
     /// ```
-    /// use lokhazim::{grants, Aligned, Heap, Queue, QueueRefusal, Refusal};
+    /// use lokhazim::{grants, Aligned, Heap, Queue, QueueRefusal, QuotaId, Refusal};
     ///
-    /// const RADIO: u32 = 0;
-    /// const LOGGER: u32 = 1;
+    /// const RADIO: QuotaId = QuotaId::new(0);
+    /// const LOGGER: QuotaId = QuotaId::new(1);
     ///
     /// let mut memory = Aligned([0; 256]);
     /// let mut heap = Heap::open(&mut memory.0, grants([100, 40])).unwrap();
@@ -161,16 +166,16 @@ impl Queue {
     /// [`QueueRefusal::Damaged`], then [`QueueRefusal::Empty`]; the queue is as it was.
     ///
     /// ```
-    /// use lokhazim::{grants, Aligned, Heap, Queue, QueueRefusal, Refusal};
+    /// use lokhazim::{grants, Aligned, Heap, Queue, QueueRefusal, QuotaId, Refusal};
     ///
     /// let mut memory = Aligned([0; 256]);
     /// let mut heap = Heap::open(&mut memory.0, grants([100, 100])).unwrap();
-    /// let mut queue = Queue::new(0, 1);
-    /// let [first, second] = [8, 16].map(|length| heap.allocate(0, length).unwrap());
+    /// let mut queue = Queue::new(QuotaId::new(0), QuotaId::new(1));
+    /// let [first, second] = [8, 16].map(|length| heap.allocate(QuotaId::new(0), length).unwrap());
     /// queue.send(&mut heap, first)?;
     /// queue.send(&mut heap, second)?;
     ///
-    /// heap.release(1, first).unwrap();
+    /// heap.release(QuotaId::new(1), first).unwrap();
     /// assert_eq!(queue.receive()?, first);
     /// assert_eq!(heap.lend(first), Err(Refusal::NoSuchObject));
     /// assert_eq!(queue.receive()?, second);

@@ -20,6 +20,7 @@ use crate::layout::{HOLDS, QUOTAS};
 /// ```
 #[derive(Clone, Copy, Debug, PartialEq, Eq, PartialOrd, Ord, Hash)]
 #[repr(u32)]
+#[non_exhaustive]
 pub enum Refusal {
     /// 1: the heap's length is not allowed.
     HeapLength = 1,
@@ -73,6 +74,7 @@ impl Refusal {
     /// ```
     /// assert_eq!(lokhazim::Refusal::QuotaExceeded.number(), 8);
     /// ```
+    #[must_use]
     pub const fn number(self) -> u32 {
         self as u32
     }
@@ -85,6 +87,7 @@ impl Refusal {
     /// assert_eq!(Refusal::from_number(8), Some(Refusal::QuotaExceeded));
     /// assert_eq!(Refusal::from_number(0), None);
     /// ```
+    #[must_use]
     pub fn from_number(number: u32) -> Option<Refusal> {
         Refusal::ALL
             .into_iter()

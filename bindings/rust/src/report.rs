@@ -23,6 +23,7 @@ pub const REPORT_LENGTH: usize = 1_728;
 /// );
 /// ```
 #[derive(Clone, Copy, Debug, PartialEq, Eq, Hash)]
+#[non_exhaustive]
 pub enum ReportRefusal {
     /// 31: a wrong character, or one at a wrong place.
     Character,
@@ -44,6 +45,7 @@ impl ReportRefusal {
     ];
 
     /// The refusal's number, the same as in C.
+    #[must_use]
     pub const fn number(self) -> u32 {
         match self {
             ReportRefusal::Character => 31,
@@ -61,6 +63,7 @@ impl ReportRefusal {
     /// assert_eq!(ReportRefusal::from_number(33), Some(ReportRefusal::TooMany));
     /// assert_eq!(ReportRefusal::from_number(30), None);
     /// ```
+    #[must_use]
     pub fn from_number(number: u32) -> Option<ReportRefusal> {
         let own = ReportRefusal::ALL;
         own.into_iter().find(|refusal| refusal.number() == number)
@@ -113,7 +116,7 @@ fn verdict(number: u32) -> Result<(), ReportRefusal> {
         return Ok(());
     }
     Err(ReportRefusal::from_number(number).unwrap_or_else(|| {
-        panic!("refusal {number} is unknown; link the liblokhazim_report.a of this crate's version")
+        panic!("refusal {number} is unknown; link the liblokhazim.a of this crate's version")
     }))
 }
 
@@ -122,7 +125,8 @@ fn verdict(number: u32) -> Result<(), ReportRefusal> {
 ///
 /// # Errors
 ///
-/// Refusals 31 to 33, of the first bad line.
+/// [`ReportRefusal::Character`], [`ReportRefusal::Reserved`] or [`ReportRefusal::TooMany`], of the
+/// first bad line.
 ///
 /// ```
 /// use lokhazim::{import_grants, ReportRefusal};

@@ -23,6 +23,7 @@ pub const ENTRY_FRONT: usize = 4;
 /// );
 /// ```
 #[derive(Clone, Copy, Debug, PartialEq, Eq, Hash)]
+#[non_exhaustive]
 pub enum SettingsRefusal {
     /// 41: a store is no run of entries.
     Malformed,
@@ -47,6 +48,7 @@ impl SettingsRefusal {
     ];
 
     /// The refusal's number, the same as in C.
+    #[must_use]
     pub const fn number(self) -> u32 {
         match self {
             SettingsRefusal::Malformed => 41,
@@ -65,6 +67,7 @@ impl SettingsRefusal {
     /// assert_eq!(SettingsRefusal::from_number(45), Some(SettingsRefusal::Full));
     /// assert_eq!(SettingsRefusal::from_number(40), None);
     /// ```
+    #[must_use]
     pub fn from_number(number: u32) -> Option<SettingsRefusal> {
         let own = SettingsRefusal::ALL;
         own.into_iter().find(|refusal| refusal.number() == number)
@@ -101,9 +104,7 @@ fn verdict(number: u32) -> Result<(), SettingsRefusal> {
         return Ok(());
     }
     Err(SettingsRefusal::from_number(number).unwrap_or_else(|| {
-        panic!(
-            "refusal {number} is unknown; link the liblokhazim_settings.a of this crate's version"
-        )
+        panic!("refusal {number} is unknown; link the liblokhazim.a of this crate's version")
     }))
 }
 
@@ -117,11 +118,13 @@ pub struct Store<'a> {
 
 impl<'a> Store<'a> {
     /// The first `used` of these bytes.
+    #[must_use]
     pub const fn new(bytes: &'a [u8], used: usize) -> Store<'a> {
         Store { bytes, used }
     }
 
     /// All of these bytes.
+    #[must_use]
     pub const fn whole(bytes: &'a [u8]) -> Store<'a> {
         let used = bytes.len();
         Store { bytes, used }
@@ -140,6 +143,7 @@ impl<'a> Store<'a> {
     /// assert_eq!(entries.next(), Some(Err(SettingsRefusal::Malformed)));
     /// assert_eq!(entries.next(), None);
     /// ```
+    #[must_use]
     pub const fn entries(self) -> Entries<'a> {
         Entries {
             store: self,
@@ -158,18 +162,18 @@ impl<'a> Store<'a> {
 /// [`SettingsRefusal::Missing`].
 ///
 /// ```
-/// use lokhazim::{add_setting, lookup, SettingsRefusal, Store};
+/// use lokhazim::{add_setting, find_setting, SettingsRefusal, Store};
 ///
 /// let defaults = [0, 0, 7, 3, b'o', b'f', b'f'];
 /// let mut board = [0; 32];
 /// let used = add_setting(&mut board, 0, 7, 2, b"on")?;
 /// let (board, defaults) = (Store::new(&board, used), Store::whole(&defaults));
-/// assert_eq!(lookup(board, defaults, 7, 1)?, b"off");
-/// assert_eq!(lookup(board, defaults, 7, 2)?, b"on");
-/// assert_eq!(lookup(board, defaults, 8, 2), Err(SettingsRefusal::Missing));
+/// assert_eq!(find_setting(board, defaults, 7, 1)?, b"off");
+/// assert_eq!(find_setting(board, defaults, 7, 2)?, b"on");
+/// assert_eq!(find_setting(board, defaults, 8, 2), Err(SettingsRefusal::Missing));
 /// # Ok::<(), SettingsRefusal>(())
 /// ```
-pub fn lookup<'a>(
+pub fn find_setting<'a>(
     board: Store<'a>,
     defaults: Store<'a>,
     name: u8,
@@ -187,7 +191,9 @@ pub fn lookup<'a>(
 ///
 /// # Errors
 ///
-/// Refusals 41, 43, 44 and 45, checked in this order; the bytes are as they were.
+/// [`SettingsRefusal::Malformed`], [`SettingsRefusal::ValueLength`],
+/// [`SettingsRefusal::VersionFalls`], [`SettingsRefusal::Full`], checked in this order; the bytes are
+/// as they were.
 ///
 /// ```
 /// use lokhazim::{add_setting, SettingsRefusal};

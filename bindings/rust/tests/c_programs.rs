@@ -1,10 +1,20 @@
-//! The C programs: the examples tell their stories, every field goes through the library and back, calls
-//! in place and by value do the same, and the headers ask for no C library.
+//! The C programs: the examples tell their stories, every field goes through the library and back, no
+//! call changes what it may not, and the headers ask for no C library, warn and check pointers.
 
 #[allow(dead_code)]
 mod support;
 
-use support::{compile, read_headers, repository, run};
+use support::{compile, read_headers, repository, run, warnings};
+
+/// The headers, by what follows `lokhazim`.
+const HEADERS: [&str; 6] = [
+    "",
+    "_image",
+    "_queue",
+    "_report",
+    "_settings",
+    "_statistics",
+];
 
 #[test]
 fn the_valve_example_tells_its_story() {
@@ -48,9 +58,13 @@ fn a_report_goes_from_c_and_back() {
 }
 
 #[test]
-fn figures_go_to_c() {
+fn statistics_go_to_c() {
     for level in ["-O0", "-O2"] {
-        run(&compile("bindings/rust/tests/c/stats.c", level), &[], b"");
+        run(
+            &compile("bindings/rust/tests/c/statistics.c", level),
+            &[],
+            b"",
+        );
     }
 }
 
@@ -89,23 +103,37 @@ fn every_field_goes_through_the_library_from_c() {
 }
 
 #[test]
-fn calls_in_place_are_those_by_value_from_c() {
+fn calls_change_what_they_may_from_c() {
     for level in ["-O0", "-O2"] {
-        run(
-            &compile("bindings/rust/tests/c/in_place.c", level),
-            &[],
-            b"",
-        );
+        run(&compile("bindings/rust/tests/c/calls.c", level), &[], b"");
     }
 }
 
 #[test]
+fn pointers_are_checked_from_c() {
+    for level in ["-O0", "-O2"] {
+        let program = compile("bindings/rust/tests/c/pointers.c", level);
+        run(&program, &[], b"");
+    }
+}
+
+#[test]
+fn misuse_gives_warnings() {
+    let said = ["cc", "gcc", "clang"].map(|compiler| {
+        let said = warnings(compiler, "bindings/rust/tests/c/misused.c")?;
+        assert_eq!(said.matches("[-Wenum-conversion]").count(), 2, "{said}");
+        assert_eq!(said.matches("[-Wunused-result]").count(), 2, "{said}");
+        Some(())
+    });
+    assert!(said[0].is_some(), "the command 'cc' is missing");
+}
+
+#[test]
 fn the_headers_need_no_c_library() {
-    let all = ["", "_image", "_queue", "_report", "_settings", "_stats"];
-    read_headers(&all, &[]);
+    read_headers(&HEADERS, &[]);
 }
 
 #[test]
 fn a_length_may_have_32_bits() {
-    read_headers(&["", "_queue"], &["-m32"]);
+    read_headers(&HEADERS, &["-m32"]);
 }

@@ -1,10 +1,12 @@
 //! Both editions of the rounding table through the crate's own types.
 
-use lokhazim::{Aligned, Edition, Heap, Kind, Refusal, Settings, HEAP_MAX, QUOTAS, REQUEST_MAX};
+use lokhazim::{
+    Aligned, Edition, Heap, Kind, Options, QuotaId, Refusal, HEAP_MAX, QUOTAS, REQUEST_MAX,
+};
 
 /// The settings of both kinds in an edition.
-fn settings(edition: Edition) -> [Settings; 2] {
-    [Kind::Plain, Kind::Quarantine].map(|kind| Settings { kind, edition })
+fn settings(edition: Edition) -> [Options; 2] {
+    [Kind::Plain, Kind::Quarantine].map(|kind| Options { kind, edition })
 }
 
 /// Requests with the length and the unit of their objects, at the bounds of each row.
@@ -40,7 +42,7 @@ fn each_edition_rounds_by_its_table() -> Result<(), Refusal> {
             .flat_map(|settings| rows.map(|row| (settings, row)))
         {
             let mut heap = Heap::open_with(&mut memory.0, [40_000; QUOTAS], settings)?;
-            let handle = heap.allocate(0, request)?;
+            let handle = heap.allocate(QuotaId::new(0), request)?;
             assert_eq!((handle.length, handle.base), (length, unit), "{request}");
             let address = heap.lend(handle)?.as_ptr().addr();
             assert!(address.is_multiple_of(unit as usize), "{request}");
@@ -57,14 +59,14 @@ fn the_longest_requests_fit_no_heap() -> Result<(), Refusal> {
             let mut heap = Heap::open_with(&mut memory, [32_776; QUOTAS], settings)?;
             for request in from..=REQUEST_MAX {
                 assert_eq!(
-                    heap.allocate(0, request),
+                    heap.allocate(QuotaId::new(0), request),
                     Err(Refusal::NoSpace),
                     "{request}"
                 );
             }
             let mut heap = Heap::open_with(&mut memory, [32_775; QUOTAS], settings)?;
             for request in from..=REQUEST_MAX {
-                let refused = heap.allocate(0, request);
+                let refused = heap.allocate(QuotaId::new(0), request);
                 assert_eq!(refused, Err(Refusal::QuotaExceeded), "{request}");
             }
         }
@@ -76,10 +78,10 @@ fn the_longest_requests_fit_no_heap() -> Result<(), Refusal> {
 fn taken_up(edition: Edition, number: u8) -> Result<Edition, Refusal> {
     let mut memory = [0; 8_192];
     let mut heap = Heap::open_with(&mut memory, [9_000; QUOTAS], settings(edition)[0])?;
-    heap.allocate(0, 4_089)?;
+    heap.allocate(QuotaId::new(0), 4_089)?;
     let (bytes, mut accounts) = heap.into_parts();
     accounts.edition = number;
-    Heap::from_parts(bytes, accounts).map(|heap| heap.edition())
+    Heap::from_parts(bytes, &accounts).map(|heap| heap.edition())
 }
 
 #[test]
@@ -104,9 +106,9 @@ fn editions_and_their_numbers() {
             None => assert!(number > 1),
         }
     }
-    let plain = Settings {
+    let plain = Options {
         kind: Kind::Plain,
         edition: Edition::First,
     };
-    assert_eq!(Settings::default(), plain);
+    assert_eq!(Options::default(), plain);
 }

@@ -12,9 +12,9 @@ use std::mem::MaybeUninit;
 use std::slice;
 
 use layout::{
-    Accounts, AddReply, Amount, BlockReply, CompareReply, EntryReply, ExamineReply, ExportReply,
-    FindReply, GivenHandle, Grants, Handle, Hold, ImageReply, ImportReply, NextReply, Queue, Quota,
-    RangeReply,
+    Accounts, AddReply, AmountReply, BlockReply, CompareReply, EntryReply, ExamineReply,
+    ExportReply, FindReply, Grants, Handle, HandleReply, Hold, ImageReply, ImportReply, NextReply,
+    Queue, Quota, RangeReply,
 };
 use support::{compile, run};
 
@@ -110,14 +110,14 @@ impl Fields for Grants {
     }
 }
 
-impl Fields for Amount {
+impl Fields for AmountReply {
     fn visit(&mut self, visitor: &mut Visitor) {
         visitor.visit32(&mut self.refusal);
         visitor.visit32(&mut self.amount);
     }
 }
 
-impl Fields for GivenHandle {
+impl Fields for HandleReply {
     fn visit(&mut self, visitor: &mut Visitor) {
         visitor.visit32(&mut self.refusal);
         self.handle.visit(visitor);
@@ -223,8 +223,8 @@ impl Fields for EntryReply {
 
 impl Fields for Queue {
     fn visit(&mut self, visitor: &mut Visitor) {
-        visitor.visit32(&mut self.sender);
-        visitor.visit32(&mut self.receiver);
+        visitor.visit32(&mut self.sender.0);
+        visitor.visit32(&mut self.receiver.0);
         visitor.visit32(&mut self.count);
         self.handles
             .iter_mut()
@@ -254,8 +254,8 @@ fn exchange_all(visitor: &mut Visitor, bytes: &mut Vec<u8>) {
     exchange::<Accounts>(visitor, bytes);
     exchange::<Handle>(visitor, bytes);
     exchange::<Grants>(visitor, bytes);
-    exchange::<Amount>(visitor, bytes);
-    exchange::<GivenHandle>(visitor, bytes);
+    exchange::<AmountReply>(visitor, bytes);
+    exchange::<HandleReply>(visitor, bytes);
     exchange::<RangeReply>(visitor, bytes);
     exchange::<BlockReply>(visitor, bytes);
     exchange::<ImageReply>(visitor, bytes);

@@ -1,7 +1,7 @@
 //! The heap through the crate's own types.
 
 use lokhazim::{
-    grants, Accounts, Block, Handle, Heap, Permissions, Refusal, HEAP_MAX, HOLDS, QUOTAS,
+    grants, Accounts, Block, Handle, Heap, Permissions, QuotaId, Refusal, HEAP_MAX, HOLDS, QUOTAS,
 };
 
 /// The lengths and counts of the objects of `fill`, by the place of their record.
@@ -22,9 +22,12 @@ fn fill(bytes: &mut [u8]) -> Result<(Heap<'_>, Vec<Handle>), Refusal> {
     let mut heap = Heap::open(bytes, core::array::from_fn(|i| 100_000 + 1_000 * i as u32))?;
     let mut handles = Vec::new();
     for place in 0..HOLDS {
-        let handle = heap.allocate(quota_of(place), length_of(place))?;
+        let handle = heap.allocate(QuotaId::new(quota_of(place)), length_of(place))?;
         for _ in 1..count_of(place) {
-            assert_eq!(heap.claim(quota_of(place), handle)?, length_of(place));
+            assert_eq!(
+                heap.claim(QuotaId::new(quota_of(place)), handle)?,
+                length_of(place)
+            );
         }
         handles.push(handle);
     }
@@ -51,18 +54,60 @@ fn the_marked_run() -> Result<(), Refusal> {
         length: 16,
         serial: 3,
     };
-    assert_eq!((heap.allocate(0, 10)?, heap.remaining(0)?), (first, 76));
-    assert_eq!(heap.allocate(0, 68), Err(Refusal::QuotaExceeded));
-    assert_eq!((heap.claim(1, first)?, heap.remaining(1)?), (16, 976));
-    assert_eq!((heap.release(0, first)?, heap.remaining(0)?), (24, 100));
-    assert_eq!((heap.allocate(1, 96)?, heap.remaining(1)?), (second, 872));
-    assert_eq!(heap.allocate(1, 1), Err(Refusal::NoSpace));
-    assert_eq!((heap.release(1, first)?, heap.remaining(1)?), (24, 896));
-    assert_eq!(heap.allocate(0, 24), Err(Refusal::NoSpace));
-    assert_eq!(heap.allocate(0, 16)?, third);
-    assert_eq!(heap.release(0, first), Err(Refusal::NoSuchObject));
-    assert_eq!(heap.release(0, second), Err(Refusal::NotHeld));
-    assert_eq!((heap.free_all(1)?, heap.remaining(1)?), (104, 1_000));
+    assert_eq!(
+        (
+            heap.allocate(QuotaId::new(0), 10)?,
+            heap.remaining(QuotaId::new(0))?
+        ),
+        (first, 76)
+    );
+    assert_eq!(
+        heap.allocate(QuotaId::new(0), 68),
+        Err(Refusal::QuotaExceeded)
+    );
+    assert_eq!(
+        (
+            heap.claim(QuotaId::new(1), first)?,
+            heap.remaining(QuotaId::new(1))?
+        ),
+        (16, 976)
+    );
+    assert_eq!(
+        (
+            heap.release(QuotaId::new(0), first)?,
+            heap.remaining(QuotaId::new(0))?
+        ),
+        (24, 100)
+    );
+    assert_eq!(
+        (
+            heap.allocate(QuotaId::new(1), 96)?,
+            heap.remaining(QuotaId::new(1))?
+        ),
+        (second, 872)
+    );
+    assert_eq!(heap.allocate(QuotaId::new(1), 1), Err(Refusal::NoSpace));
+    assert_eq!(
+        (
+            heap.release(QuotaId::new(1), first)?,
+            heap.remaining(QuotaId::new(1))?
+        ),
+        (24, 896)
+    );
+    assert_eq!(heap.allocate(QuotaId::new(0), 24), Err(Refusal::NoSpace));
+    assert_eq!(heap.allocate(QuotaId::new(0), 16)?, third);
+    assert_eq!(
+        heap.release(QuotaId::new(0), first),
+        Err(Refusal::NoSuchObject)
+    );
+    assert_eq!(heap.release(QuotaId::new(0), second), Err(Refusal::NotHeld));
+    assert_eq!(
+        (
+            heap.free_all(QuotaId::new(1))?,
+            heap.remaining(QuotaId::new(1))?
+        ),
+        (104, 1_000)
+    );
     Ok(())
 }
 
@@ -80,7 +125,10 @@ fn the_calls_leave_each_field_as_it_should_be() -> Result<(), Refusal> {
     for (number, quota) in heap.accounts().quotas.iter().enumerate() {
         assert_eq!(quota.grant, 100_000 + 1_000 * number as u32);
         assert_eq!(quota.remainder, quota.grant - spent[number]);
-        assert_eq!(heap.remaining(number as u32)?, quota.remainder);
+        assert_eq!(
+            heap.remaining(QuotaId::new(number as u32))?,
+            quota.remainder
+        );
         assert_eq!(
             Permissions::from_bits(quota.permissions),
             Some(Permissions::ALL)
@@ -95,9 +143,9 @@ fn the_calls_leave_each_field_as_it_should_be() -> Result<(), Refusal> {
 fn is_noticed(bytes: &mut [u8], accounts: &Accounts, change: impl Fn(&mut Accounts)) {
     let mut changed = accounts.clone();
     change(&mut changed);
-    let refused = Heap::from_parts(bytes, changed).map(|_| ());
+    let refused = Heap::from_parts(bytes, &changed).map(|_| ());
     assert_eq!(refused, Err(Refusal::Inconsistent));
-    assert!(Heap::from_parts(bytes, accounts.clone()).is_ok());
+    assert!(Heap::from_parts(bytes, accounts).is_ok());
 }
 
 #[test]
@@ -127,7 +175,7 @@ fn the_library_notices_a_change_of_any_field() -> Result<(), Refusal> {
 fn a_heap_with_an_object_at_an_unaligned_base_is_refused() -> Result<(), Refusal> {
     let mut memory = [0; 16_384];
     let mut heap = Heap::open(&mut memory, [10_000; QUOTAS])?;
-    assert_eq!(heap.allocate(0, 8_184)?.base, 8);
+    assert_eq!(heap.allocate(QuotaId::new(0), 8_184)?.base, 8);
     let (bytes, mut accounts) = heap.into_parts();
     // The object takes 8 bytes from the free block behind it.
     bytes[0..2].copy_from_slice(&1_025_u16.to_le_bytes());
@@ -135,10 +183,10 @@ fn a_heap_with_an_object_at_an_unaligned_base_is_refused() -> Result<(), Refusal
     bytes[8_200..8_202].copy_from_slice(&1_023_u16.to_le_bytes());
     bytes[8_202..8_204].copy_from_slice(&1_025_u16.to_le_bytes());
     accounts.quotas[0].remainder -= 8;
-    let refused = Heap::from_parts(bytes, accounts).map(|_| ());
+    let refused = Heap::from_parts(bytes, &accounts).map(|_| ());
     assert_eq!(refused, Err(Refusal::Inconsistent));
     let mut heap = Heap::open(bytes, [10_000; QUOTAS])?;
-    assert_eq!(heap.allocate(0, 8_191)?.base, 16);
+    assert_eq!(heap.allocate(QuotaId::new(0), 8_191)?.base, 16);
     heap.check()
 }
 
@@ -195,14 +243,38 @@ fn refused_calls_change_nothing() -> Result<(), Refusal> {
     let mut memory = [0; HEAP_MAX];
     let (mut heap, handles) = fill(&mut memory)?;
     let before = heap.accounts().clone();
-    assert_eq!(heap.allocate(QUOTAS as u32, 1), Err(Refusal::QuotaNumber));
-    assert_eq!(heap.allocate(0, 0), Err(Refusal::ObjectLength));
-    assert_eq!(heap.allocate(0, 32_761), Err(Refusal::ObjectLength));
-    assert_eq!(heap.allocate(0, 1), Err(Refusal::HoldsExhausted));
-    assert_eq!(heap.claim(1, handles[0]), Err(Refusal::HoldsExhausted));
-    assert_eq!(heap.reallocate(1, handles[0], 8), Err(Refusal::NotHeld));
-    assert_eq!(heap.can_release(1, handles[0]), Err(Refusal::NotHeld));
-    assert_eq!(heap.free_all(u32::MAX), Err(Refusal::QuotaNumber));
+    assert_eq!(
+        heap.allocate(QuotaId::new(QUOTAS as u32), 1),
+        Err(Refusal::QuotaNumber)
+    );
+    assert_eq!(
+        heap.allocate(QuotaId::new(0), 0),
+        Err(Refusal::ObjectLength)
+    );
+    assert_eq!(
+        heap.allocate(QuotaId::new(0), 32_761),
+        Err(Refusal::ObjectLength)
+    );
+    assert_eq!(
+        heap.allocate(QuotaId::new(0), 1),
+        Err(Refusal::HoldsExhausted)
+    );
+    assert_eq!(
+        heap.claim(QuotaId::new(1), handles[0]),
+        Err(Refusal::HoldsExhausted)
+    );
+    assert_eq!(
+        heap.reallocate(QuotaId::new(1), handles[0], 8),
+        Err(Refusal::NotHeld)
+    );
+    assert_eq!(
+        heap.can_release(QuotaId::new(1), handles[0]),
+        Err(Refusal::NotHeld)
+    );
+    assert_eq!(
+        heap.free_all(QuotaId::new(u32::MAX)),
+        Err(Refusal::QuotaNumber)
+    );
     assert_eq!(heap.accounts(), &before);
     assert_eq!(heap.check(), Ok(()));
     Ok(())
@@ -216,19 +288,19 @@ type Guarded = (
 
 const GUARDED: [Guarded; 5] = [
     (Permissions::ALLOCATE, |heap, quota, _| {
-        heap.allocate(quota, 8).map(drop)
+        heap.allocate(QuotaId::new(quota), 8).map(drop)
     }),
     (Permissions::ALLOCATE, |heap, quota, _| {
-        heap.allocate_array(quota, 2, 4).map(drop)
+        heap.allocate_array(QuotaId::new(quota), 2, 4).map(drop)
     }),
     (Permissions::ALLOCATE, |heap, quota, handle| {
-        heap.reallocate(quota, handle, 8).map(drop)
+        heap.reallocate(QuotaId::new(quota), handle, 8).map(drop)
     }),
     (Permissions::CLAIM, |heap, quota, handle| {
-        heap.claim(quota, handle).map(drop)
+        heap.claim(QuotaId::new(quota), handle).map(drop)
     }),
     (Permissions::FREE_ALL, |heap, quota, _| {
-        heap.free_all(quota).map(drop)
+        heap.free_all(QuotaId::new(quota)).map(drop)
     }),
 ];
 
@@ -239,12 +311,15 @@ fn each_call_needs_its_own_permission() -> Result<(), Refusal> {
         for (needed, call) in GUARDED {
             let mut memory = [0; 256];
             let mut heap = Heap::open(&mut memory, [100; QUOTAS])?;
-            let handle = heap.allocate(3, 8)?;
-            heap.claim(2, handle)?;
-            let left = heap.clear_permissions(3, cleared)?;
+            let handle = heap.allocate(QuotaId::new(3), 8)?;
+            heap.claim(QuotaId::new(2), handle)?;
+            let left = heap.clear_permissions(QuotaId::new(3), cleared)?;
             assert_eq!(left.bits(), 7 - bits);
             assert_eq!(
-                (heap.permissions(3)?, heap.permissions(2)?),
+                (
+                    heap.permissions(QuotaId::new(3))?,
+                    heap.permissions(QuotaId::new(2))?
+                ),
                 (left, Permissions::ALL)
             );
             let expected = match left.contains(needed) {

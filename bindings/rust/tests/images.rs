@@ -4,8 +4,8 @@ use std::error::Error;
 
 use lokhazim::{
     compare_images, examine_image, grants, image_length, image_length_form_1, move_image_down,
-    move_image_up, Accounts, Difference, Edition, Heap, Hold, ImageRefusal, Kind, Permissions,
-    Refusal, Settings, Which, FORM_1_HOLDS, FORM_1_QUOTAS, HOLDS, QUOTAS,
+    move_image_up, Accounts, Difference, Edition, Heap, Hold, ImageRefusal, Kind, Options,
+    Permissions, QuotaId, Refusal, Which, FORM_1_HOLDS, FORM_1_QUOTAS, HOLDS, QUOTAS,
 };
 
 /// The images of a heap in form 2 and in form 1.
@@ -22,12 +22,12 @@ fn images(heap: &Heap) -> Result<[Vec<u8>; 2], ImageRefusal> {
 fn a_state_that_form_1_carries_is_the_same_in_both() -> Result<(), Box<dyn Error>> {
     let mut memory = [0; 128];
     let mut heap = Heap::open(&mut memory, grants([100; FORM_1_QUOTAS]))?;
-    let handle = heap.allocate(7, 8)?;
+    let handle = heap.allocate(QuotaId::new(7), 8)?;
     heap.lend_mut(handle)?.fill(9);
     for (form, image) in [2, 1].into_iter().zip(images(&heap)?) {
         assert_eq!(examine_image(&image)?.form, form);
         let mut elsewhere = [7; 128];
-        let again = Heap::restore(&mut elsewhere, &image)?;
+        let again = Heap::resume(&mut elsewhere, &image)?;
         assert_eq!(again.parts(), heap.parts());
     }
     Ok(())
@@ -37,7 +37,7 @@ fn a_state_that_form_1_carries_is_the_same_in_both() -> Result<(), Box<dyn Error
 fn an_image_is_moved_to_the_other_form_and_back() -> Result<(), Box<dyn Error>> {
     let mut memory = [0; 128];
     let mut heap = Heap::open(&mut memory, grants([100; FORM_1_QUOTAS]))?;
-    heap.allocate(7, 8)?;
+    heap.allocate(QuotaId::new(7), 8)?;
     let [form_2, form_1] = images(&heap)?;
     let mut out = [9; 5_200];
     assert_eq!(move_image_up(&form_1, &mut out)?, form_2.len());
@@ -78,10 +78,10 @@ fn changed(
     change: impl FnOnce(&mut Accounts),
 ) -> Result<Heap<'_>, Box<dyn Error>> {
     let mut heap = Heap::open(bytes, grants([100; FORM_1_QUOTAS]))?;
-    heap.allocate(0, 8)?;
+    heap.allocate(QuotaId::new(0), 8)?;
     let (bytes, mut accounts) = heap.into_parts();
     change(&mut accounts);
-    Ok(Heap::from_parts(bytes, accounts)?)
+    Ok(Heap::from_parts(bytes, &accounts)?)
 }
 
 /// Moves the one record to a place.
@@ -104,7 +104,7 @@ fn is_carried(carried: bool, change: impl FnOnce(&mut Accounts)) -> Result<(), B
     let mut image = [5; 5_120];
     assert_eq!(heap.save(&mut image)?, 5_120);
     let mut elsewhere = [7; 128];
-    assert_eq!(Heap::restore(&mut elsewhere, &image)?.parts(), heap.parts());
+    assert_eq!(Heap::resume(&mut elsewhere, &image)?.parts(), heap.parts());
     let (enough, short) = match carried {
         true => (Ok(1_536), Err(ImageRefusal::Room)),
         false => (Err(ImageRefusal::NotCarried), Err(ImageRefusal::NotCarried)),
@@ -145,20 +145,20 @@ fn permissions_come_back_as_they_were_saved() -> Result<(), Box<dyn Error>> {
     let mut memory = [0; 128];
     let mut heap = Heap::open(&mut memory, grants([100, 100]))?;
     let [_, form_1] = images(&heap)?;
-    heap.clear_permissions(0, Permissions::ALLOCATE)?;
-    heap.clear_permissions(31, Permissions::ALL)?;
+    heap.clear_permissions(QuotaId::new(0), Permissions::ALLOCATE)?;
+    heap.clear_permissions(QuotaId::new(31), Permissions::ALL)?;
     let mut form_2 = [0; 5_120];
     heap.save(&mut form_2)?;
-    heap.clear_permissions(0, Permissions::ALL)?;
-    heap.go_back(&form_2)?;
+    heap.clear_permissions(QuotaId::new(0), Permissions::ALL)?;
+    heap.restore(&form_2)?;
     assert_eq!(
-        heap.permissions(0)?,
+        heap.permissions(QuotaId::new(0))?,
         Permissions::CLAIM | Permissions::FREE_ALL
     );
-    assert_eq!(heap.permissions(31)?, Permissions::NONE);
-    heap.go_back(&form_1)?;
-    assert_eq!(heap.permissions(0)?, Permissions::ALL);
-    assert_eq!(heap.permissions(31)?, Permissions::ALL);
+    assert_eq!(heap.permissions(QuotaId::new(31))?, Permissions::NONE);
+    heap.restore(&form_1)?;
+    assert_eq!(heap.permissions(QuotaId::new(0))?, Permissions::ALL);
+    assert_eq!(heap.permissions(QuotaId::new(31))?, Permissions::ALL);
     Ok(())
 }
 
@@ -168,24 +168,24 @@ fn a_quota_differs_by_its_permissions_alone() -> Result<(), Box<dyn Error>> {
     let mut heap = Heap::open(&mut memory, grants([100]))?;
     let mut before = [0; 5_120];
     heap.save(&mut before)?;
-    heap.clear_permissions(31, Permissions::FREE_ALL)?;
+    heap.clear_permissions(QuotaId::new(31), Permissions::FREE_ALL)?;
     let mut after = [0; 5_120];
     heap.save(&mut after)?;
     let differences: Vec<Difference> = compare_images(&before, &after)?.collect();
-    assert_eq!(differences, [Difference::Quota(31)]);
+    assert_eq!(differences, [Difference::Quota(QuotaId::new(31))]);
     Ok(())
 }
 
 /// A heap of 128 bytes of a kind in which one of two objects was released.
 fn released(bytes: &mut [u8], kind: Kind) -> Result<Heap<'_>, Box<dyn Error>> {
-    let settings = Settings {
+    let options = Options {
         kind,
-        ..Settings::default()
+        ..Options::default()
     };
-    let mut heap = Heap::open_with(bytes, grants([100]), settings)?;
-    let first = heap.allocate(0, 8)?;
-    heap.allocate(0, 8)?;
-    heap.release(0, first)?;
+    let mut heap = Heap::open_with(bytes, grants([100]), options)?;
+    let first = heap.allocate(QuotaId::new(0), 8)?;
+    heap.allocate(QuotaId::new(0), 8)?;
+    heap.release(QuotaId::new(0), first)?;
     Ok(heap)
 }
 
@@ -196,7 +196,7 @@ fn quarantined_blocks_come_back_as_they_were_saved() -> Result<(), Box<dyn Error
     let mut image = [0; 5_120];
     heap.save(&mut image)?;
     let mut elsewhere = [7; 128];
-    let mut again = Heap::restore(&mut elsewhere, &image)?;
+    let mut again = Heap::resume(&mut elsewhere, &image)?;
     assert_eq!((again.kind(), again.sweep()?), (Kind::Quarantine, 16));
     heap.sweep()?;
     assert_eq!(again.parts(), heap.parts());
@@ -206,9 +206,9 @@ fn quarantined_blocks_come_back_as_they_were_saved() -> Result<(), Box<dyn Error
     let mut plain = released(&mut memory, Kind::Plain)?;
     let mut plain_image = [0; 5_120];
     plain.save(&mut plain_image)?;
-    plain.go_back(&image)?;
+    plain.restore(&image)?;
     assert_eq!((plain.kind(), plain.sweep()?), (Kind::Quarantine, 16));
-    plain.go_back(&plain_image)?;
+    plain.restore(&plain_image)?;
     assert_eq!((plain.kind(), plain.sweep()?), (Kind::Plain, 0));
     Ok(())
 }
@@ -239,7 +239,7 @@ fn another_kind_is_no_image_of_this_version() -> Result<(), Box<dyn Error>> {
     for (form, mut image) in [2, 1].into_iter().zip(images(&heap)?) {
         for kind in 1..=255 {
             raise(&mut image, 7);
-            let read = Heap::restore(&mut [0; 128], &image).map(|heap| heap.kind());
+            let read = Heap::resume(&mut [0; 128], &image).map(|heap| heap.kind());
             match (form, kind) {
                 (2, 1) => assert_eq!(read, Ok(Kind::Quarantine)),
                 _ => assert_eq!(read, Err(ImageRefusal::FormNumber), "{form} {kind}"),
@@ -259,11 +259,11 @@ fn raise(image: &mut [u8], place: usize) {
 
 /// A heap of an edition; with 4,112 bytes it has room for an object of 4,096 in both.
 fn opened(bytes: &mut [u8], edition: Edition) -> Result<Heap<'_>, Refusal> {
-    let settings = Settings {
+    let options = Options {
         edition,
-        ..Settings::default()
+        ..Options::default()
     };
-    Heap::open_with(bytes, grants([8_000]), settings)
+    Heap::open_with(bytes, grants([8_000]), options)
 }
 
 #[test]
@@ -272,20 +272,20 @@ fn editions_come_back_as_they_were_saved() -> Result<(), Box<dyn Error>> {
     let mut image = [0; 9_216];
     let length = opened(&mut memory, Edition::Second)?.save(&mut image)?;
     let mut elsewhere = [7; 4_112];
-    let mut again = Heap::restore(&mut elsewhere, &image[..length])?;
+    let mut again = Heap::resume(&mut elsewhere, &image[..length])?;
     assert_eq!(again.edition(), Edition::Second);
-    assert_eq!(again.allocate(0, 4_089)?.base, 16);
+    assert_eq!(again.allocate(QuotaId::new(0), 4_089)?.base, 16);
 
     // A heap of the first edition goes back to one of the second, and the other way round.
     let mut first = opened(&mut memory, Edition::First)?;
     let mut first_image = [0; 9_216];
     let first_length = first.save(&mut first_image)?;
-    first.go_back(&image[..length])?;
+    first.restore(&image[..length])?;
     assert_eq!(first.edition(), Edition::Second);
-    assert_eq!(first.allocate(0, 4_089)?.base, 16);
-    first.go_back(&first_image[..first_length])?;
+    assert_eq!(first.allocate(QuotaId::new(0), 4_089)?.base, 16);
+    first.restore(&first_image[..first_length])?;
     assert_eq!(first.edition(), Edition::First);
-    assert_eq!(first.allocate(0, 4_089)?.base, 8);
+    assert_eq!(first.allocate(QuotaId::new(0), 4_089)?.base, 8);
     Ok(())
 }
 
@@ -315,7 +315,7 @@ fn another_edition_is_no_image_of_this_version() -> Result<(), Box<dyn Error>> {
     for (form, mut image) in [2, 1].into_iter().zip(images(&heap)?) {
         for edition in 1..=255 {
             raise(&mut image, 6);
-            let read = Heap::restore(&mut [0; 128], &image).map(|heap| heap.edition());
+            let read = Heap::resume(&mut [0; 128], &image).map(|heap| heap.edition());
             match (form, edition) {
                 (2, 1) => assert_eq!(read, Ok(Edition::Second)),
                 _ => assert_eq!(read, Err(ImageRefusal::FormNumber), "{form} {edition}"),

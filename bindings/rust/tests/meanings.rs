@@ -56,7 +56,7 @@ fn fields_of(header: &str) -> Vec<Field> {
         let (name, length) = name.split_at(name.find('[').unwrap_or(name.len()));
         fields.push(Field {
             owner: owner.clone(),
-            name: name.to_owned(),
+            name: name.trim_start_matches('*').to_owned(),
             kind: format!("{kind}{length}"),
             line,
         });

@@ -2,7 +2,7 @@
 
 use std::ops::Bound;
 
-use lokhazim::{Handle, Heap, Refusal, QUOTAS};
+use lokhazim::{Handle, Heap, QuotaId, Refusal, QUOTAS};
 
 const WHOLE: Handle = Handle {
     base: 8,
@@ -22,8 +22,8 @@ fn part(at: u32, length: u32) -> Handle {
 /// A heap with one object of 16 bytes, which quota 0 holds, and another behind it.
 fn begin(bytes: &mut [u8]) -> Result<Heap<'_>, Refusal> {
     let mut heap = Heap::open(bytes, [500; QUOTAS])?;
-    assert_eq!(heap.allocate(0, 16)?, WHOLE);
-    heap.allocate(0, 8)?;
+    assert_eq!(heap.allocate(QuotaId::new(0), 16)?, WHOLE);
+    heap.allocate(QuotaId::new(0), 8)?;
     Ok(heap)
 }
 
@@ -111,14 +111,17 @@ fn holds_are_on_the_whole_object() -> Result<(), Refusal> {
     let mut memory = [0; 128];
     let mut heap = begin(&mut memory)?;
     let (front, last) = (WHOLE.narrowed(..1).unwrap(), WHOLE.narrowed(15..).unwrap());
-    assert_eq!(heap.claim(1, front)?, 16);
-    assert_eq!(heap.claim(1, last)?, 16);
-    assert_eq!(heap.remaining(1)?, 500 - 24);
-    assert_eq!(heap.can_release(2, last), Err(Refusal::NotHeld));
-    assert_eq!(heap.can_release(1, last), Ok(()));
-    assert_eq!(heap.release(0, last)?, 24);
-    assert_eq!(heap.release(1, front)?, 0);
-    assert_eq!(heap.release(1, WHOLE)?, 24);
+    assert_eq!(heap.claim(QuotaId::new(1), front)?, 16);
+    assert_eq!(heap.claim(QuotaId::new(1), last)?, 16);
+    assert_eq!(heap.remaining(QuotaId::new(1))?, 500 - 24);
+    assert_eq!(
+        heap.can_release(QuotaId::new(2), last),
+        Err(Refusal::NotHeld)
+    );
+    assert_eq!(heap.can_release(QuotaId::new(1), last), Ok(()));
+    assert_eq!(heap.release(QuotaId::new(0), last)?, 24);
+    assert_eq!(heap.release(QuotaId::new(1), front)?, 0);
+    assert_eq!(heap.release(QuotaId::new(1), WHOLE)?, 24);
     for gone in [WHOLE, front, last] {
         assert_eq!(heap.lend(gone), Err(Refusal::NoSuchObject));
     }
@@ -132,11 +135,17 @@ fn reallocate_takes_the_whole_handle_alone() -> Result<(), Refusal> {
     for narrower in [WHOLE.narrowed(..15), WHOLE.narrowed(1..)] {
         let narrower = narrower.expect("inside");
         let before = heap.accounts().clone();
-        assert_eq!(heap.reallocate(0, narrower, 8), Err(Refusal::NoSuchObject));
-        assert_eq!(heap.reallocate(0, narrower, 0), Err(Refusal::ObjectLength));
+        assert_eq!(
+            heap.reallocate(QuotaId::new(0), narrower, 8),
+            Err(Refusal::NoSuchObject)
+        );
+        assert_eq!(
+            heap.reallocate(QuotaId::new(0), narrower, 0),
+            Err(Refusal::ObjectLength)
+        );
         assert_eq!(heap.accounts(), &before);
     }
-    let moved = heap.reallocate(0, WHOLE.narrowed(..).expect("all of it"), 24)?;
+    let moved = heap.reallocate(QuotaId::new(0), WHOLE.narrowed(..).expect("all of it"), 24)?;
     assert_eq!(moved.length, 24);
     Ok(())
 }

@@ -5,40 +5,29 @@ mod support;
 
 use std::error::Error;
 
+use support::{in_capitals, refusals_of_header, text_of};
+
 use lokhazim::{
-    Edition, ImageRefusal, Kind, Permissions, Refusal, FORM_1_HOLDS, FORM_1_QUOTAS, HEAP_MAX,
-    HEAP_MIN, HOLDS, IMAGE_MAX, IMAGE_MAX_FORM_1, QUOTAS, REQUEST_MAX,
+    Edition, ImageRefusal, Kind, Permissions, QueueRefusal, Refusal, ReportRefusal,
+    SettingsRefusal, FORM_1_HOLDS, FORM_1_QUOTAS, HEAP_MAX, HEAP_MIN, HOLDS, IMAGE_MAX,
+    IMAGE_MAX_FORM_1, QUOTAS, REQUEST_MAX,
 };
 
-/// A header's text.
-fn text_of(name: &str) -> String {
-    std::fs::read_to_string(support::repository(name)).expect("the header is there")
-}
+/// The refusal that the C headers give by themselves, where a pointer is null or a heap not aligned.
+const BAD_POINTER: u32 = 100;
 
 /// The text of the header of calls.
 fn header() -> String {
     text_of("include/lokhazim.h")
 }
 
-/// A name such as `NoSpace` as the header writes it, `NO_SPACE`.
-fn in_capitals(name: &str) -> String {
-    let mut capitals = String::new();
-    for letter in name.chars() {
-        if letter.is_uppercase() && !capitals.is_empty() {
-            capitals.push('_');
-        }
-        capitals.push(letter.to_ascii_uppercase());
-    }
-    capitals
-}
-
 #[test]
 fn the_header_has_the_same_refusals() {
-    let header = header();
+    let refusals = refusals_of_header();
     for refusal in Refusal::ALL {
         let name = in_capitals(&format!("{refusal:?}"));
-        let line = format!("    LOKHAZIM_{name} = {}", refusal.number());
-        assert!(header.contains(&line), "the header lacks the line '{line}'");
+        let line = format!("{name} = {}", refusal.number());
+        assert!(refusals.contains(&line), "the header lacks '{line}'");
     }
 }
 
@@ -56,12 +45,17 @@ fn the_header_has_the_same_constants() {
         ("MAY_CLAIM", Permissions::CLAIM.bits().into()),
         ("MAY_FREE_ALL", Permissions::FREE_ALL.bits().into()),
         ("MAY_ALL", Permissions::ALL.bits().into()),
-        ("PLAIN", Kind::Plain.number().into()),
-        ("QUARANTINE", Kind::Quarantine.number().into()),
-        ("EDITION_1", Edition::First.number().into()),
-        ("EDITION_2", Edition::Second.number().into()),
     ] {
         let line = format!("#define LOKHAZIM_{name} {value}\n");
+        assert!(header.contains(&line), "the header lacks the line '{line}'");
+    }
+    for (name, value) in [
+        ("PLAIN", Kind::Plain.number()),
+        ("QUARANTINE", Kind::Quarantine.number()),
+        ("EDITION_1", Edition::First.number()),
+        ("EDITION_2", Edition::Second.number()),
+    ] {
+        let line = format!("    LOKHAZIM_{name} = {value}");
         assert!(header.contains(&line), "the header lacks the line '{line}'");
     }
 }
@@ -81,15 +75,21 @@ fn the_header_of_images_has_the_same_constants() {
 }
 
 #[test]
-fn the_header_of_images_has_the_same_numbers() {
-    let header = text_of("include/lokhazim_image.h");
-    for number in (0..100).filter(|number| ImageRefusal::from_number(*number).is_some()) {
-        let entry = format!(" = {number}");
-        let named = |line: &&str| line.trim_end_matches(',').ends_with(&entry);
-        let entries = header
-            .lines()
-            .filter(|line| line.starts_with("    LOKHAZIM_IMAGE_"));
-        assert_eq!(entries.filter(named).count(), 1, "{number}");
+fn the_header_has_each_number_once() {
+    let refusals = refusals_of_header();
+    let numbers: Vec<u32> = refusals
+        .iter()
+        .map(|line| line.rsplit(' ').next().expect("a number"))
+        .map(|number| number.parse().expect("a number"))
+        .collect();
+    assert!(numbers.is_sorted_by(|one, next| one < next), "{numbers:?}");
+    for number in 0..=200 {
+        let images = ImageRefusal::from_number(number).is_some();
+        let queues = QueueRefusal::from_number(number).is_some();
+        let beside = ReportRefusal::from_number(number).is_some()
+            || SettingsRefusal::from_number(number).is_some();
+        let known = images || queues || beside || [0, BAD_POINTER].contains(&number);
+        assert_eq!(numbers.contains(&number), known, "{number}");
     }
 }
 

@@ -5,6 +5,8 @@ mod support;
 
 use std::error::Error;
 
+use support::{in_capitals, refusals_of_header, text_of};
+
 use lokhazim::{
     export_grants, import_grants, ImportRefusal, ReportRefusal, QUOTAS, REPORT_LENGTH, REPORT_LINE,
 };
@@ -22,23 +24,24 @@ fn refused(text: &str) -> (ReportRefusal, u32) {
 
 #[test]
 fn the_header_has_the_same_numbers() {
-    let header = support::repository("include/lokhazim_report.h");
-    let header = std::fs::read_to_string(header).expect("the header is there");
-    let refusals = ReportRefusal::ALL.map(|refusal| {
-        let name = match refusal {
-            ReportRefusal::Character => "CHARACTER",
-            ReportRefusal::Reserved => "RESERVED",
-            ReportRefusal::TooMany => "TOO_MANY",
-            ReportRefusal::Room => "ROOM",
-        };
-        format!("    LOKHAZIM_REPORT_{name} = {}", refusal.number())
-    });
-    let lengths = [
-        format!("#define LOKHAZIM_REPORT_LINE {REPORT_LINE}\n"),
-        format!("#define LOKHAZIM_REPORT_LENGTH {REPORT_LENGTH}\n"),
-    ];
-    for line in refusals.iter().chain(&lengths) {
-        assert!(header.contains(line), "the header lacks the line '{line}'");
+    let refusals = refusals_of_header();
+    for refusal in ReportRefusal::ALL {
+        let name = in_capitals(&format!("{refusal:?}"));
+        let line = format!("REPORT_{name} = {}", refusal.number());
+        assert!(refusals.contains(&line), "the header lacks '{line}'");
+    }
+    let header = text_of("include/lokhazim_report.h");
+    for line in [
+        format!(
+            "#define LOKHAZIM_REPORT_LINE {REPORT_LINE}
+"
+        ),
+        format!(
+            "#define LOKHAZIM_REPORT_LENGTH {REPORT_LENGTH}
+"
+        ),
+    ] {
+        assert!(header.contains(&line), "the header lacks the line '{line}'");
     }
     assert_eq!(REPORT_LENGTH, QUOTAS * REPORT_LINE);
 }

@@ -5,28 +5,30 @@ mod support;
 
 use std::error::Error;
 
-use lokhazim::{add_setting, lookup, Entry, SettingsRefusal, Store, ENTRY_FRONT, VALUE_MAX};
+use support::{in_capitals, refusals_of_header, text_of};
+
+use lokhazim::{add_setting, find_setting, Entry, SettingsRefusal, Store, ENTRY_FRONT, VALUE_MAX};
 
 #[test]
 fn the_header_has_the_same_numbers() {
-    let header = support::repository("include/lokhazim_settings.h");
-    let header = std::fs::read_to_string(header).expect("the header is there");
-    let refusals = SettingsRefusal::ALL.map(|refusal| {
-        let name = match refusal {
-            SettingsRefusal::Malformed => "MALFORMED",
-            SettingsRefusal::Missing => "MISSING",
-            SettingsRefusal::ValueLength => "VALUE_LENGTH",
-            SettingsRefusal::VersionFalls => "VERSION_FALLS",
-            SettingsRefusal::Full => "FULL",
-        };
-        format!("    LOKHAZIM_SETTINGS_{name} = {}", refusal.number())
-    });
-    let lengths = [
-        format!("#define LOKHAZIM_SETTINGS_VALUE_MAX {VALUE_MAX}\n"),
-        format!("#define LOKHAZIM_SETTINGS_FRONT {ENTRY_FRONT}\n"),
-    ];
-    for line in refusals.iter().chain(&lengths) {
-        assert!(header.contains(line), "the header lacks the line '{line}'");
+    let refusals = refusals_of_header();
+    for refusal in SettingsRefusal::ALL {
+        let name = in_capitals(&format!("{refusal:?}"));
+        let line = format!("SETTINGS_{name} = {}", refusal.number());
+        assert!(refusals.contains(&line), "the header lacks '{line}'");
+    }
+    let header = text_of("include/lokhazim_settings.h");
+    for line in [
+        format!(
+            "#define LOKHAZIM_SETTINGS_VALUE_MAX {VALUE_MAX}
+"
+        ),
+        format!(
+            "#define LOKHAZIM_SETTINGS_FRONT {ENTRY_FRONT}
+"
+        ),
+    ] {
+        assert!(header.contains(&line), "the header lacks the line '{line}'");
     }
 }
 
@@ -60,12 +62,15 @@ fn values_are_the_bytes_where_they_lie() {
     assert_eq!((used, bytes[79]), (79, 0xEE));
     let defaults = [0, 0, 6, 1, 77];
     let (board, other) = (Store::new(&bytes, used), Store::whole(&defaults));
-    assert_eq!(lookup(board, other, 5, 0), Err(SettingsRefusal::Missing));
-    let value = lookup(board, other, 5, 299).unwrap();
+    assert_eq!(
+        find_setting(board, other, 5, 0),
+        Err(SettingsRefusal::Missing)
+    );
+    let value = find_setting(board, other, 5, 299).unwrap();
     assert_eq!((value.as_ptr(), value.len()), (bytes[11..].as_ptr(), 0));
-    let value = lookup(board, other, 5, 300).unwrap();
+    let value = find_setting(board, other, 5, 300).unwrap();
     assert_eq!((value.as_ptr(), value.len()), (bytes[15..].as_ptr(), 64));
-    let value = lookup(board, other, 6, 0).unwrap();
+    let value = find_setting(board, other, 6, 0).unwrap();
     assert_eq!((value.as_ptr(), value.len()), (defaults[4..].as_ptr(), 1));
     let listed: Result<Vec<Entry<'_>>, SettingsRefusal> = board.entries().collect();
     let listed: Vec<_> = listed

@@ -3,22 +3,19 @@
 #[allow(dead_code)]
 mod support;
 
-use lokhazim::{ImageRefusal, QueueRefusal, Refusal, ReportRefusal, SettingsRefusal};
+use lokhazim::{ImageRefusal, QueueRefusal, ReportRefusal, SettingsRefusal};
 use support::{compile, run};
 
-/// What this crate says of a number under a header, without the number in front.
-fn words(header: &str, number: u32) -> String {
-    let heap = || Refusal::from_number(number).map(|refusal| refusal.to_string());
-    let said = match header {
-        "heap" => heap(),
-        "image" => ImageRefusal::from_number(number)
-            .map(|refusal| refusal.to_string())
-            .or_else(heap),
-        "report" => ReportRefusal::from_number(number).map(|refusal| refusal.to_string()),
-        "settings" => SettingsRefusal::from_number(number).map(|refusal| refusal.to_string()),
-        "queue" => QueueRefusal::from_number(number).map(|refusal| refusal.to_string()),
-        other => panic!("there is no header '{other}'"),
-    };
+/// The refusal that the C headers give by themselves, before the library is called.
+const BAD_POINTER: u32 = 100;
+
+/// What this crate says of a number, without the number in front.
+fn words(number: u32) -> String {
+    let said = QueueRefusal::from_number(number)
+        .map(|refusal| refusal.to_string())
+        .or_else(|| ImageRefusal::from_number(number).map(|refusal| refusal.to_string()))
+        .or_else(|| ReportRefusal::from_number(number).map(|refusal| refusal.to_string()))
+        .or_else(|| SettingsRefusal::from_number(number).map(|refusal| refusal.to_string()));
     match said {
         None if number == 0 => "not refused".into(),
         None => "unknown refusal".into(),
@@ -39,13 +36,15 @@ fn printed(level: &str) -> String {
 fn the_headers_have_this_crates_words() {
     let printed = printed("-O2");
     let lines: Vec<&str> = printed.lines().skip(1).collect();
-    assert_eq!(lines.len(), 5 * 101, "a line for each number and header");
+    assert_eq!(lines.len(), 202, "a line for each number");
     for line in lines {
-        let mut parts = line.splitn(3, ' ');
-        let mut part = || parts.next().expect("a line has three parts");
-        let (header, number, text) = (part(), part(), part());
-        let number = number.parse().expect("the second part is a number");
-        assert_eq!(text, words(header, number), "{header} {number}");
+        let (number, text) = line.split_once(' ').expect("a line has two parts");
+        let number = number.parse().expect("the first part is a number");
+        if number == BAD_POINTER {
+            assert!(text.contains("; ") && text.contains("LOKHAZIM_ALIGNMENT"));
+        } else {
+            assert_eq!(text, words(number), "{number}");
+        }
     }
 }
 

@@ -177,14 +177,11 @@ impl Story {
     /// What the picture is of, in a sentence.
     pub fn summary(&self) -> String {
         let kind = match self.kind {
-            Kind::Plain => "plain",
-            Kind::Quarantine => "with quarantine",
+            Kind::Plain => "plain".to_owned(),
+            kind => format!("with {kind}"),
         };
-        let edition = match self.edition {
-            Edition::First => 1,
-            Edition::Second => 2,
-        };
-        let heap = format!("a heap of {} bytes, {kind}, edition {edition}", self.length);
+        let (length, edition) = (self.length, self.edition);
+        let heap = format!("a heap of {length} bytes, {kind}, edition {edition}");
         match self.source {
             Source::Image(form) => format!("an image of form {form}: {heap}"),
             Source::Script => {

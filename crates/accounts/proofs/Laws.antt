@@ -18,7 +18,8 @@ use Rattle.accounts.specs.declared.settings.Settings.{Settings}
 use Rattle.accounts.specs.declared.Place.the-variants.{At, Nothing}
 use Rattle.accounts.specs.Accounts.{QUOTAS, HOLDS, zero-quota, zero-hold, zero-accounts, with-remainder, with-quotas, with-holds}
 use Rattle.accounts.specs.Accounts.{with-last-serial, grants, granted, opened}
-use Rattle.accounts.specs.Accounts.{quota-at, remaining, spent, set-remaining, less-paid, paid-back, charged, refunded, charge, refund, used}
+use Rattle.accounts.specs.Accounts.{quota-at, remaining, spent, put-quota, change-quota, less-paid, paid-back, charged, refunded, charge, refund}
+use Rattle.accounts.specs.Accounts.{without, clear-permissions, used}
 use Rattle.accounts.specs.Accounts.{is-for, first-from, hold-at, put-hold}
 use Rattle.accounts.proofs.Rows
 
@@ -117,33 +118,28 @@ pub record Sized (k : Accounts) : Type 0 where
   pub quotas-long : length (k .quotas) ≡ QUOTAS
   pub holds-long : length (k .holds) ≡ HOLDS
 
--- r is k but for what remains of quota q
+-- r is k but for quota q, whose grant is the same
 pub record Kept (q : ℕ) (k r : Accounts) : Type 0 where
   pub same-holds : r .holds ≡ k .holds
   pub same-last : r .«last_serial» ≡ k .«last_serial»
   pub same-grants : grants r ≡ grants k
   pub same-count : length (r .quotas) ≡ length (k .quotas)
-  pub same-others : (o : ℕ) → o ≢ q → remaining o r ≡ remaining o k
+  pub same-others : (o : ℕ) → o ≢ q → quota-at o r ≡ quota-at o k
   pub same-kind : r .kind ≡ k .kind
   pub same-edition : r .edition ≡ k .edition
 
--- what remains of a quota, and setting it
+-- what remains of a quota, and another quota in its place
 module _ (q : ℕ) (k : Accounts) where
   pub remaining-out : length (k .quotas) ≤ q → remaining q k ≡ 0
   unfolding remaining
   remaining-out h = ap (λ (x : Quota). x .remainder) (List·getD-eq-default (k .quotas) zero-quota h)
 
-  pub remaining-set : (n : ℕ) → q < length (k .quotas) → remaining q (set-remaining q n k) ≡ n
-  unfolding remaining set-remaining
-  remaining-set n h = ap (λ (x : Quota). x .remainder) (getD-set-same (k .quotas) q (with-remainder n (quota-at q k)) zero-quota h)
+  pub remaining-put : (x : Quota) → q < length (k .quotas) → remaining q (put-quota q x k) ≡ x .remainder
+  unfolding remaining
+  remaining-put x h = ap (λ (y : Quota). y .remainder) (getD-set-same (k .quotas) q x zero-quota h)
 
-  pub set-twice : (m n : ℕ) → q < length (k .quotas) → set-remaining q n (set-remaining q m k) ≡ set-remaining q n k
-  unfolding set-remaining
-  set-twice m n h = rw (getD-set-same (k .quotas) q (with-remainder m (quota-at q k)) zero-quota h, set-set) refl
-
-  pub set-same : set-remaining q (remaining q k) k ≡ k
-  unfolding remaining set-remaining
-  set-same = rw (set-getD (k .quotas) q zero-quota) refl
+  pub put-same : put-quota q (quota-at q k) k ≡ k
+  put-same = rw (set-getD (k .quotas) q zero-quota) refl
 
   pub kept : Kept q k k
   kept =
@@ -153,20 +149,18 @@ module _ (q : ℕ) (k : Accounts) where
         same-grants = refl;
         same-count = refl;
         same-others = λ o d. refl;
-        same-kind =
-            refl;
+        same-kind = refl;
         same-edition = refl;
       }
 
-  pub set-kept : (n : ℕ) → Kept q k (set-remaining q n k)
-  unfolding remaining set-remaining
-  set-kept n =
+  put-kept : (x : Quota) → x .grant ≡ quota-at q k .grant → Kept q k (put-quota q x k)
+  put-kept x e =
       record {
         same-holds = refl;
         same-last = refl;
-        same-grants = map-set-same (λ (x : Quota). x .grant) (k .quotas) q (with-remainder n (quota-at q k)) zero-quota refl;
-        same-count = length-set (k .quotas) q (with-remainder n (quota-at q k));
-        same-others = λ o d. ap (λ (x : Quota). x .remainder) (getD-set-other (k .quotas) q o (with-remainder n (quota-at q k)) zero-quota d);
+        same-grants = map-set-same (λ (y : Quota). y .grant) (k .quotas) q x zero-quota e;
+        same-count = length-set (k .quotas) q x;
+        same-others = λ o d. getD-set-other (k .quotas) q o x zero-quota d;
         same-kind = refl;
         same-edition = refl;
       }
@@ -176,80 +170,89 @@ pub spent-out : (q : ℕ) (k : Accounts) → length (k .quotas) ≤ q → spent 
 unfolding spent
 spent-out q k h = ap (λ (x : Quota). x .grant - remaining q k) (List·getD-eq-default (k .quotas) zero-quota h) ∙ omega arith
 
--- what holds of both outcomes holds of the one that a test picks
-either : (P : Accounts → Type 0) (t : Bool) (x y : Accounts) → P x → P y → P (cond t x y)
-either P true x y h l = h
-either P false x y h l = l
+-- a quota that is there changes, one that is not does not, and nothing else changes, for functions that keep the grant
+module _ (q : ℕ) (f : Quota → Quota) (k : Accounts) where
+  pub change-there : q < QUOTAS → change-quota q f k ≡ put-quota q (f (quota-at q k)) k
+  unfolding change-quota
+  change-there h = rw (lt-ltb q QUOTAS h) refl
+
+  pub change-no-quota : QUOTAS ≤ q → change-quota q f k ≡ k
+  unfolding change-quota
+  change-no-quota h = rw (le-ltb q QUOTAS h) refl
+
+  -- what holds of accounts with the changed quota and of those before holds of the changed ones
+  pub change-case : (P : Accounts → Type 0) → P (put-quota q (f (quota-at q k)) k) → P k → P (change-quota q f k)
+  unfolding change-quota
+  change-case P there not-there = go (ltb q QUOTAS)
+    where
+      go : (t : Bool) → P (cond t (put-quota q (f (quota-at q k)) k) k)
+      go true = there
+      go false = not-there
+
+  pub change-kept : ((x : Quota) → f x .grant ≡ x .grant) → Kept q k (change-quota q f k)
+  change-kept e = change-case (Kept q k) (put-kept q k (f (quota-at q k)) (e (quota-at q k))) (kept q k)
+
+  -- what every quota's change keeps is the same of all quotas
+  pub change-but : {A : Type 0} (g : Quota → A) → ((x : Quota) → g (f x) ≡ g x) → map g (change-quota q f k .quotas) ≡ map g (k .quotas)
+  change-but g e =
+      change-case (λ (r : Accounts). map g (r .quotas) ≡ map g (k .quotas))
+      (map-set-same g (k .quotas) q (f (quota-at q k)) zero-quota (e (quota-at q k))) refl
+
+  -- a change that leaves the quota as it is changes nothing
+  pub change-same : f (quota-at q k) ≡ quota-at q k → change-quota q f k ≡ k
+  change-same e = change-case (λ (r : Accounts). r ≡ k) (ap (λ (x : Quota). put-quota q x k) e ∙ put-same q k) refl
 
 module _ (q n : ℕ) (k : Accounts) where
-  -- charging takes the amount off where it is allowed, and changes nothing where it is not
-  pub charge-pays : q < QUOTAS → n ≤ remaining q k → charge q n k ≡ set-remaining q (remaining q k - n) k
-  unfolding charge less-paid
-  charge-pays h l = rw (lt-ltb q QUOTAS h, le-leb n (remaining q k) l) refl
+  -- charging takes the amount off where it is allowed, and refunding adds it
+  pub charge-pays : q < QUOTAS → n ≤ remaining q k → charge q n k ≡ put-quota q (with-remainder (remaining q k - n) (quota-at q k)) k
+  unfolding charge less-paid remaining
+  charge-pays h l = change-there q (charged n) k h ∙ rw (le-leb n (remaining q k) l) refl
 
-  pub charge-no-quota : QUOTAS ≤ q → charge q n k ≡ k
-  unfolding charge
-  charge-no-quota h = rw (le-ltb q QUOTAS h) refl
+  pub refund-pays : q < QUOTAS → remaining q k + n < 2 ^ 32 → refund q n k ≡ put-quota q (with-remainder (remaining q k + n) (quota-at q k)) k
+  unfolding refund paid-back remaining
+  refund-pays h l = change-there q (refunded n) k h ∙ rw (lt-ltb (remaining q k + n) (2 ^ 32) l) refl
 
-  -- refunding adds it where it is allowed, and changes nothing where it is not
-  pub refund-pays : q < QUOTAS → remaining q k + n < 2 ^ 32 → refund q n k ≡ set-remaining q (remaining q k + n) k
-  unfolding refund paid-back
-  refund-pays h l = rw (lt-ltb q QUOTAS h, lt-ltb (remaining q k + n) (2 ^ 32) l) refl
-
-  pub refund-no-quota : QUOTAS ≤ q → refund q n k ≡ k
-  unfolding refund
-  refund-no-quota h = rw (le-ltb q QUOTAS h) refl
-
-  -- a quota that is there changes by itself
-  pub charge-charged : q < QUOTAS → charge q n k ≡ with-quotas (set (k .quotas) q (charged n (quota-at q k))) k
-  unfolding charge set-remaining remaining
-  charge-charged h = rw (lt-ltb q QUOTAS h) refl
-
-  pub refund-refunded : q < QUOTAS → refund q n k ≡ with-quotas (set (k .quotas) q (refunded n (quota-at q k))) k
-  unfolding refund set-remaining remaining
-  refund-refunded h = rw (lt-ltb q QUOTAS h) refl
-
-  -- neither changes anything but what remains of that quota
+  -- neither changes anything but what remains of that quota, nor does clearing anything but its permissions
   pub charge-kept : Kept q k (charge q n k)
   unfolding charge
-  charge-kept = either (Kept q k) (ltb q QUOTAS) (set-remaining q (less-paid n (remaining q k)) k) k (set-kept q k (less-paid n (remaining q k)))
-      (kept q k)
+  charge-kept = change-kept q (charged n) k (λ x. refl)
 
   pub refund-kept : Kept q k (refund q n k)
   unfolding refund
-  refund-kept = either (Kept q k) (ltb q QUOTAS) (set-remaining q (paid-back n (remaining q k)) k) k (set-kept q k (paid-back n (remaining q k)))
-      (kept q k)
+  refund-kept = change-kept q (refunded n) k (λ x. refl)
+
+  pub clear-kept : Kept q k (clear-permissions q n k)
+  unfolding clear-permissions
+  clear-kept = change-kept q (without n) k (λ x. refl)
 
 -- a refund of nothing
 pub refund-nothing : (q : ℕ) (k : Accounts) → refund q 0 k ≡ k
 unfolding refund paid-back
-refund-nothing q k = go (ltb (remaining q k + 0) (2 ^ 32)) (ltb q QUOTAS)
+refund-nothing q k = change-same q (refunded 0) k (go (ltb (quota-at q k .remainder + 0) (2 ^ 32)))
   where
-    go : (t u : Bool) → cond u (set-remaining q (cond t (remaining q k + 0) (remaining q k)) k) k ≡ k
-    go true true = rw (add-zero (remaining q k)) (set-same q k)
-    go false true = set-same q k
-    go t false = refl
+    go : (t : Bool) → with-remainder (cond t (quota-at q k .remainder + 0) (quota-at q k .remainder)) (quota-at q k) ≡ quota-at q k
+    go true = rw (add-zero (quota-at q k .remainder)) refl
+    go false = refl
 
 -- what remains after a charge and after a refund
 module _ (q n : ℕ) (k : Accounts) (sized : Sized k) (h : q < QUOTAS) where
   pub remaining-charged : n ≤ remaining q k → remaining q (charge q n k) ≡ remaining q k - n
-  remaining-charged l = ap (remaining q) (charge-pays q n k h l) ∙ remaining-set q k (remaining q k - n) (omega (arith, sized .quotas-long))
+  remaining-charged l = ap (remaining q) (charge-pays q n k h l) ∙ remaining-put q k _ (omega (arith, sized .quotas-long))
 
   pub remaining-refunded : remaining q k + n < 2 ^ 32 → remaining q (refund q n k) ≡ remaining q k + n
-  remaining-refunded l = ap (remaining q) (refund-pays q n k h l) ∙ remaining-set q k (remaining q k + n) (omega (arith, sized .quotas-long))
+  remaining-refunded l = ap (remaining q) (refund-pays q n k h l) ∙ remaining-put q k _ (omega (arith, sized .quotas-long))
 
   -- what was charged and is refunded leaves the accounts as they were
   pub refund-charged : n ≤ remaining q k → remaining q k < 2 ^ 32 → refund q n (charge q n k) ≡ k
+  unfolding remaining
   refund-charged l fits =
-      let m = remaining q k - n in
-      let long : q < length (k .quotas) = omega (arith, sized .quotas-long) in
-      let left : remaining q (set-remaining q m k) ≡ m = remaining-set q k m long in
-      let back : remaining q (set-remaining q m k) + n ≡ remaining q k = omega arith in
+      let x = with-remainder (remaining q k - n) (quota-at q k) in
+      let at : quota-at q (put-quota q x k) ≡ x = getD-set-same (k .quotas) q x zero-quota (omega (arith, sized .quotas-long)) in
+      let left : remaining q (put-quota q x k) + n ≡ remaining q k = omega (arith, ap (λ (y : Quota). y .remainder) at) in
       ap (refund q n) (charge-pays q n k h l)
-      ∙ refund-pays q n (set-remaining q m k) h (omega arith)
-      ∙ ap (λ (x : ℕ). set-remaining q x (set-remaining q m k)) back
-      ∙ set-twice q k m (remaining q k) long
-      ∙ set-same q k
+      ∙ refund-pays q n (put-quota q x k) h (omega arith)
+      ∙ (λ i. with-quotas (set-set (k .quotas) q x (with-remainder (left i) (at i)) i) k)
+      ∙ put-same q k
 
 -- every operation keeps the lengths, and the accounts of zeros and the opened ones have them
 pub kept-sized : {q : ℕ} {k r : Accounts} → Kept q k r → Sized k → Sized r
@@ -303,15 +306,14 @@ module _ (i : ℕ) (h : Hold) (k : Accounts) where
 
 -- paying changes neither records nor the last serial, so these can be set before or behind it
 module _ (i : ℕ) (h : Hold) (serial : ℕ) (q : ℕ) (k : Accounts) where
-  moved : (t : Bool) (m : ℕ) → cond t (set-remaining q m (put-hold i h (with-last-serial serial k))) (put-hold i h (with-last-serial serial k))
-      ≡ with-last-serial serial (put-hold i h (cond t (set-remaining q m k) k))
-  unfolding set-remaining put-hold
-  moved true m = refl
-  moved false m = refl
-
   pub charge-last : (n : ℕ) → charge q n (put-hold i h (with-last-serial serial k)) ≡ with-last-serial serial (put-hold i h (charge q n k))
-  unfolding charge remaining put-hold
-  charge-last n = moved (ltb q QUOTAS) (less-paid n (remaining q k))
+  unfolding charge change-quota put-hold
+  charge-last n = go (ltb q QUOTAS)
+    where
+      go : (t : Bool) → cond t (put-quota q (charged n (quota-at q k)) (put-hold i h (with-last-serial serial k))) (put-hold i h (with-last-serial serial k))
+          ≡ with-last-serial serial (put-hold i h (cond t (put-quota q (charged n (quota-at q k)) k) k))
+      go true = refl
+      go false = refl
 
 pub hold-at-out : (i : ℕ) (k : Accounts) → length (k .holds) ≤ i → hold-at i k ≡ zero-hold
 unfolding hold-at
@@ -328,8 +330,5 @@ same-accounts k l q s h e f = λ i. record { quotas = q i; «last_serial» = s i
 
 -- a refund changes nothing of any quota but what remains
 pub refund-but : (q n : ℕ) (k : Accounts) → map (with-remainder 0) (refund q n k .quotas) ≡ map (with-remainder 0) (k .quotas)
-unfolding refund set-remaining
-refund-but q n k =
-    either (λ (r : Accounts). map (with-remainder 0) (r .quotas) ≡ map (with-remainder 0) (k .quotas)) (ltb q QUOTAS)
-    (set-remaining q (paid-back n (remaining q k)) k) k
-    (map-set-same (with-remainder 0) (k .quotas) q (with-remainder (paid-back n (remaining q k)) (quota-at q k)) zero-quota refl) refl
+unfolding refund
+refund-but q n k = change-but q (refunded n) k (with-remainder 0) (λ x. refl)

@@ -1,14 +1,14 @@
 -- Clearing permissions: each bit of what is left is that of the permissions where the number's bit is not set, else 0.
-use Prim.Native.Nat.{ℕ, _+_, _*_, _/_, _%_, _≤_, _<_}
+use Prim.Native.Nat.{ℕ, _+_, _*_, _/_, _%_, _≤_}
 use native.Mathlib.Omega.{arith}
 use mathlib.Core.Path.{_≡_, ap, _∙_}
 use mathlib.Core.Bool.{Bool, true, false, cond}
 use lib.ListN.{length, List·getD-eq-default}
 use lib.Dec.{eqb}
-use borrow.Author.Tests.{lt-ltb, le-ltb, ne-eqb, eq-eqb}
+use borrow.Author.Tests.{ne-eqb, eq-eqb}
 use Rattle.accounts.specs.declared.Quota.{Quota}
 use Rattle.accounts.specs.declared.Accounts.{Accounts}
-use Rattle.accounts.specs.Accounts.{QUOTAS, zero-quota, bit-left, cleared, left-permissions, clear-at, clear-permissions}
+use Rattle.accounts.specs.Accounts.{zero-quota, bit-left, cleared, left-permissions}
 use Rattle.accounts.proofs.Rows
 
 -- a bit is left where the number's bit is not set
@@ -37,19 +37,10 @@ cleared-bits n p =
         → ((a + (2 * b + 4 * c)) / 1 % 2 ≡ a) × ((a + (2 * b + 4 * c)) / 2 % 2 ≡ b) × ((a + (2 * b + 4 * c)) / 4 % 2 ≡ c) × (a + (2 * b + 4 * c) ≤ 7)
     go a b c x y z = (omega arith, omega arith, omega arith, omega arith)
 
--- where the quota is there, and where it is not
-module _ (q n : ℕ) (k : Accounts) where
-  pub clear-there : q < QUOTAS → clear-permissions q n k ≡ clear-at q n k
-  unfolding clear-permissions
-  clear-there h = rw (lt-ltb q QUOTAS h)
-
-  pub clear-no-quota : QUOTAS ≤ q → clear-permissions q n k ≡ k
-  unfolding clear-permissions
-  clear-no-quota h = rw (le-ltb q QUOTAS h)
-
-  pub left-out : length (k .quotas) ≤ q → left-permissions q n k ≡ 0
-  left-out h =
-      let a = left-most n 0 in
-      let b = left-most (n / 2) 0 in
-      let c = left-most (n / 4) 0 in
-      ap (λ (x : Quota). cleared n (x .permissions)) (List·getD-eq-default (k .quotas) zero-quota h) ∙ omega arith
+-- nothing is left to a quota that is not there
+pub left-out : (q n : ℕ) (k : Accounts) → length (k .quotas) ≤ q → left-permissions q n k ≡ 0
+left-out q n k h =
+    let a = left-most n 0 in
+    let b = left-most (n / 2) 0 in
+    let c = left-most (n / 4) 0 in
+    ap (λ (x : Quota). cleared n (x .permissions)) (List·getD-eq-default (k .quotas) zero-quota h) ∙ omega arith

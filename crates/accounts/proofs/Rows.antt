@@ -11,9 +11,10 @@ use Rattle.accounts.specs.declared.Place.the-variants.{At, Nothing}
 use Rattle.accounts.specs.declared.settings.Kind.the-variants.{Plain, Quarantine}
 use Rattle.accounts.specs.declared.settings.Edition.the-variants.{First, Second}
 use Rattle.accounts.specs.Accounts.{QUOTAS, HOLDS, zero-hold, zero-accounts, with-quotas, with-last-serial, with-kind, with-edition, granted, plain}
+use Rattle.accounts.specs.Accounts.{with-remainder}
 use Rattle.accounts.specs.Accounts.{opened}
 use Rattle.accounts.specs.Accounts.{ALLOCATE, CLAIM, FREE-ALL, permissible, permissions, permits, cleared, left-permissions, clear-permissions}
-use Rattle.accounts.specs.Accounts.{remaining, spent, set-remaining, less-paid, paid-back, charged, refunded, charge, refund}
+use Rattle.accounts.specs.Accounts.{remaining, spent, change-quota, less-paid, paid-back, charged, refunded, charge, refund}
 use Rattle.accounts.specs.Accounts.{used, unused, is-for, first-from, find-hold, lowest-unused, hold-at, put-hold, drop-hold, record-of, drop-records}
 
 -- every quota has 5
@@ -65,23 +66,29 @@ quota-rows = (refl, refl, refl, refl, refl, refl)
 unfoldable pub too-many : Accounts
 too-many = opened plain (replicate (QUOTAS + 1) 5)
 
+-- one quota changes, the others and the records stay, and a quota that is not there does not change
+pub change-rows : (map (λ q. remaining q (change-quota 1 (with-remainder 3) five)) (0 ∷ 1 ∷ 2 ∷ []) ≡ 5 ∷ 3 ∷ 5 ∷ [])
+    × (change-quota 1 (with-remainder 3) held .holds ≡ held .holds) × (change-quota QUOTAS (with-remainder 3) too-many ≡ too-many)
+unfolding five holder held too-many opened put-hold remaining change-quota
+change-rows = (refl, refl, refl)
+
 -- a charge up to what remains is paid, one more is not, and a quota that is not there pays nothing
 pub charge-rows : (map (λ n. remaining 1 (charge 1 n five)) (0 ∷ 4 ∷ 5 ∷ 6 ∷ []) ≡ 5 ∷ 1 ∷ 0 ∷ 5 ∷ [])
     × (remaining (QUOTAS - 1) (charge (QUOTAS - 1) 2 five) ≡ 3)
     × (charge QUOTAS 1 five ≡ five) × (charge QUOTAS 1 too-many ≡ too-many)
-unfolding five too-many opened remaining set-remaining less-paid charge
+unfolding five too-many opened remaining change-quota less-paid charge
 charge-rows = (refl, refl, refl, refl)
 
 -- a refund is paid up to 32 bits, one more is not
 pub refund-rows : (map (λ n. remaining 1 (refund 1 n five)) (1 ∷ 4294967290 ∷ 4294967291 ∷ []) ≡ 6 ∷ 4294967295 ∷ 5 ∷ [])
     × (remaining (QUOTAS - 1) (refund (QUOTAS - 1) 2 five) ≡ 7)
     × (refund QUOTAS 1 five ≡ five) × (refund QUOTAS 1 too-many ≡ too-many)
-unfolding five too-many opened remaining set-remaining paid-back refund
+unfolding five too-many opened remaining change-quota paid-back refund
 refund-rows = (refl, refl, refl, refl)
 
 -- what was charged is spent, nothing where more remains than was granted, and nothing of a quota that is not there
 pub spent-rows : (map (λ n. spent 1 (charge 1 n five)) (0 ∷ 4 ∷ 5 ∷ []) ≡ 0 ∷ 4 ∷ 5 ∷ []) × (spent 1 (refund 1 1 five) ≡ 0) × (spent QUOTAS five ≡ 0)
-unfolding five opened remaining spent set-remaining less-paid paid-back charge refund
+unfolding five opened remaining spent change-quota less-paid paid-back charge refund
 spent-rows = (refl, refl, refl)
 
 -- all permissions are set at opening, by their bits; a quota that is not there has none
@@ -89,7 +96,7 @@ pub permits-rows : (map (λ b. permits b 0 five) (ALLOCATE ∷ CLAIM ∷ FREE-AL
     × (map (λ b. permits b QUOTAS five) (ALLOCATE ∷ CLAIM ∷ FREE-ALL ∷ []) ≡ false ∷ false ∷ false ∷ [])
     × (map (λ n. map (λ b. permits b 1 (clear-permissions 1 n five)) (1 ∷ 2 ∷ 4 ∷ [])) (1 ∷ 2 ∷ 4 ∷ [])
     ≡ (false ∷ true ∷ true ∷ []) ∷ (true ∷ false ∷ true ∷ []) ∷ (true ∷ true ∷ false ∷ []) ∷ [])
-unfolding five opened permits clear-permissions
+unfolding five opened permits change-quota clear-permissions
 permits-rows = (refl, refl, refl)
 
 -- a permission goes where its bit is set, stays where it is not, and is never set; bits above 2 mean nothing; the last quota, and one too many
@@ -101,7 +108,7 @@ pub clear-rows : (map (λ n. left-permissions 1 n five) (0 ∷ 1 ∷ 2 ∷ 3 ∷
     ≡ with-quotas (granted 5 ∷ record { grant = 5; remainder = 5; permissions = 2 } ∷ replicate (QUOTAS - 2) (granted 5)) five)
     × (left-permissions QUOTAS 0 five ≡ 0) × (clear-permissions QUOTAS 7 five ≡ five) × (clear-permissions QUOTAS 7 too-many ≡ too-many)
     × (map permissible (0 ∷ 7 ∷ 8 ∷ 255 ∷ []) ≡ true ∷ true ∷ false ∷ false ∷ [])
-unfolding five too-many opened clear-permissions
+unfolding five too-many opened change-quota clear-permissions
 clear-rows = (refl, refl, refl, refl, refl, refl, refl, refl)
 
 -- each number of a record makes it used

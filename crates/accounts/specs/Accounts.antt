@@ -112,8 +112,13 @@ remaining q k = quota-at q k .remainder
 unfoldable pub spent : ℕ → Accounts → ℕ
 spent q k = quota-at q k .grant - remaining q k
 
-unfoldable pub set-remaining : ℕ → ℕ → Accounts → Accounts
-set-remaining q n k = with-quotas (set (k .quotas) q (with-remainder n (quota-at q k))) k
+-- another quota with that number
+abbrev pub put-quota : ℕ → Quota → Accounts → Accounts
+put-quota q x k = with-quotas (set (k .quotas) q x) k
+
+-- the quota with a number changes; where there is no such quota nothing does
+unfoldable pub change-quota : ℕ → (Quota → Quota) → Accounts → Accounts
+change-quota q f k = cond (ltb q QUOTAS) (put-quota q (f (quota-at q k)) k) k
 
 -- what is left of a remainder r after a payment of n, r where that is less than n; and after n was paid back, r where the sum needs more than 32 bits
 unfoldable pub less-paid : ℕ → ℕ → ℕ
@@ -129,12 +134,12 @@ charged n x = with-remainder (less-paid n (x .remainder)) x
 abbrev pub refunded : ℕ → Quota → Quota
 refunded n x = with-remainder (paid-back n (x .remainder)) x
 
--- the quota with a number pays, and is paid back; where there is no such quota nothing changes
+-- the quota with a number pays, and is paid back
 unfoldable pub charge : ℕ → ℕ → Accounts → Accounts
-charge q n k = cond (ltb q QUOTAS) (set-remaining q (less-paid n (remaining q k)) k) k
+charge q n k = change-quota q (charged n) k
 
 unfoldable pub refund : ℕ → ℕ → Accounts → Accounts
-refund q n k = cond (ltb q QUOTAS) (set-remaining q (paid-back n (remaining q k)) k) k
+refund q n k = change-quota q (refunded n) k
 
 -- whether the quota has the permission with this bit; one that does not exist has none
 unfoldable pub permits : ℕ → ℕ → Accounts → Bool
@@ -147,15 +152,15 @@ bit-left n p = cond (eqb (n % 2) 0) (p % 2) 0
 abbrev pub cleared : ℕ → ℕ → ℕ
 cleared n p = bit-left n p + (2 * bit-left (n / 2) (p / 2) + 4 * bit-left (n / 4) (p / 4))
 
--- what clearing leaves to the quota with a number; and the accounts then, where there is no such quota as they were
+-- what clearing leaves to the quota with a number; a quota with no more than that; and the accounts then
 abbrev pub left-permissions : ℕ → ℕ → Accounts → ℕ
 left-permissions q n k = cleared n (quota-at q k .permissions)
 
-abbrev pub clear-at : ℕ → ℕ → Accounts → Accounts
-clear-at q n k = with-quotas (set (k .quotas) q (with-permissions (left-permissions q n k) (quota-at q k))) k
+abbrev pub without : ℕ → Quota → Quota
+without n x = with-permissions (cleared n (x .permissions)) x
 
 unfoldable pub clear-permissions : ℕ → ℕ → Accounts → Accounts
-clear-permissions q n k = cond (ltb q QUOTAS) (clear-at q n k) k
+clear-permissions q n k = change-quota q (without n) k
 
 -- rule 3.3: a record is used if one of its numbers is not 0
 unfoldable pub used : Hold → Bool

@@ -30,7 +30,7 @@ module _ (s : List ℕ) (k : Accounts) (o : Octets s) (q : ℕ) (m : Met) (i : �
   pub drop-inside : Inside m s
   drop-inside =
       let h = y .holding in
-      inside s k o (h .checked .consistent) (h .handle) m (h .named) (allowed-long (length s) (h .checked .extent) .1)
+      inside s k o (h .checked .accounted) (h .handle) m (h .named) (allowed-long (length s) (h .checked .extent) .1)
 
   pub drop-place : i < length (k .holds)
   unfolding find-hold
@@ -40,7 +40,7 @@ module _ (s : List ℕ) (k : Accounts) (o : Octets s) (q : ℕ) (m : Met) (i : �
       → r ≡ record { accounts = k′; answer = Amount 0 } → amount-outcome s r ≡ claim-dropped s k q (object-met m)
   few-dropped l k′ ke r re =
       let h = y .holding in
-      gives s k′ 0 r re ∙ (rw ke (fewer-claims s k o (h .checked .consistent) (h .handle) m (h .named) q i (h .place) l))
+      gives s k′ 0 r re ∙ (rw ke (fewer-claims s k o (h .checked .accounted) (h .handle) m (h .named) q i (h .place) l))
 
   module _ (l : hold-at i k .count ≤ 1) (k₁ k₂ : Accounts) (e₁ : k₁ ≡ refund q (m .size - 8 + 8) k) (e₂ : k₂ ≡ drop-hold i k₁)
       (r : AmountResult) (re : r ≡ record { accounts = k₂; answer = Amount (m .size - 8 + 8) }) where
@@ -54,15 +54,15 @@ module _ (s : List ℕ) (k : Accounts) (o : Octets s) (q : ℕ) (m : Met) (i : �
     held-is : held (drop-hold i (refund q (m .size - 8 + 8) k) .holds) (m .serial) ≡ shared
     held-is =
         let h = y .holding in
-        ap (λ (hs : List Hold). held hs (m .serial)) (left-holds s k o (h .checked .consistent) (h .handle) m (h .named) q i (h .place) (m .size - 8 + 8))
-        ∙ held-otherwise s k (h .checked .consistent) (m .serial) q i (h .place)
+        ap (λ (hs : List Hold). held hs (m .serial)) (left-holds s k o (h .checked .accounted) (h .handle) m (h .named) q i (h .place) (m .size - 8 + 8))
+        ∙ held-otherwise s k (h .checked .accounted) (m .serial) q i (h .place)
         ∙ sym (y .others)
 
     pub held-dropped : shared ≡ true → amount-outcome s r ≡ claim-dropped s k q (object-met m)
     held-dropped e =
         let h = y .holding in
         gives s k₂ (m .size - 8 + 8) r re
-        ∙ (rw left (still-held s k o (h .checked .consistent) (h .handle) m (h .named) q i (h .place) l (held-is ∙ e)))
+        ∙ (rw left (still-held s k o (h .checked .accounted) (h .handle) m (h .named) q i (h .place) l (held-is ∙ e)))
 
     pub freed-dropped : shared ≡ false → (kind : ℕ) → kind ≡ k₂ .kind → (s′ : List ℕ) → s′ ≡ vacate-in kind m s
         → amount-outcome s′ r ≡ claim-dropped s k q (object-met m)
@@ -70,4 +70,4 @@ module _ (s : List ℕ) (k : Accounts) (o : Octets s) (q : ℕ) (m : Met) (i : �
         let h = y .holding in
         let se = si ∙ ap (λ (x : ℕ). vacate-in x m s) (ke ∙ same-kind) ∙ sym (vacates (k .kind) m s (inside-test m s drop-inside) .0) in
         gives s′ k₂ (m .size - 8 + 8) r re
-        ∙ (rw (se, left) (no-longer-held s k o (h .checked .consistent) (h .handle) m (h .named) q i (h .place) l (held-is ∙ e)))
+        ∙ (rw (se, left) (no-longer-held s k o (h .checked .accounted) (h .handle) m (h .named) q i (h .place) l (held-is ∙ e)))

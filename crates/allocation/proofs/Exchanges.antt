@@ -14,7 +14,7 @@ use Rattle.lookup.specs.declared.Met.{Met}
 use Rattle.lookup.specs.declared.Lookup.the-variants.{Found, Missing}
 use Rattle.lookup.specs.Walk.{object-met, whole-met, find-object, find-whole}
 use Rattle.lookup.proofs.Reached.{whole-same, whole-other, whole-found}
-use Rattle.model.specs.Lists.{any}
+use Rattle.lists.specs.Lists.{any}
 use Rattle.model.specs.Answers.{given}
 use Rattle.model.specs.Objects.{names, objects-of, lookup}
 use Rattle.model.specs.Consistent.{has-record}
@@ -23,8 +23,8 @@ use Rattle.model.specs.declared.Handle.{Handle}
 use Rattle.model.specs.declared.Refusal.{Refusal}
 use Rattle.model.specs.declared.Refusal.the-variants.{NoSuchObject, NotHeld}
 use Rattle.model.specs.declared.HandleAnswer.the-variants.{Given, Refused as NotGiven}
-use Rattle.model.proofs.Lists.{first-some}
-use Rattle.model.proofs.Consistent.{consistent-facts}
+use Rattle.lists.proofs.Lists.{first-some}
+use Rattle.model.proofs.Consistent.{accounted-facts}
 use Rattle.invariant.proofs.Recorded.{Limits}
 use Rattle.results.specs.declared.AmountResult.{AmountResult}
 use Rattle.results.specs.declared.HandleResult.{HandleResult}
@@ -118,7 +118,7 @@ module _ {s : List ℕ} {k : Accounts} {w : Wanted} {r : Surveyed} (y : Exchange
         unfolding objects-of lookup
         serial-given =
             let there = first-some (names h) (objects-of s) (object-met old) (located-old .named) .0 in
-            consistent-facts s k (y .requested .checked .consistent) .given (object-met old) there
+            accounted-facts s k (y .requested .checked .accounted) .given (object-met old) there
 
         -- what grant refuses is refused
         pub not-granted : {n : ℕ} → Rounded (k .edition) n (w .need) (w .unit) → (t : List ℕ) (x : HandleResult) (f : Refusal) → x .answer ≡ NotGiven f

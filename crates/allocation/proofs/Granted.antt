@@ -17,10 +17,10 @@ use Rattle.accounts.specs.Accounts.{QUOTAS, ALLOCATE, quota-at, permits, used, 
 use Rattle.accounts.proofs.Laws.{charge-kept, charge-last}
 use Rattle.layout.specs.Bytes.{Octets}
 use Rattle.model.specs.Answers.{refusal-number, given, verdict-values, handle-values}
-use Rattle.model.specs.Lists.{all, is-none, or-else}
+use Rattle.lists.specs.Lists.{all, is-none, or-else}
 use Rattle.model.specs.Consistent.{charge-of, greatest-serial}
 use Rattle.model.specs.Holds.{take-record}
-use Rattle.model.specs.Refusals.{Line, first-refusal, line-3, line-4, line-8, line-9, line-10, line-11, line-12, base-for, allocate-lines}
+use Rattle.model.specs.Refusals.{Line, first-refusal, line-3, line-4, line-8, line-9, line-10, line-11, line-12, base-for, allocate-lines, row-lines}
 use Rattle.model.specs.Calls.{unless, check, leaves, state-of, allocated, new-object, allocate}
 use Rattle.model.specs.declared.Handle.{Handle}
 use Rattle.model.specs.declared.Refusal.{Refusal}
@@ -107,29 +107,29 @@ module _ (unit : ℕ → ℕ) (s : List ℕ) (k : Accounts) (q n : ℕ) where
   pub refused-check : (v : Verdict) → verdict-values v ≡ check unit s k .values → (f : Refusal) → v ≡ Refused f → (r : HandleResult)
       → r ≡ record { accounts = k; answer = NotGiven f }
       → handle-outcome s r ≡ allocate unit s k q n
-  unfolding allocate-lines
+  unfolding row-lines
   refused-check v told f a r e = refused-by r f e (check-refuses unit s k v told from-3 f a)
 
   pub refused-3 : (v : Verdict) → verdict-values v ≡ check unit s k .values → v ≡ Accepted → QUOTAS ≤ q → (r : HandleResult)
       → r ≡ record { accounts = k; answer = NotGiven QuotaNumber }
       → handle-outcome s r ≡ allocate unit s k q n
-  unfolding allocate-lines
+  unfolding row-lines
   refused-3 v told a h r e = refused-by r QuotaNumber e (check-accepts unit s k v told from-3 a ∙ line-3-refuses q from-12 h)
 
   pub refused-12 : Checked unit s k q → quota-at q k .permissions / ALLOCATE % 2 ≡ 0
       → (r : HandleResult) → r ≡ record { accounts = k; answer = NotGiven NotPermitted } → handle-outcome s r ≡ allocate unit s k q n
-  unfolding allocate-lines
+  unfolding row-lines
   refused-12 c z r e = refused-by r NotPermitted e (checked-passes unit s k q from-12 c ∙ line-12-refuses ALLOCATE q k from-4 z)
 
   pub refused-4 : Checked unit s k q → permits ALLOCATE q k ≡ true → first-refusal from-4 ≡ 4
       → (r : HandleResult) → r ≡ record { accounts = k; answer = NotGiven ObjectLength } → handle-outcome s r ≡ allocate unit s k q n
-  unfolding allocate-lines
+  unfolding row-lines
   refused-4 c p h r e = refused-by r ObjectLength e (checked-passes unit s k q from-12 c ∙ line-12-passes ALLOCATE q k from-4 p ∙ h)
 
 -- the others, of a request that is ready
 module _ (unit : ℕ → ℕ) (units : Units unit) (s : List ℕ) (k : Accounts) (q n : ℕ) (y : Ready unit s k q n) (r : HandleResult) where
   to-8 : number unit s k q n ≡ first-refusal (from-8 unit s k q n)
-  unfolding allocate-lines
+  unfolding row-lines
   to-8 = ready-passes unit s k q n (from-8 unit s k q n) y
 
   pub refused-8 : remaining q k < object-length unit n + 8 → r ≡ record { accounts = k; answer = NotGiven QuotaExceeded }
@@ -174,19 +174,19 @@ module _ (unit : ℕ → ℕ) (units : Units unit) (s : List ℕ) (k : Accounts)
         unfolding line-11 is-none
         refused-11 h e =
             refused-by unit s k q n r NoSpace e
-            (to-11 ∙ line-refuses 11 (is-none (base-for unit s n)) [] (rw (no-base unit units s k n (y .checked .consistent) h)))
+            (to-11 ∙ line-refuses 11 (is-none (base-for unit s n)) [] (rw (no-base unit units s k n (y .checked .accounted) h)))
 
         module _ (m : Met) (b : ℕ) (fit : find-fit (alignment unit n) (object-length unit n) s ≡ Fits m b) where
           to-end : number unit s k q n ≡ 0
           unfolding line-11 is-none first-refusal
-          to-end = to-11 ∙ line-passes 11 (is-none (base-for unit s n)) [] (rw (the-base unit units s k n (y .checked .consistent) m b fit))
+          to-end = to-11 ∙ line-passes 11 (is-none (base-for unit s n)) [] (rw (the-base unit units s k n (y .checked .accounted) m b fit))
 
           granted-whole : Octets s → (t : List ℕ)
               → t ≡ carve-bytes (m .at) (m .at + m .size) b (object-length unit n) (m .back) (k .«last_serial» + 1) s
               → r ≡ result-of q (object-length unit n) place b k → handle-outcome t r ≡ allocate unit s k q n
           unfolding allocate handle-values allocated new-object or-else
           granted-whole o t w e =
-              let ok = y .checked .consistent in
+              let ok = y .checked .accounted in
               let serial = k .«last_serial» + 1 in
               let h : Handle = record { base = b; length = object-length unit n; serial = serial } in
               let x = the-base unit units s k n ok m b fit in
@@ -202,6 +202,6 @@ module _ (unit : ℕ → ℕ) (units : Units unit) (s : List ℕ) (k : Accounts)
               → r ≡ result-of q z place b k → handle-outcome t r ≡ allocate unit s k q n
           granted o t z ez w e =
               let serial = k .«last_serial» + 1 in
-              let room = room-test m b (object-length unit n) (the-room unit units s k n (y .checked .consistent) m b fit (y .checked .extent)) in
+              let room = room-test m b (object-length unit n) (the-room unit units s k n (y .checked .accounted) m b fit (y .checked .extent)) in
               granted-whole o t (w ∙ ap (λ (l : ℕ). carve-in m b l serial s) ez ∙ sym (carves m b (object-length unit n) serial s room))
               (e ∙ ap (λ (l : ℕ). result-of q l place b k) ez)

@@ -19,7 +19,7 @@ use Rattle.layout.specs.Bytes.{Octets}
 use Rattle.lookup.specs.declared.Met.{Met}
 use Rattle.lookup.specs.declared.Fit.the-variants.{At as Fits, Nowhere}
 use Rattle.lookup.specs.Walk.{fitted, find-fit}
-use Rattle.model.specs.Lists.{any}
+use Rattle.lists.specs.Lists.{any}
 use Rattle.model.specs.Consistent.{is-of, greatest-serial}
 use Rattle.model.specs.Refusals.{greatest-length}
 use Rattle.model.specs.Calls.{allocate}
@@ -87,7 +87,7 @@ module _ {s : List ℕ} {k : Accounts} {q z u low fit : ℕ} (y : Grantable s k 
       let d = y .requested .rounded in
       let c = y .requested .checked in
       subst (Room m b) (sym (d .size))
-      (the-room (table (k .edition)) (table-is (k .edition)) s k (y .requested .asked) (c .consistent) m b (sym (room-for d) ∙ e) (c .extent))
+      (the-room (table (k .edition)) (table-is (k .edition)) s k (y .requested .asked) (c .accounted) m b (sym (room-for d) ∙ e) (c .extent))
 
   -- each way to the end, of a request that is rounded so
   module _ {n : ℕ} (d : Rounded (k .edition) n z u) (r : HandleResult) where

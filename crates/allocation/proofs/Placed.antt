@@ -15,14 +15,14 @@ use Rattle.layout.specs.Bytes.{Octets}
 use Rattle.layout.specs.Blocks.{Block, size, total-size, back-after, render, occupied}
 use Rattle.layout.proofs.Parse.{parse-is}
 use Rattle.layout.proofs.Render.{size-append}
-use Rattle.model.specs.Lists.{all, total}
+use Rattle.lists.specs.Lists.{all, total}
 use Rattle.model.specs.Objects.{blocks-of}
-use Rattle.model.specs.Consistent.{allowed, long-enough, free-apart, well-cut, consistent}
+use Rattle.model.specs.Consistent.{allowed, long-enough, free-apart, well-cut, accounted}
 use Rattle.model.specs.Space.{cut-block, carve-from, carve}
 use Rattle.model.specs.Refusals.{base-for}
-use Rattle.model.proofs.Bools.{and-right, and-no}
+use Rattle.lists.proofs.Bools.{and-right, and-no}
 use Rattle.model.proofs.Blocks.{total-is, writable-whole}
-use Rattle.model.proofs.Consistent.{consistent-cut, tests-exactly}
+use Rattle.model.proofs.Consistent.{accounted-cut, tests-exactly}
 use Rattle.model.proofs.Carve.{Carved}
 use Rattle.writer.specs.Writes.{carve-bytes}
 use Rattle.writer.proofs.CarveBytes.{carve-writes}
@@ -55,22 +55,22 @@ aligned-8 : (unit : ℕ → ℕ) (units : Units unit) (n b : ℕ) → b % alignm
 aligned-8 unit units n b e = eights b (alignment unit n) (alignment-eights unit units n) e
 
 -- no two free blocks of a consistent heap stand side by side
-free-blocks-apart : (s : List ℕ) (k : Accounts) → consistent s k ≡ true → free-apart (blocks-of s) ≡ true
+free-blocks-apart : (s : List ℕ) (k : Accounts) → accounted s k ≡ true → free-apart (blocks-of s) ≡ true
 unfolding well-cut
-free-blocks-apart s k e = and-right (all long-enough (blocks-of s)) (free-apart (blocks-of s)) (tests-exactly (blocks-of s) k .0 (consistent-cut s k e .1) .cut)
+free-blocks-apart s k e = and-right (all long-enough (blocks-of s)) (free-apart (blocks-of s)) (tests-exactly (blocks-of s) k .0 (accounted-cut s k e .1) .cut)
 
-module _ (unit : ℕ → ℕ) (units : Units unit) (s : List ℕ) (k : Accounts) (n : ℕ) (ok : consistent s k ≡ true) where
+module _ (unit : ℕ → ℕ) (units : Units unit) (s : List ℕ) (k : Accounts) (n : ℕ) (ok : accounted s k ≡ true) where
   -- where the walk finds no base, there is none
   pub no-base : find-fit (alignment unit n) (object-length unit n) s ≡ Nowhere → base-for unit s n ≡ none
   unfolding base-for
   no-base e =
-      base-nowhere (alignment unit n) (object-length unit n) (alignment-positive unit units n) s (blocks-of s) (consistent-cut s k ok .0)
+      base-nowhere (alignment unit n) (object-length unit n) (alignment-positive unit units n) s (blocks-of s) (accounted-cut s k ok .0)
       (free-blocks-apart s k ok) e
 
   module _ (m : Met) (b : ℕ) (fit : find-fit (alignment unit n) (object-length unit n) s ≡ At m b) where
     fitting : Fitting (alignment unit n) (object-length unit n) s (blocks-of s) m b
     fitting =
-        base-found (alignment unit n) (object-length unit n) (alignment-positive unit units n) s (blocks-of s) (consistent-cut s k ok .0)
+        base-found (alignment unit n) (object-length unit n) (alignment-positive unit units n) s (blocks-of s) (accounted-cut s k ok .0)
         (free-blocks-apart s k ok) m b fit
 
     -- the base that it finds is the definition's
@@ -84,7 +84,7 @@ module _ (unit : ℕ → ℕ) (units : Units unit) (s : List ℕ) (k : Accounts)
     the-room e =
         let f = fitting in
         let w = f .stands in
-        let t = total-parsed s (blocks-of s) (consistent-cut s k ok .0) in
+        let t = total-parsed s (blocks-of s) (accounted-cut s k ok .0) in
         let l : total-size (blocks-of s) ≡ total-size (w .front) + (size (w .block) + total-size (w .behind)) =
         ap total-size (w .split) ∙ size-append (w .front) (w .block ∷ w .behind) in
         record { low = f .low; high = f .high; inside = omega (arith, w .place, w .sized, allowed-long (length s) e .1) }
@@ -118,7 +118,7 @@ module _ (unit : ℕ → ℕ) (units : Units unit) (s : List ℕ) (k : Accounts)
     the-bytes o serial =
         let f = fitting in
         let w = f .stands in
-        let r = parse-is s (blocks-of s) o .0 (consistent-cut s k ok .0) in
+        let r = parse-is s (blocks-of s) o .0 (accounted-cut s k ok .0) in
         let p : m .at ≡ total size (w .front) = w .place ∙ total-is (w .front) in
         (λ i. carve-bytes (p i) (p i + w .sized i) b (object-length unit n) (w .back i) serial s)
         ∙ sym (carve-writes (the-cut serial) (writable-whole (blocks-of s) (r .1)) (aligned-8 unit units n b (f .multiple)) (rounded unit units n .eights)

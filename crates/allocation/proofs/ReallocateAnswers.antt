@@ -11,7 +11,7 @@ use Rattle.accounts.specs.Accounts.{QUOTAS, ALLOCATE, quota-at, permits, find-h
 use Rattle.model.specs.Answers.{refusal-number, verdict-values, handle-values}
 use Rattle.model.specs.Objects.{objects-of, lookup, lookup-whole, found}
 use Rattle.model.specs.Consistent.{has-record}
-use Rattle.model.specs.Refusals.{Line, first-refusal, line-3, line-4, line-5, line-6, line-12, reallocate-lines}
+use Rattle.model.specs.Refusals.{Line, first-refusal, line-3, line-4, line-5, line-6, line-12, reallocate-lines, row-lines}
 use Rattle.model.specs.Calls.{check, reallocate}
 use Rattle.model.specs.declared.Handle.{Handle}
 use Rattle.model.specs.declared.Refusal.{Refusal}
@@ -38,11 +38,11 @@ use Rattle.allocation.proofs.Reallocated.{whole-named}
 module _ (unit : ℕ → ℕ) (s : List ℕ) (k : Accounts) (q : ℕ) (h : Handle) (c : Checked unit s k q) where
   whole-met-there : List·Memᴰ h (objects-of s) → (x : Lookup) → find-object h s ≡ x → find-whole h s ≡ Missing → ⊥
   whole-met-there m Missing f e =
-      let n = sym (unnamed unit s k Accepted (accepted-check unit s k q c) refl h f) ∙ own-found s k (c .consistent) h m in
+      let n = sym (unnamed unit s k Accepted (accepted-check unit s k q c) refl h f) ∙ own-found s k (c .accounted) h m in
       let z : _≡_ {A = ℕ} 0 1 = cc in
       absurd (omega arith)
   whole-met-there m (Found b) f e =
-      let n = sym (located unit s k Accepted (accepted-check unit s k q c) refl h b f .named) ∙ own-found s k (c .consistent) h m in
+      let n = sym (located unit s k Accepted (accepted-check unit s k q c) refl h b f .named) ∙ own-found s k (c .accounted) h m in
       let o : object-met b ≡ h = cc in
       let w = sym (whole-same h s b f (sym (ap (λ (x : Handle). x .length) o))) ∙ e in
       let z : _≡_ {A = ℕ} 0 1 = cc in
@@ -69,26 +69,26 @@ module _ (unit : ℕ → ℕ) (s : List ℕ) (k : Accounts) (q : ℕ) (h : Handl
   -- the first three lines, where the check has answered v
   pub by-check : (v : Verdict) → verdict-values v ≡ check unit s k .values → (x : Refusal) → v ≡ NotAccepted x
       → first-refusal (reallocate-lines unit s k q h n) ≡ refusal-number x
-  unfolding reallocate-lines
+  unfolding row-lines
   by-check v told x e = check-refuses unit s k v told (line-3 q ∷ from-12) x e
 
   pub by-quota : (v : Verdict) → verdict-values v ≡ check unit s k .values → v ≡ Accepted → QUOTAS ≤ q → first-refusal (reallocate-lines unit s k q h n) ≡ 3
-  unfolding reallocate-lines
+  unfolding row-lines
   by-quota v told a l = check-accepts unit s k v told (line-3 q ∷ from-12) a ∙ line-3-refuses q from-12 l
 
   -- the permission and the length
   pub by-permission : Checked unit s k q → quota-at q k .permissions / ALLOCATE % 2 ≡ 0 → first-refusal (reallocate-lines unit s k q h n) ≡ 12
-  unfolding reallocate-lines
+  unfolding row-lines
   by-permission c z = checked-passes unit s k q from-12 c ∙ line-12-refuses ALLOCATE q k (line-4 n ∷ from-5) z
 
   pub by-length : Checked unit s k q → permits ALLOCATE q k ≡ true → first-refusal (line-4 n ∷ from-5) ≡ 4 → first-refusal (reallocate-lines unit s k q h n) ≡ 4
-  unfolding reallocate-lines
+  unfolding row-lines
   by-length c p e = checked-passes unit s k q from-12 c ∙ line-12-passes ALLOCATE q k (line-4 n ∷ from-5) p ∙ e
 
   -- the fifth and sixth, of a request that is ready
   module _ (r : Ready unit s k q n) where
     pub by-object : find-whole h s ≡ Missing → first-refusal (reallocate-lines unit s k q h n) ≡ 5
-    unfolding reallocate-lines
+    unfolding row-lines
     by-object e =
         ready-passes unit s k q n from-5 r
         ∙ line-5-refuses (lookup-whole h s) (line-6 k q (found (lookup-whole h s)) ∷ from-8 unit s k q n) (whole-missing unit s k q h (r .checked) e)
@@ -104,7 +104,7 @@ module _ (unit : ℕ → ℕ) (s : List ℕ) (k : Accounts) (q : ℕ) (h : Handl
       block-named = located unit s k Accepted (accepted-check unit s k q (r .checked)) refl h m e .named
 
       pub by-record : find-hold (m .serial) q k ≡ Nothing → first-refusal (reallocate-lines unit s k q h n) ≡ 6
-      unfolding reallocate-lines line-6
+      unfolding row-lines line-6
       by-record p =
           let w = whole-named h (object-met m) s block-whole block-named in
           let o = found (lookup-whole h s) in

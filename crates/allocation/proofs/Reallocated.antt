@@ -15,13 +15,13 @@ use Rattle.rounding.specs.Rounding.{Units}
 use Rattle.layout.specs.Bytes.{Octets, copy-part}
 use Rattle.layout.specs.Blocks.{Block, render}
 use Rattle.model.specs.Answers.{given, handle-values}
-use Rattle.model.specs.Lists.{all, or-else, change-first}
+use Rattle.lists.specs.Lists.{all, or-else, change-first}
 use Rattle.model.specs.Holds.{take-record}
 use Rattle.model.specs.Objects.{blocks-of, objects, objects-of, lookup, lookup-whole, found}
 use mathlib.Core.Logic.{⊎-elim}
-use Rattle.model.specs.Consistent.{allowed, has-record, in-units, sound as is-sound}
-use Rattle.model.proofs.Lists.{member-all}
-use Rattle.model.specs.Refusals.{Line, first-refusal, line-5, line-6, release-lines, allocate-lines, reallocate-lines}
+use Rattle.model.specs.Consistent.{allowed, has-record, in-units, consistent as is-consistent}
+use Rattle.lists.proofs.Lists.{member-all}
+use Rattle.model.specs.Refusals.{Line, first-refusal, line-5, line-6, release-lines, allocate-lines, reallocate-lines, row-lines}
 use Rattle.model.specs.Calls.{Outcome, State, unless, leaves, state-of, allocated, copied, released, new-object, allocate, release, reallocate}
 use Rattle.model.specs.Step.{step}
 use Rattle.model.specs.declared.Handle.{Handle}
@@ -29,8 +29,8 @@ use Rattle.model.specs.declared.Refusal.{Refusal}
 use Rattle.model.specs.declared.HandleAnswer.{HandleAnswer}
 use Rattle.model.specs.declared.HandleAnswer.the-variants.{Given, Refused}
 use Rattle.model.specs.declared.Call.the-variants.{Allocate}
-use Rattle.model.proofs.Bools.{fails, and-both}
-use Rattle.model.proofs.Consistent.{sound-fits, sound-permissible, sound-kinds, sound-range}
+use Rattle.lists.proofs.Bools.{fails, and-both}
+use Rattle.model.proofs.Consistent.{consistent-fits, consistent-permissible, consistent-kinds, consistent-range}
 use Rattle.model.proofs.StepFrame.{step-keeps}
 use Rattle.model.proofs.Permissions.{allocated-permissions}
 use Rattle.model.proofs.Lookup.{lookup-named, lookup-exactly, lookup-whole-exactly}
@@ -94,7 +94,7 @@ line-6-passes k q o rest e = line-passes 6 (not (has-record (k .holds) q (o .ser
 module _ (unit : ℕ → ℕ) (s : List ℕ) (k : Accounts) (q : ℕ) (h old : Handle) (c : Checked unit s k q) (named : lookup h s ≡ some old)
     (held : has-record (k .holds) q (old .serial) ≡ true) where
   release-passes : first-refusal (release-lines unit s k q h) ≡ 0
-  unfolding release-lines first-refusal found or-else
+  unfolding row-lines first-refusal found or-else
   release-passes =
       checked-passes unit s k q (line-5 (lookup h s) ∷ line-6 k q (found (lookup h s)) ∷ []) c
       ∙ line-5-passes (lookup h s) old (line-6 k q (found (lookup h s)) ∷ []) named
@@ -110,7 +110,7 @@ module _ (unit : ℕ → ℕ) (units : Units unit) (s : List ℕ) (k : Accounts)
     (handle-is : h ≡ old) (named : lookup h s ≡ some old) (held : has-record (k .holds) q (old .serial) ≡ true) where
   -- the lines behind them are allocate's
   same-number : first-refusal (reallocate-lines unit s k q h n) ≡ first-refusal (allocate-lines unit s k q n)
-  unfolding reallocate-lines allocate-lines
+  unfolding row-lines
   same-number =
       let w = whole-named h old s handle-is named in
       let o = found (lookup-whole h s) in
@@ -146,10 +146,10 @@ module _ (unit : ℕ → ℕ) (units : Units unit) (s : List ℕ) (k : Accounts)
     filled = copied old new made
 
     start : Good (state-of s k)
-    start = heap-good s k (r .checked .extent) o (r .checked .consistent) (l .quotas) (l .narrow) (l .serial)
+    start = heap-good s k (r .checked .extent) o (r .checked .accounted) (l .quotas) (l .narrow) (l .serial)
 
     room : Room q new (state-of s k)
-    room = requested-room unit units s k start (heap-again s k o (r .checked .consistent)) q n p
+    room = requested-room unit units s k start (heap-again s k o (r .checked .accounted)) q n p
 
     made-good : Good made
     made-good = allocated-good q new (state-of s k) start room
@@ -160,7 +160,7 @@ module _ (unit : ℕ → ℕ) (units : Units unit) (s : List ℕ) (k : Accounts)
     there = lookup-named h s old named .1
 
     fresh : old .serial ≡ new .serial → ⊥
-    fresh = requested-fresh unit units s k start (heap-again s k o (r .checked .consistent)) q n p old there
+    fresh = requested-fresh unit units s k start (heap-again s k o (r .checked .accounted)) q n p old there
 
     -- the heap that copying leaves is written of that state
     filled-bytes : render (filled .blocks) ≡ copy-part (old .base) (new .base) (min (new .length) (old .length)) (render (made .blocks))
@@ -181,25 +181,25 @@ module _ (unit : ℕ → ℕ) (units : Units unit) (s : List ℕ) (k : Accounts)
     -- quarantined blocks stand in the second kind only, and the numbers are in range
     filled-kinds : Kinded (state-of (render (filled .blocks)) (filled .accounts))
     filled-kinds =
-        let c = r .checked .sound in
+        let c = r .checked .consistent in
         written-kinds filled (copied-good old new made made-good)
-        (copied-kinds old new made (allocated-kinds q new (state-of s k) start room (sound-kinds unit s k c, sound-range unit s k c)))
+        (copied-kinds old new made (allocated-kinds q new (state-of s k) start room (consistent-kinds unit s k c, consistent-range unit s k c)))
 
     -- every object of it is in its units: the old ones were, and the new one is. The permissions are as they were
-    filled-fits : is-sound unit (render (filled .blocks)) (filled .accounts) ≡ true
-    unfolding is-sound objects-of
+    filled-fits : is-consistent unit (render (filled .blocks)) (filled .accounts) ≡ true
+    unfolding is-consistent objects-of
     filled-fits =
-        let may = ap (all permissible) filled-permissions ∙ sound-permissible unit s k (r .checked .sound) in
+        let may = ap (all permissible) filled-permissions ∙ consistent-permissible unit s k (r .checked .consistent) in
         let d = allocated-objects q new (state-of s k) start room in
-        and-both _ _ (written .sound)
+        and-both _ _ (written .passes)
         (and-both _ _
         (member-all (in-units unit) (objects-of (render (filled .blocks)))
-        (λ x m. ⊎-elim (λ (e : x ≡ new). rw e (new-in-units unit units s k q n p)) (λ y. sound-fits unit s k (r .checked .sound) x y)
+        (λ x m. ⊎-elim (λ (e : x ≡ new). rw e (new-in-units unit units s k q n p)) (λ y. consistent-fits unit s k (r .checked .consistent) x y)
         (added-cases new (objects (blocks-of s)) (objects (made .blocks)) d x (rw (written .objects, copied-objects old new made made-good) at m))))
         (and-both _ _ may (and-both _ _ (filled-kinds .0) (filled-kinds .1))))
 
     filled-checked : Checked unit (render (filled .blocks)) (filled .accounts) q
-    filled-checked = record { extent = written .allowed; consistent = written .sound; sound = filled-fits; exists = r .checked .exists }
+    filled-checked = record { extent = written .allowed; accounted = written .passes; consistent = filled-fits; exists = r .checked .exists }
 
     -- the old object can be released in it: its handle names it, the quota has its record
     filled-named : lookup h (render (filled .blocks)) ≡ some old

@@ -8,7 +8,7 @@ use Rattle.accounts.specs.declared.Place.the-variants.{At, Nothing}
 use Rattle.accounts.specs.Accounts.{QUOTAS, find-hold}
 use Rattle.model.specs.Answers.{refusal-number, verdict-values, amount-values}
 use Rattle.model.specs.Objects.{lookup, found}
-use Rattle.model.specs.Refusals.{Line, first-refusal, line-3, line-5, line-6, release-lines}
+use Rattle.model.specs.Refusals.{Line, first-refusal, line-3, line-5, line-6, release-lines, row-lines}
 use Rattle.model.specs.Calls.{check, release}
 use Rattle.model.specs.declared.Handle.{Handle}
 use Rattle.model.specs.declared.Refusal.{Refusal}
@@ -34,11 +34,11 @@ module _ (unit : ℕ → ℕ) (s : List ℕ) (k : Accounts) (q : ℕ) (h : Handl
   -- the first three lines, where the check has answered v
   pub by-check : (v : Verdict) → verdict-values v ≡ check unit s k .values → (x : Refusal) → v ≡ NotAccepted x
       → first-refusal (release-lines unit s k q h) ≡ refusal-number x
-  unfolding release-lines
+  unfolding row-lines
   by-check v told x e = check-refuses unit s k v told (line-3 q ∷ from-5) x e
 
   pub by-quota : (v : Verdict) → verdict-values v ≡ check unit s k .values → v ≡ Accepted → QUOTAS ≤ q → first-refusal (release-lines unit s k q h) ≡ 3
-  unfolding release-lines
+  unfolding row-lines
   by-quota v told a l = check-accepts unit s k v told (line-3 q ∷ from-5) a ∙ line-3-refuses q from-5 l
 
   -- a refusal as a result
@@ -51,7 +51,7 @@ module _ (unit : ℕ → ℕ) (s : List ℕ) (k : Accounts) (q : ℕ) (h : Handl
   -- the others, of what was checked: no object, no record, or one hold less
   module _ (c : Checked unit s k q) where
     pub by-object : find-object h s ≡ Missing → first-refusal (release-lines unit s k q h) ≡ 5
-    unfolding release-lines
+    unfolding row-lines
     by-object e = quota-missing unit s k Accepted (accepted-check unit s k q c) refl q h (line-6 k q (found (lookup h s)) ∷ []) (c .exists) e
 
     module _ (m : Met) (e : find-object h s ≡ Found m) where

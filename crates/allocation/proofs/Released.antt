@@ -18,19 +18,19 @@ use Rattle.accounts.proofs.Laws.{found-first, refund-kept, refund-nothing}
 use Rattle.layout.specs.Bytes.{Octets}
 use Rattle.layout.specs.Blocks.{Block, size, live, render, AllWritable}
 use Rattle.layout.proofs.Parse.{parse-is}
-use Rattle.model.specs.Lists.{all, any, total, or-else}
+use Rattle.lists.specs.Lists.{all, any, total, or-else}
 use Rattle.model.specs.Answers.{amount-of}
 use Rattle.model.specs.Objects.{names, object, objects-from, objects, blocks-of, objects-of, lookup}
-use Rattle.model.specs.Consistent.{consistent, free-apart, has-serial, serials-differ, is-of, held}
+use Rattle.model.specs.Consistent.{accounted, free-apart, has-serial, serials-differ, is-of, held}
 use Rattle.model.specs.Holds.{count-of, with-count, less-one, lower-count}
-use Rattle.model.specs.Space.{settle}
+use Rattle.model.specs.Space.{settle, stays}
 use Rattle.model.specs.Calls.{given-back, released}
 use Rattle.model.specs.declared.Handle.{Handle}
-use Rattle.model.proofs.Bools.{and-left, and-right, or-neither, implies, implied}
-use Rattle.model.proofs.Lists.{first-some, all-member, member-all, all-append, getD-member}
+use Rattle.lists.proofs.Bools.{and-left, and-right, or-neither, implies, implied}
+use Rattle.lists.proofs.Lists.{first-some, all-member, member-all, all-append, getD-member}
 use Rattle.model.proofs.Blocks.{objects-live, objects-free, objects-append, live-occupied}
-use Rattle.model.proofs.Consistent.{Tests, tests-exactly, consistent-cut, consistent-apart, consistent-facts, is-for-exactly}
-use Rattle.model.proofs.Settle.{stays, stays-objects, settle-same, settle-one}
+use Rattle.model.proofs.Consistent.{Tests, tests-exactly, accounted-cut, accounted-apart, accounted-facts, is-for-exactly}
+use Rattle.model.proofs.Settle.{stays-objects, settle-same, settle-one}
 use Rattle.lookup.specs.declared.Met.{Met}
 use Rattle.lookup.specs.declared.Lookup.the-variants.{Found}
 use Rattle.lookup.specs.Walk.{object-met, find-object}
@@ -153,18 +153,18 @@ module _ (kind : ℕ) (bs : List Block) (w : AllWritable bs) (a : free-apart bs 
       still xs x o = stays-all hs hs′ xs x (other (t .block .serial)) o (λ b l p u. rw (f (b .serial) (not-true _ (implies (live b) _ p l))) u)
 
 -- a handle that names the object of the block m, in a heap and accounts that are consistent
-module _ (s : List ℕ) (k : Accounts) (o : Octets s) (ok : consistent s k ≡ true) (h : Handle) (m : Met) (e : find-object h s ≡ Found m) where
+module _ (s : List ℕ) (k : Accounts) (o : Octets s) (ok : accounted s k ≡ true) (h : Handle) (m : Met) (e : find-object h s ≡ Found m) where
   named : Named s (blocks-of s) h m
-  named = lookup-found s (blocks-of s) (consistent-cut s k ok .0) h m e
+  named = lookup-found s (blocks-of s) (accounted-cut s k ok .0) h m e
 
   tests : Tests (blocks-of s) k
-  tests = tests-exactly (blocks-of s) k .0 (consistent-cut s k ok .1)
+  tests = tests-exactly (blocks-of s) k .0 (accounted-cut s k ok .1)
 
   serial-is : named .stands .block .serial ≡ m .serial
   serial-is = sym (named .stands .serial)
 
   rendered : (render (blocks-of s) ≡ s) × AllWritable (blocks-of s)
-  rendered = parse-is s (blocks-of s) o .0 (consistent-cut s k ok .0)
+  rendered = parse-is s (blocks-of s) o .0 (accounted-cut s k ok .0)
 
   -- every live block is held, and no two free ones stand side by side
   all-stay : all (stays (k .holds)) (blocks-of s) ≡ true
@@ -172,7 +172,7 @@ module _ (s : List ℕ) (k : Accounts) (o : Octets s) (ok : consistent s k ≡ t
   all-stay = sym (stays-objects (k .holds) 0 (blocks-of s)) ∙ tests .recorded
 
   all-apart : free-apart (blocks-of s) ≡ true
-  all-apart = consistent-apart s k ok
+  all-apart = accounted-apart s k ok
 
   -- the block lies in the heap
   pub inside : length s ≤ 32768 → Inside m s
@@ -214,7 +214,7 @@ module _ (s : List ℕ) (k : Accounts) (o : Octets s) (ok : consistent s k ≡ t
     unfolding find-hold hold-at
     record-counts =
         let f = found-first (is-for (m .serial) q) (k .holds) i p in
-        consistent-facts s k ok .valid (getD (k .holds) i zero-hold) (getD-member zero-hold (k .holds) i (f .within))
+        accounted-facts s k ok .valid (getD (k .holds) i zero-hold) (getD-member zero-hold (k .holds) i (f .within))
         (is-for-exactly (m .serial) q (getD (k .holds) i zero-hold) .0 (f .passes) .0) .4
 
     lowered : lower-count (m .serial) q (k .holds) ≡ set (k .holds) i (less-one (hold-at i k))

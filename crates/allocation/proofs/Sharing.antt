@@ -13,12 +13,11 @@ use Rattle.accounts.specs.declared.Hold.{Hold}
 use Rattle.accounts.specs.declared.Place.the-variants.{At}
 use Rattle.accounts.specs.Accounts.{zero-hold, used, is-for, find-hold}
 use Rattle.accounts.proofs.Laws.{found-first}
-use Rattle.model.specs.Lists.{any}
-use Rattle.model.specs.Consistent.{consistent, is-of, held}
-use Rattle.model.proofs.Bools.{and-left, and-right}
-use Rattle.model.proofs.Consistent.{consistent-facts, is-for-exactly}
+use Rattle.lists.specs.Lists.{any}
+use Rattle.model.specs.Consistent.{accounted, is-of, held}
+use Rattle.lists.proofs.Bools.{and-left, and-right, by-eq}
+use Rattle.model.proofs.Consistent.{accounted-facts, is-for-exactly}
 use Rattle.allocation.proofs.Released.{zero-of}
-use Rattle.words.proofs.Words.{by-eq}
 use Rattle.survey.specs.Survey.{shares}
 
 -- tests that agree at each place
@@ -30,7 +29,7 @@ any-same p r [] (y ∷ ys) e f = absurd (omega arith)
 any-same p r (x ∷ xs) [] e f = absurd (omega arith)
 any-same p r (x ∷ xs) (y ∷ ys) e f = rw (f 0 (omega arith), any-same p r xs ys (omega arith) (λ j l. f (suc j) (omega arith)))
 
-module _ (s : List ℕ) (k : Accounts) (ok : consistent s k ≡ true) (t q i : ℕ) (p : find-hold t q k ≡ At i) where
+module _ (s : List ℕ) (k : Accounts) (ok : accounted s k ≡ true) (t q i : ℕ) (p : find-hold t q k ≡ At i) where
   abbrev at : ℕ → Hold
   at j = getD (k .holds) j zero-hold
 
@@ -54,10 +53,10 @@ module _ (s : List ℕ) (k : Accounts) (ok : consistent s k ≡ true) (t q i : �
       w = eqb-true (at j .serial) t (and-right (used (at j)) (eqb (at j .serial) t) e)
 
       go : (x : Bool) → ltb i j ≡ x → ⊥
-      go true x = consistent-facts s k ok .unique i j (ltb-true i j x) l (own .0) u (own .1 ∙ sym w) (own .2 ∙ sym f)
+      go true x = accounted-facts s k ok .unique i j (ltb-true i j x) l (own .0) u (own .1 ∙ sym w) (own .2 ∙ sym f)
       go false x =
           let b = ltb-false i j x in
-          consistent-facts s k ok .unique j i (omega (arith, b, d)) within u (own .0) (w ∙ sym (own .1)) (f ∙ sym (own .2))
+          accounted-facts s k ok .unique j i (omega (arith, b, d)) within u (own .0) (w ∙ sym (own .1)) (f ∙ sym (own .2))
 
   here : (j : ℕ) → j ≡ i → is-of t (getD (set (k .holds) i zero-hold) j zero-hold) ≡ shares t q (at j)
   unfolding shares

@@ -8,7 +8,7 @@ use Rattle.accounts.specs.declared.Accounts.{Accounts}
 use Rattle.accounts.specs.Accounts.{ALLOCATE, permits, lowest-unused}
 use Rattle.lookup.specs.declared.Met.{Met}
 use Rattle.lookup.specs.Walk.{fitted, find-fit}
-use Rattle.model.specs.Lists.{any}
+use Rattle.lists.specs.Lists.{any}
 use Rattle.model.specs.Refusals.{greatest-length}
 use Rattle.model.specs.declared.Handle.{Handle}
 use Rattle.model.specs.declared.Verdict.the-variants.{Accepted}

@@ -10,15 +10,15 @@ use Rattle.accounts.specs.declared.Place.the-variants.{At}
 use Rattle.lookup.specs.declared.Met.{Met}
 use Rattle.lookup.specs.declared.Lookup.the-variants.{Found}
 use Rattle.lookup.specs.Walk.{find-object}
-use Rattle.model.specs.Consistent.{allowed, consistent as is-consistent, sound as is-sound}
+use Rattle.model.specs.Consistent.{allowed, accounted as is-accounted, consistent as is-consistent}
 use Rattle.model.specs.Refusals.{greatest-length}
 use Rattle.model.specs.declared.Handle.{Handle}
 
--- lines 1 to 3 do not hold, with a table of units; what is sound is consistent
+-- lines 1 to 3 do not hold, with a table of units; what is consistent is accounted for
 pub record Checked (unit : ℕ → ℕ) (s : List ℕ) (k : Accounts) (q : ℕ) : Type 0 where
   pub extent : allowed (length s) ≡ true
-  pub consistent : is-consistent s k ≡ true
-  pub sound : is-sound unit s k ≡ true
+  pub accounted : is-accounted s k ≡ true
+  pub consistent : is-consistent unit s k ≡ true
   pub exists : q < QUOTAS
 
 -- nor do lines 12 and 4

@@ -1,4 +1,4 @@
--- The tests of `consistent-blocks` (rules 5.3 to 5.8) about objects, records and what the quotas owe, and how they go on from one object to the
+-- The tests of `accounted-blocks` (rules 5.3 to 5.8) about objects, records and what the quotas owe, and how they go on from one object to the
 -- others: they hold of a first object and the others exactly if its serial is given and held, the quotas can pay for it, and they hold of the others once
 -- its records are struck and it is paid for. With no object left, they hold exactly if no record is used and nothing is owed.
 use Prim.Native.Nat.{ℕ, _+_, _<_, _≤_}
@@ -14,12 +14,11 @@ use lib.ListN.{length, getD, getD-replicate, length-replicate}
 use Rattle.accounts.specs.declared.Hold.{Hold}
 use Rattle.accounts.specs.Accounts.{QUOTAS, used}
 use Rattle.model.specs.declared.Handle.{Handle}
-use Rattle.model.specs.Lists.{all, any, total}
+use Rattle.lists.specs.Lists.{all, any, total}
 use Rattle.model.specs.Consistent.{has-serial, serials-differ, serials-given, record-valid, records-differ, held, charge-of, has-record, charged-for, charges}
-use Rattle.model.proofs.Bools.{and-left, and-right, and-both}
+use Rattle.lists.proofs.Bools.{and-left, and-right, and-both, by-test}
 use Rattle.audit.specs.Keys.{well-formed, key-of, keys-of, Payment, pay, unpaid}
 use Rattle.audit.specs.Audit.{all-zero}
-use Rattle.audit.proofs.Cases.{by-test}
 use Rattle.audit.proofs.Tables.{all-at, all-places}
 use Rattle.audit.proofs.Records.{key-used}
 use Rattle.audit.proofs.Struck.{strike-holds, once-for, valid-struck, unique-struck, alone, recorded-kept, charges-kept}

@@ -1,8 +1,8 @@
--- The audit passes exactly if heap and accounts are consistent: `audit-is-consistent`.
+-- The audit passes exactly if heap and accounts account for each other (rules 5.1 to 5.8): `audit-is-accounted`.
 -- By induction on the blocks, the audit from a state on passes exactly if the blocks are well cut behind the block before and the tests of
 -- objects, records and debts hold of what is left (`audit-exactly`): a free block changes nothing but what the next one stands behind; a live block
 -- is the first object of `Agreement`. At the start the keys are all records' and a quota owes grant less remainder, so these tests are
--- `consistent-blocks`, together with what the tables alone must be: well-formed records, and no remainder above its grant.
+-- `accounted-blocks`, together with what the tables alone must be: well-formed records, and no remainder above its grant.
 use Prim.Native.Nat.{ℕ, _+_}
 use mathlib.Core.Path.{_≡_, refl, ap, sym, _∙_}
 use mathlib.Core.Bool.{Bool, true, false, not, cond, _&&_, true≢false, false≢true}
@@ -19,15 +19,14 @@ use Rattle.accounts.specs.declared.Accounts.{Accounts}
 use Rattle.accounts.specs.Accounts.{QUOTAS, zero-quota, used}
 use Rattle.layout.specs.Blocks.{Block, size, QUARANTINED, parse}
 use Rattle.model.specs.declared.Handle.{Handle}
-use Rattle.model.specs.Lists.{all, any}
+use Rattle.lists.specs.Lists.{all, any}
 use Rattle.model.specs.Objects.{object, objects-from, objects}
-use Rattle.model.specs.Consistent.{has-serial, record-valid, charge-of, consistent-blocks, consistent-parsed, consistent}
-use Rattle.model.proofs.Bools.{and-left, and-right, and-both, and-no, implies, implied}
-use Rattle.model.proofs.Lists.{all-member, member-all}
+use Rattle.model.specs.Consistent.{has-serial, record-valid, charge-of, accounted-blocks, accounted-parsed, accounted}
+use Rattle.lists.proofs.Bools.{and-left, and-right, and-both, and-no, implies, implied, by-eq, same-test}
+use Rattle.lists.proofs.Lists.{all-member, member-all}
 use Rattle.model.proofs.Consistent.{Tests, tests-exactly, balance-exactly}
 use Rattle.audit.specs.Keys.{well-formed, keys-of, strike, Payment, pay, unpaid}
 use Rattle.audit.specs.Audit.{owes, solvent, State, begin, visit, audit, audit-parsed, audited}
-use Rattle.audit.proofs.Cases.{by-eq, same-test}
 use Rattle.audit.proofs.Tables.{all-at, all-places}
 use Rattle.audit.proofs.Struck.{strike-holds, strike-well, strike-keys, struck-held}
 use Rattle.audit.proofs.Agreement.{Agrees, settles, first-agrees, agrees-first, agrees-none}
@@ -216,18 +215,18 @@ module _ (bs : List Block) (k : Accounts) (long : length (k .quotas) ≡ QUOTAS)
       )))
 
   -- the audit of blocks is the definition's test
-  pub audit-is-consistent : audited (some bs) k ≡ consistent-blocks bs k
-  audit-is-consistent =
-      same-test (audited (some bs) k) (consistent-blocks bs k)
+  pub audit-is-accounted : audited (some bs) k ≡ accounted-blocks bs k
+  audit-is-accounted =
+      same-test (audited (some bs) k) (accounted-blocks bs k)
       (λ e. tests-exactly bs k .1 (audited-tests e))
       (λ e. tests-audited (tests-exactly bs k .0 e))
 
 -- and of a heap
-parsed-is-consistent : (o : Option (List Block)) (k : Accounts) → length (k .quotas) ≡ QUOTAS → audited o k ≡ consistent-parsed o k
-unfolding audited audit-parsed consistent-parsed
-parsed-is-consistent none k long = and-no (all well-formed (k .holds)) _ (and-no (all solvent (k .quotas)) false refl)
-parsed-is-consistent (some bs) k long = audit-is-consistent bs k long
+parsed-is-accounted : (o : Option (List Block)) (k : Accounts) → length (k .quotas) ≡ QUOTAS → audited o k ≡ accounted-parsed o k
+unfolding audited audit-parsed accounted-parsed
+parsed-is-accounted none k long = and-no (all well-formed (k .holds)) _ (and-no (all solvent (k .quotas)) false refl)
+parsed-is-accounted (some bs) k long = audit-is-accounted bs k long
 
-pub audited-is-consistent : (s : List ℕ) (k : Accounts) → length (k .quotas) ≡ QUOTAS → audited (parse s) k ≡ consistent s k
-unfolding consistent
-audited-is-consistent s k long = parsed-is-consistent (parse s) k long
+pub audited-is-accounted : (s : List ℕ) (k : Accounts) → length (k .quotas) ≡ QUOTAS → audited (parse s) k ≡ accounted s k
+unfolding accounted
+audited-is-accounted s k long = parsed-is-accounted (parse s) k long

@@ -9,7 +9,7 @@ use native.Mathlib.Omega.{arith}
 use borrow.Author.Tests.{eq-eqb, ne-eqb, not-true}
 use lib.Dec.{eqb, leb}
 use Rattle.layout.specs.Blocks.{Block, size, QUARANTINED, live}
-use Rattle.model.specs.Lists.{all, any}
+use Rattle.lists.specs.Lists.{all, any}
 use Rattle.model.specs.Objects.{object, objects-from}
 use Rattle.model.specs.Consistent.{long-enough, starts-free, free-apart, well-cut, has-serial}
 use Rattle.model.proofs.Blocks.{live-occupied}

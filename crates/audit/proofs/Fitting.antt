@@ -12,12 +12,11 @@ use lib.ListN.{length}
 use Rattle.accounts.specs.declared.Accounts.{Accounts}
 use Rattle.accounts.specs.Accounts.{permissions, permissible}
 use Rattle.layout.specs.Blocks.{Block, size, QUARANTINED, in-front, parse}
-use Rattle.model.specs.Lists.{all, or-else}
+use Rattle.lists.specs.Lists.{all, or-else}
 use Rattle.model.specs.Objects.{object, objects-from, objects, blocks-of, objects-of}
-use Rattle.model.specs.Consistent.{fits-unit, in-units, in-kind, in-range, consistent-blocks, consistent-parsed, consistent, sound}
-use Rattle.model.proofs.Bools.{and-no}
+use Rattle.model.specs.Consistent.{fits-unit, in-units, in-kind, in-range, accounted-blocks, accounted-parsed, accounted, consistent}
+use Rattle.lists.proofs.Bools.{and-no, by-eq}
 use Rattle.audit.specs.Fitting.{fits-block, fitting}
-use Rattle.audit.proofs.Cases.{by-eq}
 
 -- a block's size is its object's length and the header; behind the header is the object's base
 own-length : (b : Block) → size b - 8 ≡ length (b .body)
@@ -46,11 +45,11 @@ fitting-front unit kind at b (some bs) =
     rw (ne-eqb (b .serial) 0 z, ne-eqb (b .serial) QUARANTINED y, own-length b, own-base at b)
     (and-assoc (fits-unit unit (at + 8) (length (b .body))) (all (in-units unit) (objects-from (at + size b) bs)) (all (in-kind kind) bs))))
 
--- the test of a heap and its permissions, where the numbers of the accounts are in range, is consistency with that
-pub fitting-sound : (unit : ℕ → ℕ) (s : List ℕ) (k : Accounts) → in-range k ≡ true
-    → (consistent s k && (fitting unit (k .kind) 0 (parse s) && all permissible (permissions k))) ≡ sound unit s k
-unfolding sound consistent consistent-parsed fitting objects-of objects blocks-of or-else
-fitting-sound unit s k e = rw e (go (parse s))
+-- the test of a heap and its permissions, where the numbers of the accounts are in range, is `accounted` with that
+pub fitting-consistent : (unit : ℕ → ℕ) (s : List ℕ) (k : Accounts) → in-range k ≡ true
+    → (accounted s k && (fitting unit (k .kind) 0 (parse s) && all permissible (permissions k))) ≡ consistent unit s k
+unfolding consistent accounted accounted-parsed fitting objects-of objects blocks-of or-else
+fitting-consistent unit s k e = rw e (go (parse s))
   where
     whole : (a d p : Bool) → ((a && d) && p) ≡ (a && (p && (d && true)))
     whole true true true = refl
@@ -59,20 +58,20 @@ fitting-sound unit s k e = rw e (go (parse s))
     whole true false false = refl
     whole false d p = refl
 
-    go : (o : Option (List Block)) → (consistent-parsed o k && (fitting unit (k .kind) 0 o && all permissible (permissions k)))
-        ≡ (consistent-parsed o k
+    go : (o : Option (List Block)) → (accounted-parsed o k && (fitting unit (k .kind) 0 o && all permissible (permissions k)))
+        ≡ (accounted-parsed o k
         && (all (in-units unit) (objects-from 0 (or-else [] o)) && (all permissible (permissions k) && (all (in-kind (k .kind)) (or-else [] o) && true))))
     go none = refl
     go (some bs) =
-        ap (λ (x : Bool). consistent-blocks bs k && x)
+        ap (λ (x : Bool). accounted-blocks bs k && x)
         (whole (all (in-units unit) (objects-from 0 bs)) (all (in-kind (k .kind)) bs) (all permissible (permissions k)))
 
--- where they are not, it is not sound
-pub unranged : (unit : ℕ → ℕ) (s : List ℕ) (k : Accounts) → in-range k ≡ false → sound unit s k ≡ false
-unfolding sound
+-- where they are not, it is not consistent
+pub unranged : (unit : ℕ → ℕ) (s : List ℕ) (k : Accounts) → in-range k ≡ false → consistent unit s k ≡ false
+unfolding consistent
 unranged unit s k e =
     rw e
-    (and-no (consistent s k) _
+    (and-no (accounted s k) _
     (and-no (all (in-units unit) (objects-of s)) _ (and-no (all permissible (permissions k)) _ (and-no (all (in-kind (k .kind)) (blocks-of s)) false refl))))
 
 -- where a length is a multiple of the unit, the base is one exactly if the end is

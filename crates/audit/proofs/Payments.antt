@@ -12,11 +12,10 @@ use lib.ListN.{length, getD, length-set}
 use lib.Seq.{getD-set-same, getD-set-other}
 use Rattle.accounts.specs.declared.Hold.{Hold}
 use Rattle.accounts.specs.Accounts.{QUOTAS, is-for}
-use Rattle.model.specs.Lists.{all, any}
+use Rattle.lists.specs.Lists.{all, any}
 use Rattle.model.specs.Consistent.{is-of, has-record}
-use Rattle.model.proofs.Bools.{and-left, and-right}
+use Rattle.lists.proofs.Bools.{and-left, and-right, by-test, by-eq}
 use Rattle.audit.specs.Keys.{well-formed, key-of, keys-of, quota-of, Payment, cannot-pay, pays, pay-one, pay}
-use Rattle.audit.proofs.Cases.{by-test, by-eq}
 use Rattle.audit.proofs.Records.{key-is-of, key-quota, well-quota}
 use Rattle.audit.proofs.Striking.{pay-none, can-pay, pay-cannot}
 use Rattle.audit.proofs.Struck.{once-for}

@@ -9,9 +9,8 @@ use lib.Dec.{eqb, leb, ltb}
 use Rattle.accounts.specs.declared.Hold.{Hold}
 use Rattle.accounts.specs.Accounts.{QUOTAS, used}
 use Rattle.model.specs.Consistent.{is-of}
-use Rattle.model.proofs.Bools.{and-left, and-right, implies}
+use Rattle.lists.proofs.Bools.{and-left, and-right, implies, by-test, same-test}
 use Rattle.audit.specs.Keys.{well-formed, key-of, serial-of, quota-of, for-serial}
-use Rattle.audit.proofs.Cases.{by-test, same-test}
 
 -- what is left to test of a record without a serial, and of one with a serial
 pub well-blank : (h : Hold) → h .serial ≡ 0 → well-formed h ≡ (eqb (h .quota) 0 && eqb (h .count) 0)

@@ -9,7 +9,7 @@ use borrow.Author.Tests.{eq-eqb, ne-eqb, eqb-true, lt-ltb, le-ltb, ltb-false, no
 use lib.Dec.{eqb, ltb}
 use lib.ListN.{length, getD, drop, set, drop-of-length-le, length-map}
 use lib.Seq.{drop-cons}
-use Rattle.model.proofs.Bools.{or-right, or-neither}
+use Rattle.lists.proofs.Bools.{or-right, or-neither}
 use Rattle.audit.specs.Keys.{serial-of, quota-of, for-serial, strike, struck, Payment, cannot-pay, pays, pay-one, pay}
 
 -- a serial that is not 0 is no key 0's

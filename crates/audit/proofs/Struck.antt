@@ -1,5 +1,5 @@
 -- Records of one serial that are struck, that is, set to zero: what is said of other serials stays, and nothing of that serial is left. So the tests
--- of `consistent-blocks` about records and objects hold of a table exactly if they hold of its first object and, for the other objects, of the table
+-- of `accounted-blocks` about records and objects hold of a table exactly if they hold of its first object and, for the other objects, of the table
 -- with that object's records struck.
 use Prim.Native.Nat.{ℕ, suc}
 use mathlib.Core.Path.{_≡_, refl, ap, sym, _∙_}
@@ -11,13 +11,12 @@ use lib.Dec.{eqb}
 use Rattle.accounts.specs.declared.Hold.{Hold}
 use Rattle.accounts.specs.Accounts.{QUOTAS, zero-hold, used, is-for}
 use Rattle.model.specs.declared.Handle.{Handle}
-use Rattle.model.specs.Lists.{all, any, total}
+use Rattle.lists.specs.Lists.{all, any, total}
 use Rattle.model.specs.Consistent.{has-serial, record-valid, records-differ, is-of, held, has-record, charged-for, charges}
-use Rattle.model.proofs.Bools.{and-left, and-right, and-both, or-neither, fails}
-use Rattle.model.proofs.Lists.{all-member, any-member}
+use Rattle.lists.proofs.Bools.{and-left, and-right, and-both, or-neither, fails, by-test}
+use Rattle.lists.proofs.Lists.{all-member, any-member}
 use Rattle.model.proofs.Consistent.{is-of-exactly, is-for-exactly}
 use Rattle.audit.specs.Keys.{well-formed, key-of, keys-of, strike, struck}
-use Rattle.audit.proofs.Cases.{by-test}
 use Rattle.audit.proofs.Records.{well-used, key-is-of}
 
 abbrev pub strike-hold : ℕ → Hold → Hold

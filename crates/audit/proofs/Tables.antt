@@ -13,11 +13,10 @@ use lib.ListN.{length, getD, drop, set, drop-of-length-le, length-map, List·get
 use lib.Seq.{drop-cons, getD-set-same, getD-set-other, ext-getD}
 use Rattle.accounts.specs.declared.Quota.{Quota}
 use Rattle.accounts.specs.Accounts.{zero-quota}
-use Rattle.model.specs.Lists.{all}
-use Rattle.model.proofs.Bools.{and-left, and-right, and-both, fails}
-use Rattle.model.proofs.Lists.{all-member, getD-member}
+use Rattle.lists.specs.Lists.{all}
+use Rattle.lists.proofs.Bools.{and-left, and-right, and-both, fails, same-test}
+use Rattle.lists.proofs.Lists.{all-member, getD-member}
 use Rattle.audit.specs.Audit.{owes, all-zero}
-use Rattle.audit.proofs.Cases.{same-test}
 
 module _ {A : Type 0} (p : A → Bool) (d : A) where
   pub all-places : (xs : List A) → ((j : ℕ) → j < length xs → p (getD xs j d) ≡ true) → all p xs ≡ true

@@ -9,7 +9,7 @@ use Rattle.accounts.specs.declared.Quota.{Quota}
 use Rattle.accounts.specs.declared.Accounts.{Accounts}
 use Rattle.accounts.specs.Accounts.{permissible}
 use Rattle.layout.specs.Blocks.{Block, size, QUARANTINED}
-use Rattle.model.specs.Lists.{all}
+use Rattle.lists.specs.Lists.{all}
 use Rattle.audit.specs.Keys.{well-formed, keys-of, strike, struck, Payment, pay, unpaid}
 
 -- what a quota owes is grant less remainder; a remainder is at most its grant

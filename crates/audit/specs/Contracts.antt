@@ -8,7 +8,7 @@ use mathlib.Core.Logic.{_⊎_}
 use lib.ListN.{length, getD, set}
 use Rattle.accounts.specs.declared.Quota.{Quota}
 use Rattle.accounts.specs.Accounts.{QUOTAS}
-use Rattle.model.specs.Lists.{all}
+use Rattle.lists.specs.Lists.{all}
 use Rattle.audit.specs.Keys.{strike, struck, Payment, pay, unpaid}
 use Rattle.audit.specs.Audit.{owes, entry-valid, begin, settled}
 

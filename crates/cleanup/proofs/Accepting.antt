@@ -6,14 +6,14 @@ use mathlib.Core.Bool.{true}
 use borrow.Author.Tests.{eqb-true}
 use Rattle.accounts.specs.declared.Accounts.{Accounts}
 use Rattle.layout.specs.Blocks.{Block, render}
-use Rattle.model.specs.Lists.{all}
+use Rattle.lists.specs.Lists.{all}
 use Rattle.model.specs.Objects.{blocks-of}
 use Rattle.model.specs.Calls.{Outcome, State, state-of, released, release}
 use Rattle.model.specs.declared.Handle.{Handle}
-use Rattle.model.proofs.Bools.{and-left}
+use Rattle.lists.proofs.Bools.{and-left}
 use Rattle.invariant.proofs.Good.{Good}
 use Rattle.invariant.proofs.Heaps.{good-heap, heap-again}
-use Rattle.invariant.proofs.Releasing.{Possible, Fitting, possible-good, possible-fitting, does, did, did-good, did-fitting, did-consistent}
+use Rattle.invariant.proofs.Releasing.{Possible, Fitting, possible-good, possible-fitting, does, did, did-good, did-fitting, did-accounted}
 use Rattle.cleanup.specs.Releases.{Drop, Answered, Cleaned, cleaned, accepted-throughout, Fits}
 use Rattle.cleanup.proofs.Exchange.{answer}
 
@@ -23,7 +23,7 @@ behind a c = record { heap = c .heap; accounts = c .accounts; answers = a ∷ c 
 
 module _ (unit : ℕ → ℕ) where
   -- a good state whose objects fit their units, with permissions that are such
-  pub record Sound (t : State) : Type 0 where
+  pub record Consistent (t : State) : Type 0 where
     pub good : Good t
     pub fitting : Fitting unit t
 
@@ -34,10 +34,10 @@ module _ (unit : ℕ → ℕ) where
   abbrev pub Accepted : List Drop → State → Type 0
   Accepted ds t = accepted-throughout (after ds t .answers) ≡ true
 
-  module _ (t : State) (g : Sound t) (d : Drop) (o : Handle) (p : Possible (d .quota) (d .handle) o t) where
+  module _ (t : State) (g : Consistent t) (d : Drop) (o : Handle) (p : Possible (d .quota) (d .handle) o t) where
     -- a release that is possible leaves such a state
-    pub next-sound : Sound (released (d .quota) o t)
-    next-sound =
+    pub next-consistent : Consistent (released (d .quota) o t)
+    next-consistent =
         record {
           good = possible-good (d .quota) (d .handle) o t (g .good) p;
           fitting = possible-fitting (d .quota) (d .handle) o t (g .good) p unit (g .fitting);
@@ -61,7 +61,7 @@ module _ (unit : ℕ → ℕ) where
     first-accepted ds e = rw (after-first ds) e
 
   -- the first of a list that is accepted throughout is possible
-  pub first-possible : (t : State) → Sound t → (d : Drop) (ds : List Drop) → Accepted (d ∷ ds) t → (o : Handle) × Possible (d .quota) (d .handle) o t
+  pub first-possible : (t : State) → Consistent t → (d : Drop) (ds : List Drop) → Accepted (d ∷ ds) t → (o : Handle) × Possible (d .quota) (d .handle) o t
   unfolding cleaned accepted-throughout all
   first-possible t g d ds e =
       let r = did unit (render (t .blocks)) (t .accounts) (d .quota) (d .handle) (eqb-true _ 0 (and-left _ _ e)) in
@@ -75,12 +75,12 @@ module _ (unit : ℕ → ℕ) where
     unfolding cleaned accepted-throughout all
     taken = eqb-true _ 0 (and-left _ _ e)
 
-    pub begins-sound : Sound (state-of s k)
-    begins-sound =
+    pub begins-consistent : Consistent (state-of s k)
+    begins-consistent =
         record {
           good = did-good unit s k (d .quota) (d .handle) taken (f .octets) (f .quotas) (f .narrow);
           fitting = did-fitting unit s k (d .quota) (d .handle) taken;
         }
 
     pub begins-again : render (blocks-of s) ≡ s
-    begins-again = heap-again s k (f .octets) (did-consistent unit s k (d .quota) (d .handle) taken)
+    begins-again = heap-again s k (f .octets) (did-accounted unit s k (d .quota) (d .handle) taken)

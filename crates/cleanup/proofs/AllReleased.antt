@@ -14,21 +14,21 @@ use borrow.Author.Tests.{eqb-true, eq-eqb, not-true}
 use Rattle.accounts.specs.declared.Hold.{Hold}
 use Rattle.accounts.specs.declared.Accounts.{Accounts}
 use Rattle.accounts.specs.Accounts.{QUOTAS, used, record-of}
-use Rattle.model.specs.Lists.{all, any, total}
+use Rattle.lists.specs.Lists.{all, any, total}
 use Rattle.model.specs.Objects.{objects, objects-of}
 use Rattle.model.specs.Consistent.{has-serial, serials-differ}
 use Rattle.model.specs.Holds.{count-of}
 use Rattle.model.specs.Calls.{State, state-of, free-all, release}
 use Rattle.model.specs.declared.Handle.{Handle}
-use Rattle.model.proofs.Bools.{and-left, and-right}
-use Rattle.model.proofs.Lists.{total-append, member-all, none-exactly}
+use Rattle.lists.proofs.Bools.{and-left, and-right}
+use Rattle.lists.proofs.Lists.{total-append, member-all, none-exactly}
 use Rattle.invariant.proofs.Heaps.{good-ordered}
 use Rattle.invariant.proofs.Counts.{ordered-member, count-member}
 use Rattle.invariant.proofs.Recorded.{good-recorded}
 use Rattle.cleanup.specs.Releases.{Drop, cleaned, accepted-throughout, Fits}
 use Rattle.cleanup.specs.FreeAll.{all-for, AsFreeAll, releases-of, AllReleased}
 use Rattle.cleanup.proofs.Answers.{permuted-sum}
-use Rattle.cleanup.proofs.Accepting.{Sound, after, Accepted}
+use Rattle.cleanup.proofs.Accepting.{Consistent, after, Accepted}
 use Rattle.cleanup.proofs.Permuted.{any-order-by}
 use Rattle.cleanup.proofs.Drained.{ends, again, begun, exists, freed-by}
 use Rattle.cleanup.proofs.Enough.{one, times, Enough, enough-accepted, enough-counts}
@@ -97,7 +97,7 @@ module _ (q : ℕ) (hs : List Hold) where
       go false true e f a b = ap (λ (n : ℕ). n + times serial j (releases-of q hs os)) a ∙ zero-add _ ∙ b
       go false false e f a b = omega (arith, a, b)
 
-module _ (unit : ℕ → ℕ) (q : ℕ) (t : State) (g : Sound unit t) (there : q < QUOTAS) where
+module _ (unit : ℕ → ℕ) (q : ℕ) (t : State) (g : Consistent unit t) (there : q < QUOTAS) where
   abbrev everything : List Drop
   everything = releases-of q (t .accounts .holds) (objects (t .blocks))
 

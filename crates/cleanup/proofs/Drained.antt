@@ -14,19 +14,19 @@ use Rattle.accounts.specs.declared.Accounts.{Accounts}
 use Rattle.accounts.specs.Accounts.{QUOTAS, used, is-for, remaining, record-of, dropped, drop-records}
 use Rattle.accounts.proofs.Laws.{refund-but, refund-kept}
 use Rattle.layout.specs.Blocks.{render}
-use Rattle.model.specs.Lists.{any, all, total, change-first}
+use Rattle.lists.specs.Lists.{any, all, total, change-first}
 use Rattle.model.specs.Answers.{amount-of}
 use Rattle.model.specs.Objects.{blocks-of, objects, objects-of}
-use Rattle.model.specs.Consistent.{allowed, consistent, sound, held, charges, long-enough, free-apart, well-cut}
+use Rattle.model.specs.Consistent.{allowed, accounted, consistent, held, charges, long-enough, free-apart, well-cut}
 use Rattle.model.specs.Space.{settle}
 use Rattle.model.specs.Holds.{with-count, less-one, lower-count}
-use Rattle.model.specs.Refusals.{line-holds, line-1, line-2, free-all-lines}
+use Rattle.model.specs.Refusals.{line-holds, line-1, line-2, free-all-lines, row-lines}
 use Rattle.model.specs.Calls.{State, leaves, unless, state-of, given-back, released, freed, free-all, release}
 use Rattle.model.specs.Step.{step}
 use Rattle.model.specs.declared.Handle.{Handle}
 use Rattle.model.specs.declared.Call.the-variants.{FreeAll}
-use Rattle.model.proofs.Bools.{and-left, and-right, and-both, or-neither}
-use Rattle.model.proofs.Consistent.{is-for-exactly, sound-consistent, sound-range, range-serial}
+use Rattle.lists.proofs.Bools.{and-left, and-right, and-both, or-neither}
+use Rattle.model.proofs.Consistent.{is-for-exactly, consistent-accounted, consistent-range, range-serial}
 use Rattle.model.proofs.Settle.{stays-objects, settle-same, settle-twice, drop-none}
 use Rattle.model.proofs.Refusals.{by-lines, refusal-of-lines, call-accepted-exactly}
 use Rattle.invariant.proofs.Good.{Good}
@@ -34,13 +34,13 @@ use Rattle.invariant.proofs.Heaps.{heap-good, heap-again}
 use Rattle.invariant.proofs.Counts.{counted-used}
 use Rattle.invariant.proofs.Passed.{free-all-passed}
 use Rattle.invariant.proofs.Settled.{released-paid, freed-paid, freed-good}
-use Rattle.invariant.proofs.Releasing.{Possible, possible-there, sound-fitting}
+use Rattle.invariant.proofs.Releasing.{Possible, possible-there, consistent-fitting}
 use Rattle.cleanup.specs.Releases.{Drop, Cleaned, cleaned, accepted-throughout, Fits}
 use Rattle.cleanup.specs.FreeAll.{all-for, sum-of, AsFreeAll, FreeAllByReleases}
 use Rattle.cleanup.proofs.Lowering.{lowered-held}
 use Rattle.cleanup.proofs.Balance.{but-remainders, same-state, released-holds, released-blocks, released-but, released-last, released-kind}
 use Rattle.cleanup.proofs.Balance.{released-edition}
-use Rattle.cleanup.proofs.Accepting.{Sound, after, Accepted, next-sound, after-first, rest-accepted, first-possible}
+use Rattle.cleanup.proofs.Accepting.{Consistent, after, Accepted, next-consistent, after-first, rest-accepted, first-possible}
 
 -- a used record with one hold less is of zeros or still used
 less-dropped : (q : ℕ) (h : Hold) → record-of q h ≡ true → dropped q (less-one h) ≡ dropped q h
@@ -93,7 +93,7 @@ module _ (unit : ℕ → ℕ) (q : ℕ) where
       (and-right (all long-enough (t .blocks)) (free-apart (t .blocks)) (g .tests .cut)))
 
   -- a release that is possible, in front of a list
-  module _ (t : State) (g : Sound unit t) (d : Drop) (o : Handle) (p : Possible (d .quota) (d .handle) o t) (here : d .quota ≡ q) (ds : List Drop)
+  module _ (t : State) (g : Consistent unit t) (d : Drop) (o : Handle) (p : Possible (d .quota) (d .handle) o t) (here : d .quota ≡ q) (ds : List Drop)
       (e : Ends ds (released (d .quota) o t)) where
     abbrev left : List Hold
     left = lower-count (o .serial) (d .quota) (t .accounts .holds)
@@ -135,7 +135,7 @@ module _ (unit : ℕ → ℕ) (q : ℕ) where
           paid = omega (arith, e .paid, repaid, summed);
         }
 
-  pub ends : (ds : List Drop) (t : State) → Sound unit t → Accepted unit ds t → all-for q ds ≡ true → Ends ds t
+  pub ends : (ds : List Drop) (t : State) → Consistent unit t → Accepted unit ds t → all-for q ds ≡ true → Ends ds t
   unfolding cleaned sum-of total all-for all
   ends [] t g a f =
       record {
@@ -155,11 +155,11 @@ module _ (unit : ℕ → ℕ) (q : ℕ) where
   ends (d ∷ ds) t g a f =
       let r = first-possible unit t g d ds a in
       ends-behind t g d (r .0) (r .1) (eqb-true (d .quota) q (and-left _ _ f)) ds
-      (ends ds (released (d .quota) (r .0) t) (next-sound unit t g d (r .0) (r .1)) (rest-accepted unit t g d (r .0) (r .1) ds a)
+      (ends ds (released (d .quota) (r .0) t) (next-consistent unit t g d (r .0) (r .1)) (rest-accepted unit t g d (r .0) (r .1) ds a)
       (and-right (eqb (d .quota) q) _ f))
 
   -- with no record left that is where free-all ends
-  module _ (ds : List Drop) (t : State) (g : Sound unit t) (exists : q < QUOTAS) (a : Accepted unit ds t) (f : all-for q ds ≡ true)
+  module _ (ds : List Drop) (t : State) (g : Consistent unit t) (exists : q < QUOTAS) (a : Accepted unit ds t) (f : all-for q ds ≡ true)
       (none : any (record-of q) (after unit ds t .accounts .holds) ≡ false) where
     end : Ends ds t
     end = ends ds t g a f
@@ -196,25 +196,25 @@ module _ (unit : ℕ → ℕ) (q : ℕ) where
     unfolding step
     none-holds = call-accepted-exactly unit (FreeAll q) s k .0 e
 
-    checked : (allowed (length s) ≡ true) × (sound unit s k ≡ true)
-    unfolding free-all-lines any line-1 line-2
+    checked : (allowed (length s) ≡ true) × (consistent unit s k ≡ true)
+    unfolding row-lines any line-1 line-2
     checked =
         let x = or-neither (not (allowed (length s))) _ none-holds in
-        let y = or-neither (not (sound unit s k)) _ (x .1) in
-        (not-false (allowed (length s)) (x .0), not-false (sound unit s k) (y .0))
+        let y = or-neither (not (consistent unit s k)) _ (x .1) in
+        (not-false (allowed (length s)) (x .0), not-false (consistent unit s k) (y .0))
 
-    whole : consistent s k ≡ true
-    whole = sound-consistent unit s k (checked .1)
+    whole : accounted s k ≡ true
+    whole = consistent-accounted unit s k (checked .1)
 
     pub again : render (blocks-of s) ≡ s
     again = heap-again s k (fits .octets) whole
 
-    pub begun : Sound unit (state-of s k)
+    pub begun : Consistent unit (state-of s k)
     begun =
         let e = checked .1 in
         record {
-          good = heap-good s k (checked .0) (fits .octets) whole (fits .quotas) (fits .narrow) (range-serial k (sound-range unit s k e));
-          fitting = sound-fitting unit s k e;
+          good = heap-good s k (checked .0) (fits .octets) whole (fits .quotas) (fits .narrow) (range-serial k (consistent-range unit s k e));
+          fitting = consistent-fitting unit s k e;
         }
 
     pub exists : q < QUOTAS

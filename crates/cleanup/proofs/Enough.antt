@@ -8,7 +8,7 @@ use mathlib.Core.Bool.{Bool, true, false, cond, _&&_}
 use mathlib.Core.Logic.{_⊎_, inl, inr}
 use lib.Dec.{eqb}
 use Rattle.accounts.specs.Accounts.{QUOTAS}
-use Rattle.model.specs.Lists.{all, total}
+use Rattle.lists.specs.Lists.{all, total}
 use Rattle.model.specs.Objects.{objects}
 use Rattle.model.specs.Holds.{count-of, lower-count}
 use Rattle.model.specs.Calls.{State, released}
@@ -22,7 +22,7 @@ use Rattle.invariant.proofs.Releasing.{Possible}
 use Rattle.cleanup.specs.Releases.{Drop, Cleaned, cleaned, accepted-throughout}
 use Rattle.cleanup.proofs.Finding.{itself-found}
 use Rattle.cleanup.proofs.Balance.{released-holds}
-use Rattle.cleanup.proofs.Accepting.{Sound, after, Accepted, next-sound, after-first, first-accepted}
+use Rattle.cleanup.proofs.Accepting.{Consistent, after, Accepted, next-consistent, after-first, first-accepted}
 
 -- whether a release is of this object and this quota, as 1 or 0; and how many of a list are
 unfoldable pub one : ℕ → ℕ → Drop → ℕ
@@ -52,7 +52,7 @@ pub record Enough (ds : List Drop) (t : State) : Type 0 where
   pub held : (serial q : ℕ) → times serial q ds ≤ count-of serial q (t .accounts .holds)
 
 module _ (unit : ℕ → ℕ) where
-  module _ (t : State) (g : Sound unit t) (d : Drop) (ds : List Drop) (e : Enough (d ∷ ds) t) where
+  module _ (t : State) (g : Consistent unit t) (d : Drop) (ds : List Drop) (e : Enough (d ∷ ds) t) where
     -- the first is possible
     first-can : Possible (d .quota) (d .handle) (d .handle) t
     first-can =
@@ -77,8 +77,8 @@ module _ (unit : ℕ → ℕ) where
         go true = refl
         go false = omega arith
 
-    next : Sound unit (released (d .quota) (d .handle) t)
-    next = next-sound unit t g d (d .handle) first-can
+    next : Consistent unit (released (d .quota) (d .handle) t)
+    next = next-consistent unit t g d (d .handle) first-can
 
     still : (serial q : ℕ) → times serial q ds ≤ count-of serial q (released (d .quota) (d .handle) t .accounts .holds)
     unfolding times total
@@ -105,7 +105,7 @@ module _ (unit : ℕ → ℕ) where
             (held-counted (u .accounts .holds) (good-ordered u (next .good)) (x .handle .serial) .1 (x .quota, p))
 
   -- so all are accepted
-  pub enough-accepted : (ds : List Drop) (t : State) → Sound unit t → Enough ds t → Accepted unit ds t
+  pub enough-accepted : (ds : List Drop) (t : State) → Consistent unit t → Enough ds t → Accepted unit ds t
   unfolding cleaned accepted-throughout all
   enough-accepted [] t g e = refl
   enough-accepted (d ∷ ds) t g e =
@@ -113,7 +113,7 @@ module _ (unit : ℕ → ℕ) where
       (enough-accepted ds (released (d .quota) (d .handle) t) (next t g d ds e) (rest-enough t g d ds e))
 
   -- and leave each count so much lower
-  pub enough-counts : (ds : List Drop) (t : State) → Sound unit t → Enough ds t → (serial q : ℕ)
+  pub enough-counts : (ds : List Drop) (t : State) → Consistent unit t → Enough ds t → (serial q : ℕ)
       → count-of serial q (after unit ds t .accounts .holds) ≡ count-of serial q (t .accounts .holds) - times serial q ds
   unfolding cleaned times total
   enough-counts [] t g e serial q = omega arith

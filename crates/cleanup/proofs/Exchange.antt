@@ -16,7 +16,7 @@ use Rattle.model.specs.Space.{settle}
 use Rattle.model.specs.Holds.{count-of, lower-count}
 use Rattle.model.specs.Calls.{State, given-back, released}
 use Rattle.model.specs.declared.Handle.{Handle}
-use Rattle.model.proofs.Bools.{and-left, and-right, and-both, fails}
+use Rattle.lists.proofs.Bools.{and-left, and-right, and-both, fails}
 use Rattle.model.proofs.Lookup.{same-serial}
 use Rattle.model.proofs.Settle.{object-held, settle-twice}
 use Rattle.invariant.proofs.Good.{Good}

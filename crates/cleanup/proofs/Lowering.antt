@@ -11,10 +11,10 @@ use lib.Dec.{eqb}
 use borrow.Author.Tests.{eq-eqb}
 use Rattle.accounts.specs.declared.Hold.{Hold}
 use Rattle.accounts.specs.Accounts.{used, is-for}
-use Rattle.model.specs.Lists.{any, change-first}
+use Rattle.lists.specs.Lists.{any, change-first}
 use Rattle.model.specs.Consistent.{is-of, held, has-record}
 use Rattle.model.specs.Holds.{with-count, less-one, lower-count}
-use Rattle.model.proofs.Bools.{and-both, or-cases, or-left, or-right, fails}
+use Rattle.lists.proofs.Bools.{and-both, or-cases, or-left, or-right, fails}
 use Rattle.model.proofs.Consistent.{is-of-exactly, is-for-exactly}
 use Rattle.invariant.proofs.Counts.{counted-used}
 use Rattle.cleanup.proofs.Rows

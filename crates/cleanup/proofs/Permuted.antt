@@ -7,11 +7,12 @@ use mathlib.Core.List.{List, [], _∷_, List·Permᴰ, List·Permᴰ·nil, List�
 use mathlib.Core.Bool.{true}
 use Rattle.accounts.specs.declared.Accounts.{Accounts}
 use Rattle.layout.specs.Blocks.{render}
-use Rattle.model.specs.Lists.{all}
+use Rattle.lists.specs.Lists.{all}
 use Rattle.model.specs.Calls.{State, state-of, released, release}
 use Rattle.cleanup.specs.Releases.{Drop, cleaned, accepted-throughout, Fits, SameCleanup, AnyOrder}
 use Rattle.cleanup.proofs.Exchange.{answer, exchanged}
-use Rattle.cleanup.proofs.Accepting.{Sound, after, Accepted, behind, next-sound, after-first, first-possible, rest-accepted, begins-sound, begins-again}
+use Rattle.cleanup.proofs.Accepting.{Consistent, after, Accepted, behind, next-consistent, after-first, first-possible, rest-accepted}
+use Rattle.cleanup.proofs.Accepting.{begins-consistent, begins-again}
 
 module _ (unit : ℕ → ℕ) where
   -- the claim, of a good state
@@ -23,13 +24,13 @@ module _ (unit : ℕ → ℕ) where
   itself ds t e = record { accepted = e; heap = refl; accounts = refl; answers = Permᴰ·refl _ }
 
   -- lists that do the same still do behind a release
-  same-behind : (t : State) → Sound unit t → (d : Drop) (ds es : List Drop) → Accepted unit (d ∷ ds) t
-      → ((u : State) → Sound unit u → Accepted unit ds u → Same ds es u)
+  same-behind : (t : State) → Consistent unit t → (d : Drop) (ds es : List Drop) → Accepted unit (d ∷ ds) t
+      → ((u : State) → Consistent unit u → Accepted unit ds u → Same ds es u)
       → Same (d ∷ ds) (d ∷ es) t
   unfolding accepted-throughout all
   same-behind t g d ds es e f =
       let r = first-possible unit t g d ds e in
-      let s = f (released (d .quota) (r .0) t) (next-sound unit t g d (r .0) (r .1)) (rest-accepted unit t g d (r .0) (r .1) ds e) in
+      let s = f (released (d .quota) (r .0) t) (next-consistent unit t g d (r .0) (r .1)) (rest-accepted unit t g d (r .0) (r .1) ds e) in
       let x = after-first unit t g d (r .0) (r .1) ds in
       let y = after-first unit t g d (r .0) (r .1) es in
       record {
@@ -40,17 +41,17 @@ module _ (unit : ℕ → ℕ) where
       }
 
   -- two neighbours are exchanged
-  same-exchanged : (t : State) → Sound unit t → (d e : Drop) (ds : List Drop) → Accepted unit (d ∷ e ∷ ds) t → Same (d ∷ e ∷ ds) (e ∷ d ∷ ds) t
+  same-exchanged : (t : State) → Consistent unit t → (d e : Drop) (ds : List Drop) → Accepted unit (d ∷ e ∷ ds) t → Same (d ∷ e ∷ ds) (e ∷ d ∷ ds) t
   unfolding accepted-throughout all
   same-exchanged t g d e ds a =
       let r = first-possible unit t g d (e ∷ ds) a in
       let u = released (d .quota) (r .0) t in
-      let gu = next-sound unit t g d (r .0) (r .1) in
+      let gu = next-consistent unit t g d (r .0) (r .1) in
       let au = rest-accepted unit t g d (r .0) (r .1) (e ∷ ds) a in
       let q = first-possible unit u gu e ds au in
       let x = exchanged t (g .good) d e (r .0) (q .0) (r .1) (q .1) in
       let v = released (e .quota) (q .0) t in
-      let gv = next-sound unit t g e (q .0) (x .before) in
+      let gv = next-consistent unit t g e (q .0) (x .before) in
       let done = after unit ds (released (e .quota) (q .0) u) in
       let one : after unit (d ∷ e ∷ ds) t ≡ behind (answer (d .quota) (r .0) t) (behind (answer (e .quota) (q .0) u) done) =
       after-first unit t g d (r .0) (r .1) (e ∷ ds) ∙ ap (behind (answer (d .quota) (r .0) t)) (after-first unit u gu e (q .0) (q .1) ds) in
@@ -65,7 +66,7 @@ module _ (unit : ℕ → ℕ) where
       }
 
   -- so every permutation does the same
-  permuted : {ds es : List Drop} → List·Permᴰ ds es → (t : State) → Sound unit t → Accepted unit ds t → Same ds es t
+  permuted : {ds es : List Drop} → List·Permᴰ ds es → (t : State) → Consistent unit t → Accepted unit ds t → Same ds es t
   permuted List·Permᴰ·nil t g a = itself [] t a
   permuted (List·Permᴰ·cons {a = d} {l₁ = ds} {l₂ = es} e p) t g a =
       subst (λ (x : Drop). Same (d ∷ ds) (x ∷ es) t) e (same-behind t g d ds es a (permuted p))
@@ -85,7 +86,7 @@ module _ (unit : ℕ → ℕ) where
   same-in-any [] (e ∷ es) p s k f a = absurd (cons≢nil (sym (Perm·nil-eq ∣ p ∣₁)))
   same-in-any (d ∷ ds) es p s k f a =
       let same = begins-again unit d ds s k f a in
-      subst (λ (x : List ℕ). SameCleanup (release unit) (d ∷ ds) es x k) same (permuted p (state-of s k) (begins-sound unit d ds s k f a) (rw same a))
+      subst (λ (x : List ℕ). SameCleanup (release unit) (d ∷ ds) es x k) same (permuted p (state-of s k) (begins-consistent unit d ds s k f a) (rw same a))
 
   -- so of a list whose releases all go by one table
   pub any-order-by : AnyOrder (release unit)

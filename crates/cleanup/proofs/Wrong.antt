@@ -11,11 +11,11 @@ use Rattle.accounts.specs.declared.Quota.{Quota}
 use Rattle.accounts.specs.declared.Accounts.{Accounts}
 use Rattle.accounts.specs.Accounts.{QUOTAS, zero-quota, zero-hold, remaining}
 use Rattle.rounding.specs.Rounding.{unit}
-use Rattle.model.specs.Lists.{all}
+use Rattle.lists.specs.Lists.{all}
 use Rattle.model.specs.Calls.{Outcome, allocate}
 use Rattle.model.specs.Cases.{opened-heap}
 use Rattle.model.specs.Quarantine.{waiting-heap}
-use Rattle.model.proofs.Bools.{and-left, and-right}
+use Rattle.lists.proofs.Bools.{and-left, and-right}
 use Rattle.model.proofs.Computing.{computing}
 use Rattle.cleanup.specs.Releases.{Run, own-release, Drop, cleaned, accepted-throughout, Fits}
 use Rattle.cleanup.specs.Releases.{SameCleanup, AnyOrder}
@@ -123,7 +123,7 @@ refuted-sweeps-first a =
     omega arith
 
 -- an object of 4,096 bytes at 8, which edition 2 would not place there, and one of 8 bytes: released first, the short
--- one leaves a heap that is not sound by edition 2
+-- one leaves a heap that is not consistent by edition 2
 made-long : Outcome
 made-long =
     let a = opened-heap 4120 5000 0 in

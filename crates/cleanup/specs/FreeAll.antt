@@ -9,7 +9,7 @@ use Rattle.accounts.specs.declared.Hold.{Hold}
 use Rattle.accounts.specs.declared.Accounts.{Accounts}
 use Rattle.accounts.specs.Accounts.{record-of}
 use Rattle.rounding.specs.Rounding.{table}
-use Rattle.model.specs.Lists.{all, any, total}
+use Rattle.lists.specs.Lists.{all, any, total}
 use Rattle.model.specs.Objects.{objects-of}
 use Rattle.model.specs.Holds.{count-of}
 use Rattle.model.specs.Calls.{Outcome, free-all}

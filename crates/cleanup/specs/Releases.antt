@@ -9,7 +9,7 @@ use Rattle.accounts.specs.declared.Accounts.{Accounts}
 use Rattle.accounts.specs.Accounts.{QUOTAS, zero-quota}
 use Rattle.layout.specs.Bytes.{Octets}
 use Rattle.rounding.specs.Rounding.{table}
-use Rattle.model.specs.Lists.{all}
+use Rattle.lists.specs.Lists.{all}
 use Rattle.model.specs.Answers.{Values}
 use Rattle.model.specs.Calls.{Outcome, release}
 use Rattle.model.specs.declared.Handle.{Handle}

@@ -8,7 +8,7 @@ use lib.Dec.{leb}
 use Rattle.accounts.specs.declared.Hold.{Hold}
 use Rattle.accounts.specs.Accounts.{zero-hold, with-holds, with-edition, drop-records, remaining, used, unused, is-for}
 use Rattle.rounding.specs.Rounding.{table}
-use Rattle.model.specs.Lists.{all, first, change-first, or-else}
+use Rattle.lists.specs.Lists.{all, first, change-first, or-else}
 use Rattle.model.specs.Answers.{refused, amount-of}
 use Rattle.model.specs.Objects.{objects-of}
 use Rattle.model.specs.Calls.{unchanged, sweep}

@@ -18,7 +18,7 @@ use Rattle.accounts.specs.declared.Hold.{Hold}
 use Rattle.accounts.specs.Accounts.{zero-quota, zero-hold}
 use Rattle.accounts.proofs.Laws.{same-accounts}
 use Rattle.image_model.proofs.Items.{All, all-both}
-use Rattle.model.proofs.Bools.{and-left, and-right, and-both}
+use Rattle.lists.proofs.Bools.{and-left, and-right, and-both}
 use Rattle.comparison.specs.Differences.{State, Run, same-quota, same-record, number-part, quota-part, record-part, runs, bytes-of, byte-part}
 use Rattle.comparison.specs.Differences.{differences}
 use Rattle.comparison.specs.Listing.{part-of, start-of, Before, Longest, OneSize}

@@ -13,7 +13,7 @@ use lib.Seq.{drop-cons}
 use lib.Dec.{leb, ltb}
 use borrow.Author.Tests.{leb-true, leb-false, ltb-true, ltb-false}
 use Rattle.image_model.proofs.Items.{All}
-use Rattle.model.proofs.Bools.{fails}
+use Rattle.lists.proofs.Bools.{fails}
 use Rattle.comparison.specs.Differences.{differing}
 use Rattle.comparison.specs.Listing.{Before}
 use Rattle.comparison.specs.declared.Difference.{Difference}

@@ -9,10 +9,10 @@ use Prim.Native.Nat.{ℕ, _≤_}
 use lib.ListN.{length, drop}
 use lib.Dec.{ltb, eqb}
 use borrow.Author.Tests.{eqb-true, eq-eqb, ltb-false, le-ltb, not-false}
-use Rattle.model.specs.Lists.{all, any}
+use Rattle.lists.specs.Lists.{all, any}
 use Rattle.model.specs.Consistent.{allowed}
 use Rattle.model.specs.Refusals.{line-holds, first-refusal, line-1, line-2}
-use Rattle.model.proofs.Bools.{and-left, or-neither}
+use Rattle.lists.proofs.Bools.{and-left, or-neither}
 use Rattle.model.proofs.Refusals.{Numbered}
 use Rattle.framing.specs.Frames.{stream-of}
 use Rattle.framing.proofs.Padding.{length-padded}
@@ -54,7 +54,7 @@ module _ (from to : Form) (i o h : List ℕ) (read : read-image i h .refusal ≡
   -- and they are those that the writer has of the state read
   pub moved-writes : moved from to i o ≡ write-image to o (heap-in i) (accounts-in i)
   unfolding moved write-image write-lines line-1 line-2 first-refusal
-  moved-writes = rw (only-puts, is-allowed, accepted-right i h read .sound)
+  moved-writes = rw (only-puts, is-allowed, accepted-right i h read .consistent)
 
 -- what an accepted move is of
 pub record Movable (from to : Form) (i o : List ℕ) : Type 0 where

@@ -20,7 +20,7 @@ use Rattle.image_model.specs.Stream.{head-length}
 use Rattle.image_model.specs.Reading.{form-of, size-in, accounts-in, heap-of, heap-in}
 use Rattle.image_model.specs.Answers.{Imaged, imaged, image-refusal-number}
 use Rattle.image_model.specs.Images.{line-21, line-22, line-23, line-24, line-26, line-28, put-lines, write-lines, shape-lines, unless-written, write-image}
-use Rattle.image_model.specs.Images.{own-sound}
+use Rattle.image_model.specs.Images.{own-consistent}
 use Rattle.image_model.proofs.Answers.{image-refusal-is}
 use Rattle.image.specs.declared.Parsed.{Parsed}
 use Rattle.image.specs.Parsing.{Parts, parts-of, unless-parts, parts-in, put-image}
@@ -102,7 +102,7 @@ module _ (from to : Form) (i o : List ℕ) where
     unfolding rewritten put-image moved line-26
     state-moved e =
         let l = of-the-form from to i o form ∙ first-passed (shape-lines i) _ (shape-numbered i) e in
-        in-two (own-sound (heap-in i) (accounts-in i)) o (put-lines to o (heap-in i) (accounts-in i)) _ ∙ sym (rw l)
+        in-two (own-consistent (heap-in i) (accounts-in i)) o (put-lines to o (heap-in i) (accounts-in i)) _ ∙ sym (rw l)
 
     pub move-rewritten : (f : Form) (n : ℕ) (k : Accounts) → Found i f n k
         → rewritten to o (padded n (drop (head-length (form-of i)) (stream-of i))) k ≡ moved from to i o
@@ -112,12 +112,12 @@ module _ (from to : Form) (i o : List ℕ) where
 
 -- the writer on a state whose heap has a length that is allowed
 module _ (to : Form) (o o′ s : List ℕ) (k : Accounts) (a : WriteAnswer) (extent : allowed (length s) ≡ true) (told : imaged o′ a ≡ write-image to o s k) where
-  by-state : (b : Bool) → own-sound s k ≡ b → write-image to o s k ≡ unless-written (first-refusal ((2 when not b) ∷ [])) o (put-image to o s k)
+  by-state : (b : Bool) → own-consistent s k ≡ b → write-image to o s k ≡ unless-written (first-refusal ((2 when not b) ∷ [])) o (put-image to o s k)
   unfolding write-image write-lines line-1 line-2 put-image unless-written first-refusal
   by-state true e = rw (extent, e)
   by-state false e = rw (extent, e)
 
-  as-26 : (b : Bool) → own-sound s k ≡ b → unless-written (first-refusal ((26 when not b) ∷ [])) o (put-image to o s k) ≡ rewritten to o s k
+  as-26 : (b : Bool) → own-consistent s k ≡ b → unless-written (first-refusal ((26 when not b) ∷ [])) o (put-image to o s k) ≡ rewritten to o s k
   unfolding rewritten
   as-26 b e = rw e
 
@@ -132,12 +132,12 @@ module _ (to : Form) (o o′ s : List ℕ) (k : Accounts) (a : WriteAnswer) (ext
   unfolding put-image put-lines line-28
   put-not-2 e = not-2 _ _ _ refl e
 
-  sound-kept : (b : Bool) → own-sound s k ≡ b → (imaged o′ a .refusal ≡ 2 → ⊥) → imaged o′ a ≡ rewritten to o s k
+  consistent-kept : (b : Bool) → own-consistent s k ≡ b → (imaged o′ a .refusal ≡ 2 → ⊥) → imaged o′ a ≡ rewritten to o s k
   unfolding unless-written first-refusal
-  sound-kept true e n = told ∙ by-state true e ∙ as-26 true e
-  sound-kept false e n = absurd (n (ap (λ (x : Imaged). x .refusal) (told ∙ by-state false e)))
+  consistent-kept true e n = told ∙ by-state true e ∙ as-26 true e
+  consistent-kept false e n = absurd (n (ap (λ (x : Imaged). x .refusal) (told ∙ by-state false e)))
 
-  unsound-told : (b : Bool) → own-sound s k ≡ b → imaged o′ a .refusal ≡ 2
+  unsound-told : (b : Bool) → own-consistent s k ≡ b → imaged o′ a .refusal ≡ 2
       → record { image = imaged o′ a .image; refusal = 26; length = 0 } ≡ rewritten to o s k
   unfolding unless-written first-refusal
   unsound-told true e n = absurd (put-not-2 (sym (ap (λ (x : Imaged). x .refusal) (told ∙ by-state true e)) ∙ n))
@@ -149,16 +149,16 @@ module _ (to : Form) (o o′ s : List ℕ) (k : Accounts) (a : WriteAnswer) (ext
   pub rewrite-written : (n : ℕ) → a ≡ Written n → imaged o′ a ≡ rewritten to o s k
   unfolding imaged
   rewrite-written n e =
-      sound-kept (own-sound s k) refl (λ t. let z : 0 ≡ 2 = sym (ap (λ (x : WriteAnswer). imaged o′ x .refusal) e) ∙ t in absurd (omega (arith, z)))
+      consistent-kept (own-consistent s k) refl (λ t. let z : 0 ≡ 2 = sym (ap (λ (x : WriteAnswer). imaged o′ x .refusal) e) ∙ t in absurd (omega (arith, z)))
 
   pub rewrite-refused : (r : ImageRefusal) → a ≡ NotWritten r → (image-refusal-number r ≡ 2 → ⊥) → imaged o′ (NotWritten r) ≡ rewritten to o s k
   unfolding imaged
   rewrite-refused r e h =
-      ap (imaged o′) (sym e) ∙ sound-kept (own-sound s k) refl (λ t. h (sym (ap (λ (x : WriteAnswer). imaged o′ x .refusal) e) ∙ t))
+      ap (imaged o′) (sym e) ∙ consistent-kept (own-consistent s k) refl (λ t. h (sym (ap (λ (x : WriteAnswer). imaged o′ x .refusal) e) ∙ t))
 
   pub rewrite-unsound : (r : ImageRefusal) → a ≡ NotWritten r → image-refusal-number r ≡ 2 → imaged o′ (NotWritten Unsound) ≡ rewritten to o s k
   unfolding imaged
   rewrite-unsound r e h =
       let w : o′ ≡ imaged o′ a .image = sym (ap (λ (x : WriteAnswer). imaged o′ x .image) e) in
       (λ j. record { image = w j; refusal = 26; length = 0 })
-      ∙ unsound-told (own-sound s k) refl (ap (λ (x : WriteAnswer). imaged o′ x .refusal) e ∙ h)
+      ∙ unsound-told (own-consistent s k) refl (ap (λ (x : WriteAnswer). imaged o′ x .refusal) e ∙ h)

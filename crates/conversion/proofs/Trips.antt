@@ -48,7 +48,7 @@ module _ (from to : Form) (known : Known from) (other : Known to) (i o : List �
   accepts-from =
       let a = accepts in
       let c = ap (λ (f : Form). carries f k) (sym is-from) ∙ a .carried in
-      record { known = known; extent = a .extent; octets = a .octets; sound = a .sound; typed = a .typed; carried = c }
+      record { known = known; extent = a .extent; octets = a .octets; consistent = a .consistent; typed = a .typed; carried = c }
 
   image-is : image-of from s k ≡ i
   unfolding s k
@@ -58,7 +58,7 @@ module _ (from to : Form) (known : Known from) (other : Known to) (i o : List �
   unfolding k
   accepts-to =
       let a = accepts in
-      record { known = other; extent = a .extent; octets = a .octets; sound = a .sound; typed = a .typed; carried = m .carried }
+      record { known = other; extent = a .extent; octets = a .octets; consistent = a .consistent; typed = a .typed; carried = m .carried }
 
   writes : moved from to i o ≡ write-image to o s k
   unfolding s k

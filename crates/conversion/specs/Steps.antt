@@ -8,7 +8,7 @@ use Rattle.model.specs.Refusals.{_when_, first-refusal}
 use Rattle.image_model.specs.declared.Form.{Form}
 use Rattle.image_model.specs.Stream.{form-1, form-2}
 use Rattle.image_model.specs.Answers.{Imaged}
-use Rattle.image_model.specs.Images.{own-sound, unless-written}
+use Rattle.image_model.specs.Images.{own-consistent, unless-written}
 use Rattle.image.specs.Parsing.{put-image}
 
 -- the form that is moved from and the one that is moved to, up or down
@@ -25,4 +25,4 @@ other-form (suc n) = cond (ltb 22 (suc n)) 23 (suc n)
 
 -- a state to be written into o: 26, or what is left of writing
 unfoldable pub rewritten : Form → List ℕ → List ℕ → Accounts → Imaged
-rewritten to o s k = unless-written (first-refusal ((26 when not (own-sound s k)) ∷ [])) o (put-image to o s k)
+rewritten to o s k = unless-written (first-refusal ((26 when not (own-consistent s k)) ∷ [])) o (put-image to o s k)

@@ -33,7 +33,7 @@ fn number_from(up: bool) -> u32
     2
 }
 
-// The image of a heap and its accounts in the form that is moved to, where they are sound.
+// The image of a heap and its accounts in the form that is moved to, where they are consistent.
 fn write_to(out: &mut [u8], heap: &[u8], accounts: Accounts, up: bool) -> WriteAnswer
     ensures { λ r. ⌜ imaged (now (out .exit)) r ≡ write-image (form-to up) (now (out .entry)) (now (heap .entry)) accounts ⌝ }
 {

@@ -10,6 +10,7 @@ use lib.ListN.{length, take, drop, length-append, length-drop, length-take, take
 use lib.Seq.{drop-drop, take-at, drop-at}
 use lib.Dec.{eqb, lit<}
 use borrow.Author.Tests.{eq-eqb, eqb-true}
+use Rattle.lists.proofs.Bools.{and-parts}
 use Rattle.layout.specs.Bytes.{bytes, number, Octets, overwrite, write-number}
 use Rattle.layout.proofs.Numbers.{bytes-length, number-fits, bytes-at, part-length, octets-drop}
 use Rattle.layout.proofs.Overwrite.{overwrite-nil, overwrite-two, overwrite-fits}
@@ -164,11 +165,6 @@ pub frames-none : (n : ℕ) (s i : List ℕ) → i ≡ overwrite 0 (cut-from 0 0
 unfolding cut-from
 frames-none n s i = sym (overwrite-nil 0 i)
 
--- back from frames that are right: the very frames
-and-both : (x y : Bool) → (x && y) ≡ true → (x ≡ true) × (y ≡ true)
-and-both true y e = (refl, e)
-and-both false y e = let w : _≡_ {A = ℕ} 0 1 = cc in absurd (omega arith)
-
 padded-exact : (s t : List ℕ) (k : ℕ) → length s ≡ k → padded k (s ++ t) ≡ s
 unfolding padded
 padded-exact [] t zero e = refl
@@ -222,8 +218,8 @@ module _ (i : List ℕ) (o : Octets i) (h : 512 ≤ length i) where
   frame-again : (b n : ℕ) (r : List ℕ) → frame-right b n i ≡ true → frame-of b n (take 504 (drop 4 i) ++ r) ++ drop 512 i ≡ i
   unfolding frame-right s
   frame-again b n r e =
-      let x = and-both (eqb (number (take 2 i)) b) _ e in
-      let y = and-both (eqb (number (take 2 (drop 2 i))) n) _ (x .1) in
+      let x = and-parts (eqb (number (take 2 i)) b) _ e in
+      let y = and-parts (eqb (number (take 2 (drop 2 i))) n) _ (x .1) in
       frame-once-more b n r (eqb-true (number (take 2 i)) b (x .0)) (eqb-true (number (take 2 (drop 2 i))) n (y .0))
       (eqb-true (number (take 4 (drop 508 i))) (check-of i) (y .1))
 
@@ -232,7 +228,7 @@ unfolding cut-from uncut frames-right
 cut-uncut zero b n [] o l r = refl
 cut-uncut zero b n (x ∷ i) o l r = absurd (omega arith)
 cut-uncut (suc k) b n i o l r =
-    let w = and-both (frame-right b n i) (frames-right k (suc b) n (drop 512 i)) r in
+    let w = and-parts (frame-right b n i) (frames-right k (suc b) n (drop 512 i)) r in
     let p = take 504 (drop 4 i) in
     let u = uncut k (drop 512 i) in
     let lp : length p ≡ 504 = part-length 504 4 i (omega arith) in

@@ -14,7 +14,7 @@ use Rattle.lookup.specs.declared.Lookup.the-variants.{Found, Missing}
 use Rattle.lookup.specs.Walk.{find-object}
 use Rattle.model.specs.Answers.{amount-values}
 use Rattle.model.specs.Objects.{lookup, found}
-use Rattle.model.specs.Refusals.{line-3, line-5, line-12, claim-lines}
+use Rattle.model.specs.Refusals.{line-3, line-5, line-12, row-lines}
 use Rattle.model.specs.Calls.{claim}
 use Rattle.model.specs.declared.Handle.{Handle}
 use Rattle.model.specs.declared.Refusal.{Refusal}
@@ -43,7 +43,7 @@ module _ {s : List ℕ} {k : Accounts} {q : ℕ} {h : Handle} {r : Surveyed} (g 
   Claims a = amount-outcome s a ≡ claim u s k q h
 
   pub claim-checked : (x : Refusal) → verdict-of (r .refusal) ≡ Refused x → (a : AmountResult) → a ≡ not-claimed x k → Claims a
-  unfolding claim amount-values claim-lines
+  unfolding claim amount-values row-lines
   claim-checked x e a d =
       let o = lookup h s in
       ap (amount-outcome s) d
@@ -52,7 +52,7 @@ module _ {s : List ℕ} {k : Accounts} {q : ℕ} {h : Handle} {r : Surveyed} (g 
 
   module _ (ok : verdict-of (r .refusal) ≡ Accepted) where
     pub claim-numbered : QUOTAS ≤ q → (a : AmountResult) → a ≡ not-claimed QuotaNumber k → Claims a
-    unfolding claim amount-values claim-lines
+    unfolding claim amount-values row-lines
     claim-numbered l a d =
         let o = lookup h s in
         let rest = line-12 CLAIM k q ∷ line-5 o ∷ claim-rest k q (found o) in

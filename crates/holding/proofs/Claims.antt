@@ -18,17 +18,18 @@ use Rattle.lookup.specs.declared.Met.{Met}
 use Rattle.lookup.specs.declared.Lookup.the-variants.{Found, Missing}
 use Rattle.lookup.specs.Walk.{object-met, find-object}
 use Rattle.model.specs.Answers.{verdict-values, amount-values, amount-of}
-use Rattle.model.specs.Lists.{all, any, or-else}
+use Rattle.lists.specs.Lists.{all, any, or-else}
 use Rattle.model.specs.Objects.{lookup, found}
 use Rattle.model.specs.Consistent.{charge-of}
 use Rattle.model.specs.Holds.{with-count, count-of, take-record, raise-count}
-use Rattle.model.specs.Refusals.{Line, _when_, first-refusal, line-5, line-7, line-8, line-9, line-12, only-if, claims-first, claim-lines, greatest-count}
+use Rattle.model.specs.Refusals.{Line, _when_, first-refusal, line-5, line-7, line-8, line-9, line-12, only-if, claims-first, claim-lines}
+use Rattle.model.specs.Refusals.{greatest-count, row-lines}
 use Rattle.model.specs.Calls.{Outcome, unless, unchanged, claimed, check, claim}
 use Rattle.model.specs.declared.Handle.{Handle}
 use Rattle.model.specs.declared.Refusal.the-variants.{CountLimit, QuotaExceeded, HoldsExhausted}
 use Rattle.model.specs.declared.Verdict.{Verdict}
 use Rattle.model.specs.declared.Verdict.the-variants.{Accepted}
-use Rattle.model.proofs.Lists.{first-none}
+use Rattle.lists.proofs.Lists.{first-none}
 use Rattle.results.specs.Results.{amount-outcome}
 use Rattle.holding.specs.Claims.{not-claimed, claimed-length, claim-again, claim-in, claim-first}
 use Rattle.results.proofs.Lines.{refused-is, accepted-is, line-refuses, line-passes, line-12-refuses, line-12-passes}
@@ -186,7 +187,7 @@ module _ (s : List ℕ) (k : Accounts) (q : ℕ) (l : q < QUOTAS) (o : Handle) w
 module _ (unit : ℕ → ℕ) (s : List ℕ) (k : Accounts) (v : Verdict) (told : verdict-values v ≡ check unit s k .values) (accepts : v ≡ Accepted) (h : Handle) where
   pub claim-found : (m : Met) → find-object h s ≡ Found m → (q : ℕ) → q < QUOTAS → permits CLAIM q k ≡ true
       → first-refusal (claim-lines unit s k q h) ≡ first-refusal (claim-rest k q (found (lookup h s)))
-  unfolding claim-lines
+  unfolding row-lines
   claim-found m e q l p =
       let rest = claim-rest k q (found (lookup h s)) in
       quota-passes unit s k v told accepts q (line-12 CLAIM k q ∷ line-5 (lookup h s) ∷ rest) l
@@ -194,7 +195,7 @@ module _ (unit : ℕ → ℕ) (s : List ℕ) (k : Accounts) (v : Verdict) (told 
       ∙ line-5-passes (lookup h s) (object-met m) rest (located unit s k v told accepts h m e .named)
 
   pub claim-missing : find-object h s ≡ Missing → (q : ℕ) → q < QUOTAS → permits CLAIM q k ≡ true → first-refusal (claim-lines unit s k q h) ≡ 5
-  unfolding claim-lines
+  unfolding row-lines
   claim-missing e q l p =
       let rest = claim-rest k q (found (lookup h s)) in
       quota-passes unit s k v told accepts q (line-12 CLAIM k q ∷ line-5 (lookup h s) ∷ rest) l
@@ -202,7 +203,7 @@ module _ (unit : ℕ → ℕ) (s : List ℕ) (k : Accounts) (v : Verdict) (told 
       ∙ line-5-refuses (lookup h s) rest (unnamed unit s k v told accepts h e)
 
   pub claim-forbidden : (q : ℕ) → q < QUOTAS → quota-at q k .permissions / CLAIM % 2 ≡ 0 → first-refusal (claim-lines unit s k q h) ≡ 12
-  unfolding claim-lines
+  unfolding row-lines
   claim-forbidden q l z =
       let rest = line-5 (lookup h s) ∷ claim-rest k q (found (lookup h s)) in
       quota-passes unit s k v told accepts q (line-12 CLAIM k q ∷ rest) l ∙ line-12-refuses CLAIM q k rest z

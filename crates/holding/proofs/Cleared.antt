@@ -20,7 +20,7 @@ use Rattle.model.specs.Refusals.{first-refusal, line-1, open-lines}
 use Rattle.model.specs.Calls.{leaves, fresh, open-heap}
 use Rattle.model.specs.declared.Refusal.the-variants.{HeapLength}
 use Rattle.model.specs.declared.Verdict.the-variants.{Accepted, Refused}
-use Rattle.model.proofs.Bools.{and-left, and-right}
+use Rattle.lists.proofs.Bools.{and-left, and-right}
 use Rattle.results.specs.Results.{outcome}
 use Rattle.results.proofs.Lines.{refused-is, accepted-is, line-refuses, line-passes}
 

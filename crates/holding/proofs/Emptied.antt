@@ -15,15 +15,15 @@ use Rattle.layout.specs.declared.Header.{Header}
 use Rattle.layout.specs.declared.Start.the-variants.{Block as Starts, Nothing}
 use Rattle.layout.proofs.Parse.{render-is}
 use Rattle.layout.proofs.Render.{start-stands, start-ends, length-render, all-left, all-right, back-small, size-append}
-use Rattle.model.specs.Lists.{all, total}
+use Rattle.lists.specs.Lists.{all, total}
 use Rattle.model.specs.Consistent.{held, free-apart}
-use Rattle.model.specs.Space.{vacate, join-front, settle}
+use Rattle.model.specs.Space.{vacate, join-front, settle, stays}
 use Rattle.model.specs.Joining.{append-joined, join-neighbours}
-use Rattle.model.proofs.Bools.{and-both}
-use Rattle.model.proofs.Lists.{all-append}
+use Rattle.lists.proofs.Bools.{and-both}
+use Rattle.lists.proofs.Lists.{all-append}
 use Rattle.model.proofs.Blocks.{total-is, free-not-live, live-occupied}
 use Rattle.model.proofs.Join.{join-elim, appended-all, appended-split, appended-total}
-use Rattle.model.proofs.Settle.{stays, settle-same, freed-apart, freed-total, freed-writable, freed-settles}
+use Rattle.model.proofs.Settle.{settle-same, freed-apart, freed-total, freed-writable, freed-settles}
 use Rattle.lookup.specs.declared.Met.{Met}
 use Rattle.lookup.specs.Walk.{headed}
 use Rattle.lookup.proofs.Parsed.{placed}

@@ -12,11 +12,11 @@ use Rattle.accounts.specs.declared.Hold.{Hold}
 use Rattle.accounts.specs.declared.Accounts.{Accounts}
 use Rattle.accounts.specs.Accounts.{HOLDS}
 use Rattle.layout.specs.Blocks.{Block, size, units, QUARANTINED, live}
-use Rattle.model.specs.Lists.{all, total, keep}
+use Rattle.lists.specs.Lists.{all, total, keep}
 use Rattle.model.specs.Objects.{objects-from, objects, blocks-of}
-use Rattle.model.specs.Consistent.{consistent, held}
+use Rattle.model.specs.Consistent.{accounted, held}
 use Rattle.model.proofs.Blocks.{objects-live, objects-free}
-use Rattle.model.proofs.Consistent.{tests-exactly, consistent-cut, objects-few}
+use Rattle.model.proofs.Consistent.{tests-exactly, accounted-cut, objects-few}
 use Rattle.lookup.specs.declared.Met.{Met}
 use Rattle.lookup.specs.Walk.{live-met}
 use Rattle.lookup.proofs.Parsed.{placed, met-of, met-parsed}
@@ -106,11 +106,11 @@ module _ (hs : List Hold) where
             ((λ t. absurd (true≢false (sym t ∙ v))), rw z (on i table n f (omega arith)))
 
   -- of a consistent state they do so, where the records are well-formed
-  pub flagged : all well-formed hs ≡ true → (s : List ℕ) (k : Accounts) → consistent s k ≡ true → length (k .holds) ≡ HOLDS
+  pub flagged : all well-formed hs ≡ true → (s : List ℕ) (k : Accounts) → accounted s k ≡ true → length (k .holds) ≡ HOLDS
       → Flagged hs (flags-of hs s) 0 (blocks-of s)
   unfolding flags-of held-flags objects
   flagged w s k c n =
-      let cut = consistent-cut s k c in
+      let cut = accounted-cut s k c in
       let t = tests-exactly (blocks-of s) k .0 (cut .1) in
       let few = objects-few (objects (blocks-of s)) (k .holds) (t .differ) (t .recorded) in
       flagged-from (flags-of hs s) (blocks-of s) 0 (replicate HOLDS false) (simp length-replicate)

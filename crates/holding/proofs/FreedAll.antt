@@ -15,17 +15,17 @@ use Rattle.layout.specs.Blocks.{render}
 use Rattle.layout.proofs.Parse.{parse-is}
 use Rattle.model.specs.Answers.{refusal-number, verdict-values, amount-of, amount-values}
 use Rattle.model.specs.Objects.{blocks-of, objects-of}
-use Rattle.model.specs.Consistent.{consistent, charges}
+use Rattle.model.specs.Consistent.{accounted, charges}
 use Rattle.model.specs.Space.{settle}
-use Rattle.model.specs.Refusals.{Line, first-refusal, line-3, line-12, free-all-lines}
+use Rattle.model.specs.Refusals.{Line, first-refusal, line-3, line-12, free-all-lines, row-lines}
 use Rattle.model.specs.Calls.{check, freed, free-all}
 use Rattle.model.specs.declared.Refusal.{Refusal}
 use Rattle.model.specs.declared.Verdict.{Verdict}
 use Rattle.model.specs.declared.Verdict.the-variants.{Accepted, Refused as NotAccepted}
 use Rattle.model.specs.declared.AmountAnswer.the-variants.{Amount, Refused}
-use Rattle.model.proofs.Consistent.{consistent-cut, consistent-apart}
+use Rattle.model.proofs.Consistent.{accounted-cut, accounted-apart}
 use Rattle.model.proofs.FreeAll.{charges-spent}
-use Rattle.survey.proofs.Flags.{consistent-well, drop-well}
+use Rattle.survey.proofs.Flags.{accounted-well, drop-well}
 use Rattle.lookup.proofs.Parsed.{total-parsed}
 use Rattle.results.specs.Results.{outcome}
 use Rattle.results.proofs.Lines.{check-refuses, check-accepts, refused-is, accepted-is, line-3-refuses, line-3-passes, line-12-refuses, line-12-passes}
@@ -42,20 +42,20 @@ module _ (unit : ℕ → ℕ) (s : List ℕ) (k : Accounts) (q : ℕ) (v : Verdi
   last-lines = line-12 FREE-ALL k q ∷ []
 
   pub all-by-check : (x : Refusal) → v ≡ NotAccepted x → first-refusal (free-all-lines unit s k q) ≡ refusal-number x
-  unfolding free-all-lines
+  unfolding row-lines
   all-by-check x e = check-refuses unit s k v told (line-3 q ∷ last-lines) x e
 
   pub all-by-quota : v ≡ Accepted → QUOTAS ≤ q → first-refusal (free-all-lines unit s k q) ≡ 3
-  unfolding free-all-lines
+  unfolding row-lines
   all-by-quota e l = check-accepts unit s k v told (line-3 q ∷ last-lines) e ∙ line-3-refuses q last-lines l
 
   pub all-by-permission : v ≡ Accepted → q < QUOTAS → quota-at q k .permissions / FREE-ALL % 2 ≡ 0 → first-refusal (free-all-lines unit s k q) ≡ 12
-  unfolding free-all-lines
+  unfolding row-lines
   all-by-permission e l z =
       check-accepts unit s k v told (line-3 q ∷ last-lines) e ∙ line-3-passes q last-lines l ∙ line-12-refuses FREE-ALL q k [] z
 
   pub all-passes : v ≡ Accepted → q < QUOTAS → permits FREE-ALL q k ≡ true → first-refusal (free-all-lines unit s k q) ≡ 0
-  unfolding free-all-lines first-refusal
+  unfolding row-lines first-refusal
   all-passes e l p = check-accepts unit s k v told (line-3 q ∷ last-lines) e ∙ line-3-passes q last-lines l ∙ line-12-passes FREE-ALL q k [] p
 
 -- a refusal as a result
@@ -65,7 +65,7 @@ unfolding free-all amount-values
 all-refuses unit s k q r x e n = ap (amount-outcome s) e ∙ refused-is (first-refusal (free-all-lines unit s k q)) s k _ x n
 
 -- heap and accounts are consistent, and the records of the quota q are dropped: k₁ are the accounts after the refund, and k₂ those that are left
-module _ (unit : ℕ → ℕ) (s : List ℕ) (k : Accounts) (o : Octets s) (short : length s ≤ 32768) (ok : consistent s k ≡ true) (sized : Sized k)
+module _ (unit : ℕ → ℕ) (s : List ℕ) (k : Accounts) (o : Octets s) (short : length s ≤ 32768) (ok : accounted s k ≡ true) (sized : Sized k)
     (q : ℕ) (below : q < QUOTAS) (back : ℕ) (be : back ≡ spent q k)
     (k₁ k₂ : Accounts) (e₁ : k₁ ≡ refund q back k) (e₂ : k₂ ≡ with-holds (drop-records q (k₁ .holds)) k₁) where
   -- the records that are left
@@ -93,10 +93,10 @@ module _ (unit : ℕ → ℕ) (s : List ℕ) (k : Accounts) (o : Octets s) (shor
   module _ (hs : List Hold) (same : hs ≡ k₂ .holds) (kind : ℕ) (kinds : kind ≡ k₂ .kind) where
     emptying : Emptying kind rest (blocks-of s) (flags-of hs s) 0 0 s
     emptying =
-        let cut = consistent-cut s k ok .0 in
+        let cut = accounted-cut s k ok .0 in
         let bytes = parse-is s (blocks-of s) o .0 cut in
-        let flags = flagged rest (drop-well q (k .holds) (consistent-well s k ok)) s k ok (sized .holds-long) in
-        emptying-start kind rest (blocks-of s) (flags-of hs s) s (sym (bytes .0)) (bytes .1) (consistent-apart s k ok)
+        let flags = flagged rest (drop-well q (k .holds) (accounted-well s k ok)) s k ok (sized .holds-long) in
+        emptying-start kind rest (blocks-of s) (flags-of hs s) s (sym (bytes .0)) (bytes .1) (accounted-apart s k ok)
         (omega (arith, total-parsed s (blocks-of s) cut))
         (subst (λ (x : List Hold). Flagged rest (flags-of x s) 0 (blocks-of s)) (sym (same ∙ left-holds)) flags)
 

@@ -15,15 +15,15 @@ use Rattle.layout.specs.declared.Header.{Header}
 use Rattle.layout.specs.declared.Start.the-variants.{Block as Starts, Nothing}
 use Rattle.layout.proofs.Parse.{render-is}
 use Rattle.layout.proofs.Render.{start-stands, start-ends, length-render, all-left, all-right, back-small, size-append}
-use Rattle.model.specs.Lists.{all, total, keep}
+use Rattle.lists.specs.Lists.{all, total, keep}
 use Rattle.model.specs.Consistent.{free-apart}
-use Rattle.model.specs.Space.{unquarantine, join-front, swept}
+use Rattle.model.specs.Space.{unquarantine, join-front, swept, not-quarantined}
 use Rattle.model.specs.Joining.{append-joined, join-neighbours}
-use Rattle.model.proofs.Bools.{and-both}
-use Rattle.model.proofs.Lists.{all-append}
+use Rattle.lists.proofs.Bools.{and-both}
+use Rattle.lists.proofs.Lists.{all-append}
 use Rattle.model.proofs.Blocks.{total-is}
 use Rattle.model.proofs.Join.{join-elim, appended-all, appended-split, appended-total}
-use Rattle.model.proofs.Sweep.{not-quarantined, quarantined-occupied, swept-same, unquarantined-apart, unquarantined-sizes, unquarantined-writable}
+use Rattle.model.proofs.Sweep.{quarantined-occupied, swept-same, unquarantined-apart, unquarantined-sizes, unquarantined-writable}
 use Rattle.model.proofs.Sweep.{unquarantined-sweeps}
 use Rattle.lookup.specs.declared.Met.{Met}
 use Rattle.lookup.specs.Walk.{headed}

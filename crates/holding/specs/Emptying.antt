@@ -8,10 +8,9 @@ use lib.Dec.{eqb}
 use Rattle.accounts.specs.declared.Hold.{Hold}
 use Rattle.accounts.specs.Accounts.{HOLDS}
 use Rattle.layout.specs.Blocks.{Block, live, total-size, render, AllWritable, greatest-heap, QUARANTINED}
-use Rattle.model.specs.Lists.{all}
+use Rattle.lists.specs.Lists.{all}
 use Rattle.model.specs.Consistent.{free-apart, held}
-use Rattle.model.specs.Space.{settle}
-use Rattle.model.proofs.Settle.{stays}
+use Rattle.model.specs.Space.{settle, stays}
 use Rattle.lookup.specs.declared.Met.{Met}
 use Rattle.lookup.specs.Walk.{live-met}
 use Rattle.survey.specs.Holders.{held-flags, put-flags}

@@ -5,10 +5,9 @@ use mathlib.Core.List.{List, _++_}
 use mathlib.Core.Bool.{true, cond}
 use lib.Dec.{eqb}
 use Rattle.layout.specs.Blocks.{Block, size, QUARANTINED, quarantined, total-size, render, AllWritable}
-use Rattle.model.specs.Lists.{all, total, keep}
+use Rattle.lists.specs.Lists.{all, total, keep}
 use Rattle.model.specs.Consistent.{free-apart}
-use Rattle.model.specs.Space.{swept}
-use Rattle.model.proofs.Sweep.{not-quarantined}
+use Rattle.model.specs.Space.{swept, not-quarantined}
 use Rattle.lookup.specs.declared.Met.{Met}
 use Rattle.writer.specs.Freeing.{unquarantine-in, free-end-in}
 

@@ -9,7 +9,7 @@ use lib.ListN.{take, drop}
 use Rattle.accounts.specs.declared.Accounts.{Accounts}
 use Rattle.accounts.specs.Accounts.{zero-accounts}
 use Rattle.layout.specs.Bytes.{number}
-use Rattle.model.specs.Lists.{or-else}
+use Rattle.lists.specs.Lists.{or-else}
 use Rattle.model.specs.Refusals.{first-refusal}
 use Rattle.framing.specs.Frames.{padded, stream-of}
 use Rattle.image_model.specs.declared.Form.{Form}
@@ -18,7 +18,7 @@ use Rattle.image_model.specs.declared.ImageRefusal.the-variants.{Unsound}
 use Rattle.image_model.specs.Stream.{form-1, form-numbered, head-length}
 use Rattle.image_model.specs.Reading.{form-in, form-of, size-in, accounts-in, heap-of, heap-in}
 use Rattle.image_model.specs.Answers.{image-refusal-number}
-use Rattle.image_model.specs.Images.{own-sound, line-26, shape-lines, examine-lines}
+use Rattle.image_model.specs.Images.{own-consistent, line-26, shape-lines, examine-lines}
 use Rattle.image_model.proofs.Answers.{image-refusal-is}
 use Rattle.image.specs.declared.Shape.the-variants.{Refused}
 use Rattle.image.specs.declared.Parsed.{Parsed}
@@ -54,12 +54,12 @@ examined-refused i p r told e =
 
 -- one that they do not refuse: what the test of its state finds
 module _ (i : List ℕ) (f : Form) (n : ℕ) (k : Accounts) (w : Found i f n k) (at : ℕ) (is : at ≡ head-length f) where
-  module _ (r : Bool) (told : r ≡ own-sound (padded n (drop at (stream-of i))) k) where
-    state-is : r ≡ own-sound (heap-in i) (accounts-in i)
+  module _ (r : Bool) (told : r ≡ own-consistent (padded n (drop at (stream-of i))) k) where
+    state-is : r ≡ own-consistent (heap-in i) (accounts-in i)
     unfolding heap-in heap-of size-in
     state-is =
         let start : at ≡ head-length (form-of i) = is ∙ ap head-length (w .form) in
-        told ∙ (λ j. own-sound (padded (w .size j) (drop (start j) (stream-of i))) (w .accounts j))
+        told ∙ (λ j. own-consistent (padded (w .size j) (drop (start j) (stream-of i))) (w .accounts j))
 
     passed : first-refusal (examine-lines i) ≡ first-refusal (line-26 i ∷ [])
     unfolding examine-lines
@@ -71,6 +71,6 @@ module _ (i : List ℕ) (f : Form) (n : ℕ) (k : Accounts) (w : Found i f n k) 
         refused-by (examine-lines i) p Unsound (record { refusal = 0; form = form-of i; size = size-in i; accounts = accounts-in i }) q
         (passed ∙ (rw (sym state-is ∙ e)))
 
-    pub examined-sound : r ≡ true → (p : Parsed) → parts-of p ≡ parts-in i → parts-of p ≡ examined-in i
+    pub examined-consistent : r ≡ true → (p : Parsed) → parts-of p ≡ parts-in i → parts-of p ≡ examined-in i
     unfolding line-26 first-refusal
-    examined-sound e p q = examined-as i p q (w .lines ∙ sym (passed ∙ (rw (sym state-is ∙ e))))
+    examined-consistent e p q = examined-as i p q (w .lines ∙ sym (passed ∙ (rw (sym state-is ∙ e))))

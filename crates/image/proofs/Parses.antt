@@ -11,10 +11,10 @@ use borrow.Author.Tests.{eq-eqb, ne-eqb, not-false}
 use Rattle.accounts.specs.declared.Accounts.{Accounts}
 use Rattle.accounts.specs.Accounts.{zero-accounts}
 use Rattle.layout.specs.Bytes.{number}
-use Rattle.model.specs.Lists.{all, any, is-none, or-else}
+use Rattle.lists.specs.Lists.{all, any, is-none, or-else}
 use Rattle.model.specs.Consistent.{allowed}
 use Rattle.model.specs.Refusals.{Line, line-holds, first-refusal}
-use Rattle.model.proofs.Bools.{and-left, or-neither}
+use Rattle.lists.proofs.Bools.{and-left, or-neither}
 use Rattle.model.proofs.Refusals.{Numbered, accepted-exactly}
 use Rattle.framing.specs.Frames.{stream-of, frames-for, frames-right}
 use Rattle.image_model.specs.declared.Form.{Form}

@@ -17,7 +17,7 @@ use Rattle.model.specs.declared.Verdict.the-variants.{Accepted, Refused}
 use Rattle.model.specs.Answers.{verdict-values}
 use Rattle.model.specs.Refusals.{first-refusal, line-1, line-2}
 use Rattle.model.specs.Consistent.{allowed}
-use Rattle.model.specs.Lists.{all}
+use Rattle.lists.specs.Lists.{all}
 use Rattle.model.specs.Calls.{check}
 use Rattle.results.proofs.Lines.{check-refuses, check-accepts, number-some}
 use Rattle.framing.specs.declared.FrameAnswer.{FrameAnswer}

@@ -16,13 +16,13 @@ use Rattle.model.specs.declared.Refusal.{Refusal}
 use Rattle.model.specs.declared.Verdict.{Verdict}
 use Rattle.model.specs.declared.Verdict.the-variants.{Accepted, Refused}
 use Rattle.model.specs.Answers.{verdict-values}
-use Rattle.model.specs.Lists.{all}
+use Rattle.lists.specs.Lists.{all}
 use Rattle.model.specs.Consistent.{allowed}
 use Rattle.model.specs.Refusals.{Line, _when_, first-refusal, line-1, line-2}
 use Rattle.model.specs.Calls.{check}
-use Rattle.model.proofs.Bools.{and-left, and-right}
+use Rattle.lists.proofs.Bools.{and-left, and-right}
 use Rattle.model.proofs.Refusals.{Numbered}
-use Rattle.results.proofs.Lines.{check-refuses, check-consistent, number-some}
+use Rattle.results.proofs.Lines.{check-refuses, check-accounted, number-some}
 use Rattle.framing.specs.Frames.{padded, stream-of}
 use Rattle.image_model.specs.declared.Form.{Form}
 use Rattle.image_model.specs.declared.ImageRefusal.{ImageRefusal}
@@ -31,7 +31,7 @@ use Rattle.image_model.specs.declared.ReadAnswer.the-variants.{Restored, Refuse
 use Rattle.image_model.specs.Stream.{head-length}
 use Rattle.image_model.specs.Reading.{size-in, heap-of, heap-in}
 use Rattle.image_model.specs.Answers.{Restored-to, restored-to, image-refusal-number}
-use Rattle.image_model.specs.Images.{own-sound, line-25, line-26, shape-lines, read-lines, unless-read, read-image}
+use Rattle.image_model.specs.Images.{own-consistent, line-25, line-26, shape-lines, read-lines, unless-read, read-image}
 use Rattle.image_model.specs.Images.{kept-unless, restore-image}
 use Rattle.image_model.proofs.Answers.{image-refusal-is}
 use Rattle.image.specs.Parsing.{restore}
@@ -40,15 +40,15 @@ use Rattle.image.proofs.Parses.{Found, shape-numbered}
 
 -- an allowed heap is consistent exactly if the check accepts it
 module _ (s r : List ℕ) (k : Accounts) (v : Verdict) (told : verdict-values v ≡ check (table (k .edition)) s k .values) (is : s ≡ r) where
-  pub check-sound : v ≡ Accepted → true ≡ own-sound r k
-  check-sound e = sym (check-consistent (table (k .edition)) s k v told e .2) ∙ ap (λ (x : List ℕ). own-sound x k) is
+  pub check-consistent : v ≡ Accepted → true ≡ own-consistent r k
+  check-consistent e = sym (check-accounted (table (k .edition)) s k v told e .2) ∙ ap (λ (x : List ℕ). own-consistent x k) is
 
-  pub check-unsound : allowed (length s) ≡ true → (x : Refusal) → v ≡ Refused x → false ≡ own-sound r k
+  pub check-unsound : allowed (length s) ≡ true → (x : Refusal) → v ≡ Refused x → false ≡ own-consistent r k
   unfolding line-1 line-2 first-refusal
   check-unsound a x e =
       let n = number-some x in
       let g : first-refusal (line-1 s ∷ line-2 (table (k .edition)) s k ∷ []) ≡ suc (n .0) = check-refuses (table (k .edition)) s k v told [] x e ∙ n .1 in
-      second (own-sound s k) (n .0) (rw a at g) ∙ ap (λ (y : List ℕ). own-sound y k) is
+      second (own-consistent s k) (n .0) (rw a at g) ∙ ap (λ (y : List ℕ). own-consistent y k) is
     where
       second : (b : Bool) (n : ℕ) → first-refusal ((2 when not b) ∷ []) ≡ suc n → false ≡ b
       second true n g = absurd (omega arith)
@@ -61,12 +61,12 @@ module _ (f : Form) (n : ℕ) (t h : List ℕ) (k : Accounts) where
   restore-room e = rw (ne-eqb (length h) n e)
 
   module _ (room : length h ≡ n) (at : ℕ) (is : at ≡ head-length f) where
-    pub restore-unsound : (r : Bool) → r ≡ own-sound (padded n (drop at t)) k → r ≡ false
+    pub restore-unsound : (r : Bool) → r ≡ own-consistent (padded n (drop at t)) k → r ≡ false
         → restored-to h zero-accounts (NotRestored Unsound) ≡ restore f n t h k
     unfolding restore restored-to unless-read first-refusal
     restore-unsound r e g = rw (eq-eqb (length h) n room, ← is, sym e ∙ g)
 
-    pub restore-done : (r : Bool) (h′ : List ℕ) → r ≡ own-sound (padded n (drop at t)) k → r ≡ true → h′ ≡ padded (length h) (drop at t)
+    pub restore-done : (r : Bool) (h′ : List ℕ) → r ≡ own-consistent (padded n (drop at t)) k → r ≡ true → h′ ≡ padded (length h) (drop at t)
         → restored-to h′ k Restored ≡ restore f n t h k
     unfolding restore restored-to unless-read first-refusal
     restore-done r h′ e g w = rw (eq-eqb (length h) n room, ← is, sym e ∙ g, w, room)

@@ -11,8 +11,8 @@ use lib.Dec.{eqb, leb}
 use borrow.Author.Tests.{eq-eqb, ne-eqb, eqb-true, eqb-false, leb-true, leb-false, le-leb, lt-leb}
 use Rattle.accounts.specs.Accounts.{ALL-PERMISSIONS, permissible}
 use Rattle.layout.specs.Bytes.{number}
-use Rattle.model.specs.Lists.{all}
-use Rattle.model.proofs.Bools.{and-no}
+use Rattle.lists.specs.Lists.{all}
+use Rattle.lists.proofs.Bools.{and-no}
 use Rattle.image_model.specs.Items.{all-zero}
 use Rattle.image.proofs.Rows
 

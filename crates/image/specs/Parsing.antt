@@ -15,7 +15,7 @@ use Rattle.image_model.specs.declared.Form.{Form}
 use Rattle.image_model.specs.Answers.{image-refusal-number, Imaged, Restored-to}
 use Rattle.image_model.specs.Stream.{form-1, head-length, image-of, image-length}
 use Rattle.image_model.specs.Reading.{form-of, size-in, accounts-in}
-use Rattle.image_model.specs.Images.{own-sound, shape-lines, examine-lines, put-lines, unless-written, unless-read}
+use Rattle.image_model.specs.Images.{own-consistent, shape-lines, examine-lines, put-lines, unless-written, unless-read}
 use Rattle.image.specs.declared.FormAnswer.{FormAnswer}
 use Rattle.image.specs.declared.FormAnswer.the-variants.{Known, Unknown}
 use Rattle.image.specs.declared.Shape.{Shape}
@@ -76,4 +76,4 @@ unfoldable pub restore : Form → ℕ → List ℕ → List ℕ → Accounts →
 restore f n t h k =
     let s = padded n (drop (head-length f) t) in
     let done : Restored-to = record { heap = s; accounts = k; refusal = 0 } in
-    unless-read (first-refusal ((25 when not (eqb (length h) n)) ∷ (26 when not (own-sound s k)) ∷ [])) h done
+    unless-read (first-refusal ((25 when not (eqb (length h) n)) ∷ (26 when not (own-consistent s k)) ∷ [])) h done

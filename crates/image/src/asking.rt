@@ -11,7 +11,7 @@ use crate::numbers::read_quad;
 use crate::parsing::parse_image;
 use crate::parsing::read_accounts;
 use crate::parsing::refused;
-use crate::reading::is_sound;
+use crate::reading::is_consistent;
 use accounts::Accounts;
 use image_model::Form;
 use image_model::ImageRefusal;
@@ -60,7 +60,7 @@ pub fn examine(image: &[u8]) -> Parsed
         return parsed;
     };
     let from = heap_at(form) as u16;
-    if !is_sound(image, from, size, accounts) {
+    if !is_consistent(image, from, size, accounts) {
         return refused(ImageRefusal::Unsound);
     }
     parsed

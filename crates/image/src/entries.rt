@@ -14,7 +14,7 @@ ghost use lib.ListN.{length, take, drop, getD, replicate};
 ghost use Rattle.accounts.specs.Accounts.{QUOTAS, ALL-PERMISSIONS};
 ghost use Rattle.words.specs.Words.{quotas-of};
 ghost use Rattle.layout.specs.Bytes.{bytes, overwrite};
-ghost use Rattle.model.specs.Lists.{all};
+ghost use Rattle.lists.specs.Lists.{all};
 ghost use Rattle.framing.specs.Frames.{stream-of};
 ghost use Rattle.image_model.specs.Items.{many, each, every};
 ghost use Rattle.image_model.specs.Stream.{form-2, tail-right, no-grant, all-permitted, entry-bytes, entry-width, entries-at, blank};

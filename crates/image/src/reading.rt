@@ -11,13 +11,13 @@ ghost use Rattle.model.specs.Consistent.{allowed};
 ghost use Rattle.framing.specs.Frames.{padded, stream-of};
 ghost use Rattle.words.specs.Words.{accounts-of};
 ghost use Rattle.image_model.specs.Answers.{restored-to};
-ghost use Rattle.image_model.specs.Images.{own-sound, read-image};
+ghost use Rattle.image_model.specs.Images.{own-consistent, read-image};
 
 // Whether an image's heap, of so many bytes of the stream from a place on, is consistent with the accounts that the words hold. It is checked where it lies: a
 // lent heap stays as it is where they are not.
-pub(crate) fn is_sound_in(image: &[u8], from: u16, size: usize, words: &[u32; WORDS]) -> bool
+pub(crate) fn is_consistent_in(image: &[u8], from: u16, size: usize, words: &[u32; WORDS]) -> bool
     requires { ⌜ allowed size ≡ true ⌝ }
-    ensures { λ r. ⌜ r ≡ own-sound (padded size (drop from (stream-of (now (image .entry))))) (accounts-of (now (words .entry))) ⌝ }
+    ensures { λ r. ⌜ r ≡ own-consistent (padded size (drop from (stream-of (now (image .entry))))) (accounts-of (now (words .entry))) ⌝ }
 {
     let Verdict::Accepted = survey::check_in_frames(image, from, size, words) else {
         return false;
@@ -26,12 +26,12 @@ pub(crate) fn is_sound_in(image: &[u8], from: u16, size: usize, words: &[u32; WO
 }
 
 // The same with the accounts by value.
-pub(crate) fn is_sound(image: &[u8], from: u16, size: usize, accounts: Accounts) -> bool
+pub(crate) fn is_consistent(image: &[u8], from: u16, size: usize, accounts: Accounts) -> bool
     requires { ⌜ allowed size ≡ true ⌝ }
-    ensures { λ r. ⌜ r ≡ own-sound (padded size (drop from (stream-of (now (image .entry))))) accounts ⌝ }
+    ensures { λ r. ⌜ r ≡ own-consistent (padded size (drop from (stream-of (now (image .entry))))) accounts ⌝ }
 {
     let words = words::words_of(accounts);
-    is_sound_in(image, from, size, &words)
+    is_consistent_in(image, from, size, &words)
 }
 
 // The heap of an image into the lent heap, and its accounts back. A refused read leaves the heap as it is and gives zero accounts.

@@ -11,7 +11,7 @@ ghost use lib.ListN.{length, take, drop};
 ghost use Rattle.accounts.specs.Accounts.{HOLDS, unused};
 ghost use Rattle.words.specs.Words.{holds-of};
 ghost use Rattle.layout.specs.Bytes.{bytes, overwrite};
-ghost use Rattle.model.specs.Lists.{all};
+ghost use Rattle.lists.specs.Lists.{all};
 ghost use Rattle.framing.specs.Frames.{stream-of};
 ghost use Rattle.image_model.specs.Items.{many, each, every};
 ghost use Rattle.image_model.specs.Stream.{record-bytes, record-width, blank};

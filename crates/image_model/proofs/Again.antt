@@ -14,7 +14,7 @@ use Rattle.accounts.specs.declared.Accounts.{Accounts}
 use Rattle.accounts.specs.Accounts.{QUOTAS, HOLDS, zero-quota, zero-hold, granted, used, unused}
 use Rattle.layout.specs.Bytes.{bytes, number, Octets}
 use Rattle.layout.proofs.Numbers.{octets-take, octets-drop, part-length}
-use Rattle.model.proofs.Bools.{and-left, and-right}
+use Rattle.lists.proofs.Bools.{and-left, and-right}
 use Rattle.framing.proofs.Padding.{length-padded}
 use Rattle.image_model.specs.Items.{many, each, every, all-zero}
 use Rattle.image_model.specs.Stream.{form-2, no-grant, all-permitted, marks-of, marks-right, carries, blank}

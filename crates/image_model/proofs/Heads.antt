@@ -21,7 +21,8 @@ use Rattle.image_model.specs.Reading.{entry-of, entry-right, record-of, 
 use Rattle.image_model.specs.declared.Form.{Form}
 use Rattle.image_model.proofs.Items.{All, places-all, all-take, all-map, all-two, many-length, each-many, every-many}
 use Rattle.image_model.proofs.Parts.{part-here, part-behind, number-here}
-use Rattle.image_model.proofs.Places.{Known, QuotaSound, known-shaped, marks-length, marks-back, all-carried, marks-carried, quotas-whole, holds-whole}
+use Rattle.image_model.proofs.Places.{Known, QuotaConsistent, known-shaped, marks-length, marks-back, all-carried, marks-carried, quotas-whole}
+use Rattle.image_model.proofs.Places.{holds-whole}
 use Rattle.image_model.proofs.Entries.{EntryFits, EntryCarried, RecordFits, entry-length, entry-back, entry-tested, record-length, record-back}
 use Rattle.image_model.proofs.Entries.{record-tested}
 use Rattle.image_model.proofs.Cuts.{padded-take}
@@ -55,14 +56,14 @@ module _ (f : Form) (e : Known f) (k : Accounts) (y : Typed k) where
   records-length = many-length record-bytes record-width record-length (carried-holds f k) ∙ ap (λ (n : ℕ). n * record-width) (carried-lengths .1)
 
   -- the numbers of what is carried fit
-  entries-fit : carries f k ≡ true → All QuotaSound (k .quotas) → All (EntryCarried f) (carried-quotas f k)
+  entries-fit : carries f k ≡ true → All QuotaConsistent (k .quotas) → All (EntryCarried f) (carried-quotas f k)
   entries-fit c b =
       let P : Quota → Type 0 = λ (q : Quota). (f .full || all-permitted q) ≡ true in
       let fit = places-all EntryFits zero-quota (k .quotas) (λ i. (y .grant i, y .remainder i, y .permissions i)) in
-      let both = all-two QuotaSound P (k .quotas) b (all-carried f k c) in
+      let both = all-two QuotaConsistent P (k .quotas) b (all-carried f k c) in
       all-take (EntryCarried f) (f .quotas) (k .quotas)
-      (all-map (λ (q : Quota). EntryFits q × (QuotaSound q × P q)) (EntryCarried f) (λ q x. (x .0, x .1 .0 .1, x .1 .1)) (k .quotas)
-      (all-two EntryFits (λ (q : Quota). QuotaSound q × P q) (k .quotas) fit both))
+      (all-map (λ (q : Quota). EntryFits q × (QuotaConsistent q × P q)) (EntryCarried f) (λ q x. (x .0, x .1 .0 .1, x .1 .1)) (k .quotas)
+      (all-two EntryFits (λ (q : Quota). QuotaConsistent q × P q) (k .quotas) fit both))
 
   records-fit : All RecordFits (carried-holds f k)
   records-fit = all-take RecordFits (f .records) (k .holds) (places-all RecordFits zero-hold (k .holds) (λ i. (y .serial i, y .quota i, y .count i)))
@@ -134,7 +135,7 @@ module _ (f : Form) (e : Known f) (s : List ℕ) (k : Accounts) (y : Typed k) (t
   length-read h = number-here 4 4 (length s) t behind-length at-4 h
 
   -- the accounts and the heap
-  quotas-read : carries f k ≡ true → All QuotaSound (k .quotas)
+  quotas-read : carries f k ≡ true → All QuotaConsistent (k .quotas)
       → each (entry-of f) (entry-width f) (f .quotas) (drop entries-at t) ++ drop (f .quotas) (blank f .quotas) ≡ k .quotas
   quotas-read c b =
       let n = carried-lengths f e k y .0 in
@@ -148,7 +149,7 @@ module _ (f : Form) (e : Known f) (s : List ℕ) (k : Accounts) (y : Typed k) (t
       let r = each-many record-bytes record-width record-length RecordFits record-of record-back (carried-holds f k) (s ++ q) (records-fit f e k y) in
       rw (at-records, rw n at r) (holds-whole f e k y c)
 
-  pub accounts-read : carries f k ≡ true → All QuotaSound (k .quotas) → accounts-of f t ≡ k
+  pub accounts-read : carries f k ≡ true → All QuotaConsistent (k .quotas) → accounts-of f t ≡ k
   unfolding accounts-of
   accounts-read c z =
       let l = number-here 4 8 (k .«last_serial») t behind-serial at-8 (y .last) in
@@ -162,7 +163,7 @@ module _ (f : Form) (e : Known f) (s : List ℕ) (k : Accounts) (y : Typed k) (t
   heap-read h = rw (length-read h, at-heap) (padded-take (length s) (s ++ q) (simp length-append (omega arith)) ∙ take-at s q (length s) refl)
 
   -- and every byte that carries nothing is right
-  pub items-tested : carries f k ≡ true → All QuotaSound (k .quotas) → items-right f t ≡ true
+  pub items-tested : carries f k ≡ true → All QuotaConsistent (k .quotas) → items-right f t ≡ true
   unfolding items-right
   items-tested c z =
       let n = carried-lengths f e k y in

@@ -12,8 +12,8 @@ use lib.Dec.{eqb}
 use borrow.Author.Tests.{eqb-true}
 use Rattle.layout.specs.Bytes.{Octets}
 use Rattle.layout.proofs.Numbers.{octets-take, octets-drop}
-use Rattle.model.specs.Lists.{all}
-use Rattle.model.proofs.Bools.{and-left, and-right, and-both}
+use Rattle.lists.specs.Lists.{all}
+use Rattle.lists.proofs.Bools.{and-left, and-right, and-both}
 use Rattle.image_model.specs.Items.{many, each, every, all-zero}
 
 -- P holds of every item

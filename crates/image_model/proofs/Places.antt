@@ -16,8 +16,8 @@ use Rattle.accounts.specs.declared.Accounts.{Accounts}
 use Rattle.accounts.specs.Accounts.{QUOTAS, HOLDS, ALL-PERMISSIONS, permissible, zero-hold, with-permissions, granted, opened, used, unused}
 use Rattle.accounts.specs.Accounts.{with-kind, with-edition}
 use Rattle.layout.specs.Bytes.{bytes, Octets}
-use Rattle.model.specs.Lists.{all}
-use Rattle.model.proofs.Bools.{and-left, and-right}
+use Rattle.lists.specs.Lists.{all}
+use Rattle.lists.proofs.Bools.{and-left, and-right}
 use Rattle.image_model.specs.Items.{all-zero}
 use Rattle.image_model.specs.Stream.{form-1, form-2, form-numbered, entry-tail, tail-width, tail-of, tail-right, marks-of, marks-right, with-marks}
 use Rattle.image_model.specs.Stream.{no-grant, all-permitted, carries, blank, head-length, Typed}
@@ -313,9 +313,9 @@ pub blank-is : (f : Form) → (blank f .quotas ≡ replicate QUOTAS (granted 0))
 unfolding blank opened
 blank-is f = (refl, refl)
 
--- a quota of a sound state has no more left than was granted, and its permissions are such
-abbrev pub QuotaSound : Quota → Type 0
-QuotaSound q = (q .remainder ≤ q .grant) × (permissible (q .permissions) ≡ true)
+-- a quota of a consistent state has no more left than was granted, and its permissions are such
+abbrev pub QuotaConsistent : Quota → Type 0
+QuotaConsistent q = (q .remainder ≤ q .grant) × (permissible (q .permissions) ≡ true)
 
 blank-quota : (q : Quota) → q .remainder ≤ q .grant → no-grant q ≡ true → all-permitted q ≡ true → q ≡ granted 0
 blank-quota q l g p =
@@ -334,9 +334,9 @@ blank-hold h e =
     let n = eqb-true (h .count) 0 (and-right (eqb (h .serial) 0 && eqb (h .quota) 0) (eqb (h .count) 0) t) in
     λ i. record { serial = s i; quota = q i; count = n i }
 
--- accounts of a sound state that the form carries are what it carries of them, with what it lacks behind
+-- accounts of a consistent state that the form carries are what it carries of them, with what it lacks behind
 module _ (f : Form) (e : Known f) (k : Accounts) (y : Typed k) (c : carries f k ≡ true) where
-  quotas-blank : All QuotaSound (k .quotas) → (x : Bool) → f .full ≡ x → All (λ (q : Quota). q ≡ granted 0) (drop (f .quotas) (k .quotas))
+  quotas-blank : All QuotaConsistent (k .quotas) → (x : Bool) → f .full ≡ x → All (λ (q : Quota). q ≡ granted 0) (drop (f .quotas) (k .quotas))
   quotas-blank b true t =
       let w = known-shaped f e .whole t .0 in
       let n = y .quotas in
@@ -345,11 +345,11 @@ module _ (f : Form) (e : Known f) (k : Accounts) (y : Typed k) (c : carries f k 
       let d = carried-facts f k t c in
       let G : Quota → Type 0 = λ (q : Quota). no-grant q ≡ true in
       let P : Quota → Type 0 = λ (q : Quota). all-permitted q ≡ true in
-      let z = all-drop (λ (q : Quota). QuotaSound q × P q) (f .quotas) (k .quotas) (all-two QuotaSound P (k .quotas) b (d .permissions)) in
-      all-map (λ (q : Quota). G q × (QuotaSound q × P q)) (λ (q : Quota). q ≡ granted 0) (λ q x. blank-quota q (x .1 .0 .0) (x .0) (x .1 .1))
-      (drop (f .quotas) (k .quotas)) (all-two G (λ (q : Quota). QuotaSound q × P q) (drop (f .quotas) (k .quotas)) (d .grants) z)
+      let z = all-drop (λ (q : Quota). QuotaConsistent q × P q) (f .quotas) (k .quotas) (all-two QuotaConsistent P (k .quotas) b (d .permissions)) in
+      all-map (λ (q : Quota). G q × (QuotaConsistent q × P q)) (λ (q : Quota). q ≡ granted 0) (λ q x. blank-quota q (x .1 .0 .0) (x .0) (x .1 .1))
+      (drop (f .quotas) (k .quotas)) (all-two G (λ (q : Quota). QuotaConsistent q × P q) (drop (f .quotas) (k .quotas)) (d .grants) z)
 
-  pub quotas-whole : All QuotaSound (k .quotas) → take (f .quotas) (k .quotas) ++ drop (f .quotas) (blank f .quotas) ≡ k .quotas
+  pub quotas-whole : All QuotaConsistent (k .quotas) → take (f .quotas) (k .quotas) ++ drop (f .quotas) (blank f .quotas) ≡ k .quotas
   quotas-whole b = rw (blank-is f .0) (rw (y .quotas) at (filled-behind (granted 0) (f .quotas) (k .quotas) (quotas-blank b (f .full) refl)))
 
   holds-blank : (x : Bool) → f .full ≡ x → All (λ (h : Hold). h ≡ zero-hold) (drop (f .records) (k .holds))

@@ -11,17 +11,17 @@ use lib.Dec.{eqb}
 use borrow.Author.Tests.{eqb-true, not-false}
 use Rattle.layout.specs.Bytes.{Octets, number}
 use Rattle.layout.proofs.Numbers.{octets-drop}
-use Rattle.model.specs.Lists.{any, is-none, or-else}
+use Rattle.lists.specs.Lists.{any, is-none, or-else}
 use Rattle.model.specs.Consistent.{allowed}
 use Rattle.model.specs.Refusals.{line-holds}
-use Rattle.model.proofs.Bools.{and-left, and-right, or-neither}
+use Rattle.lists.proofs.Bools.{and-left, and-right, or-neither}
 use Rattle.framing.specs.Frames.{padded, frames-for, cut-from, cut, stream-of, frames-right}
 use Rattle.framing.proofs.Padding.{length-padded, padded-whole}
 use Rattle.framing.proofs.Cut.{cut-uncut}
 use Rattle.image_model.specs.Items.{all-zero}
 use Rattle.image_model.specs.Stream.{form-1, marks-right, carries, head-length, stream, image-of}
 use Rattle.image_model.specs.Reading.{marks-in, length-in, form-in, form-of, size-in, accounts-in, heap-in, contents-right, heap-of, items-right}
-use Rattle.image_model.specs.Images.{own-sound, line-21, line-22, line-23, line-24, line-25, line-26, shape-lines, read-lines, read-image, Accepts}
+use Rattle.image_model.specs.Images.{own-consistent, line-21, line-22, line-23, line-24, line-25, line-26, shape-lines, read-lines, read-image, Accepts}
 use Rattle.image_model.specs.declared.Form.{Form}
 use Rattle.image_model.proofs.Refusals.{read-accepted-exactly}
 use Rattle.image_model.proofs.Items.{zeros-are}
@@ -38,7 +38,7 @@ pub record Right (i h : List ℕ) : Type 0 where
   pub marks : marks-right (form-of i) (marks-in (stream-of i)) ≡ true
   pub contents : contents-right i ≡ true
   pub room : length h ≡ size-in i
-  pub sound : own-sound (heap-in i) (accounts-in i) ≡ true
+  pub consistent : own-consistent (heap-in i) (accounts-in i) ≡ true
 
 some-form : (x : Option Form) → is-none x ≡ false → x ≡ some (or-else form-1 x)
 unfolding is-none or-else
@@ -54,7 +54,7 @@ none-right i h e =
     let x₃ = or-neither (is-none (form-in i) || not (marks-right (or-else form-1 (form-in i)) (marks-in (stream-of i)))) _ (x₂ .1) in
     let x₄ = or-neither (not (contents-right i)) _ (x₃ .1) in
     let x₅ = or-neither (not (eqb (length h) (size-in i))) _ (x₄ .1) in
-    let x₆ = or-neither (not (own-sound (heap-in i) (accounts-in i))) _ (x₅ .1) in
+    let x₆ = or-neither (not (own-consistent (heap-in i) (accounts-in i))) _ (x₅ .1) in
     let l = or-neither (eqb (length i) 0) (not (eqb (length i % 512) 0)) (x₁ .0) in
     let m = or-neither (is-none (form-in i)) (not (marks-right (or-else form-1 (form-in i)) (marks-in (stream-of i)))) (x₃ .0) in
     let z = eqb-true (length i % 512) 0 (not-false (eqb (length i % 512) 0) (l .1)) in
@@ -65,7 +65,7 @@ none-right i h e =
       marks = not-false (marks-right (or-else form-1 (form-in i)) (marks-in (stream-of i))) (m .1);
       contents = not-false (contents-right i) (x₄ .0);
       room = eqb-true (length h) (size-in i) (not-false (eqb (length h) (size-in i)) (x₅ .0));
-      sound = not-false (own-sound (heap-in i) (accounts-in i)) (x₆ .0);
+      consistent = not-false (own-consistent (heap-in i) (accounts-in i)) (x₆ .0);
     }
 
 module _ (i h : List ℕ) (o : Octets i) (r : Right i h) where
@@ -125,7 +125,7 @@ module _ (i h : List ℕ) (o : Octets i) (r : Right i h) where
         known = is-known;
         extent = rw heap-length (parts .0);
         octets = padded-octets (length-in t) (drop (head-length f) t) (octets-drop (head-length f) t stream-octets);
-        sound = r .sound;
+        consistent = r .consistent;
         typed = typed-read f t is-known stream-octets;
         carried = carried-read f t stream-octets;
       }

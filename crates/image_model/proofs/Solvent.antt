@@ -1,4 +1,4 @@
--- What a sound state says of each quota: it has no more left than was granted (rule 5.8), and its permissions are such (rule 15.2).
+-- What a consistent state says of each quota: it has no more left than was granted (rule 5.8), and its permissions are such (rule 15.2).
 use mathlib.Core.Path.{_≡_}
 use mathlib.Core.List.{List, [], _∷_, map}
 use mathlib.Core.Bool.{Bool, true}
@@ -12,14 +12,14 @@ use Rattle.accounts.specs.declared.Hold.{Hold}
 use Rattle.accounts.specs.declared.Accounts.{Accounts}
 use Rattle.accounts.specs.Accounts.{permissible}
 use Rattle.model.specs.declared.Handle.{Handle}
-use Rattle.model.specs.Lists.{all}
+use Rattle.lists.specs.Lists.{all}
 use Rattle.model.specs.Objects.{blocks-of, objects}
 use Rattle.model.specs.Consistent.{charges, balanced-from}
-use Rattle.model.proofs.Bools.{and-left, and-right}
-use Rattle.model.proofs.Consistent.{balance-exactly, consistent-facts, sound-consistent, sound-permissible}
-use Rattle.image_model.specs.Images.{own-sound}
+use Rattle.lists.proofs.Bools.{and-left, and-right}
+use Rattle.model.proofs.Consistent.{balance-exactly, accounted-facts, consistent-accounted, consistent-permissible}
+use Rattle.image_model.specs.Images.{own-consistent}
 use Rattle.image_model.proofs.Items.{All, all-two}
-use Rattle.image_model.proofs.Places.{QuotaSound}
+use Rattle.image_model.proofs.Places.{QuotaConsistent}
 
 solvent : (os : List Handle) (hs : List Hold) (q : ℕ) (qs : List Quota) → balanced-from os hs q qs ≡ true → All (λ (x : Quota). x .remainder ≤ x .grant) qs
 unfolding balanced-from
@@ -33,10 +33,10 @@ unfolding all
 mapped-all p g [] e = tt
 mapped-all p g (x ∷ xs) e = (and-left (p (g x)) (all p (map g xs)) e, mapped-all p g xs (and-right (p (g x)) (all p (map g xs)) e))
 
-pub quotas-sound : (s : List ℕ) (k : Accounts) → own-sound s k ≡ true → All QuotaSound (k .quotas)
-quotas-sound s k e =
+pub quotas-consistent : (s : List ℕ) (k : Accounts) → own-consistent s k ≡ true → All QuotaConsistent (k .quotas)
+quotas-consistent s k e =
     let os = objects (blocks-of s) in
-    let b = balance-exactly os (k .holds) (k .quotas) .1 (consistent-facts s k (sound-consistent (table (k .edition)) s k e) .balance) in
+    let b = balance-exactly os (k .holds) (k .quotas) .1 (accounted-facts s k (consistent-accounted (table (k .edition)) s k e) .balance) in
     all-two (λ (q : Quota). q .remainder ≤ q .grant) (λ (q : Quota). permissible (q .permissions) ≡ true) (k .quotas)
     (solvent os (k .holds) 0 (k .quotas) b)
-    (mapped-all permissible (λ (q : Quota). q .permissions) (k .quotas) (sound-permissible (table (k .edition)) s k e))
+    (mapped-all permissible (λ (q : Quota). q .permissions) (k .quotas) (consistent-permissible (table (k .edition)) s k e))

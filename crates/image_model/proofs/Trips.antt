@@ -14,14 +14,14 @@ use borrow.Author.Tests.{ltb-false, le-ltb, not-false}
 use Rattle.accounts.specs.declared.Accounts.{Accounts}
 use Rattle.layout.specs.Bytes.{Octets, overwrite}
 use Rattle.layout.proofs.Overwrite.{overwrite-fits}
-use Rattle.model.specs.Lists.{any}
+use Rattle.lists.specs.Lists.{any}
 use Rattle.model.specs.Consistent.{allowed}
 use Rattle.model.specs.Refusals.{line-holds, line-1, line-2}
-use Rattle.model.proofs.Bools.{or-neither}
+use Rattle.lists.proofs.Bools.{or-neither}
 use Rattle.image_model.specs.Stream.{carries, image-of, image-length, Typed}
 use Rattle.image_model.specs.Reading.{form-of, heap-in, accounts-in}
 use Rattle.image_model.specs.Answers.{Imaged, Restored-to}
-use Rattle.image_model.specs.Images.{own-sound, line-28, put-lines, write-lines, write-image, read-image, Accepts}
+use Rattle.image_model.specs.Images.{own-consistent, line-28, put-lines, write-lines, write-image, read-image, Accepts}
 use Rattle.image_model.specs.declared.Form.{Form}
 use Rattle.image_model.proofs.Places.{Known}
 use Rattle.image_model.proofs.Refusals.{write-accepted-exactly, accepted-write}
@@ -47,28 +47,28 @@ image-told-apart f g s u k l a b e =
 module _ (f : Form) (o s : List ℕ) (k : Accounts) where
   -- no line of the writer holds exactly if the length is allowed, the state is consistent, the form carries the accounts and the lent image has room
   room : any line-holds (write-lines f o s k) ≡ false
-      → (allowed (length s) ≡ true) × (own-sound s k ≡ true) × (carries f k ≡ true) × (image-length f (length s) ≤ length o)
+      → (allowed (length s) ≡ true) × (own-consistent s k ≡ true) × (carries f k ≡ true) × (image-length f (length s) ≤ length o)
   unfolding any write-lines put-lines line-1 line-2 line-28
   room e =
       let a = or-neither (not (allowed (length s))) _ e in
-      let b = or-neither (not (own-sound s k)) _ (a .1) in
+      let b = or-neither (not (own-consistent s k)) _ (a .1) in
       let c = or-neither (not (carries f k)) _ (b .1) in
       let d = or-neither (ltb (length o) (image-length f (length s))) false (c .1) in (
         not-false (allowed (length s)) (a .0),
-        not-false (own-sound s k) (b .0),
+        not-false (own-consistent s k) (b .0),
         not-false (carries f k) (c .0),
         ltb-false (length o) (image-length f (length s)) (d .0),
       )
 
   has-room : Accepts f s k → image-length f (length s) ≤ length o → any line-holds (write-lines f o s k) ≡ false
   unfolding any write-lines put-lines line-1 line-2 line-28
-  has-room a l = rw (a .extent, a .sound, a .carried, le-ltb (length o) (image-length f (length s)) l)
+  has-room a l = rw (a .extent, a .consistent, a .carried, le-ltb (length o) (image-length f (length s)) l)
 
   -- what the writer accepts, of bytes and of accounts of their type, can be written
   pub write-accepts : write-image f o s k .refusal ≡ 0 → Known f → Octets s → Typed k → Accepts f s k × (image-length f (length s) ≤ length o)
   write-accepts e n b y =
       let r = room (write-accepted-exactly f o s k .0 e) in
-      (record { known = n; extent = r .0; octets = b; sound = r .1; typed = y; carried = r .2 }, r .3)
+      (record { known = n; extent = r .0; octets = b; consistent = r .1; typed = y; carried = r .2 }, r .3)
 
   -- and what can be written is accepted where there is room for it
   pub accepts-write : Accepts f s k → image-length f (length s) ≤ length o

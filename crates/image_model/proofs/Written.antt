@@ -11,11 +11,11 @@ use lib.Dec.{leb, eqb}
 use borrow.Author.Tests.{leb-true, eq-eqb, ne-eqb}
 use Rattle.rounding.specs.Rounding.{table}
 use Rattle.accounts.specs.declared.Accounts.{Accounts}
-use Rattle.model.specs.Lists.{is-none, or-else}
+use Rattle.lists.specs.Lists.{is-none, or-else}
 use Rattle.model.specs.Consistent.{allowed}
 use Rattle.model.specs.Refusals.{_when_, first-refusal}
-use Rattle.model.proofs.Bools.{and-right}
-use Rattle.model.proofs.Consistent.{sound-range, range-kind, range-edition}
+use Rattle.lists.proofs.Bools.{and-right}
+use Rattle.model.proofs.Consistent.{consistent-range, range-kind, range-edition}
 use Rattle.framing.specs.Frames.{frames-for, cut, stream-of, frames-right}
 use Rattle.framing.proofs.Cut.{cut-right}
 use Rattle.image_model.specs.Items.{all-zero}
@@ -25,7 +25,7 @@ use Rattle.image_model.specs.Images.{line-21, line-22, line-23, line-24,
 use Rattle.image_model.specs.declared.Form.{Form}
 use Rattle.image_model.proofs.Items.{are-zeros}
 use Rattle.image_model.proofs.Places.{Known, known-shaped, marks-tested}
-use Rattle.image_model.proofs.Solvent.{quotas-sound}
+use Rattle.image_model.proofs.Solvent.{quotas-consistent}
 use Rattle.image_model.proofs.Cuts.{cut-length, cut-stream}
 use Rattle.image_model.proofs.Heads.{stream-length, at-end, number-read, marks-read, length-read, accounts-read, heap-read, items-tested}
 
@@ -89,7 +89,7 @@ module _ (f : Form) (s : List ℕ) (k : Accounts) (a : Accepts f s k) where
 
   accounts-is : accounts-in i ≡ k
   unfolding accounts-in
-  accounts-is = rw form-is (accounts-read f (a .known) s k (a .typed) (stream-of i) zeros whole (a .carried) (quotas-sound s k (a .sound)))
+  accounts-is = rw form-is (accounts-read f (a .known) s k (a .typed) (stream-of i) zeros whole (a .carried) (quotas-consistent s k (a .consistent)))
 
   heap-is : heap-in i ≡ s
   unfolding heap-in
@@ -103,7 +103,7 @@ module _ (f : Form) (s : List ℕ) (k : Accounts) (a : Accepts f s k) where
   unfolding contents-right n L
   contents-is =
       rw (form-is, size-is, a .extent, eq-eqb (length i / 512) (frames-for (head-length f + length s)) count, padding)
-      (items-tested f (a .known) s k (a .typed) (stream-of i) zeros whole (a .carried) (quotas-sound s k (a .sound)))
+      (items-tested f (a .known) s k (a .typed) (stream-of i) zeros whole (a .carried) (quotas-consistent s k (a .consistent)))
 
   frames-are : frames-right n 0 n i ≡ true
   unfolding i image-of cut n L
@@ -129,7 +129,7 @@ module _ (f : Form) (s : List ℕ) (k : Accounts) (a : Accepts f s k) where
   not-23 : line-23 i ≡ (23 when false)
   unfolding line-23 is-none
   not-23 =
-      let r = sound-range (table (k .edition)) s k (a .sound) in
+      let r = consistent-range (table (k .edition)) s k (a .consistent) in
       let m : marks-right f (marks-in (stream-of i)) ≡ true = rw (marks-read f (a .known) s k (a .typed) (stream-of i) zeros whole)
       (marks-tested f k (range-kind k r) (range-edition k r)) in
       rw (form-found, form-is, m)
@@ -144,7 +144,7 @@ module _ (f : Form) (s : List ℕ) (k : Accounts) (a : Accepts f s k) where
 
   not-26 : line-26 i ≡ (26 when false)
   unfolding line-26
-  not-26 = rw (heap-is, accounts-is, a .sound)
+  not-26 = rw (heap-is, accounts-is, a .consistent)
 
   none-holds : (h : List ℕ) → length h ≡ length s → first-refusal (read-lines i h) ≡ 0
   unfolding read-lines shape-lines first-refusal

@@ -11,8 +11,8 @@ use Rattle.rounding.specs.Rounding.{table}
 use Rattle.accounts.specs.declared.Accounts.{Accounts}
 use Rattle.accounts.specs.Accounts.{zero-accounts}
 use Rattle.layout.specs.Bytes.{Octets, overwrite}
-use Rattle.model.specs.Lists.{is-none}
-use Rattle.model.specs.Consistent.{allowed, sound as is-sound}
+use Rattle.lists.specs.Lists.{is-none}
+use Rattle.model.specs.Consistent.{allowed, consistent as is-consistent}
 use Rattle.model.specs.Refusals.{Line, _when_, first-refusal, line-1, line-2}
 use Rattle.framing.specs.Frames.{frames-right, stream-of}
 use Rattle.image_model.specs.Stream.{form-numbered, marks-right, carries, image-of, image-length, Typed}
@@ -20,9 +20,9 @@ use Rattle.image_model.specs.Reading.{marks-in, form-in, form-of, size-i
 use Rattle.image_model.specs.Answers.{Imaged, Restored-to}
 use Rattle.image_model.specs.declared.Form.{Form}
 
--- rule 23.5: a state is sound by the table of its own edition
-abbrev pub own-sound : List ℕ → Accounts → Bool
-own-sound s k = is-sound (table (k .edition)) s k
+-- rule 23.5: a state is consistent by the table of its own edition
+abbrev pub own-consistent : List ℕ → Accounts → Bool
+own-consistent s k = is-consistent (table (k .edition)) s k
 
 -- 28: the form has no room for something in the accounts
 unfoldable pub line-28 : Form → Accounts → Line
@@ -59,7 +59,7 @@ line-25 i h = 25 when not (eqb (length h) (size-in i))
 
 -- 26: heap and accounts are not consistent
 unfoldable pub line-26 : List ℕ → Line
-line-26 i = 26 when not (own-sound (heap-in i) (accounts-in i))
+line-26 i = 26 when not (own-consistent (heap-in i) (accounts-in i))
 
 unfoldable pub shape-lines : List ℕ → List Line
 shape-lines i = line-21 i ∷ line-22 i ∷ line-23 i ∷ line-24 i ∷ []
@@ -109,6 +109,6 @@ pub record Accepts (f : Form) (s : List ℕ) (k : Accounts) : Type 0 where
   pub known : form-numbered (f .number) ≡ some f
   pub extent : allowed (length s) ≡ true
   pub octets : Octets s
-  pub sound : own-sound s k ≡ true
+  pub consistent : own-consistent s k ≡ true
   pub typed : Typed k
   pub carried : carries f k ≡ true

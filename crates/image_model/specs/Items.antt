@@ -4,7 +4,7 @@ use mathlib.Core.List.{List, [], _∷_, _++_}
 use mathlib.Core.Bool.{Bool, true, _&&_}
 use lib.ListN.{take, drop}
 use lib.Dec.{eqb}
-use Rattle.model.specs.Lists.{all}
+use Rattle.lists.specs.Lists.{all}
 
 module _ {A : Type 0} where
   -- every item of a list, written by one rule

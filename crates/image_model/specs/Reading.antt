@@ -10,7 +10,7 @@ use Rattle.accounts.specs.declared.Quota.{Quota}
 use Rattle.accounts.specs.declared.Hold.{Hold}
 use Rattle.accounts.specs.declared.Accounts.{Accounts}
 use Rattle.layout.specs.Bytes.{number}
-use Rattle.model.specs.Lists.{or-else}
+use Rattle.lists.specs.Lists.{or-else}
 use Rattle.model.specs.Consistent.{allowed}
 use Rattle.framing.specs.Frames.{padded, frames-for, stream-of}
 use Rattle.image_model.specs.Items.{each, every, all-zero}

@@ -14,7 +14,7 @@ use Rattle.accounts.specs.declared.Accounts.{Accounts}
 use Rattle.accounts.specs.Accounts.{QUOTAS, HOLDS, ALL-PERMISSIONS, permissible, zero-quota, zero-hold, with-permissions, plain, opened, unused}
 use Rattle.accounts.specs.Accounts.{with-kind, with-edition}
 use Rattle.layout.specs.Bytes.{bytes}
-use Rattle.model.specs.Lists.{all}
+use Rattle.lists.specs.Lists.{all}
 use Rattle.framing.specs.Frames.{frames-for, cut}
 use Rattle.image_model.specs.Items.{many, all-zero}
 use Rattle.image_model.specs.declared.Form.{Form}

@@ -13,14 +13,14 @@ use Rattle.accounts.specs.declared.Hold.{Hold}
 use Rattle.accounts.specs.Accounts.{QUOTAS, quota-at, used, remaining, charge}
 use Rattle.accounts.proofs.Laws.{charge-kept}
 use Rattle.layout.specs.Blocks.{size, QUARANTINED}
-use Rattle.model.specs.Lists.{all, total}
+use Rattle.lists.specs.Lists.{all, total}
 use Rattle.model.specs.Objects.{objects}
 use Rattle.model.specs.Consistent.{charge-of, has-record}
 use Rattle.model.specs.Space.{suitable}
 use Rattle.model.specs.Holds.{count-of, take-record}
 use Rattle.model.specs.Calls.{State, allocated}
 use Rattle.model.specs.declared.Handle.{Handle}
-use Rattle.model.proofs.Bools.{fails}
+use Rattle.lists.proofs.Bools.{fails}
 use Rattle.model.proofs.Carve.{Added}
 use Rattle.invariant.proofs.Good.{Ordered, Good}
 use Rattle.invariant.proofs.Counts.{record-counted, take-ordered, take-count}

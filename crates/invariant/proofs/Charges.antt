@@ -10,12 +10,13 @@ use mathlib.Core.Bool.{Bool, true, false, cond}
 use mathlib.Core.Logic.{_↔_, _⊎_, inl, inr}
 use lib.Dec.{ltb}
 use borrow.Author.Tests.{ltb-true, lt-ltb}
+use Rattle.lists.proofs.Bools.{same-test}
 use Rattle.accounts.specs.declared.Hold.{Hold}
-use Rattle.model.specs.Lists.{total, keep}
+use Rattle.lists.specs.Lists.{total, keep}
 use Rattle.model.specs.Consistent.{charge-of, has-record, charged-for, charges, serials-differ}
 use Rattle.model.specs.Holds.{count-of}
 use Rattle.model.specs.declared.Handle.{Handle}
-use Rattle.model.proofs.Lists.{total-append}
+use Rattle.lists.proofs.Lists.{total-append}
 use Rattle.model.proofs.Carve.{Added}
 use Rattle.invariant.proofs.Members.{added-cases, differ-cons}
 use Rattle.invariant.proofs.Good.{Ordered}
@@ -31,12 +32,6 @@ unfolding total
 total-members f g [] e = refl
 total-members f g (o ∷ os) e = rw (e o (List·Memᴰ·head refl), total-members f g os (λ p m. e p (List·Memᴰ·tail m)))
 
--- two tests that pass together are the same
-same-test : (a b : Bool) → (a ≡ true) ↔ (b ≡ true) → a ≡ b
-same-test true b e = sym (e .0 refl)
-same-test false true e = e .1 refl
-same-test false false e = refl
-
 -- what a quota pays is the charges of the objects that it has a count for
 pub charges-counted : (hs : List Hold) → Ordered hs → (q : ℕ) (os : List Handle) → charges hs q os
     ≡ total (λ o. cost (count-of (o .serial) q hs) o) os
@@ -48,7 +43,7 @@ charges-counted hs r q os =
     same o =
         let n = count-of (o .serial) q hs in
         let e = record-counted hs r (o .serial) q in
-        same-test (has-record hs q (o .serial)) (ltb 0 n) (λ t. lt-ltb 0 n (e .0 t), λ t. e .1 (ltb-true 0 n t))
+        same-test (has-record hs q (o .serial)) (ltb 0 n) (λ t. lt-ltb 0 n (e .0 t)) (λ t. e .1 (ltb-true 0 n t))
 
 -- an added object pays its own
 pub total-added : (f : Handle → ℕ) (o : Handle) (os os′ : List Handle) → Added o os os′ → total f os′ ≡ total f os + f o

@@ -12,7 +12,7 @@ use Rattle.accounts.specs.declared.Hold.{Hold}
 use Rattle.accounts.specs.declared.Accounts.{Accounts}
 use Rattle.accounts.specs.Accounts.{QUOTAS, quota-at, used, remaining, charge, with-holds}
 use Rattle.accounts.proofs.Laws.{Kept, kept, charge-kept}
-use Rattle.model.specs.Lists.{all}
+use Rattle.lists.specs.Lists.{all}
 use Rattle.model.specs.Objects.{objects}
 use Rattle.model.specs.Consistent.{charge-of, has-record}
 use Rattle.model.specs.Holds.{count-of, take-record, raise-count}

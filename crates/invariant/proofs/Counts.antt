@@ -14,11 +14,11 @@ use lib.Dec.{ltb, eqb}
 use borrow.Author.Tests.{leb-true, le-leb, ltb-true, lt-ltb, eqb-true, eq-eqb, eqb-false, ne-eqb, not-true}
 use Rattle.accounts.specs.declared.Hold.{Hold}
 use Rattle.accounts.specs.Accounts.{QUOTAS, zero-hold, used, unused, is-for, record-of, dropped, drop-records}
-use Rattle.model.specs.Lists.{all, any, total, first, or-else, change-first}
+use Rattle.lists.specs.Lists.{all, any, total, first, or-else, change-first}
 use Rattle.model.specs.Consistent.{held, has-record}
 use Rattle.model.specs.Holds.{count-of, with-count, take-record, raise-count, less-one, lower-count}
-use Rattle.model.proofs.Bools.{and-left, and-right, and-both, implies, implied, fails}
-use Rattle.model.proofs.Lists.{all-member, member-any, first-some, first-found, first-none}
+use Rattle.lists.proofs.Bools.{and-left, and-right, and-both, implies, implied, fails}
+use Rattle.lists.proofs.Lists.{all-member, member-any, first-some, first-found, first-none}
 use Rattle.model.proofs.Consistent.{is-for-exactly, held-exactly}
 use Rattle.model.proofs.Lookup.{same-record}
 use Rattle.invariant.proofs.Good.{proper, Ordered}

@@ -8,7 +8,7 @@ use lib.Dec.{leb, ltb}
 use Rattle.accounts.specs.declared.Hold.{Hold}
 use Rattle.accounts.specs.Accounts.{QUOTAS, zero-quota, used}
 use Rattle.layout.specs.Blocks.{size, QUARANTINED, AllWritable, AllOctets}
-use Rattle.model.specs.Lists.{all, total}
+use Rattle.lists.specs.Lists.{all, total}
 use Rattle.model.specs.Consistent.{allowed, records-differ}
 use Rattle.model.specs.Calls.{State}
 use Rattle.model.proofs.Consistent.{Tests}

@@ -15,13 +15,13 @@ use Rattle.layout.specs.Bytes.{Octets}
 use Rattle.layout.specs.Blocks.{Block, size, QUARANTINED, render, parse, AllWritable}
 use Rattle.layout.proofs.Render.{length-render, octets-render}
 use Rattle.layout.proofs.Parse.{parse-is, parse-octets}
-use Rattle.model.specs.Lists.{total}
+use Rattle.lists.specs.Lists.{total}
 use Rattle.model.specs.Objects.{blocks-of, objects, objects-of}
-use Rattle.model.specs.Consistent.{allowed, consistent}
+use Rattle.model.specs.Consistent.{allowed, accounted}
 use Rattle.model.specs.Calls.{State, state-of}
-use Rattle.model.proofs.Bools.{and-both, implied}
-use Rattle.model.proofs.Lists.{member-all}
-use Rattle.model.proofs.Consistent.{tests-exactly, valid-exactly, blocks-parsed, consistent-exactly, consistent-cut}
+use Rattle.lists.proofs.Bools.{and-both, implied}
+use Rattle.lists.proofs.Lists.{member-all}
+use Rattle.model.proofs.Consistent.{tests-exactly, valid-exactly, blocks-parsed, accounted-exactly, accounted-cut}
 use Rattle.model.proofs.Blocks.{total-is}
 use Rattle.invariant.proofs.Good.{proper, Good, Ordered}
 
@@ -38,7 +38,7 @@ pub record Written-out (t : State) : Type 0 where
   pub extent : length (render (t .blocks)) ≡ total size (t .blocks)
   pub allowed : allowed (length (render (t .blocks))) ≡ true
   pub octets : Octets (render (t .blocks))
-  pub sound : consistent (render (t .blocks)) (t .accounts) ≡ true
+  pub passes : accounted (render (t .blocks)) (t .accounts) ≡ true
 
 pub good-heap : (t : State) → Good t → Written-out t
 unfolding render objects-of
@@ -54,22 +54,22 @@ good-heap t g =
       extent = render-total bs;
       allowed = rw (render-total bs) (g .extent);
       octets = o;
-      sound = consistent-exactly (render bs) (t .accounts) .1 (bs, p, tests-exactly bs (t .accounts) .1 (g .tests));
+      passes = accounted-exactly (render bs) (t .accounts) .1 (bs, p, tests-exactly bs (t .accounts) .1 (g .tests));
     }
 
 -- the blocks of a consistent heap can be written, and are the heap again
-module _ (s : List ℕ) (k : Accounts) (o : Octets s) (c : consistent s k ≡ true) where
+module _ (s : List ℕ) (k : Accounts) (o : Octets s) (c : accounted s k ≡ true) where
   heap-blocks : (render (blocks-of s) ≡ s) × AllWritable (blocks-of s)
-  heap-blocks = parse-is s (blocks-of s) o .0 (consistent-cut s k c .0)
+  heap-blocks = parse-is s (blocks-of s) o .0 (accounted-cut s k c .0)
 
-pub heap-again : (s : List ℕ) (k : Accounts) → Octets s → consistent s k ≡ true → render (blocks-of s) ≡ s
+pub heap-again : (s : List ℕ) (k : Accounts) → Octets s → accounted s k ≡ true → render (blocks-of s) ≡ s
 heap-again s k o c = heap-blocks s k o c .0
 
 -- the state of a consistent heap
-pub heap-good : (s : List ℕ) (k : Accounts) → allowed (length s) ≡ true → Octets s → consistent s k ≡ true → length (k .quotas) ≡ QUOTAS
+pub heap-good : (s : List ℕ) (k : Accounts) → allowed (length s) ≡ true → Octets s → accounted s k ≡ true → length (k .quotas) ≡ QUOTAS
     → ((q : ℕ) → getD (k .quotas) q zero-quota .grant < 2 ^ 32) → k .«last_serial» < QUARANTINED → Good (state-of s k)
 heap-good s k e o c l n f =
-    let r = consistent-cut s k c in
+    let r = accounted-cut s k c in
     let same : length s ≡ total size (blocks-of s) = ap length (sym (heap-again s k o c)) ∙ render-total (blocks-of s) in
     record {
       writable = heap-blocks s k o c .1;

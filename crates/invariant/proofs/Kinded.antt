@@ -7,14 +7,14 @@ use Rattle.accounts.specs.declared.Accounts.{Accounts}
 use Rattle.accounts.specs.Accounts.{charge, with-holds}
 use Rattle.accounts.proofs.Laws.{charge-kept, refund-kept}
 use Rattle.layout.specs.Blocks.{render}
-use Rattle.model.specs.Lists.{all}
+use Rattle.lists.specs.Lists.{all}
 use Rattle.model.specs.Consistent.{charge-of, long-enough, free-apart, well-cut, in-kind, in-range}
 use Rattle.model.specs.Space.{body-of}
 use Rattle.model.specs.Holds.{take-record, raise-count}
 use Rattle.model.specs.Refusals.{claims-first}
 use Rattle.model.specs.Calls.{State, state-of, allocated, claimed, given-back, released, freed, copied}
 use Rattle.model.specs.declared.Handle.{Handle}
-use Rattle.model.proofs.Bools.{and-right}
+use Rattle.lists.proofs.Bools.{and-right}
 use Rattle.model.proofs.Carve.{carved}
 use Rattle.model.proofs.Consistent.{range-kind, range-like, range-next}
 use Rattle.invariant.proofs.Good.{Good}

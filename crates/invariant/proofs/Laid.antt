@@ -15,18 +15,18 @@ use Rattle.layout.specs.Bytes.{Octets}
 use Rattle.layout.specs.Blocks.{Block, size, QUARANTINED, AllWritable, AllOctets}
 use Rattle.layout.proofs.Parts.{zeros-octets}
 use Rattle.layout.proofs.Numbers.{octets-take, octets-drop, octets-append}
-use Rattle.model.specs.Lists.{all, total}
+use Rattle.lists.specs.Lists.{all, total}
 use Rattle.model.specs.Objects.{objects-from, objects}
 use Rattle.model.specs.Consistent.{allowed, long-enough, starts-free, free-apart, well-cut, serials-differ, in-kind}
-use Rattle.model.specs.Space.{suitable, carve, vacant, vacate, reclaim, settle, swept, body-of, copy-into}
+use Rattle.model.specs.Space.{suitable, carve, vacant, vacate, reclaim, settle, swept, body-of, copy-into, not-quarantined}
 use Rattle.model.specs.declared.Handle.{Handle}
-use Rattle.model.proofs.Bools.{and-left, and-right, and-both, or-left}
-use Rattle.model.proofs.Lists.{all-member, member-all}
+use Rattle.lists.proofs.Bools.{and-left, and-right, and-both, or-left}
+use Rattle.lists.proofs.Lists.{all-member, member-all}
 use Rattle.model.proofs.Blocks.{whole-size, Whole}
 use Rattle.model.proofs.Carve.{Carved, Added, carved, cut-all, carved-all, carved-cut, carved-whole, carved-total, carve-objects, place}
 use Rattle.model.proofs.Join.{joined, join-all}
 use Rattle.model.proofs.Settle.{vacant-narrow, vacated-all, settle-objects, settle-total, settle-whole, settle-cut}
-use Rattle.model.proofs.Sweep.{not-quarantined, unquarantined-all, swept-objects, swept-total, swept-whole, swept-cut, swept-none}
+use Rattle.model.proofs.Sweep.{unquarantined-all, swept-objects, swept-total, swept-whole, swept-cut, swept-none}
 use Rattle.invariant.proofs.Members.{differ-kept, differ-added}
 
 -- a block that can be written as far as its serial and its bytes go

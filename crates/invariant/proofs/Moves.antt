@@ -12,10 +12,10 @@ use borrow.Author.Tests.{eqb-true}
 use Rattle.accounts.specs.declared.Hold.{Hold}
 use Rattle.accounts.specs.declared.Accounts.{Accounts}
 use Rattle.accounts.specs.Accounts.{QUOTAS, quota-at}
-use Rattle.model.specs.Lists.{keep}
+use Rattle.lists.specs.Lists.{keep}
 use Rattle.model.specs.Holds.{count-of}
 use Rattle.model.specs.declared.Handle.{Handle}
-use Rattle.model.proofs.Bools.{and-left}
+use Rattle.lists.proofs.Bools.{and-left}
 use Rattle.model.proofs.Settle.{object-held}
 use Rattle.invariant.proofs.Good.{Ordered}
 use Rattle.invariant.proofs.Counts.{held-counted}

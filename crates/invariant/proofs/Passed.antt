@@ -9,15 +9,16 @@ use lib.Dec.{ltb, eqb}
 use borrow.Author.Tests.{leb-false, ltb-false, eqb-false}
 use Rattle.accounts.specs.declared.Accounts.{Accounts}
 use Rattle.accounts.specs.Accounts.{QUOTAS, ALLOCATE, CLAIM, used, remaining}
-use Rattle.model.specs.Lists.{any, all, is-none}
+use Rattle.lists.specs.Lists.{any, all, is-none}
 use Rattle.rounding.specs.Rounding.{object-length}
 use Rattle.model.specs.Objects.{lookup, lookup-whole, found}
 use Rattle.model.specs.Consistent.{charge-of, has-record}
-use Rattle.model.specs.Refusals.{Line, _when_, line-holds, line-1, line-2, line-3, line-4, line-5, line-6, line-7, line-8, line-9, line-10, line-11, line-12}
+use Rattle.model.specs.Refusals.{Line, _when_, line-holds, line-1, line-2, line-3, line-4, line-5, line-6, line-7, line-8, line-9, line-10, line-11}
+use Rattle.model.specs.Refusals.{line-12, row-lines}
 use Rattle.model.specs.Refusals.{only-if, claims-first, base-for, free-all-lines, release-lines, claim-lines, allocate-lines, reallocate-lines}
 use Rattle.layout.specs.Blocks.{QUARANTINED}
 use Rattle.model.specs.declared.Handle.{Handle}
-use Rattle.model.proofs.Bools.{or-neither}
+use Rattle.lists.proofs.Bools.{or-neither}
 
 -- a list of which no line holds: the first does not, and none of the others
 passed : (l : Line) (ls : List Line) → any line-holds (l ∷ ls) ≡ false → (line-holds l ≡ false) × (any line-holds ls ≡ false)
@@ -76,7 +77,7 @@ only-passed false (n when t) e p = absurd (false≢true p)
 
 -- what the lines of free-all have shown
 pub free-all-passed : (unit : ℕ → ℕ) (s : List ℕ) (k : Accounts) (q : ℕ) → any line-holds (free-all-lines unit s k q) ≡ false → q < QUOTAS
-unfolding free-all-lines
+unfolding row-lines
 free-all-passed unit s k q e = quota-exists q (passed (line-3 q) _ (passed (line-2 unit s k) _ (passed (line-1 s) _ e .1) .1) .0)
 
 -- those of a release
@@ -87,7 +88,7 @@ pub record Releasable (s : List ℕ) (k : Accounts) (q : ℕ) (h : Handle) : Typ
   pub recorded : has-record (k .holds) q (found (lookup h s) .serial) ≡ true
 
 pub release-passed : (unit : ℕ → ℕ) (s : List ℕ) (k : Accounts) (q : ℕ) (h : Handle) → any line-holds (release-lines unit s k q h) ≡ false → Releasable s k q h
-unfolding release-lines
+unfolding row-lines
 release-passed unit s k q h e =
     let p₃ = passed (line-3 q) _ (passed (line-2 unit s k) _ (passed (line-1 s) _ e .1) .1) in
     let p₅ = passed (line-5 (lookup h s)) _ (p₃ .1) in
@@ -104,7 +105,7 @@ pub record Claimable (s : List ℕ) (k : Accounts) (q : ℕ) (h : Handle) : Type
   pub unused : claims-first k q (found (lookup h s)) ≡ true → all used (k .holds) ≡ false
 
 pub claim-passed : (unit : ℕ → ℕ) (s : List ℕ) (k : Accounts) (q : ℕ) (h : Handle) → any line-holds (claim-lines unit s k q h) ≡ false → Claimable s k q h
-unfolding claim-lines
+unfolding row-lines
 claim-passed unit s k q h e =
     let o = found (lookup h s) in
     let first = claims-first k q o in
@@ -154,7 +155,7 @@ module _ (unit : ℕ → ℕ) (s : List ℕ) (k : Accounts) where
       }
 
   pub allocate-passed : (q n : ℕ) → any line-holds (allocate-lines unit s k q n) ≡ false → Allocatable q n
-  unfolding allocate-lines
+  unfolding row-lines
   allocate-passed q n e =
       let p₃ = passed (line-3 q) _ (passed (line-2 unit s k) _ (passed (line-1 s) _ e .1) .1) in
       let p₁₂ = passed (line-12 ALLOCATE k q) _ (p₃ .1) in
@@ -169,7 +170,7 @@ module _ (unit : ℕ → ℕ) (s : List ℕ) (k : Accounts) where
     pub recorded : has-record (k .holds) q (found (lookup-whole h s) .serial) ≡ true
 
   pub reallocate-passed : (q : ℕ) (h : Handle) (n : ℕ) → any line-holds (reallocate-lines unit s k q h n) ≡ false → Reallocatable q h n
-  unfolding reallocate-lines
+  unfolding row-lines
   reallocate-passed q h n e =
       let p₃ = passed (line-3 q) _ (passed (line-2 unit s k) _ (passed (line-1 s) _ e .1) .1) in
       let p₁₂ = passed (line-12 ALLOCATE k q) _ (p₃ .1) in

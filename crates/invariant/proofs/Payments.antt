@@ -11,12 +11,12 @@ use borrow.Author.Tests.{eqb-true, eqb-false, eq-eqb, ne-eqb, lt-ltb}
 use Rattle.accounts.specs.declared.Quota.{Quota}
 use Rattle.accounts.specs.declared.Hold.{Hold}
 use Rattle.accounts.specs.declared.Accounts.{Accounts}
-use Rattle.accounts.specs.Accounts.{QUOTAS, zero-quota, quota-at, remaining, charge, refund, with-holds}
-use Rattle.accounts.proofs.Laws.{Kept, remaining-set, charge-pays, refund-pays, charge-kept, refund-kept}
+use Rattle.accounts.specs.Accounts.{QUOTAS, zero-quota, quota-at, with-remainder, remaining, charge, refund, with-holds}
+use Rattle.accounts.proofs.Laws.{Kept, remaining-put, charge-pays, refund-pays, charge-kept, refund-kept}
 use Rattle.model.specs.Consistent.{charge-of, serials-differ}
 use Rattle.model.specs.Holds.{count-of}
 use Rattle.model.specs.declared.Handle.{Handle}
-use Rattle.model.proofs.Bools.{and-no, and-both}
+use Rattle.lists.proofs.Bools.{and-no, and-both}
 use Rattle.invariant.proofs.Charges.{cost, total-members, total-more}
 use Rattle.invariant.proofs.Recorded.{due, owed, Limits}
 
@@ -45,11 +45,11 @@ module _ (q n : ℕ) (k : Accounts) (m : Limits k) (exists : q < QUOTAS) where
   charged l j = go (eqb q j) refl
     where
       here : remaining q (charge q n k) ≡ remaining q k - n
-      here = ap (remaining q) (charge-pays q n k exists l) ∙ remaining-set q k (remaining q k - n) within
+      here = ap (remaining q) (charge-pays q n k exists l) ∙ remaining-put q k (with-remainder (remaining q k - n) (quota-at q k)) within
 
       go : (t : Bool) → eqb q j ≡ t → quota-at j (charge q n k) .remainder + cond t n 0 ≡ quota-at j k .remainder
       go true t = rw (← eqb-true q j t) (omega (arith, here, l))
-      go false t = omega (arith, charge-kept q n k .same-others j (λ e. eqb-false q j t (sym e)))
+      go false t = omega (arith, ap (λ (x : Quota). x .remainder) (charge-kept q n k .same-others j (λ e. eqb-false q j t (sym e))))
 
   -- a quota that was paid back has so much more, and the others as much
   pub refunded : remaining q k + n < 2 ^ 32 → (j : ℕ) → quota-at j (refund q n k) .remainder ≡ quota-at j k .remainder + cond (eqb q j) n 0
@@ -57,11 +57,11 @@ module _ (q n : ℕ) (k : Accounts) (m : Limits k) (exists : q < QUOTAS) where
   refunded l j = go (eqb q j) refl
     where
       here : remaining q (refund q n k) ≡ remaining q k + n
-      here = ap (remaining q) (refund-pays q n k exists l) ∙ remaining-set q k (remaining q k + n) within
+      here = ap (remaining q) (refund-pays q n k exists l) ∙ remaining-put q k (with-remainder (remaining q k + n) (quota-at q k)) within
 
       go : (t : Bool) → eqb q j ≡ t → quota-at j (refund q n k) .remainder ≡ quota-at j k .remainder + cond t n 0
       go true t = rw (← eqb-true q j t) here
-      go false t = omega (arith, refund-kept q n k .same-others j (λ e. eqb-false q j t (sym e)))
+      go false t = omega (arith, ap (λ (x : Quota). x .remainder) (refund-kept q n k .same-others j (λ e. eqb-false q j t (sym e))))
 
 -- a count above 0 costs the charge
 pub cost-some : (n : ℕ) (o : Handle) → 0 < n → cost n o ≡ charge-of (o .length)

@@ -14,14 +14,14 @@ use Rattle.accounts.specs.declared.Hold.{Hold}
 use Rattle.accounts.specs.declared.Accounts.{Accounts}
 use Rattle.accounts.specs.Accounts.{QUOTAS, quota-at, used}
 use Rattle.layout.specs.Blocks.{size, QUARANTINED}
-use Rattle.model.specs.Lists.{total}
+use Rattle.lists.specs.Lists.{total}
 use Rattle.model.specs.Objects.{objects}
 use Rattle.model.specs.Consistent.{held}
 use Rattle.model.specs.Holds.{count-of}
 use Rattle.model.specs.Calls.{State}
 use Rattle.model.specs.declared.Handle.{Handle}
-use Rattle.model.proofs.Bools.{and-left, and-right, and-no, implies}
-use Rattle.model.proofs.Lists.{all-member, member-all}
+use Rattle.lists.proofs.Bools.{and-left, and-right, and-no, implies}
+use Rattle.lists.proofs.Lists.{all-member, member-all}
 use Rattle.model.proofs.Consistent.{Valid, given-exactly, valid-exactly, balance-exactly}
 use Rattle.model.proofs.Blocks.{writable-whole}
 use Rattle.invariant.proofs.Good.{proper, Ordered, Good}

@@ -14,10 +14,10 @@ use Rattle.accounts.specs.declared.Accounts.{Accounts}
 use Rattle.rounding.specs.Rounding.{Units, object-length, alignment}
 use Rattle.rounding.proofs.Rounding as R
 use Rattle.layout.specs.Blocks.{size, render}
-use Rattle.model.specs.Lists.{total, or-else}
+use Rattle.lists.specs.Lists.{total, or-else}
 use Rattle.model.specs.Objects.{blocks-of, objects}
 use Rattle.model.specs.Consistent.{has-record, in-units}
-use Rattle.model.proofs.Bools.{and-both}
+use Rattle.lists.proofs.Bools.{and-both}
 use Rattle.model.specs.Refusals.{base-for}
 use Rattle.model.specs.Calls.{State, state-of, allocated, copied, new-object}
 use Rattle.model.specs.declared.Handle.{Handle}

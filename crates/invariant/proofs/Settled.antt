@@ -10,7 +10,7 @@ use borrow.Author.Tests.{eqb-true, eqb-false, eq-eqb}
 use Rattle.accounts.specs.declared.Hold.{Hold}
 use Rattle.accounts.specs.Accounts.{QUOTAS, remaining, refund, with-holds, drop-records}
 use Rattle.accounts.proofs.Laws.{refund-kept}
-use Rattle.model.specs.Lists.{total, keep}
+use Rattle.lists.specs.Lists.{total, keep}
 use Rattle.model.specs.Objects.{objects}
 use Rattle.model.specs.Consistent.{charge-of, charges, has-record}
 use Rattle.model.specs.Space.{settle, swept}

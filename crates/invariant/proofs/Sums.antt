@@ -12,11 +12,11 @@ use lib.Dec.{eqb}
 use borrow.Author.Tests.{not-true}
 use Rattle.accounts.specs.declared.Hold.{Hold}
 use Rattle.accounts.specs.Accounts.{zero-hold, used, is-for}
-use Rattle.model.specs.Lists.{all, any, total, first, change-first, or-else}
+use Rattle.lists.specs.Lists.{all, any, total, first, change-first, or-else}
 use Rattle.model.specs.Consistent.{records-differ}
 use Rattle.model.specs.Holds.{count-of}
-use Rattle.model.proofs.Bools.{and-left, and-right, and-both, or-neither, fails}
-use Rattle.model.proofs.Lists.{all-append, total-append}
+use Rattle.lists.proofs.Bools.{and-left, and-right, and-both, or-neither, fails}
+use Rattle.lists.proofs.Lists.{all-append, total-append}
 use Rattle.model.proofs.Consistent.{is-for-exactly}
 
 -- the first element that passes a test, with the lists before and after it is changed

@@ -11,7 +11,7 @@ use Rattle.accounts.specs.declared.Accounts.{Accounts}
 use Rattle.accounts.specs.Accounts.{QUOTAS, zero-quota}
 use Rattle.layout.specs.Bytes.{Octets}
 use Rattle.model.specs.Objects.{objects, objects-of}
-use Rattle.model.specs.Consistent.{allowed, consistent, serials-differ}
+use Rattle.model.specs.Consistent.{allowed, accounted, serials-differ}
 use Rattle.model.specs.Holds.{count-of}
 use Rattle.model.specs.Calls.{State, state-of}
 use Rattle.model.specs.declared.Handle.{Handle}
@@ -47,7 +47,7 @@ pub record Tracks (l : Ledger) (t : State) : Type 0 where
 pub record Agrees (l : Ledger) (s : List ℕ) (k : Accounts) : Type 0 where
   pub extent : allowed (length s) ≡ true
   pub octets : Octets s
-  pub sound : consistent s k ≡ true
+  pub passes : accounted s k ≡ true
   pub quotas : length (k .quotas) ≡ QUOTAS
   pub narrow : (q : ℕ) → getD (k .quotas) q zero-quota .grant < 2 ^ 32
   pub kinded : Kinded (state-of s k)

@@ -11,7 +11,7 @@ use Rattle.accounts.specs.declared.Accounts.{Accounts}
 use Rattle.accounts.specs.Accounts.{QUOTAS}
 use Rattle.rounding.specs.Rounding.{Units}
 use Rattle.layout.specs.Blocks.{Block, live, render}
-use Rattle.model.specs.Lists.{all}
+use Rattle.lists.specs.Lists.{all}
 use Rattle.model.specs.Objects.{objects, blocks-of, objects-of, lookup, lookup-whole, found}
 use Rattle.model.specs.Consistent.{long-enough, free-apart, well-cut, charges, has-record}
 use Rattle.model.specs.Space.{body-of, swept}
@@ -27,7 +27,7 @@ use Rattle.model.specs.declared.Call.the-variants.{ListBlock}
 use Rattle.model.specs.declared.Call.the-variants.{ClearPermissions, Sweep}
 use Rattle.model.proofs.Refusals.{accepted-exactly, by-lines}
 use Rattle.model.specs.declared.Handle.{Handle}
-use Rattle.model.proofs.Bools.{and-right}
+use Rattle.lists.proofs.Bools.{and-right}
 use Rattle.model.proofs.Carve.{carved}
 use Rattle.ledger.specs.Ledger.{Ledger}
 use Rattle.ledger.specs.Contents.{contents}

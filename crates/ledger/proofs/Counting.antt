@@ -12,12 +12,13 @@ use borrow.Author.Tests.{ltb-true, ltb-false, lt-ltb, eqb-false}
 use Rattle.accounts.specs.declared.Hold.{Hold}
 use Rattle.accounts.specs.declared.Accounts.{Accounts}
 use Rattle.accounts.specs.Accounts.{QUOTAS, HOLDS, CLAIM, zero-hold, unused, is-for, record-of, dropped, drop-records}
-use Rattle.accounts.specs.Accounts.{clear-permissions, clear-at, with-holds, charge, permits}
-use Rattle.model.specs.Lists.{all, any, first, change-first, or-else, is-none}
+use Rattle.accounts.specs.Accounts.{clear-permissions, with-holds, charge, permits}
+use Rattle.accounts.proofs.Laws.{clear-kept}
+use Rattle.lists.specs.Lists.{all, any, first, change-first, or-else, is-none}
 use Rattle.model.specs.Objects.{lookup, found}
-use Rattle.model.specs.Consistent.{charge-of, allowed, sound}
+use Rattle.model.specs.Consistent.{charge-of, allowed, consistent}
 use Rattle.model.specs.Holds.{count-of, with-count, take-record, raise-count, less-one, lower-count}
-use Rattle.model.specs.Refusals.{first-refusal, line-holds, claims-first, line-1, line-2, line-3, line-5, line-7}
+use Rattle.model.specs.Refusals.{first-refusal, line-holds, claims-first, line-1, line-2, line-3, line-5, line-7, row-lines}
 use Rattle.model.specs.Refusals.{line-12}
 use Rattle.model.specs.Refusals.{check-lines, quota-lines, free-all-lines, lend-lines, release-lines, claim-lines}
 use Rattle.model.specs.Refusals.{allocate-lines}
@@ -30,8 +31,8 @@ use Rattle.model.specs.declared.Handle.{Handle}
 use Rattle.model.specs.declared.Call.{Call}
 use Rattle.model.specs.declared.Call.the-variants.{Allocate, AllocateArray, Claim, Release, FreeAll, Reallocate}
 use Rattle.model.specs.declared.Call.the-variants.{Lend, Remaining, CanRelease, ListBlock, ClearPermissions, Sweep}
-use Rattle.model.proofs.Bools.{and-left, and-right, and-both, or-neither}
-use Rattle.model.proofs.Lists.{all-member, first-some}
+use Rattle.lists.proofs.Bools.{and-left, and-right, and-both, or-neither}
+use Rattle.lists.proofs.Lists.{all-member, first-some}
 use Rattle.model.proofs.Refusals.{accepted-exactly, by-lines, unless-has, unless-where}
 use Rattle.model.proofs.StepFrame.{step-keeps}
 use Rattle.ledger.specs.Ledger.{Ledger, Event, Called, Wrote, Saved, Restored}
@@ -129,10 +130,10 @@ dropped-all q (h ∷ hs) e =
 module _ (unit : ℕ → ℕ) (s : List ℕ) (k : Accounts) (q : ℕ) (h : Handle) where
   none-holds : any line-holds (claim-lines unit s k q h) ≡ false
       → eqb (count-of (found (lookup h s) .serial) q (k .holds)) 255 ≡ false
-  unfolding any claim-lines line-1 line-2 line-3 line-12 line-5 line-7
+  unfolding any row-lines line-1 line-2 line-3 line-12 line-5 line-7
   none-holds a =
       let b = or-neither (not (allowed (length s))) _ a in
-      let c = or-neither (not (sound unit s k)) _ (b .1) in
+      let c = or-neither (not (consistent unit s k)) _ (b .1) in
       let d = or-neither (leb QUOTAS q) _ (c .1) in
       let f = or-neither (not (permits CLAIM q k)) _ (d .1) in
       let g = or-neither (is-none (lookup h s)) _ (f .1) in
@@ -155,12 +156,7 @@ claimed-counts q o k e n = go (claims-first k q o)
     go false = raised (o .serial) q (k .holds) e n
 
 cleared-counts : (q n : ℕ) (k : Accounts) → Counted (k .holds) → Counted (clear-permissions q n k .holds)
-unfolding clear-permissions
-cleared-counts q n k e = go (ltb q QUOTAS)
-  where
-    go : (b : Bool) → Counted (cond b (clear-at q n k) k .holds)
-    go true = e
-    go false = e
+cleared-counts q n k e = rw (clear-kept q n k .same-holds) e
 
 -- every call keeps counts of one byte
 module _ (unit : ℕ → ℕ) where

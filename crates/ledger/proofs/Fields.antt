@@ -16,18 +16,18 @@ use Rattle.accounts.specs.Accounts.{QUOTAS, zero-quota, used, remaining}
 use Rattle.layout.specs.Blocks.{render}
 use Rattle.layout.proofs.Render.{length-render}
 use Rattle.layout.proofs.Parse.{parse-is}
-use Rattle.model.specs.Lists.{total}
+use Rattle.lists.specs.Lists.{total}
 use Rattle.model.specs.Answers.{amount-of}
 use Rattle.model.specs.Objects.{objects, blocks-of, objects-of}
-use Rattle.model.specs.Consistent.{serials-differ, records-differ, charges, sound}
+use Rattle.model.specs.Consistent.{serials-differ, records-differ, charges, consistent}
 use Rattle.model.specs.Holds.{count-of}
-use Rattle.model.specs.Refusals.{first-refusal, line-1, line-2, line-3, quota-lines}
+use Rattle.model.specs.Refusals.{first-refusal, line-1, line-2, line-3, row-lines}
 use Rattle.model.specs.Calls.{unless, state-of, remaining-of, listing-from}
 use Rattle.model.specs.Step.{step}
 use Rattle.model.specs.declared.Handle.{Handle}
 use Rattle.model.specs.declared.ListedBlock.{ListedBlock}
 use Rattle.model.specs.declared.Call.the-variants.{Remaining}
-use Rattle.model.proofs.Consistent.{Tests, tests-exactly, valid-exactly, balance-exactly, consistent-cut, range-serial}
+use Rattle.model.proofs.Consistent.{Tests, tests-exactly, valid-exactly, balance-exactly, accounted-cut, range-serial}
 use Rattle.ledger.specs.Ledger.{Entry, Ledger, holds-of, cost-to}
 use Rattle.ledger.specs.Demand3.{Within, objects-in}
 use Rattle.invariant.proofs.Good.{Ordered}
@@ -47,11 +47,11 @@ total-entries f g (e ∷ es) h = rw (h e (List·Memᴰ·head refl), total-entrie
 module _ (l : Ledger) (s : List ℕ) (k : Accounts) (a : Agrees l s k) where
   -- the tests that the heap passes, over its objects
   tests-of : Tests (blocks-of s) k
-  tests-of = tests-exactly (blocks-of s) k .0 (consistent-cut s k (a .sound) .1)
+  tests-of = tests-exactly (blocks-of s) k .0 (accounted-cut s k (a .passes) .1)
 
   -- the records are in order
   pub ordered-of : Ordered (k .holds)
-  ordered-of = good-ordered (state-of s k) (heap-good s k (a .extent) (a .octets) (a .sound) (a .quotas) (a .narrow) (range-serial k (a .kinded .1)))
+  ordered-of = good-ordered (state-of s k) (heap-good s k (a .extent) (a .octets) (a .passes) (a .quotas) (a .narrow) (range-serial k (a .kinded .1)))
 
   -- the objects of live blocks have different serials
   pub live-once-of : serials-differ (objects-of s) ≡ true
@@ -73,7 +73,7 @@ module _ (l : Ledger) (s : List ℕ) (k : Accounts) (a : Agrees l s k) where
   pub inside-of : (o : Handle) → List·Memᴰ o (objects-of s) → o .base + o .length ≤ length s
   unfolding objects-of objects render
   inside-of o m =
-      let r = parse-is s (blocks-of s) (a .octets) .0 (consistent-cut s k (a .sound) .0) .0 in
+      let r = parse-is s (blocks-of s) (a .octets) .0 (accounted-cut s k (a .passes) .0) .0 in
       let e = ap length (sym r) ∙ length-render 0 (blocks-of s) in
       let p = objects-lie 0 (blocks-of s) o m .high in
       omega arith
@@ -114,6 +114,6 @@ module _ (l : Ledger) (s : List ℕ) (k : Accounts) (a : Agrees l s k) where
       rw (← charges-of q, ← a .grants) (sym b ∙ sym (List·getD-map (λ (x : Quota). x .grant) (k .quotas) q zero-quota))
 
   -- and it is answered to a call that asks for it
-  pub answered-of : (unit : ℕ → ℕ) → sound unit s k ≡ true → (q : ℕ) → q < QUOTAS → step unit (Remaining q) s k .values ≡ amount-of (remaining q k)
-  unfolding step remaining-of quota-lines line-1 line-2 line-3 first-refusal unless
+  pub answered-of : (unit : ℕ → ℕ) → consistent unit s k ≡ true → (q : ℕ) → q < QUOTAS → step unit (Remaining q) s k .values ≡ amount-of (remaining q k)
+  unfolding step remaining-of row-lines line-1 line-2 line-3 first-refusal unless
   answered-of unit f q h = rw (a .extent, f, lt-leb QUOTAS q h)

@@ -11,7 +11,7 @@ use Rattle.accounts.specs.declared.Accounts.{Accounts}
 use Rattle.accounts.specs.Accounts.{permissions, permissible}
 use Rattle.rounding.specs.Rounding.{Units}
 use Rattle.model.specs.Objects.{objects-of}
-use Rattle.model.specs.Consistent.{consistent, in-units, sound}
+use Rattle.model.specs.Consistent.{accounted, in-units, consistent}
 use Rattle.model.specs.Refusals.{first-refusal, quota-lines, free-all-lines, lend-lines, release-lines, claim-lines, check-lines, allocate-lines}
 use Rattle.model.specs.Refusals.{reallocate-lines}
 use Rattle.model.specs.Calls.{Outcome, unless, allocate, allocate-array, claim, release, free-all, reallocate, lend, remaining-of, can-release}
@@ -23,10 +23,10 @@ use Rattle.model.specs.declared.Call.{Call}
 use Rattle.model.specs.declared.Call.the-variants.{Allocate, AllocateArray, Claim, Release, FreeAll, Reallocate, Lend, Remaining, CanRelease}
 use Rattle.model.specs.declared.Call.the-variants.{ListBlock}
 use Rattle.model.specs.declared.Call.the-variants.{ClearPermissions, Sweep}
-use Rattle.model.proofs.Bools.{and-both}
-use Rattle.model.proofs.Consistent.{sound-fits}
-use Rattle.model.specs.Lists.{all}
-use Rattle.model.proofs.Lists.{member-all}
+use Rattle.lists.proofs.Bools.{and-both}
+use Rattle.model.proofs.Consistent.{consistent-fits}
+use Rattle.lists.specs.Lists.{all}
+use Rattle.lists.proofs.Lists.{member-all}
 use Rattle.invariant.proofs.Requested.{new-in-units}
 use Rattle.model.proofs.Refusals.{accepted-exactly, by-lines}
 use Rattle.invariant.proofs.Passed.{allocate-passed, reallocate-passed}
@@ -41,19 +41,19 @@ use Rattle.ledger.proofs.Opening.{restored-agrees}
 abbrev pub Fitted : (ℕ → ℕ) → Ledger → Type 0
 Fitted unit l = (o : Handle) → List·Memᴰ o (objects-in l) → in-units unit o ≡ true
 
--- the live objects are, and a state whose permissions are such is sound
-pub sound-of : (unit : ℕ → ℕ) (l : Ledger) (s : List ℕ) (k : Accounts) → Agrees l s k → Fitted unit l → all permissible (permissions k) ≡ true
-    → sound unit s k ≡ true
-unfolding sound
-sound-of unit l s k a f p =
+-- the live objects are, and a state whose permissions are such is consistent
+pub consistent-of : (unit : ℕ → ℕ) (l : Ledger) (s : List ℕ) (k : Accounts) → Agrees l s k → Fitted unit l → all permissible (permissions k) ≡ true
+    → consistent unit s k ≡ true
+unfolding consistent
+consistent-of unit l s k a f p =
     let fits = member-all (in-units unit) (objects-of s) (λ o m. f o (a .matches .objects o .0 m)) in
-    and-both (consistent s k) _ (a .sound)
+    and-both (accounted s k) _ (a .passes)
     (and-both (all (in-units unit) (objects-of s)) _ fits (and-both (all permissible (permissions k)) _ p
     (and-both _ _ (a .kinded .0) (a .kinded .1))))
 
 -- a beginning has none, or those of a state that was read
 pub restored-fits : (unit : ℕ → ℕ) (s : List ℕ) (k : Accounts) → Restorable unit s k → Fitted unit (read-ledger s k)
-restored-fits unit s k r o m = sound-fits unit s k (r .sound) o (restored-agrees unit s k r .matches .objects o .1 m)
+restored-fits unit s k r o m = consistent-fits unit s k (r .consistent) o (restored-agrees unit s k r .matches .objects o .1 m)
 
 pub beginning-fits : (tables : ℕ → ℕ → ℕ) (begun : Ledger) (s : List ℕ) (k : Accounts) → Begins tables begun s k → Fitted (tables (k .edition)) begun
 unfolding empty

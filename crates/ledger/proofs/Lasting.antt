@@ -10,7 +10,7 @@ use mathlib.Core.Logic.{_⊎_, inl, inr, ⊎-elim}
 use lib.Dec.{eqb}
 use borrow.Author.Tests.{eq-eqb, ne-eqb}
 use Rattle.accounts.specs.declared.Accounts.{Accounts}
-use Rattle.model.specs.Lists.{keep}
+use Rattle.lists.specs.Lists.{keep}
 use Rattle.model.specs.Objects.{objects-of}
 use Rattle.model.specs.Refusals.{first-refusal, quota-lines, free-all-lines, lend-lines, release-lines, claim-lines, check-lines, allocate-lines}
 use Rattle.model.specs.Refusals.{reallocate-lines}
@@ -23,7 +23,7 @@ use Rattle.model.specs.declared.Call.{Call}
 use Rattle.model.specs.declared.Call.the-variants.{Allocate, AllocateArray, Claim, Release, FreeAll, Reallocate, Lend, Remaining, CanRelease}
 use Rattle.model.specs.declared.Call.the-variants.{ListBlock}
 use Rattle.model.specs.declared.Call.the-variants.{ClearPermissions, Sweep}
-use Rattle.model.proofs.Consistent.{consistent-facts}
+use Rattle.model.proofs.Consistent.{accounted-facts}
 use Rattle.model.proofs.Lookup.{same-serial}
 use Rattle.invariant.proofs.Members.{keep-exactly}
 use Rattle.ledger.specs.Ledger.{Entry, Ledger, with-entries, change-holds, at-serial, is-held, leave, add-object, add-hold, take-hold, take-all}
@@ -128,4 +128,4 @@ module _ (unit : ℕ → ℕ) (l : Ledger) (s : List ℕ) (k : Accounts) where
     where
       -- the next serial is above that of every object
       past : (p : Handle) → p .serial ≡ k .«last_serial» + 1 → p .serial ≡ o .serial → p ≡ o
-      past p n e = let b = consistent-facts s k (a .sound) .given o (a .matches .objects o .1 m) in absurd (omega arith)
+      past p n e = let b = accounted-facts s k (a .passes) .given o (a .matches .objects o .1 m) in absurd (omega arith)

@@ -8,7 +8,7 @@ use lib.ListN.{length}
 use Rattle.accounts.specs.declared.Accounts.{Accounts}
 use Rattle.rounding.specs.Rounding.{Units}
 use Rattle.layout.specs.Blocks.{Block, size, render}
-use Rattle.model.specs.Lists.{all, total}
+use Rattle.lists.specs.Lists.{all, total}
 use Rattle.model.specs.Objects.{blocks-of, lookup-whole, found}
 use Rattle.model.specs.Consistent.{long-enough, free-apart, well-cut}
 use Rattle.model.specs.Space.{body-of}
@@ -21,7 +21,7 @@ use Rattle.model.specs.declared.Handle.{Handle}
 use Rattle.model.specs.declared.Call.{Call}
 use Rattle.model.specs.declared.Call.the-variants.{Allocate, AllocateArray, Claim, Release, FreeAll, Reallocate, Lend, Remaining, CanRelease, ListBlock}
 use Rattle.model.specs.declared.Call.the-variants.{ClearPermissions, Sweep}
-use Rattle.model.proofs.Bools.{and-right}
+use Rattle.lists.proofs.Bools.{and-right}
 use Rattle.model.proofs.Refusals.{accepted-exactly, by-lines}
 use Rattle.model.proofs.Carve.{carved, carved-total}
 use Rattle.model.proofs.Settle.{settle-total}

@@ -9,14 +9,14 @@ use mathlib.Core.Option.{Option, none, some}
 use lib.ListN.{length, getD}
 use Rattle.accounts.specs.declared.Accounts.{Accounts}
 use Rattle.layout.specs.Bytes.{Octets}
-use Rattle.model.specs.Lists.{any, is-none}
+use Rattle.lists.specs.Lists.{any, is-none}
 use Rattle.model.specs.Objects.{objects-of, lookup}
-use Rattle.model.specs.Refusals.{first-refusal, line-holds, line-1, line-2, line-5, lend-lines}
+use Rattle.model.specs.Refusals.{first-refusal, line-holds, line-1, line-2, line-5, lend-lines, row-lines}
 use Rattle.model.specs.Calls.{Outcome, lend}
 use Rattle.model.specs.declared.Handle.{Handle}
 use Rattle.model.specs.declared.Range.{Range}
 use Rattle.model.specs.declared.Call.the-variants.{Lend}
-use Rattle.model.proofs.Bools.{or-neither}
+use Rattle.lists.proofs.Bools.{or-neither}
 use Rattle.model.proofs.Refusals.{accepted-exactly, by-lines, unless-where}
 use Rattle.model.proofs.Lookup.{names-exactly, lookup-named}
 use Rattle.ledger.specs.Ledger.{Ledger, Event, Wrote}
@@ -30,7 +30,7 @@ InRange i r = (r .start ≤ i) × (i < r .end)
 module _ (unit : ℕ → ℕ) (s : List ℕ) (k : Accounts) (h : Handle) where
   -- the handle of an accepted lend names an object
   lent-named : first-refusal (lend-lines unit s k h) ≡ 0 → (o : Handle) × (lookup h s ≡ some o)
-  unfolding lend-lines line-5 is-none any
+  unfolding row-lines line-5 is-none any
   lent-named e = go (lookup h s) refl
     where
       none-holds : any line-holds (lend-lines unit s k h) ≡ false

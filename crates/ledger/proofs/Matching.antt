@@ -16,15 +16,15 @@ use borrow.Author.Tests.{eqb-true, eqb-false, eq-eqb, ne-eqb, ltb-true, lt-ltb}
 use Rattle.accounts.specs.declared.Hold.{Hold}
 use Rattle.accounts.specs.Accounts.{QUOTAS}
 use Rattle.layout.specs.Blocks.{Block}
-use Rattle.model.specs.Lists.{any, keep}
+use Rattle.lists.specs.Lists.{any, keep}
 use Rattle.model.specs.Answers.{zero-handle}
 use Rattle.model.specs.Consistent.{has-serial, serials-differ}
 use Rattle.model.specs.Holds.{count-of}
 use Rattle.model.specs.Objects.{objects-from, objects}
 use Rattle.model.specs.Space.{settle}
 use Rattle.model.specs.declared.Handle.{Handle}
-use Rattle.model.proofs.Bools.{and-both}
-use Rattle.model.proofs.Lists.{any-member, member-any, none-exactly, getD-member, member-getD}
+use Rattle.lists.proofs.Bools.{and-both, same-test}
+use Rattle.lists.proofs.Lists.{any-member, member-any, none-exactly, getD-member, member-getD}
 use Rattle.model.proofs.Carve.{Added}
 use Rattle.model.proofs.Settle.{object-held}
 use Rattle.ledger.specs.Ledger.{Entry, Span, Ledger, block-of, with-entries, holds-of, change-holds, at-serial, is-held, left-behind, leave}
@@ -37,12 +37,6 @@ use Rattle.ledger.proofs.Agreement.{Matches, SameSpans}
 use Rattle.ledger.proofs.Spans.{behind, unheld}
 use Rattle.ledger.proofs.Waiting.{settled-waits}
 use Rattle.invariant.proofs.Counts.{counted-quota, held-counted}
-
--- two tests are the same if each passes where the other does
-same-test : (a b : Bool) → (a ≡ true → b ≡ true) → (b ≡ true → a ≡ true) → a ≡ b
-same-test true b f g = sym (f refl)
-same-test false true f g = g refl
-same-test false false f g = refl
 
 -- the objects of entries
 abbrev objects-at : List Entry → List Handle

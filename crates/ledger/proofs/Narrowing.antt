@@ -29,7 +29,7 @@ module _ (unit : ℕ → ℕ) (units : Units unit) where
         → lookup h (allocate unit s k q n .heap) ≡ some (allocate unit s k q n .values .handle)
     unfolding step
     allocated-found n e w =
-        object-found (allocate unit s k q n .heap) (allocate unit s k q n .accounts) (step-agrees unit units (Allocate q n) l s k a .sound) h _ w
+        object-found (allocate unit s k q n .heap) (allocate unit s k q n .accounts) (step-agrees unit units (Allocate q n) l s k a .passes) h _ w
         (allocated-live-there unit units l s k a q n e)
 
     pub array-found : (count size : ℕ) → allocate-array unit s k q count size .values .refusal ≡ 0
@@ -43,18 +43,18 @@ module _ (unit : ℕ → ℕ) (units : Units unit) where
     unfolding step
     reallocated-found old n e w =
         object-found (reallocate unit s k q old n .heap) (reallocate unit s k q old n .accounts)
-        (step-agrees unit units (Reallocate q old n) l s k a .sound) h _ w
+        (step-agrees unit units (Reallocate q old n) l s k a .passes) h _ w
         (reallocated-live-there unit units l s k a q old n e)
 
 -- an object of the ledger, and one of an earlier ledger whose serial was held at every point since
 module _ (tables : ℕ → ℕ → ℕ) (units : (e : ℕ) → Units (tables e)) where
   module _ (begun : Ledger) (s : List ℕ) (k : Accounts) (h o : Handle) (w : Narrowed h o) where
     pub recorded-found : (es : List Event) → History tables (by-own tables) begun es s k → List·Memᴰ o (objects-in (ledger-of begun es)) → lookup h s ≡ some o
-    recorded-found es past m = let a = history-agrees tables units begun es s k past in object-found s k (a .sound) h o w (a .matches .objects o .1 m)
+    recorded-found es past m = let a = history-agrees tables units begun es s k past in object-found s k (a .passes) h o w (a .matches .objects o .1 m)
 
     pub held-found : (front back : List Event) → History tables (by-own tables) begun (back ++ front) s k → unrestored back ≡ true
         → List·Memᴰ o (objects-in (ledger-of begun front))
         → ((late early : List Event) → back ≡ late ++ early → HeldIn (o .serial) (ledger-of begun (early ++ front))) → lookup h s ≡ some o
     held-found front back past u m since =
-        object-found s k (history-agrees tables units begun (back ++ front) s k past .sound) h o w
+        object-found s k (history-agrees tables units begun (back ++ front) s k past .passes) h o w
         (demand-3-of tables units .always begun front back s k past .stays u o m since)

@@ -13,7 +13,7 @@ use lib.ListN.{length, take, drop, replicate, length-replicate, length-take, len
 use Rattle.accounts.specs.declared.Accounts.{Accounts}
 use Rattle.rounding.specs.Rounding.{Units, object-length}
 use Rattle.layout.specs.Blocks.{Block, live, render}
-use Rattle.model.specs.Lists.{or-else}
+use Rattle.lists.specs.Lists.{or-else}
 use Rattle.model.specs.Objects.{objects, blocks-of, objects-of, lookup-whole, found}
 use Rattle.model.specs.Consistent.{serials-differ, has-record}
 use Rattle.model.specs.Holds.{count-of, lower-count}

@@ -19,19 +19,19 @@ use Rattle.accounts.specs.declared.settings.Kind.the-variants.{Plain, Quarantin
 use Rattle.accounts.specs.declared.settings.Edition.{Edition}
 use Rattle.accounts.specs.declared.settings.Edition.the-variants.{First, Second}
 use Rattle.layout.specs.Blocks.{render}
-use Rattle.model.specs.Lists.{all, total}
+use Rattle.lists.specs.Lists.{all, total}
 use Rattle.model.specs.Answers.{accepted}
 use Rattle.model.specs.Objects.{objects-from, objects, blocks-of}
 use Rattle.model.specs.Consistent.{allowed, long-enough, starts-free, free-apart, well-cut, serials-differ, serials-given, record-valid, records-differ}
 use Rattle.model.specs.Consistent.{charges, in-kind, in-range, greatest-serial}
 use Rattle.model.specs.Refusals.{first-refusal, line-1, open-lines}
 use Rattle.model.specs.Calls.{Outcome, unless, fresh, open-heap}
-use Rattle.model.proofs.Bools.{and-left, and-right}
-use Rattle.model.proofs.Consistent.{Tests, balance-exactly, sound-consistent, sound-permissible, sound-kinds, sound-range}
+use Rattle.lists.proofs.Bools.{and-left, and-right}
+use Rattle.model.proofs.Consistent.{Tests, balance-exactly, consistent-accounted, consistent-permissible, consistent-kinds, consistent-range}
 use Rattle.ledger.specs.Ledger.{Ledger, empty, spans-from, read-ledger}
 use Rattle.ledger.specs.Demand3.{spans-differ}
 use Rattle.ledger.specs.History.{Opened, Restorable, Begins, Opening, Restoring}
-use Rattle.ledger.proofs.Reading.{consistent-agrees}
+use Rattle.ledger.proofs.Reading.{accounted-agrees}
 use Rattle.invariant.proofs.Good.{Good}
 use Rattle.invariant.proofs.Heaps.{good-heap}
 use Rattle.ledger.proofs.Agreement.{Tracks, Agrees}
@@ -204,13 +204,14 @@ opening-permissible t grants s k o = ap (all permissible) (opening-permissions t
 -- so every number is a quota's permissions at a beginning
 pub beginning-permissible : (tables : ℕ → ℕ → ℕ) (begun : Ledger) (s : List ℕ) (k : Accounts) → Begins tables begun s k → all permissible (permissions k) ≡ true
 beginning-permissible tables begun s k (Opening t grants e o) = opening-permissible t grants s k o
-beginning-permissible tables begun s k (Restoring e r) = sound-permissible (tables (k .edition)) s k (r .sound)
+beginning-permissible tables begun s k (Restoring e r) = consistent-permissible (tables (k .edition)) s k (r .consistent)
 
 -- a state that is restored agrees with the ledger that is read off it
 pub restored-agrees : (unit : ℕ → ℕ) (s : List ℕ) (k : Accounts) → Restorable unit s k → Agrees (read-ledger s k) s k
 restored-agrees unit s k r =
-    let e = r .sound in
-    consistent-agrees s k (r .extent) (r .octets) (sound-consistent unit s k e) (r .quotas) (r .narrow) (sound-kinds unit s k e, sound-range unit s k e)
+    let e = r .consistent in
+    accounted-agrees s k (r .extent) (r .octets) (consistent-accounted unit s k e) (r .quotas) (r .narrow)
+    (consistent-kinds unit s k e, consistent-range unit s k e)
 
 -- every beginning agrees with its ledger
 pub beginning-agrees : (tables : ℕ → ℕ → ℕ) (begun : Ledger) (s : List ℕ) (k : Accounts) → Begins tables begun s k → Agrees begun s k

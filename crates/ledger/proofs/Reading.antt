@@ -16,7 +16,7 @@ use Rattle.accounts.specs.declared.Accounts.{Accounts}
 use Rattle.accounts.specs.Accounts.{QUOTAS, zero-quota}
 use Rattle.layout.specs.Bytes.{Octets}
 use Rattle.model.specs.Objects.{blocks-of, objects-of, objects}
-use Rattle.model.specs.Consistent.{allowed, consistent}
+use Rattle.model.specs.Consistent.{allowed, accounted}
 use Rattle.model.specs.Holds.{count-of}
 use Rattle.model.specs.Calls.{state-of}
 use Rattle.model.specs.declared.Handle.{Handle}
@@ -79,17 +79,17 @@ read-member hs (o ∷ os) e m = go (List·Memᴰ·cases-cons m) (read-member hs 
     go (inl x) ih = (o, x)
     go (inr x) ih = ih x
 
-pub consistent-agrees : (s : List ℕ) (k : Accounts) → allowed (length s) ≡ true → Octets s → consistent s k ≡ true → length (k .quotas) ≡ QUOTAS
+pub accounted-agrees : (s : List ℕ) (k : Accounts) → allowed (length s) ≡ true → Octets s → accounted s k ≡ true → length (k .quotas) ≡ QUOTAS
     → ((q : ℕ) → getD (k .quotas) q zero-quota .grant < 2 ^ 32) → Kinded (state-of s k) → Agrees (read-ledger s k) s k
 unfolding read-ledger read-entry objects-of quarantined-of
-consistent-agrees s k e o c l n f =
+accounted-agrees s k e o c l n f =
     let g = heap-good s k e o c l n (range-serial k (f .1)) in
     let r = good-ordered (state-of s k) g in
     let same = read-objects (k .holds) (objects-of s) in
     record {
       extent = e;
       octets = o;
-      sound = c;
+      passes = c;
       quotas = l;
       narrow = n;
       kinded = f;

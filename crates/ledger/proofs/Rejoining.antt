@@ -15,7 +15,7 @@ use Rattle.ledger.specs.Same.{Same}
 use Rattle.ledger.proofs.Agreement.{Agrees}
 use Rattle.ledger.proofs.Opening.{restored-agrees}
 use Rattle.ledger.proofs.Counting.{history-records, history-counts}
-use Rattle.ledger.proofs.Fitted.{sound-of}
+use Rattle.ledger.proofs.Fitted.{consistent-of}
 use Rattle.ledger.proofs.Theorem.{history-agrees, history-edition, history-fits, history-permissible}
 use Rattle.ledger.proofs.Theorem.{demand-3-of}
 
@@ -96,11 +96,12 @@ module _ (tables : ℕ → ℕ → ℕ) (units : (e : ℕ) → Units (tables e))
       → Restorable (tables (k .edition)) s k
   history-restorable es s k h =
       let a = history-agrees tables units begun es s k h in
-      let sound = sound-of (tables (k .edition)) _ s k a (history-fits tables units begun es s k h) (history-permissible tables units begun es s k h) in
+      let consistent = consistent-of (tables (k .edition)) _ s k a (history-fits tables units begun es s k h)
+      (history-permissible tables units begun es s k h) in
       record {
         extent = a .extent;
         octets = a .octets;
-        sound = sound;
+        consistent = consistent;
         quotas = a .quotas;
         records = history-records tables begun es s k h;
         narrow = a .narrow;

@@ -18,9 +18,9 @@ use Rattle.model.specs.declared.Handle.{Handle}
 use Rattle.model.specs.declared.Call.{Call}
 use Rattle.model.specs.declared.Call.the-variants.{Allocate, AllocateArray, Claim, Release, FreeAll, Sweep, Reallocate, Lend, ClearPermissions}
 use Rattle.model.proofs.Computing.{computing}
-use Rattle.ledger.specs.Ledger.{Entry, Span, Ledger, Event, Called, Wrote, Saved, Restored, empty, unrestored, ledger-of}
+use Rattle.ledger.specs.Ledger.{Entry, Span, in-span, block-of, Ledger, Event, Called, Wrote, Saved, Restored, empty, unrestored, ledger-of}
 use Rattle.ledger.specs.Same.{Same}
-use Rattle.ledger.specs.Demand3.{in-live-block, in-span, taken, spans-differ}
+use Rattle.ledger.specs.Demand3.{taken, spans-differ}
 use Rattle.ledger.proofs.Recording.{recording}
 
 pub grants : List ℕ
@@ -135,11 +135,11 @@ restored-rows = (refl, refl, refl, refl, refl)
 -- bytes of blocks: the first waits to 24, a live one stands to 64, one of quota 1 to 96, another waits to 120, and the rest is free
 pub taken-rows : (map (λ i. taken i (parted .heap)) (0 ∷ 23 ∷ 24 ∷ 95 ∷ 96 ∷ 119 ∷ 120 ∷ 127 ∷ [])
     ≡ true ∷ true ∷ true ∷ true ∷ true ∷ true ∷ false ∷ false ∷ [])
-    × (map (λ i. in-live-block i (objects-of (parted .heap))) (23 ∷ 24 ∷ 95 ∷ 96 ∷ []) ≡ false ∷ true ∷ true ∷ false ∷ [])
+    × (map (λ i. in-span i (map block-of (objects-of (parted .heap)))) (23 ∷ 24 ∷ 95 ∷ 96 ∷ []) ≡ false ∷ true ∷ true ∷ false ∷ [])
     × (map (λ i. in-span i (span 0 24 ∷ span 96 120 ∷ [])) (0 ∷ 23 ∷ 24 ∷ 95 ∷ 96 ∷ 120 ∷ []) ≡ true ∷ true ∷ false ∷ false ∷ true ∷ false ∷ [])
     × (spans-differ (span 0 24 ∷ span 24 48 ∷ span 96 120 ∷ []) ≡ true)
     × (spans-differ (span 24 48 ∷ span 0 24 ∷ span 24 48 ∷ []) ≡ false)
-unfolding computing recording in-live-block in-span taken spans-differ grants a after waiting span parted
+unfolding computing recording in-span taken spans-differ grants a after waiting span parted
 taken-rows = (refl, refl, refl, refl, refl)
 
 -- two ledgers that differ in one thing do not say the same (`Same`)

@@ -13,15 +13,15 @@ use Rattle.accounts.specs.declared.settings.Kind.the-variants.{Plain, Quarantin
 use Rattle.accounts.specs.declared.settings.Edition.the-variants.{First, Second}
 use Rattle.accounts.specs.Accounts.{QUOTAS}
 use Rattle.rounding.specs.Rounding.{table}
-use Rattle.model.specs.Lists.{all}
+use Rattle.lists.specs.Lists.{all}
 use Rattle.model.specs.Calls.{Outcome, open-heap}
 use Rattle.model.specs.declared.Handle.{Handle}
 use Rattle.model.specs.declared.Call.{Call}
-use Rattle.model.proofs.Bools.{and-left, and-right}
+use Rattle.lists.proofs.Bools.{and-left, and-right}
 use Rattle.model.proofs.Computing.{computing}
-use Rattle.ledger.specs.Ledger.{Span, Event, Called, empty}
+use Rattle.ledger.specs.Ledger.{Span, Event, Called, empty, ledger-of}
 use Rattle.ledger.specs.History.{Run, Begins, Opening, History}
-use Rattle.ledger.specs.Demand3.{Holds, Demand3}
+use Rattle.ledger.specs.Demand3.{AsRecorded, Demand3}
 
 unfoldable pub grants : List ℕ
 grants = 1000 ∷ replicate (QUOTAS - 1) 0
@@ -61,10 +61,10 @@ module _ (g : Settings) where
 
   -- what demand 3 says of such a list
   pub said : (run : Run) → Demand3 table run → (cs : List Call)
-      → Holds (table (after run cs .accounts .edition)) run (empty g grants) (events run cs) []
-      (after run cs .heap) (after run cs .accounts)
+      → AsRecorded (table (after run cs .accounts .edition)) run (ledger-of (empty g grants) (events run cs)) (after run cs .heap) (after run cs .accounts)
   said run d cs =
       d .always (empty g grants) (events run cs) [] (after run cs .heap) (after run cs .accounts) (history run cs)
+      .agrees
 
 -- the first two objects of 8 bytes
 abbrev pub first : Handle

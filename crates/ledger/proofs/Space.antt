@@ -1,26 +1,26 @@
 -- Rule 10.9: a request for which no other line holds is refused by 11 exactly if there is no base for it, and accepted otherwise.
 -- Its last line says that the search found no base; the search finds one exactly if some multiple of the alignment is suitable; and what is suitable is said
 -- over bytes by model's laws.
-use Prim.Native.Nat.{ℕ, _+_, _*_, _%_}
+use Prim.Native.Nat.{ℕ, _+_, _-_, _*_, _%_}
 use native.Mathlib.Nat.{add-assoc}
 use native.Mathlib.Omega.{arith}
 use mathlib.Core.Path.{_≡_, refl, sym, _∙_, ap}
-use mathlib.Core.List.{List, [], _∷_, _++_}
+use mathlib.Core.List.{List, [], _∷_, _++_, map}
 use mathlib.Core.Bool.{Bool, true, false, cond, _&&_, _||_, true≢false, not}
 use mathlib.Core.Option.{Option, none, some, Option·none-ne-some, Option·some-injective}
 use mathlib.Core.Logic.{_↔_}
 use lib.ListN.{length}
 use lib.Dec.{leb, ltb}
-use borrow.Author.Tests.{le-leb, lt-leb, leb-true, leb-false, not-true}
+use borrow.Author.Tests.{not-true}
 use Rattle.accounts.specs.declared.Accounts.{Accounts}
 use Rattle.accounts.specs.Accounts.{ALLOCATE}
 use Rattle.rounding.specs.Rounding.{Units, object-length, alignment}
 use Rattle.rounding.proofs.Rounding.{alignment-positive}
 use Rattle.layout.specs.Blocks.{Block, size, occupied, quarantined}
-use Rattle.model.specs.Lists.{any, keep, is-none}
+use Rattle.lists.specs.Lists.{any, keep, is-none}
 use Rattle.model.specs.Objects.{object, objects-from, objects, blocks-of, objects-of, lookup-whole, found}
 use Rattle.model.specs.Space.{suitable}
-use Rattle.model.specs.Refusals.{Line, _when_, line-holds, first-refusal, line-1, line-2, line-3, line-4, line-5, line-6, line-8, line-9, line-10}
+use Rattle.model.specs.Refusals.{Line, _when_, line-holds, first-refusal, line-1, line-2, line-3, line-4, line-5, line-6, line-8, line-9, line-10, row-lines}
 use Rattle.model.specs.Refusals.{line-11}
 use Rattle.model.specs.Refusals.{line-12, base-for, allocate-lines, reallocate-lines}
 use Rattle.model.specs.Step.{step}
@@ -29,20 +29,14 @@ use Rattle.model.specs.declared.Call.{Call}
 use Rattle.model.specs.declared.Call.the-variants.{Allocate, AllocateArray, Claim, Release, FreeAll, Reallocate, Lend, Remaining, CanRelease}
 use Rattle.model.specs.declared.Call.the-variants.{ListBlock}
 use Rattle.model.specs.declared.Call.the-variants.{ClearPermissions, Sweep}
-use Rattle.model.proofs.Refusals.{lines-of, by-lines, refusal-of-lines}
+use Rattle.model.specs.Rows.{call-lines}
+use Rattle.model.proofs.Refusals.{by-lines, refusal-of-lines}
 use Rattle.model.proofs.Sweep.{quarantined-occupied}
 use Rattle.model.proofs.Base.{in-occupied, lowest-some, lowest-none, suitable-bytes, bytes-suitable}
-use Rattle.ledger.specs.Ledger.{Span, spans-from, quarantined-of}
-use Rattle.ledger.specs.Demand3.{in-live-block, in-span, taken, SuitableRun, Request, request-of, passes-others}
+use Rattle.ledger.specs.Ledger.{Span, in-span, block-of, spans-from, quarantined-of}
+use Rattle.ledger.specs.Demand3.{taken, SuitableRun, Request, request-of, passes-others}
 
 -- a byte lies in the live block of an object, or in a quarantined one, exactly if it lies in an occupied block
-leb-eights : (a i : ℕ) → leb (a + 8) (i + 8) ≡ leb a i
-leb-eights a i = go (leb a i) refl
-  where
-    go : (x : Bool) → leb a i ≡ x → leb (a + 8) (i + 8) ≡ x
-    go true e = let l = leb-true a i e in le-leb (a + 8) (i + 8) (omega arith)
-    go false e = let l = leb-false a i e in lt-leb (a + 8) (i + 8) (omega arith)
-
 -- tests in another order
 later : (p a b : Bool) → (a || (p || b)) ≡ (p || (a || b))
 later true true b = refl
@@ -53,8 +47,12 @@ first : (p a b : Bool) → ((p || a) || b) ≡ (p || (a || b))
 first true a b = refl
 first false a b = refl
 
-blocks-objects : (i at : ℕ) (bs : List Block) → (in-live-block i (objects-from at bs) || in-span i (spans-from at bs)) ≡ in-occupied i at bs
-unfolding in-live-block in-span spans-from in-occupied objects-from any
+-- the blocks of objects and the quarantined blocks are the occupied ones
+abbrev blocks : List Handle → List Span
+blocks os = map block-of os
+
+blocks-objects : (i at : ℕ) (bs : List Block) → (in-span i (blocks (objects-from at bs)) || in-span i (spans-from at bs)) ≡ in-occupied i at bs
+unfolding in-span block-of spans-from in-occupied objects-from any
 blocks-objects i at [] = refl
 blocks-objects i at (b ∷ bs) = go (occupied b) (quarantined b) refl refl (blocks-objects i (at + size b) bs)
   where
@@ -67,12 +65,13 @@ blocks-objects i at (b ∷ bs) = go (occupied b) (quarantined b) refl refl (bloc
     xs : List Span
     xs = spans-from (at + size b) bs
 
-    go : (x y : Bool) → occupied b ≡ x → quarantined b ≡ y → (in-live-block i os || in-span i xs) ≡ in-occupied i (at + size b) bs
-        → (in-live-block i (cond (x && not y) (object at b ∷ os) os) || in-span i (cond y (record { from = at; to = at + size b } ∷ xs) xs))
+    go : (x y : Bool) → occupied b ≡ x → quarantined b ≡ y → (in-span i (blocks os) || in-span i xs) ≡ in-occupied i (at + size b) bs
+        → (in-span i (blocks (cond (x && not y) (object at b ∷ os) os)) || in-span i (cond y (record { from = at; to = at + size b } ∷ xs) xs))
         ≡ ((x && here) || in-occupied i (at + size b) bs)
-    go true true e f ih = later here (in-live-block i os) (in-span i xs) ∙ ap (λ (t : Bool). here || t) ih
+    go true true e f ih = later here (in-span i (blocks os)) (in-span i xs) ∙ ap (λ (t : Bool). here || t) ih
     go true false e f ih =
-        rw (leb-eights at i, add-assoc at 8 (length (b .body))) (first here (in-live-block i os) (in-span i xs) ∙ ap (λ (t : Bool). here || t) ih)
+        let start : at + 8 - 8 ≡ at = omega arith in
+        rw (start, add-assoc at 8 (length (b .body))) (first here (in-span i (blocks os)) (in-span i xs) ∙ ap (λ (t : Bool). here || t) ih)
     go false true e f ih = absurd (true≢false (sym (quarantined-occupied b f) ∙ e))
     go false false e f ih = ih
 
@@ -133,7 +132,7 @@ module _ (unit : ℕ → ℕ) (units : Units unit) (s : List ℕ) (n : ℕ) wher
 -- the lines but 11 of each request
 module _ (unit : ℕ → ℕ) (units : Units unit) (s : List ℕ) (k : Accounts) where
   allocate-decided : (q n : ℕ) → passes-others (allocate-lines unit s k q n) ≡ true → Decided unit s n (first-refusal (allocate-lines unit s k q n))
-  unfolding passes-others allocate-lines keep line-1 line-2 line-3 line-12 line-4 line-8 line-9 line-10 line-11
+  unfolding passes-others row-lines keep line-1 line-2 line-3 line-12 line-4 line-8 line-9 line-10 line-11
   allocate-decided q n e =
       line-decides unit units s n (line-1 s ∷ line-2 unit s k ∷ line-3 q ∷ line-12 ALLOCATE k q ∷ line-4 n ∷ line-8 k q (object-length unit n)
       ∷ line-9 k
@@ -141,7 +140,7 @@ module _ (unit : ℕ → ℕ) (units : Units unit) (s : List ℕ) (k : Accounts)
 
   reallocate-decided : (q : ℕ) (h : Handle) (n : ℕ) → passes-others (reallocate-lines unit s k q h n) ≡ true
       → Decided unit s n (first-refusal (reallocate-lines unit s k q h n))
-  unfolding passes-others reallocate-lines keep line-1 line-2 line-3 line-12 line-4 line-5 line-6 line-8 line-9 line-10 line-11
+  unfolding passes-others row-lines keep line-1 line-2 line-3 line-12 line-4 line-5 line-6 line-8 line-9 line-10 line-11
   reallocate-decided q h n e =
       line-decides unit units s n
       (line-1 s ∷ line-2 unit s k ∷ line-3 q ∷ line-12 ALLOCATE k q ∷ line-4 n ∷ line-5 (lookup-whole h s) ∷ line-6 k q (found (lookup-whole h s))
@@ -150,7 +149,7 @@ module _ (unit : ℕ → ℕ) (units : Units unit) (s : List ℕ) (k : Accounts)
 
   -- the lines of a call give its refusal
   of-request : (c : Call) (r₀ r : Request) → some r₀ ≡ some r → passes-others (r .lines) ≡ true
-      → (passes-others (r₀ .lines) ≡ true → Decided unit s (r₀ .asked) (first-refusal (lines-of unit c s k)))
+      → (passes-others (r₀ .lines) ≡ true → Decided unit s (r₀ .asked) (first-refusal (call-lines unit c s k)))
       → Decided unit s (r .asked) (step unit c s k .values .refusal)
   of-request c r₀ r e p f =
       let x : r₀ ≡ r = Option·some-injective r₀ r e in

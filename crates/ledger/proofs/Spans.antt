@@ -12,18 +12,18 @@ use lib.Dec.{eqb}
 use borrow.Author.Tests.{eqb-true, not-true, ne-eqb}
 use Rattle.accounts.specs.declared.Hold.{Hold}
 use Rattle.layout.specs.Blocks.{Block, size, occupied, QUARANTINED, quarantined, live}
-use Rattle.model.specs.Lists.{all, total, keep}
+use Rattle.lists.specs.Lists.{all, total, keep}
 use Rattle.model.specs.Objects.{object, objects-from}
 use Rattle.model.specs.Consistent.{held}
-use Rattle.model.specs.Space.{cut-block, join-front, join-free, vacate, changed, reclaim, settle, swept, copy-into}
+use Rattle.model.specs.Space.{cut-block, join-front, join-free, vacate, changed, reclaim, settle, swept, copy-into, not-quarantined}
 use Rattle.model.specs.declared.Handle.{Handle}
-use Rattle.model.proofs.Bools.{and-left, and-right}
-use Rattle.model.proofs.Lists.{total-append}
+use Rattle.lists.proofs.Bools.{and-left, and-right}
+use Rattle.lists.proofs.Lists.{total-append}
 use Rattle.model.proofs.Blocks.{Whole, objects-live, objects-free}
 use Rattle.model.proofs.Carve.{Carved, cut-all, carved-total, place}
 use Rattle.model.proofs.Join.{joined, joined-size, join-elim}
 use Rattle.model.proofs.Settle.{object-held, vacate-unheld}
-use Rattle.model.proofs.Sweep.{not-quarantined, quarantined-occupied, swept-none}
+use Rattle.model.proofs.Sweep.{quarantined-occupied, swept-none}
 use Rattle.ledger.specs.Ledger.{Span, block-of, spans-from}
 
 -- the bytes of a block that starts at a place

@@ -5,15 +5,15 @@ use Prim.Native.Nat.{ℕ, zero, suc, _*_, _<_}
 use native.Mathlib.Omega.{arith}
 use mathlib.Core.Path.{_≡_, refl, ap, sym, _∙_, subst, subst₂}
 use mathlib.Core.List.{List, List·Memᴰ}
-use mathlib.Core.Bool.{Bool, true, false, cond}
+use mathlib.Core.Bool.{true}
 use mathlib.Core.Option.{some}
-use lib.Dec.{ltb}
 use borrow.Author.Tests.{eq-eqb, ne-eqb}
 use Rattle.accounts.specs.declared.Accounts.{Accounts}
-use Rattle.accounts.specs.Accounts.{QUOTAS, clear-at, clear-permissions}
+use Rattle.accounts.specs.Accounts.{QUOTAS, clear-permissions}
+use Rattle.accounts.proofs.Laws.{clear-kept}
 use Rattle.rounding.specs.Rounding.{Units}
 use Rattle.layout.specs.Blocks.{render}
-use Rattle.model.specs.Lists.{or-else}
+use Rattle.lists.specs.Lists.{or-else}
 use Rattle.model.specs.Objects.{blocks-of, objects, objects-of, lookup, lookup-whole, found}
 use Rattle.model.specs.Consistent.{charges, has-record}
 use Rattle.model.specs.Refusals.{first-refusal, quota-lines, free-all-lines, lend-lines, release-lines, claim-lines, check-lines, allocate-lines}
@@ -29,11 +29,11 @@ use Rattle.model.specs.declared.Call.the-variants.{ListBlock, ClearPermissions}
 use Rattle.model.proofs.Refusals.{accepted-exactly, by-lines}
 use Rattle.model.proofs.Lookup.{lookup-named, found-serial, lookup-whole-exactly}
 use Rattle.model.proofs.Consistent.{range-serial, range-like}
-use Rattle.model.proofs.Permissions.{clear-kept}
-use Rattle.model.proofs.Frame.{clear-keeps}
+use Rattle.model.proofs.Permissions.{clear-accounted}
 use Rattle.invariant.proofs.Good.{Good}
 use Rattle.invariant.proofs.Heaps.{good-heap, heap-good, heap-again}
 use Rattle.invariant.proofs.Kinded.{written-kinds}
+use Rattle.invariant.proofs.Payments.{same-grant}
 use Rattle.invariant.proofs.Transitions.{Room}
 use Rattle.invariant.proofs.Requested.{requested-room, requested-fresh, still-releasable}
 use Rattle.invariant.proofs.Passed.{Allocatable, allocate-passed, Claimable, claim-passed, Releasable, release-passed, free-all-passed, Reallocatable}
@@ -58,7 +58,7 @@ agrees-from l t a =
     record {
       extent = w .allowed;
       octets = w .octets;
-      sound = w .sound;
+      passes = w .passes;
       quotas = a .good .quotas;
       narrow = a .good .narrow;
       kinded = written-kinds t (a .good) (a .kinded);
@@ -71,14 +71,14 @@ agrees-from l t a =
 module _ (l : Ledger) (s : List ℕ) (k : Accounts) (a : Agrees l s k) where
   -- the state that a call starts from
   pub good : Good (state-of s k)
-  good = heap-good s k (a .extent) (a .octets) (a .sound) (a .quotas) (a .narrow) (range-serial k (a .kinded .1))
+  good = heap-good s k (a .extent) (a .octets) (a .passes) (a .quotas) (a .narrow) (range-serial k (a .kinded .1))
 
   tracked : Tracks l (state-of s k)
   unfolding objects-of quarantined-of
   tracked = record { good = good; kinded = a .kinded; kind = a .kind; grants = a .grants; matches = a .matches; waits = a .waits }
 
   pub again : render (blocks-of s) ≡ s
-  again = heap-again s k (a .octets) (a .sound)
+  again = heap-again s k (a .octets) (a .passes)
 
 module _ (unit : ℕ → ℕ) (units : Units unit) (l : Ledger) (s : List ℕ) (k : Accounts) (a : Agrees l s k) where
   -- the new object of a request that has passed its lines
@@ -167,38 +167,21 @@ module _ (unit : ℕ → ℕ) (units : Units unit) (l : Ledger) (s : List ℕ) (
       (old-there (p .object) (p .names)) (p .recorded)))
 
 -- cleared permissions are not in the ledger, and nothing else changes
-cleared-kind : (q n : ℕ) (k : Accounts) → clear-permissions q n k .kind ≡ k .kind
-unfolding clear-permissions
-cleared-kind q n k = go (ltb q QUOTAS)
-  where
-    go : (t : Bool) → cond t (clear-at q n k) k .kind ≡ k .kind
-    go true = refl
-    go false = refl
-
-cleared-edition : (q n : ℕ) (k : Accounts) → clear-permissions q n k .edition ≡ k .edition
-unfolding clear-permissions
-cleared-edition q n k = go (ltb q QUOTAS)
-  where
-    go : (t : Bool) → cond t (clear-at q n k) k .edition ≡ k .edition
-    go true = refl
-    go false = refl
-
 clear-agrees : (l : Ledger) (s : List ℕ) (k : Accounts) → Agrees l s k → (q n : ℕ) → Agrees l s (clear-permissions q n k)
 clear-agrees l s k a q n =
     let c = clear-kept q n k in
     record {
       extent = a .extent;
       octets = a .octets;
-      sound = c .same-consistent s ∙ a .sound;
+      passes = clear-accounted q n k s ∙ a .passes;
       quotas = c .same-count ∙ a .quotas;
-      narrow = λ j. rw (c .same-grants j) (a .narrow j);
+      narrow = λ j. rw (same-grant q k (clear-permissions q n k) c j) (a .narrow j);
       kinded = (
-        rw (cleared-kind q n k) (a .kinded .0),
-        range-like k (a .kinded .1) (clear-permissions q n k) (cleared-kind q n k) (cleared-edition q n k)
-            (c .same-last),
+        rw (c .same-kind) (a .kinded .0),
+        range-like k (a .kinded .1) (clear-permissions q n k) (c .same-kind) (c .same-edition) (c .same-last),
       );
-      kind = cleared-kind q n k ∙ a .kind;
-      grants = clear-keeps q n (λ x. true) k .grants ∙ a .grants;
+      kind = c .same-kind ∙ a .kind;
+      grants = c .same-grants ∙ a .grants;
       matches = rw (c .same-holds) (a .matches);
       waits = a .waits;
     }

@@ -13,13 +13,13 @@ use Rattle.accounts.specs.declared.Accounts.{Accounts}
 use Rattle.accounts.specs.Accounts.{permissions, permissible}
 use Rattle.rounding.specs.Rounding.{Units, table}
 use Rattle.rounding.proofs.Editions.{table-is}
-use Rattle.model.specs.Lists.{all}
+use Rattle.lists.specs.Lists.{all}
 use Rattle.model.specs.Answers.{zero-handle}
 use Rattle.model.specs.Calls.{Outcome}
 use Rattle.model.specs.Step.{step, own-step}
 use Rattle.model.specs.declared.Handle.{Handle}
-use Rattle.model.proofs.Lists.{getD-member}
-use Rattle.model.proofs.Consistent.{serials-exactly, sound-permissible}
+use Rattle.lists.proofs.Lists.{getD-member}
+use Rattle.model.proofs.Consistent.{serials-exactly, consistent-permissible}
 use Rattle.model.proofs.StepFrame.{step-keeps}
 use Rattle.model.proofs.Permissions.{step-permissible}
 use Rattle.model.specs.Answers.{Values}
@@ -31,7 +31,7 @@ use Rattle.ledger.specs.Ledger.{Ledger, Event, Called, Wrote, Saved, Res
 use Rattle.ledger.specs.Ledger.{record-accepted}
 use Rattle.ledger.specs.Ledger.{record-call, record-event, unrestored, ledger-of, read-ledger}
 use Rattle.ledger.specs.History.{History, by-own}
-use Rattle.ledger.specs.Demand3.{Within, objects-in, HeldIn, Holds, Demand3}
+use Rattle.ledger.specs.Demand3.{Within, objects-in, HeldIn, AsRecorded, Demand3}
 use Rattle.ledger.proofs.Agreement.{Agrees}
 use Rattle.ledger.proofs.Opening.{restored-agrees, beginning-agrees, beginning-permissible, beginning-edition}
 use Rattle.ledger.proofs.Writing.{written-agrees}
@@ -40,7 +40,7 @@ use Rattle.ledger.proofs.Fields.{live-once-of, apart-of, off-headers-of
 use Rattle.ledger.proofs.Fields.{balanced-of, answered-of}
 use Rattle.ledger.proofs.Space.{space-decided}
 use Rattle.ledger.proofs.Lasting.{step-lasts}
-use Rattle.ledger.proofs.Fitted.{Fitted, restored-fits, beginning-fits, step-fits, sound-of}
+use Rattle.ledger.proofs.Fitted.{Fitted, restored-fits, beginning-fits, step-fits, consistent-of}
 use Rattle.ledger.proofs.Wrong
 
 -- no two objects of the ledger, at two places, share a byte: their serials differ, and each is the object of a live block
@@ -153,7 +153,7 @@ module _ (tables : ℕ → ℕ → ℕ) (units : (e : ℕ) → Units (tables e))
       (step-permissible (tables (h .1 .edition)) c (h .0) (h .1) (history-permissible begun es (h .0) (h .1) (h .2)))
   history-permissible begun (Wrote ∷ es) s k h = history-permissible begun es (h .0) k (h .1)
   history-permissible begun (Saved s₀ k₀ ∷ es) s k h = history-permissible begun es s k (h .0)
-  history-permissible begun (Restored s₁ k₁ ∷ es) s k h = sound-permissible (tables (k .edition)) s k (h .4 .sound)
+  history-permissible begun (Restored s₁ k₁ ∷ es) s k h = consistent-permissible (tables (k .edition)) s k (h .4 .consistent)
 
   -- an event takes away no object whose serial is held after it
   history-lasts : (begun : Ledger) (front back : List Event) (s : List ℕ) (k : Accounts) → History tables (by-own tables) begun (back ++ front) s k
@@ -172,13 +172,10 @@ module _ (tables : ℕ → ℕ → ℕ) (units : (e : ℕ) → Units (tables e))
       (sooner begun front (Saved s₀ k₀) es (o .serial) f)
   history-lasts begun front (Restored s₁ k₁ ∷ es) s k h u o m f = absurd (false≢true u)
 
-  -- what demand 3 says of a history is what agreement says of its end
-  holds-after : (begun : Ledger) (front back : List Event) (s : List ℕ) (k : Accounts) → Lasts begun front back
-      → Agrees (ledger-of begun (back ++ front)) s k → Fitted (tables (k .edition)) (ledger-of begun (back ++ front))
-      → all permissible (permissions k) ≡ true
-      → k .edition ≡ ledger-of begun (back ++ front) .edition → Holds (tables (k .edition)) (by-own tables) begun front back s k
-  holds-after begun front back s k lasts a f p e =
-      let l = ledger-of begun (back ++ front) in
+  -- what demand 3 says of a ledger and a state is what agreement says
+  recorded-of : (l : Ledger) (s : List ℕ) (k : Accounts) → Agrees l s k → Fitted (tables (k .edition)) l → all permissible (permissions k) ≡ true
+      → k .edition ≡ l .edition → AsRecorded (tables (k .edition)) (by-own tables) l s k
+  recorded-of l s k a f p e =
       let unit = tables (k .edition) in
       record {
         as-defined = λ c. refl;
@@ -186,7 +183,6 @@ module _ (tables : ℕ → ℕ → ℕ) (units : (e : ℕ) → Units (tables e))
         recorded-live = λ o. a .matches .objects o .1;
         live-once = live-once-of l s k a;
         recorded-once = a .matches .once;
-        stays = λ u o m f. a .matches .objects o .1 (lasts u o m f);
         apart = apart-places l s k a;
         off-headers = λ o b m. off-headers-of l s k a o b (a .matches .objects o .1 m);
         inside = λ o m. inside-of l s k a o (a .matches .objects o .1 m);
@@ -197,18 +193,22 @@ module _ (tables : ℕ → ℕ → ℕ) (units : (e : ℕ) → Units (tables e))
         recorded-quarantined = λ x. a .waits .both x .1;
         quarantined-once = a .waits .once;
         kind-kept = a .kind;
-        kind-begun = λ u. ledger-kept begun (back ++ front) u .0;
         edition-kept = e;
-        edition-begun = λ u. ledger-kept begun (back ++ front) u .1;
         grants-kept = a .grants;
-        grants-begun = λ u. ledger-kept begun (back ++ front) u .2;
         balanced = balanced-of l s k a;
-        answered = answered-of l s k a unit (sound-of unit l s k a f p);
+        answered = answered-of l s k a unit (consistent-of unit l s k a f p);
         no-space = λ c r e x. space-decided unit (units (k .edition)) s k c r e x .no-space;
         space = λ c r e x. space-decided unit (units (k .edition)) s k c r e x .space;
         length-allowed = a .extent;
-        kept-sound = sound-of unit l s k a f p;
+        kept-consistent = consistent-of unit l s k a f p;
       }
+
+  -- along a history it does so of the ledger of all events
+  history-recorded : (begun : Ledger) (es : List Event) (s : List ℕ) (k : Accounts) → History tables (by-own tables) begun es s k
+      → AsRecorded (tables (k .edition)) (by-own tables) (ledger-of begun es) s k
+  history-recorded begun es s k h =
+      recorded-of (ledger-of begun es) s k (history-agrees begun es s k h) (history-fits begun es s k h) (history-permissible begun es s k h)
+      (history-edition begun es s k h)
 
   -- THE THEOREM
   pub demand-3-of : Demand3 tables (by-own tables)
@@ -216,9 +216,14 @@ module _ (tables : ℕ → ℕ → ℕ) (units : (e : ℕ) → Units (tables e))
       record {
         always =
             λ begun front back s k h.
-            holds-after begun front back s k (history-lasts begun front back s k h) (history-agrees begun (back ++ front) s k h)
-            (history-fits begun (back ++ front) s k h) (history-permissible begun (back ++ front) s k h)
-            (history-edition begun (back ++ front) s k h);
+            let a = history-recorded begun (back ++ front) s k h in
+            record {
+              agrees = a;
+              stays = λ u o m f. a .recorded-live o (history-lasts begun front back s k h u o m f);
+              kind-begun = λ u. ledger-kept begun (back ++ front) u .0;
+              edition-begun = λ u. ledger-kept begun (back ++ front) u .1;
+              grants-begun = λ u. ledger-kept begun (back ++ front) u .2;
+            };
       }
 
 -- and so of both editions' tables (rules 6.1 and 23.1)

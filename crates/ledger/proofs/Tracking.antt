@@ -6,7 +6,7 @@ use mathlib.Core.Bool.{Bool, true, false, cond}
 use Rattle.accounts.specs.declared.Accounts.{Accounts}
 use Rattle.accounts.specs.Accounts.{QUOTAS, used, remaining, charge, with-holds, drop-records}
 use Rattle.accounts.proofs.Laws.{charge-kept, refund-kept}
-use Rattle.model.specs.Lists.{all, keep}
+use Rattle.lists.specs.Lists.{all, keep}
 use Rattle.model.specs.Objects.{objects}
 use Rattle.model.specs.Consistent.{long-enough, free-apart, well-cut, charge-of, charges, has-record}
 use Rattle.model.specs.Space.{settle, body-of, swept}
@@ -14,7 +14,7 @@ use Rattle.model.specs.Holds.{take-record, raise-count, lower-count}
 use Rattle.model.specs.Refusals.{claims-first}
 use Rattle.model.specs.Calls.{State, allocated, claimed, given-back, released, freed, copied}
 use Rattle.model.specs.declared.Handle.{Handle}
-use Rattle.model.proofs.Bools.{and-right}
+use Rattle.lists.proofs.Bools.{and-right}
 use Rattle.model.proofs.Carve.{carved}
 use Rattle.model.proofs.Frame.{allocated-keeps, claimed-keeps, released-keeps, freed-keeps}
 use Rattle.model.proofs.Settle.{object-held}

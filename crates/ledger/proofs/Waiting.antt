@@ -11,13 +11,13 @@ use lib.Dec.{eqb}
 use borrow.Author.Tests.{eqb-true, eq-eqb, not-true}
 use Rattle.accounts.specs.declared.Hold.{Hold}
 use Rattle.layout.specs.Blocks.{Block, size, quarantined, live}
-use Rattle.model.specs.Lists.{any, keep}
+use Rattle.lists.specs.Lists.{any, keep}
 use Rattle.model.specs.Objects.{object, objects-from}
 use Rattle.model.specs.Consistent.{serials-differ}
 use Rattle.model.specs.Space.{settle}
 use Rattle.model.specs.declared.Handle.{Handle}
-use Rattle.model.proofs.Bools.{and-left, and-right}
-use Rattle.model.proofs.Lists.{none-exactly}
+use Rattle.lists.proofs.Bools.{and-left, and-right}
+use Rattle.lists.proofs.Lists.{none-exactly}
 use Rattle.model.proofs.Sweep.{quarantined-dead}
 use Rattle.invariant.proofs.Members.{keep-exactly, differ-cons}
 use Rattle.ledger.specs.Ledger.{Span, block-of, spans-from}

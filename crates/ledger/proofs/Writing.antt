@@ -19,14 +19,14 @@ use Rattle.layout.specs.Blocks.{Block, size, live, units, header-of, header-byt
 use Rattle.layout.proofs.Fields.{header-length}
 use Rattle.layout.proofs.Render.{written-length, written-behind}
 use Rattle.layout.proofs.Parse.{parse-is}
-use Rattle.model.specs.Lists.{all}
+use Rattle.lists.specs.Lists.{all}
 use Rattle.model.specs.Objects.{object, objects-from, objects, blocks-of, objects-of}
-use Rattle.model.specs.Consistent.{long-enough, starts-free, free-apart, well-cut, in-kind, consistent-blocks, consistent}
+use Rattle.model.specs.Consistent.{long-enough, starts-free, free-apart, well-cut, in-kind, accounted-blocks, accounted}
 use Rattle.model.specs.declared.Handle.{Handle}
-use Rattle.model.proofs.Bools.{and-left, and-right, and-both}
-use Rattle.model.proofs.Lists.{none-exactly}
+use Rattle.lists.proofs.Bools.{and-left, and-right, and-both}
+use Rattle.lists.proofs.Lists.{none-exactly}
 use Rattle.model.proofs.Blocks.{objects-free}
-use Rattle.model.proofs.Consistent.{blocks-parsed, consistent-cut, consistent-exactly}
+use Rattle.model.proofs.Consistent.{blocks-parsed, accounted-cut, accounted-exactly}
 use Rattle.ledger.specs.Ledger.{Ledger, spans-from, quarantined-of}
 use Rattle.ledger.specs.History.{in-object, Written}
 use Rattle.ledger.specs.Demand3.{Within}
@@ -161,12 +161,12 @@ rewritten at back [] (x ∷ s) w k = let e = k .extent in absurd (omega arith)
 rewritten at back (b ∷ bs) s w k =
     rewritten-cons at back b bs s k (w .0) (rewritten (at + size b) (units b) bs (drop (size b) s) (w .1) (kept-behind at back b bs s k))
 
-module _ (s s′ : List ℕ) (k : Accounts) (o : Octets s) (c : consistent s k ≡ true) (w : Written s s′) where
+module _ (s s′ : List ℕ) (k : Accounts) (o : Octets s) (c : accounted s k ≡ true) (w : Written s s′) where
   -- the blocks after the write
   written-blocks : Rewritten 0 0 (blocks-of s) s′
   unfolding render objects-of objects
   written-blocks =
-      let cut = parse-is s (blocks-of s) o .0 (consistent-cut s k c .0) in
+      let cut = parse-is s (blocks-of s) o .0 (accounted-cut s k c .0) in
       let same : render-from 0 (blocks-of s) ≡ s = cut .0 in
       rewritten 0 0 (blocks-of s) s′ (cut .1)
       (record { extent = w .same-length ∙ ap length (sym same); outside = λ i j e f. rw same (w .inside i (rw (e, zero-add) at f)) })
@@ -186,11 +186,11 @@ module _ (s s′ : List ℕ) (k : Accounts) (o : Octets s) (c : consistent s k �
   written-others b f m = written-blocks .unwritten b f (rw (blocks-parsed s′ (written-blocks .blocks) written-parsed) at m)
 
   -- heap and accounts stay consistent
-  pub written-consistent : consistent s′ k ≡ true
-  unfolding consistent-blocks well-cut objects
-  written-consistent =
+  pub written-accounted : accounted s′ k ≡ true
+  unfolding accounted-blocks well-cut objects
+  written-accounted =
       let r = written-blocks in
-      consistent-exactly s′ k .1 (r .blocks, written-parsed, rw (r .long, r .apart, r .objects) (consistent-cut s k c .1))
+      accounted-exactly s′ k .1 (r .blocks, written-parsed, rw (r .long, r .apart, r .objects) (accounted-cut s k c .1))
 
   -- and quarantined blocks stand where they stood
   written-kinds : (kind : ℕ) → all (in-kind kind) (blocks-of s′) ≡ all (in-kind kind) (blocks-of s)
@@ -206,12 +206,12 @@ written-agrees l s s′ k a w =
     record {
       extent = rw (w .same-length) (a .extent);
       octets = w .octets;
-      sound = written-consistent s s′ k (a .octets) (a .sound) w;
+      passes = written-accounted s s′ k (a .octets) (a .passes) w;
       quotas = a .quotas;
       narrow = a .narrow;
-      kinded = (written-kinds s s′ k (a .octets) (a .sound) w (k .kind) ∙ a .kinded .0, a .kinded .1);
+      kinded = (written-kinds s s′ k (a .octets) (a .passes) w (k .kind) ∙ a .kinded .0, a .kinded .1);
       kind = a .kind;
       grants = a .grants;
-      matches = rw (written-objects s s′ k (a .octets) (a .sound) w) (a .matches);
-      waits = rw (written-spans s s′ k (a .octets) (a .sound) w) (a .waits);
+      matches = rw (written-objects s s′ k (a .octets) (a .passes) w) (a .matches);
+      waits = rw (written-spans s s′ k (a .octets) (a .passes) w) (a .waits);
     }

@@ -1,5 +1,5 @@
 -- Demand 3 does not hold of the wrong heaps: each is refuted by a short list of calls that is computed, at the field
--- that the line above it names. Every field of `Holds` has such a heap but three: `kind-begun`, `edition-begun` and
+-- that the line above it names. Every field of `AsRecorded` and `Holds` has such a heap but three: `kind-begun`, `edition-begun` and
 -- `grants-begun` speak of the ledger alone and hold of any events (`ledger-kept` in Theorem.antt), whatever heap
 -- answered.
 use Prim.Native.Nat.{ℕ, _+_, _-_, _%_, _≤_}
@@ -18,11 +18,11 @@ use Rattle.model.specs.Calls.{Outcome, open-heap}
 use Rattle.model.specs.declared.Handle.{Handle}
 use Rattle.model.specs.declared.Call.{Call}
 use Rattle.model.specs.declared.Call.the-variants.{Allocate, Claim, Release, Sweep}
-use Rattle.model.proofs.Lists.{all-member}
+use Rattle.lists.proofs.Lists.{all-member}
 use Rattle.model.proofs.Computing.{computing}
-use Rattle.ledger.specs.Ledger.{Event, Called, empty, ledger-of}
+use Rattle.ledger.specs.Ledger.{Event, Called, in-span, empty, ledger-of}
 use Rattle.ledger.specs.History.{Begins, Opening}
-use Rattle.ledger.specs.Demand3.{SuitableRun, in-live-block, in-span, taken, spans-differ, HeldIn, request-of}
+use Rattle.ledger.specs.Demand3.{SuitableRun, taken, spans-differ, HeldIn, request-of}
 use Rattle.ledger.specs.Demand3.{passes-others, Demand3}
 use Rattle.ledger.proofs.Recording.{recording}
 use Rattle.ledger.proofs.Short.{grants, below, after, events, history, said, listing, first, second, waiting}
@@ -43,7 +43,7 @@ choosing = tt
 
 -- `space`: every call is refused for space, and there is a run of bytes at 8
 pub refuted-refuses-all : Demand3 table refuses-all → ⊥
-unfolding computing recording listing refuses-all request-of passes-others in-live-block in-span taken
+unfolding computing recording listing refuses-all request-of passes-others in-span taken
 refuted-refuses-all d =
     let h = said plain refuses-all d [] in
     let r : SuitableRun unit (after plain refuses-all [] .heap) 8 8 =
@@ -140,7 +140,7 @@ refuted-rounds-by-first d =
     let h = d .always (empty coarse ample) [] [] (tight .heap) (tight .accounts) begins in
     let none : (b : ℕ) → SuitableRun (table 1) (tight .heap) 4089 b → ⊥ =
     λ b r. (let m : b % 16 ≡ 0 = r .multiple in let l = r .low in let x : b + 4096 ≤ 4104 = r .high in omega arith) in
-    let e : _≡_ {A = ℕ} 0 11 = h .no-space (Allocate 0 4089) _ refl refl .1 none in
+    let e : _≡_ {A = ℕ} 0 11 = h .agrees .no-space (Allocate 0 4089) _ refl refl .1 none in
     omega arith
 
 -- `edition-kept`: the accounts say another edition than the ledger
@@ -198,11 +198,11 @@ refuted-leaks d =
     said plain leaks d (Release 0 first ∷ Allocate 0 8 ∷ []) .live-recorded first (List·Memᴰ·head refl) in
     List·Memᴰ·not-nil m
 
--- `kept-sound`: two free blocks side by side
+-- `kept-consistent`: two free blocks side by side
 pub refuted-never-joins : Demand3 table never-joins → ⊥
 unfolding computing listing never-joins choosing
 refuted-never-joins d =
-    let e : false ≡ true = said plain never-joins d (Release 0 first ∷ Allocate 0 8 ∷ []) .kept-sound in
+    let e : false ≡ true = said plain never-joins d (Release 0 first ∷ Allocate 0 8 ∷ []) .kept-consistent in
     false≢true e
 
 -- `grants-kept`: quota 0 was granted 1,000 and has a grant of 1,016

@@ -1,48 +1,40 @@
 -- Demand 3 (rules 10.3 to 10.11, 22.11 and 22.13), as one statement about every list of calls: of every history of a run, and of every split of its events.
-use Prim.Native.Nat.{ℕ, _+_, _*_, _%_, _≤_, _<_}
+use Prim.Native.Nat.{ℕ, _+_, _%_, _≤_, _<_}
 use mathlib.Core.Path.{_≡_}
 use mathlib.Core.List.{List, [], _∷_, _++_, map, List·Memᴰ}
-use mathlib.Core.Bool.{Bool, true, false, not, _&&_, _||_}
+use mathlib.Core.Bool.{Bool, true, false, not, cond, _&&_, _||_}
 use mathlib.Core.Option.{Option, none, some}
 use mathlib.Core.Logic.{_↔_}
 use lib.ListN.{length, getD}
-use lib.Dec.{leb, ltb, eqb}
+use lib.Dec.{eqb}
 use Rattle.accounts.specs.declared.Quota.{Quota}
 use Rattle.accounts.specs.declared.Hold.{Hold}
 use Rattle.accounts.specs.declared.Accounts.{Accounts}
 use Rattle.accounts.specs.Accounts.{QUOTAS, used, remaining}
 use Rattle.rounding.specs.Rounding.{object-length, alignment}
-use Rattle.model.specs.Lists.{any, keep, total}
+use Rattle.lists.specs.Lists.{any, keep, total}
 use Rattle.model.specs.Answers.{amount-of, zero-handle}
 use Rattle.model.specs.Objects.{blocks-of, objects-of}
-use Rattle.model.specs.Consistent.{allowed, sound, serials-differ, records-differ}
-use Rattle.model.specs.Refusals.{Line, line-number, line-holds, allocate-lines, reallocate-lines}
+use Rattle.model.specs.Consistent.{allowed, consistent, serials-differ, records-differ}
+use Rattle.model.specs.Refusals.{Line, line-number, line-holds, has}
+use Rattle.model.specs.Rows.{row-of, arguments-of, call-lines}
 use Rattle.model.specs.Calls.{listing-from}
 use Rattle.model.specs.Step.{step}
 use Rattle.model.specs.declared.Handle.{Handle}
 use Rattle.model.specs.declared.ListedBlock.{ListedBlock}
+use Rattle.model.specs.declared.Refusal.the-variants.{NoSpace}
 use Rattle.model.specs.declared.Call.{Call}
-use Rattle.model.specs.declared.Call.the-variants.{Allocate, AllocateArray, Claim, Release, FreeAll, Reallocate, Lend, Remaining, CanRelease}
-use Rattle.model.specs.declared.Call.the-variants.{ListBlock}
-use Rattle.model.specs.declared.Call.the-variants.{ClearPermissions, Sweep}
-use Rattle.ledger.specs.Ledger.{Entry, Span, Ledger, Event, holds-of, cost-to, quarantined-of, unrestored, ledger-of}
+use Rattle.model.specs.declared.Call.the-variants.{Remaining}
+use Rattle.ledger.specs.Ledger.{Entry, Span, in-span, block-of, Ledger, Event, holds-of, cost-to, quarantined-of, unrestored, ledger-of}
 use Rattle.ledger.specs.History.{Run, History}
 
 -- a byte of an object (rule 4.1)
 abbrev pub Within : ℕ → Handle → Type 0
 Within i o = (o .base ≤ i) × (i < o .base + o .length)
 
--- a byte of the block of one of these objects, header and body
-unfoldable pub in-live-block : ℕ → List Handle → Bool
-in-live-block i os = any (λ o. leb (o .base) (i + 8) && ltb i (o .base + o .length)) os
-
--- a byte of one of these blocks
-unfoldable pub in-span : ℕ → List Span → Bool
-in-span i xs = any (λ x. leb (x .from) i && ltb i (x .to)) xs
-
 -- rule 22.13: a byte of a live block or of a quarantined one
 unfoldable pub taken : ℕ → List ℕ → Bool
-taken i s = in-live-block i (objects-of s) || in-span i (quarantined-of s)
+taken i s = in-span i (map block-of (objects-of s)) || in-span i (quarantined-of s)
 
 -- no two of these blocks start at one place
 unfoldable pub spans-differ : List Span → Bool
@@ -70,65 +62,45 @@ pub record Request : Type 0 where
   pub lines : List Line
 
 unfoldable pub request-of : (ℕ → ℕ) → Call → List ℕ → Accounts → Option Request
-request-of unit (Allocate q n) s k = some (record { asked = n; lines = allocate-lines unit s k q n })
-request-of unit (AllocateArray q count size) s k = some (record { asked = count * size; lines = allocate-lines unit s k q (count * size) })
-request-of unit (Claim q h) s k = none
-request-of unit (Release q h) s k = none
-request-of unit (FreeAll q) s k = none
-request-of unit Sweep s k = none
-request-of unit (Reallocate q h n) s k = some (record { asked = n; lines = reallocate-lines unit s k q h n })
-request-of unit (Lend h) s k = none
-request-of unit (Remaining q) s k = none
-request-of unit (CanRelease q h) s k = none
-request-of unit (ListBlock at) s k = none
-request-of unit (ClearPermissions q n) s k = none
+request-of unit c s k =
+    let r : Request = record { asked = arguments-of c .length; lines = call-lines unit c s k } in
+    cond (has NoSpace (row-of c)) (some r) none
 
 -- no line other than 11 holds
 unfoldable pub passes-others : List Line → Bool
 passes-others ls = not (any line-holds (keep (λ l. not (eqb (line-number l) 11)) ls))
 
--- what holds after a history: the events of the back came after those of the front
-pub record Holds (unit : ℕ → ℕ) (run : Run) (begun : Ledger) (front back : List Event) (s : List ℕ) (k : Accounts) : Type 0 where
+-- what a ledger says of a heap and its accounts, and of the next call of a run: they agree with it
+pub record AsRecorded (unit : ℕ → ℕ) (run : Run) (l : Ledger) (s : List ℕ) (k : Accounts) : Type 0 where
   -- rule 10.3: each call of a list is the next one after a shorter list
   pub as-defined : (c : Call) → run c s k ≡ step unit c s k
   -- rule 10.4: live objects and the ledger's objects are the same, each once
-  pub live-recorded : (o : Handle) → List·Memᴰ o (objects-of s) → List·Memᴰ o (objects-in (ledger-of begun (back ++ front)))
-  pub recorded-live : (o : Handle) → List·Memᴰ o (objects-in (ledger-of begun (back ++ front))) → List·Memᴰ o (objects-of s)
+  pub live-recorded : (o : Handle) → List·Memᴰ o (objects-of s) → List·Memᴰ o (objects-in l)
+  pub recorded-live : (o : Handle) → List·Memᴰ o (objects-in l) → List·Memᴰ o (objects-of s)
   pub live-once : serials-differ (objects-of s) ≡ true
-  pub recorded-once : serials-differ (objects-in (ledger-of begun (back ++ front))) ≡ true
-  -- rule 10.5: an object that the ledger had after the front, and whose serial some quota has held at every point since, is live, with the same base,
-  -- length and serial. No image was read since: it may give the serial to another object
-  pub stays : unrestored back ≡ true → (o : Handle) → List·Memᴰ o (objects-in (ledger-of begun front))
-      → ((late early : List Event) → back ≡ late ++ early → HeldIn (o .serial) (ledger-of begun (early ++ front))) → List·Memᴰ o (objects-of s)
+  pub recorded-once : serials-differ (objects-in l) ≡ true
   -- rule 10.6: no two of them, at two places of the list, have a byte in common, nor has one with a header, its own among them
-  pub apart : (i j : ℕ) → i < j → j < length (objects-in (ledger-of begun (back ++ front)))
-      → (at : ℕ) → Within at (getD (objects-in (ledger-of begun (back ++ front))) i zero-handle)
-      → Within at (getD (objects-in (ledger-of begun (back ++ front))) j zero-handle) → ⊥
-  pub off-headers : (o : Handle) (b : ListedBlock) → List·Memᴰ o (objects-in (ledger-of begun (back ++ front)))
-      → List·Memᴰ b (listing-from 0 (blocks-of s)) → (at : ℕ) → Within at o → b .offset ≤ at → at < b .offset + 8 → ⊥
-  pub inside : (o : Handle) → List·Memᴰ o (objects-in (ledger-of begun (back ++ front))) → o .base + o .length ≤ length s
+  pub apart : (i j : ℕ) → i < j → j < length (objects-in l) → (at : ℕ)
+      → Within at (getD (objects-in l) i zero-handle) → Within at (getD (objects-in l) j zero-handle) → ⊥
+  pub off-headers : (o : Handle) (b : ListedBlock) → List·Memᴰ o (objects-in l) → List·Memᴰ b (listing-from 0 (blocks-of s))
+      → (at : ℕ) → Within at o → b .offset ≤ at → at < b .offset + 8 → ⊥
+  pub inside : (o : Handle) → List·Memᴰ o (objects-in l) → o .base + o .length ≤ length s
   -- rule 10.7: used records and the ledger's holds are the same, each once
   pub record-held : (h : Hold) → List·Memᴰ h (k .holds) → used h ≡ true
-      → (e : Entry) × List·Memᴰ e (ledger-of begun (back ++ front) .entries) × (e .object .serial ≡ h .serial) × (holds-of (h .quota) e ≡ h .count)
-      × (0 < h .count)
-  pub hold-recorded : (e : Entry) (q : ℕ) → List·Memᴰ e (ledger-of begun (back ++ front) .entries) → 0 < holds-of q e
+      → (e : Entry) × List·Memᴰ e (l .entries) × (e .object .serial ≡ h .serial) × (holds-of (h .quota) e ≡ h .count) × (0 < h .count)
+  pub hold-recorded : (e : Entry) (q : ℕ) → List·Memᴰ e (l .entries) → 0 < holds-of q e
       → List·Memᴰ (record { serial = e .object .serial; quota = q; count = holds-of q e }) (k .holds)
   pub records-once : records-differ (k .holds) ≡ true
   -- rule 22.11: the heap's quarantined blocks and the ledger's are the same, each once
-  pub quarantined-recorded : (x : Span) → List·Memᴰ x (quarantined-of s) → List·Memᴰ x (ledger-of begun (back ++ front) .quarantined)
-  pub recorded-quarantined : (x : Span) → List·Memᴰ x (ledger-of begun (back ++ front) .quarantined) → List·Memᴰ x (quarantined-of s)
-  pub quarantined-once : spans-differ (ledger-of begun (back ++ front) .quarantined) ≡ true
-  -- rule 22.1: the heap is of the ledger's kind, which is that of the beginning unless an image was read
-  pub kind-kept : k .kind ≡ ledger-of begun (back ++ front) .kind
-  pub kind-begun : unrestored (back ++ front) ≡ true → ledger-of begun (back ++ front) .kind ≡ begun .kind
-  -- rule 23.3: so with the edition
-  pub edition-kept : k .edition ≡ ledger-of begun (back ++ front) .edition
-  pub edition-begun : unrestored (back ++ front) ≡ true → ledger-of begun (back ++ front) .edition ≡ begun .edition
-  -- rule 10.8: the ledger's grants, which are those of the beginning unless an image was read, are remainders and costs, and remaining answers the remainder
-  pub grants-kept : map (λ (x : Quota). x .grant) (k .quotas) ≡ ledger-of begun (back ++ front) .grants
-  pub grants-begun : unrestored (back ++ front) ≡ true → ledger-of begun (back ++ front) .grants ≡ begun .grants
-  pub balanced : (q : ℕ) → q < QUOTAS
-      → remaining q k + total (cost-to q) (ledger-of begun (back ++ front) .entries) ≡ getD (ledger-of begun (back ++ front) .grants) q 0
+  pub quarantined-recorded : (x : Span) → List·Memᴰ x (quarantined-of s) → List·Memᴰ x (l .quarantined)
+  pub recorded-quarantined : (x : Span) → List·Memᴰ x (l .quarantined) → List·Memᴰ x (quarantined-of s)
+  pub quarantined-once : spans-differ (l .quarantined) ≡ true
+  -- rules 22.1, 23.3 and 10.8: the heap is of the ledger's kind and edition, and its quotas were granted the ledger's grants
+  pub kind-kept : k .kind ≡ l .kind
+  pub edition-kept : k .edition ≡ l .edition
+  pub grants-kept : map (λ (x : Quota). x .grant) (k .quotas) ≡ l .grants
+  -- rule 10.8: the grants are remainders and costs, and remaining answers the remainder
+  pub balanced : (q : ℕ) → q < QUOTAS → remaining q k + total (cost-to q) (l .entries) ≡ getD (l .grants) q 0
   pub answered : (q : ℕ) → q < QUOTAS → run (Remaining q) s k .values ≡ amount-of (remaining q k)
   -- rule 10.9: for a call for a new object that only line 11 can refuse, 11 says that there is no base; with a base it is accepted
   pub no-space : (c : Call) (r : Request) → request-of unit c s k ≡ some r → passes-others (r .lines) ≡ true
@@ -137,7 +109,20 @@ pub record Holds (unit : ℕ → ℕ) (run : Run) (begun : Ledger) (front back :
       → (b : ℕ) → SuitableRun unit s (r .asked) b → run c s k .values .refusal ≡ 0
   -- rule 10.10: no call is refused by 1 or 2
   pub length-allowed : allowed (length s) ≡ true
-  pub kept-sound : sound unit s k ≡ true
+  pub kept-consistent : consistent unit s k ≡ true
+
+-- what holds after a history: the events of the back came after those of the front
+pub record Holds (unit : ℕ → ℕ) (run : Run) (begun : Ledger) (front back : List Event) (s : List ℕ) (k : Accounts) : Type 0 where
+  -- heap and accounts agree with the ledger of all events
+  pub agrees : AsRecorded unit run (ledger-of begun (back ++ front)) s k
+  -- rule 10.5: an object that the ledger had after the front, and whose serial some quota has held at every point since, is live, with the same base,
+  -- length and serial. No image was read since: it may give the serial to another object
+  pub stays : unrestored back ≡ true → (o : Handle) → List·Memᴰ o (objects-in (ledger-of begun front))
+      → ((late early : List Event) → back ≡ late ++ early → HeldIn (o .serial) (ledger-of begun (early ++ front))) → List·Memᴰ o (objects-of s)
+  -- rules 22.1, 23.3 and 10.8: kind, edition and grants are those of the beginning unless an image was read
+  pub kind-begun : unrestored (back ++ front) ≡ true → ledger-of begun (back ++ front) .kind ≡ begun .kind
+  pub edition-begun : unrestored (back ++ front) ≡ true → ledger-of begun (back ++ front) .edition ≡ begun .edition
+  pub grants-begun : unrestored (back ++ front) ≡ true → ledger-of begun (back ++ front) .grants ≡ begun .grants
 
 -- for a family of tables, one for each edition; a state goes by that of its own
 pub record Demand3 (tables : ℕ → ℕ → ℕ) (run : Run) : Type 0 where

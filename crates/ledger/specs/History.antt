@@ -1,23 +1,22 @@
 -- Histories (rule 10.1): every list of calls, refused ones included, from an accepted opening of one heap, with writes inside live objects in between.
-use Prim.Native.Nat.{ℕ, _+_, _<_, _^_}
+use Prim.Native.Nat.{ℕ, _<_, _^_}
 use mathlib.Core.Path.{_≡_}
 use mathlib.Core.List.{List, [], _∷_}
-use mathlib.Core.Bool.{Bool, true, false, _&&_}
+use mathlib.Core.Bool.{Bool, true, false}
 use lib.ListN.{length, getD}
-use lib.Dec.{leb, ltb}
 use Rattle.accounts.specs.declared.Accounts.{Accounts}
 use Rattle.accounts.specs.declared.settings.Settings.{Settings}
 use Rattle.accounts.specs.Accounts.{QUOTAS, HOLDS, zero-quota, zero-hold}
 use Rattle.layout.specs.Bytes.{Octets}
-use Rattle.model.specs.Lists.{any}
+use Rattle.lists.specs.Lists.{any}
 use Rattle.model.specs.Answers.{accepted}
 use Rattle.model.specs.Objects.{objects-of}
-use Rattle.model.specs.Consistent.{allowed, sound as is-sound}
+use Rattle.model.specs.Consistent.{allowed, consistent as is-consistent}
 use Rattle.model.specs.Calls.{Outcome, open-heap}
 use Rattle.model.specs.Step.{step}
 use Rattle.model.specs.declared.Handle.{Handle}
 use Rattle.model.specs.declared.Call.{Call}
-use Rattle.ledger.specs.Ledger.{Ledger, Event, Called, Wrote, Saved, Restored, empty, read-ledger}
+use Rattle.ledger.specs.Ledger.{covers, bytes-in, Ledger, Event, Called, Wrote, Saved, Restored, empty, read-ledger}
 
 -- whatever performs a call on a heap and its accounts
 abbrev pub Run : Type 0
@@ -39,7 +38,7 @@ pub record Opened (settings : Settings) (grants : List ℕ) (s : List ℕ) (k : 
 pub record Restorable (unit : ℕ → ℕ) (s : List ℕ) (k : Accounts) : Type 0 where
   pub extent : allowed (length s) ≡ true
   pub octets : Octets s
-  pub sound : is-sound unit s k ≡ true
+  pub consistent : is-consistent unit s k ≡ true
   pub quotas : length (k .quotas) ≡ QUOTAS
   pub records : length (k .holds) ≡ HOLDS
   pub narrow : (q : ℕ) → getD (k .quotas) q zero-quota .grant < 2 ^ 32
@@ -53,7 +52,7 @@ pub data Begins (tables : ℕ → ℕ → ℕ) (begun : Ledger) (s : List ℕ) (
 
 -- a byte lies in one of these objects
 unfoldable pub in-object : ℕ → List Handle → Bool
-in-object i os = any (λ o. leb (o .base) i && ltb i (o .base + o .length)) os
+in-object i os = any (λ o. covers (bytes-in o) i) os
 
 -- bytes inside live objects are written in whatever way, and nobody writes any others
 pub record Written (s s′ : List ℕ) : Type 0 where

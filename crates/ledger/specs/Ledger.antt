@@ -2,9 +2,9 @@
 -- own (rule 13.16).
 use Prim.Native.Nat.{ℕ, zero, suc, _+_, _-_}
 use mathlib.Core.List.{List, [], _∷_, _++_, map}
-use mathlib.Core.Bool.{Bool, true, false, not, cond}
+use mathlib.Core.Bool.{Bool, true, false, not, cond, _&&_}
 use lib.ListN.{length, getD, set, replicate}
-use lib.Dec.{ltb, eqb}
+use lib.Dec.{leb, ltb, eqb}
 use Rattle.accounts.specs.declared.Quota.{Quota}
 use Rattle.accounts.specs.declared.Hold.{Hold}
 use Rattle.accounts.specs.declared.Accounts.{Accounts}
@@ -13,7 +13,7 @@ use Rattle.accounts.specs.Accounts.{QUOTAS, kind-number, edition-number}
 use Rattle.layout.specs.Blocks.{Block, size, quarantined}
 use Rattle.model.specs.Objects.{blocks-of, objects-of}
 use Rattle.model.specs.Holds.{count-of}
-use Rattle.model.specs.Lists.{any, keep}
+use Rattle.lists.specs.Lists.{any, keep}
 use Rattle.model.specs.Answers.{Values}
 use Rattle.model.specs.declared.Handle.{Handle}
 use Rattle.model.specs.declared.Call.{Call}
@@ -29,6 +29,17 @@ pub record Entry : Type 0 where
 pub record Span : Type 0 where
   pub from : ℕ
   pub to : ℕ
+
+-- a byte lies there; and in one of several
+abbrev pub covers : Span → ℕ → Bool
+covers x i = leb (x .from) i && ltb i (x .to)
+
+unfoldable pub in-span : ℕ → List Span → Bool
+in-span i xs = any (λ x. covers x i) xs
+
+-- the bytes of an object
+abbrev pub bytes-in : Handle → Span
+bytes-in o = record { from = o .base; to = o .base + o .length }
 
 -- the block of an object, header included
 unfoldable pub block-of : Handle → Span

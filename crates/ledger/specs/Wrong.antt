@@ -7,7 +7,7 @@ use lib.ListN.{set}
 use lib.Dec.{eqb}
 use Rattle.accounts.specs.declared.Quota.{Quota}
 use Rattle.accounts.specs.declared.Accounts.{Accounts}
-use Rattle.accounts.specs.Accounts.{quota-at, remaining, set-remaining, refund, with-quotas, with-holds}
+use Rattle.accounts.specs.Accounts.{quota-at, remaining, with-remainder, change-quota, refund, with-quotas, with-holds}
 use Rattle.accounts.specs.Accounts.{with-kind, with-edition}
 use Rattle.layout.specs.Blocks.{render}
 use Rattle.rounding.specs.Rounding.{unit, table, object-length}
@@ -130,7 +130,7 @@ forgets-edition c s k =
 unfoldable pub wrapped : List ℕ → Accounts → ℕ → ℕ → Outcome
 wrapped s k q n =
     let o = new-object unit s k n in
-    leaves (allocated q o (state-of s (set-remaining q (remaining q k + 2 ^ 32) k))) (given o)
+    leaves (allocated q o (state-of s (change-quota q (with-remainder (remaining q k + 2 ^ 32)) k))) (given o)
 
 unfoldable pub wraps : Call → List ℕ → Accounts → Outcome
 wraps c s k =

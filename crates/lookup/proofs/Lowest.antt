@@ -13,12 +13,12 @@ use lib.Dec.{leb}
 use borrow.Author.Tests.{le-leb, leb-true, not-true}
 use Rattle.layout.specs.Blocks.{Block, size, units, occupied, total-size, parse}
 use Rattle.layout.proofs.Render.{size-append}
-use Rattle.model.specs.Lists.{first, total}
+use Rattle.lists.specs.Lists.{first, total}
 use Rattle.model.specs.Objects.{blocks-of}
 use Rattle.model.specs.Consistent.{free-apart}
 use Rattle.model.specs.Space.{outside-occupied, suitable, lowest-base}
-use Rattle.model.proofs.Bools.{and-left, and-right, and-both, or-left, or-right, fails}
-use Rattle.model.proofs.Lists.{first-some}
+use Rattle.lists.proofs.Bools.{and-left, and-right, and-both, or-left, or-right, fails}
+use Rattle.lists.proofs.Lists.{first-some}
 use Rattle.model.proofs.Blocks.{total-is}
 use Rattle.model.proofs.Consistent.{blocks-parsed}
 use Rattle.model.proofs.Base.{some-lowest, none-lowest}

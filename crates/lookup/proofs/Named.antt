@@ -9,11 +9,11 @@ use Prim.Native.Nat.{ℕ, _+_, _-_}
 use native.Mathlib.Omega.{arith}
 use lib.ListN.{length}
 use Rattle.layout.specs.Blocks.{Block, size, units, live, parse}
-use Rattle.model.specs.Lists.{first}
+use Rattle.lists.specs.Lists.{first}
 use Rattle.model.specs.Objects.{object, objects-from, objects, objects-of, names, lookup}
 use Rattle.model.specs.declared.Handle.{Handle}
-use Rattle.model.proofs.Bools.{and-left}
-use Rattle.model.proofs.Lists.{first-some}
+use Rattle.lists.proofs.Bools.{and-left}
+use Rattle.lists.proofs.Lists.{first-some}
 use Rattle.model.proofs.Consistent.{blocks-parsed}
 use Rattle.lookup.specs.declared.Met.{Met}
 use Rattle.lookup.specs.declared.Lookup.the-variants.{Found, Missing}

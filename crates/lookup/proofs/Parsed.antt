@@ -17,7 +17,7 @@ use Rattle.layout.proofs.Starts.{start-found}
 use Rattle.layout.proofs.Fuel.{cut-end, cut-nothing, cut-at, cut-other, block-at, size-at, units-at}
 use Rattle.layout.proofs.Render.{size-append}
 use Rattle.layout.proofs.Parse.{parse-cut}
-use Rattle.model.specs.Lists.{first}
+use Rattle.lists.specs.Lists.{first}
 use Rattle.lookup.specs.declared.Met.{Met}
 use Rattle.lookup.specs.declared.Lookup.{Lookup}
 use Rattle.lookup.specs.declared.Lookup.the-variants.{Found, Missing}

@@ -9,13 +9,13 @@ use Prim.Native.Nat.{ℕ, _+_, _*_, _-_, _≤_, _<_}
 use native.Mathlib.Omega.{arith}
 use lib.ListN.{length}
 use borrow.Author.Tests.{eq-eqb}
-use Rattle.model.specs.Lists.{first}
+use Rattle.lists.specs.Lists.{first}
 use Rattle.model.specs.Objects.{names, whole}
 use Rattle.model.specs.declared.Handle.{Handle}
-use Rattle.model.proofs.Bools.{and-left, and-right, fails}
+use Rattle.lists.proofs.Bools.{and-left, and-right, fails}
 use Rattle.model.proofs.Lookup.{Narrowed, names-exactly, whole-exactly}
 use Rattle.layout.specs.Bytes.{read-number}
-use Rattle.model.proofs.Lists.{first-some}
+use Rattle.lists.proofs.Lists.{first-some}
 use Rattle.lookup.specs.declared.Met.{Met}
 use Rattle.lookup.specs.declared.Lookup.{Lookup}
 use Rattle.lookup.specs.declared.Lookup.the-variants.{Found, Missing}

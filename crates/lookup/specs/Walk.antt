@@ -10,7 +10,7 @@ use Rattle.layout.specs.Blocks.{QUARANTINED, start-at}
 use Rattle.layout.specs.declared.Header.{Header}
 use Rattle.layout.specs.declared.Start.{Start}
 use Rattle.layout.specs.declared.Start.the-variants.{Block as Starts, Nothing}
-use Rattle.model.specs.Lists.{first}
+use Rattle.lists.specs.Lists.{first}
 use Rattle.model.specs.Objects.{names, whole}
 use Rattle.model.specs.declared.Handle.{Handle}
 use Rattle.lookup.specs.declared.Met.{Met}

@@ -12,7 +12,7 @@ use mathlib.Core.Option.{Option, none, some}
 use lib.Dec.{eqb}
 use borrow.Author.Tests.{ne-eqb, eqb-true}
 use Rattle.accounts.specs.declared.Accounts.{Accounts}
-use Rattle.model.specs.Lists.{all}
+use Rattle.lists.specs.Lists.{all}
 use Rattle.model.specs.Refusals.{Line, _when_, line-number, first-refusal}
 use Rattle.model.specs.Calls.{Outcome, unless}
 use Rattle.model.specs.Calls.{allocate, allocate-array, claim, release, free-all, sweep, reallocate, lend, remaining-of, can-release, list-block, clear}
@@ -20,8 +20,10 @@ use Rattle.model.specs.Step.{Answered, step, performed}
 use Rattle.model.specs.Answers.{Values, refusal-number, zero-handle, zero-range, refused, accepted, listed}
 use Rattle.model.specs.Answers.{verdict-values, handle-values, amount-values, range-values, block-values, answer-values}
 use Rattle.model.specs.Answers.{refusals, refusal-at, answer-from, verdict-from, handle-from, amount-from, range-from, listed-from, block-from, answer-of}
-use Rattle.model.proofs.Bools.{and-left, and-right}
-use Rattle.model.proofs.Refusals.{lines-of, tables}
+use Rattle.model.proofs.Rows
+use Rattle.lists.proofs.Bools.{and-left, and-right}
+use Rattle.model.specs.Rows.{call-lines}
+use Rattle.model.proofs.Refusals.{tables}
 use Rattle.model.specs.declared.ListedBlock.{ListedBlock}
 use Rattle.model.specs.declared.Refusal.{Refusal}
 use Rattle.model.specs.declared.Refusal.the-variants.{HeapLength, Inconsistent, QuotaNumber, ObjectLength, NoSuchObject, NotHeld, CountLimit}
@@ -150,7 +152,7 @@ first-is-refusal ((n when true) ∷ ls) t m e = rw e at (and-left (is-refusal n)
 first-is-refusal ((n when false) ∷ ls) t m e = first-is-refusal ls (and-right (is-refusal n) (all is-refusal (map line-number ls)) t) m e
 
 -- every line of a call has the number of a refusal
-pub lines-are-refusals : (unit : ℕ → ℕ) (c : Call) (s : List ℕ) (k : Accounts) → all is-refusal (map line-number (lines-of unit c s k)) ≡ true
+pub lines-are-refusals : (unit : ℕ → ℕ) (c : Call) (s : List ℕ) (k : Accounts) → all is-refusal (map line-number (call-lines unit c s k)) ≡ true
 unfolding all tables
 lines-are-refusals unit (Allocate q n) s k = refl
 lines-are-refusals unit (AllocateArray q count size) s k = refl

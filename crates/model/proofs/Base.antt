@@ -13,7 +13,8 @@ use lib.Dec.{leb, ltb}
 use borrow.Author.Tests.{leb-true, leb-false, ltb-true, ltb-false, le-leb, lt-leb, lt-ltb, le-ltb}
 use Rattle.layout.specs.Blocks.{Block, size, occupied}
 use Rattle.model.specs.Space.{outside-occupied, suitable, first-candidate, lowest-base}
-use Rattle.model.proofs.Bools.{and-left, and-right, and-both, and-no, or-neither, fails}
+use Rattle.model.proofs.Rows
+use Rattle.lists.proofs.Bools.{and-left, and-right, and-both, and-no, or-neither, fails}
 
 -- b is so many steps behind the start, passes the test, and no earlier candidate does
 pub record First (p : ℕ → Bool) (count step from b : ℕ) : Type 0 where

@@ -14,13 +14,14 @@ use lib.ListN.{length, take, drop, replicate, length-replicate, length-take, len
 use lib.Dec.{leb}
 use borrow.Author.Tests.{le-leb, lt-leb, leb-true, leb-false, eqb-true, eq-eqb, ne-eqb, not-true}
 use Rattle.layout.specs.Blocks.{Block, size, live, occupied, QUARANTINED}
-use Rattle.model.specs.Lists.{all, total}
+use Rattle.lists.specs.Lists.{all, total}
 use Rattle.model.specs.Objects.{objects-from, objects}
 use Rattle.model.specs.Consistent.{long-enough, starts-free, free-apart, well-cut}
 use Rattle.model.specs.Space.{outside-occupied, suitable, left-over, cut-block, carve-from, carve}
 use Rattle.model.specs.declared.Handle.{Handle}
-use Rattle.model.proofs.Bools.{and-left, and-right, and-both, and-no, or-right}
-use Rattle.model.proofs.Lists.{all-append, total-append}
+use Rattle.model.proofs.Rows
+use Rattle.lists.proofs.Bools.{and-left, and-right, and-both, and-no, or-right}
+use Rattle.lists.proofs.Lists.{all-append, total-append}
 use Rattle.model.proofs.Blocks.{whole-size, Whole, whole-total, objects-live, objects-free, objects-append, apart-head, apart-tail, apart-cons}
 use Rattle.model.proofs.Blocks.{apart-replaced, apart-back, free-not-live}
 

@@ -18,16 +18,16 @@ use Rattle.accounts.specs.Accounts.{QUOTAS, zero-quota, zero-hold, used, is-for
 use Rattle.layout.specs.Bytes.{Octets}
 use Rattle.layout.specs.Blocks.{Block, size, QUARANTINED, live, occupied, render, parse, AllWritable}
 use Rattle.layout.proofs.Parse.{parse-is}
-use Rattle.model.specs.Lists.{all, any, or-else}
+use Rattle.lists.specs.Lists.{all, any, or-else}
 use Rattle.model.specs.Answers.{zero-handle}
 use Rattle.model.specs.Objects.{objects, objects-of, blocks-of}
 use Rattle.model.specs.Consistent.{long-enough, starts-free, free-apart, well-cut, has-serial, serials-differ, serials-given, record-valid}
-use Rattle.model.specs.Consistent.{records-differ, is-of, held, charges, balanced-from, consistent-blocks, consistent-parsed, consistent, sound}
+use Rattle.model.specs.Consistent.{records-differ, is-of, held, charges, balanced-from, accounted-blocks, accounted-parsed, accounted, consistent}
 use Rattle.model.specs.Consistent.{in-units, in-kind, in-range, greatest-serial}
 use Rattle.model.specs.declared.Handle.{Handle}
-use Rattle.model.proofs.Bools.{and-left, and-right, and-both, or-cases, or-left, or-right, implies, implied, fails}
-use Rattle.model.proofs.Lists.{all-member, member-all, none-member, all-exactly, any-exactly, any-and, unrelated}
-use Rattle.model.proofs.Lists.{unrelated-places, places-unrelated}
+use Rattle.model.proofs.Rows
+use Rattle.lists.proofs.Bools.{and-left, and-right, and-both, or-cases, or-left, or-right, implies, implied, fails}
+use Rattle.lists.proofs.Lists.{all-member, member-all, none-member, all-exactly, any-exactly, any-and, unrelated, unrelated-places, places-unrelated}
 
 -- the seven tests, for rules 5.2 to 5.8 in their order
 pub record Tests (bs : List Block) (k : Accounts) : Type 0 where
@@ -62,11 +62,11 @@ pub record Facts (bs : List Block) (k : Accounts) : Type 0 where
       → getD (k .quotas) q zero-quota .grant ≡ getD (k .quotas) q zero-quota .remainder + charges (k .holds) q (objects bs)
 
 -- the test is those seven
-pub tests-exactly : (bs : List Block) (k : Accounts) → (consistent-blocks bs k ≡ true) ↔ Tests bs k
-unfolding consistent-blocks
+pub tests-exactly : (bs : List Block) (k : Accounts) → (accounted-blocks bs k ≡ true) ↔ Tests bs k
+unfolding accounted-blocks
 tests-exactly bs k = (there, λ t. rw (t .cut, t .differ, t .given, t .valid, t .unique, t .recorded) (t .balance))
   where
-    there : consistent-blocks bs k ≡ true → Tests bs k
+    there : accounted-blocks bs k ≡ true → Tests bs k
     there e =
         let e₁ = and-right (well-cut bs) _ e in
         let e₂ = and-right (serials-differ (objects bs)) _ e₁ in
@@ -273,7 +273,7 @@ pub balance-exactly : (os : List Handle) (hs : List Hold) (qs : List Quota) → 
 balance-exactly os hs qs = (λ e q h. rw zero-add at (balanced-all os hs 0 qs e q h), λ f. all-balanced os hs 0 qs (λ q h. rw zero-add (f q h)))
 
 -- the test passes exactly if the facts hold
-pub facts-exactly : (bs : List Block) (k : Accounts) → (consistent-blocks bs k ≡ true) ↔ Facts bs k
+pub facts-exactly : (bs : List Block) (k : Accounts) → (accounted-blocks bs k ≡ true) ↔ Facts bs k
 unfolding well-cut
 facts-exactly bs k = (λ e. there (tests-exactly bs k .0 e), λ f. tests-exactly bs k .1 (back f))
   where
@@ -307,72 +307,72 @@ pub blocks-parsed : (s : List ℕ) (bs : List Block) → parse s ≡ some bs →
 unfolding blocks-of or-else
 blocks-parsed s bs e = rw e
 
--- heap and accounts are consistent exactly if the heap is cut into blocks for which the test passes
-pub consistent-exactly : (s : List ℕ) (k : Accounts) → (consistent s k ≡ true)
-    ↔ ((bs : List Block) × (parse s ≡ some bs) × (consistent-blocks bs k ≡ true))
-unfolding consistent consistent-parsed
-consistent-exactly s k = (go (parse s) refl, λ r. rw (r .1) (r .2))
+-- heap and accounts account for each other exactly if the heap is cut into blocks for which the test passes
+pub accounted-exactly : (s : List ℕ) (k : Accounts) → (accounted s k ≡ true)
+    ↔ ((bs : List Block) × (parse s ≡ some bs) × (accounted-blocks bs k ≡ true))
+unfolding accounted accounted-parsed
+accounted-exactly s k = (go (parse s) refl, λ r. rw (r .1) (r .2))
   where
-    go : (o : Option (List Block)) → parse s ≡ o → consistent-parsed o k ≡ true → (bs : List Block) × (parse s ≡ some bs)
-        × (consistent-blocks bs k ≡ true)
+    go : (o : Option (List Block)) → parse s ≡ o → accounted-parsed o k ≡ true → (bs : List Block) × (parse s ≡ some bs)
+        × (accounted-blocks bs k ≡ true)
     go none p e = absurd (false≢true e)
     go (some bs) p e = (bs, p, e)
 
 -- and these are its blocks
-pub consistent-cut : (s : List ℕ) (k : Accounts) → consistent s k ≡ true → (parse s ≡ some (blocks-of s)) × (consistent-blocks (blocks-of s) k ≡ true)
-consistent-cut s k e = let r = consistent-exactly s k .0 e in rw (blocks-parsed s (r .0) (r .1)) (r .1, r .2)
+pub accounted-cut : (s : List ℕ) (k : Accounts) → accounted s k ≡ true → (parse s ≡ some (blocks-of s)) × (accounted-blocks (blocks-of s) k ≡ true)
+accounted-cut s k e = let r = accounted-exactly s k .0 e in rw (blocks-parsed s (r .0) (r .1)) (r .1, r .2)
 
 -- no two free ones of them stand side by side
-pub consistent-apart : (s : List ℕ) (k : Accounts) → consistent s k ≡ true → free-apart (blocks-of s) ≡ true
+pub accounted-apart : (s : List ℕ) (k : Accounts) → accounted s k ≡ true → free-apart (blocks-of s) ≡ true
 unfolding well-cut
-consistent-apart s k e = and-right (all long-enough (blocks-of s)) _ (tests-exactly (blocks-of s) k .0 (consistent-cut s k e .1) .cut)
+accounted-apart s k e = and-right (all long-enough (blocks-of s)) _ (tests-exactly (blocks-of s) k .0 (accounted-cut s k e .1) .cut)
 
-pub consistent-facts : (s : List ℕ) (k : Accounts) → consistent s k ≡ true → Facts (blocks-of s) k
-consistent-facts s k e = facts-exactly (blocks-of s) k .0 (consistent-cut s k e .1)
+pub accounted-facts : (s : List ℕ) (k : Accounts) → accounted s k ≡ true → Facts (blocks-of s) k
+accounted-facts s k e = facts-exactly (blocks-of s) k .0 (accounted-cut s k e .1)
 
 -- rules 5.1 to 5.8 as one law: the heap's bytes are blocks, each behind a header with its size, the size before it and its serial, to the heap's
 -- end; sizes are whole units and fit their fields; and the facts hold of these blocks and the accounts
-pub record Consistent (s : List ℕ) (k : Accounts) : Type 0 where
+pub record Accounted (s : List ℕ) (k : Accounts) : Type 0 where
   pub blocks : List Block
   pub cut : render blocks ≡ s
   pub writable : AllWritable blocks
   pub facts : Facts blocks k
 
-pub consistent-is : (s : List ℕ) (k : Accounts) → Octets s → (consistent s k ≡ true) ↔ Consistent s k
-consistent-is s k o = (
+pub accounted-is : (s : List ℕ) (k : Accounts) → Octets s → (accounted s k ≡ true) ↔ Accounted s k
+accounted-is s k o = (
   λ e.
-      (let r = consistent-exactly s k .0 e in
+      (let r = accounted-exactly s k .0 e in
       let p = parse-is s (r .0) o .0 (r .1) in
       record { blocks = r .0; cut = p .0; writable = p .1; facts = facts-exactly (r .0) k .0 (r .2) }),
-  λ c. consistent-exactly s k .1 (c .blocks, parse-is s (c .blocks) o .1 (c .cut, c .writable), facts-exactly (c .blocks) k .1 (c .facts)),
+  λ c. accounted-exactly s k .1 (c .blocks, parse-is s (c .blocks) o .1 (c .cut, c .writable), facts-exactly (c .blocks) k .1 (c .facts)),
 )
 
--- what is sound is consistent, each of its objects fits its unit, each quota's permissions are such, each block is of the kind, and the numbers are in range
-module _ (unit : ℕ → ℕ) (s : List ℕ) (k : Accounts) (e : sound unit s k ≡ true) where
-  pub sound-consistent : consistent s k ≡ true
-  unfolding sound
-  sound-consistent = and-left (consistent s k) _ e
+-- what is consistent is accounted for; objects fit their units, permissions are such, blocks are of the kind, numbers in range
+module _ (unit : ℕ → ℕ) (s : List ℕ) (k : Accounts) (e : consistent unit s k ≡ true) where
+  pub consistent-accounted : accounted s k ≡ true
+  unfolding consistent
+  consistent-accounted = and-left (accounted s k) _ e
 
-  sound-settings : all (in-units unit) (objects-of s) && (all permissible (permissions k) && (all (in-kind (k .kind)) (blocks-of s) && in-range k))
+  consistent-settings : all (in-units unit) (objects-of s) && (all permissible (permissions k) && (all (in-kind (k .kind)) (blocks-of s) && in-range k))
       ≡ true
-  unfolding sound
-  sound-settings = and-right (consistent s k) _ e
+  unfolding consistent
+  consistent-settings = and-right (accounted s k) _ e
 
-  pub sound-fits : (o : Handle) → List·Memᴰ o (objects-of s) → in-units unit o ≡ true
-  sound-fits = all-member (in-units unit) (objects-of s) (and-left (all (in-units unit) (objects-of s)) _ sound-settings)
+  pub consistent-fits : (o : Handle) → List·Memᴰ o (objects-of s) → in-units unit o ≡ true
+  consistent-fits = all-member (in-units unit) (objects-of s) (and-left (all (in-units unit) (objects-of s)) _ consistent-settings)
 
-  pub sound-permissible : all permissible (permissions k) ≡ true
-  sound-permissible = and-left (all permissible (permissions k)) _ (and-right (all (in-units unit) (objects-of s)) _ sound-settings)
+  pub consistent-permissible : all permissible (permissions k) ≡ true
+  consistent-permissible = and-left (all permissible (permissions k)) _ (and-right (all (in-units unit) (objects-of s)) _ consistent-settings)
 
-  pub sound-kinds : all (in-kind (k .kind)) (blocks-of s) ≡ true
-  sound-kinds =
+  pub consistent-kinds : all (in-kind (k .kind)) (blocks-of s) ≡ true
+  consistent-kinds =
       and-left (all (in-kind (k .kind)) (blocks-of s)) _
-      (and-right (all permissible (permissions k)) _ (and-right (all (in-units unit) (objects-of s)) _ sound-settings))
+      (and-right (all permissible (permissions k)) _ (and-right (all (in-units unit) (objects-of s)) _ consistent-settings))
 
-  pub sound-range : in-range k ≡ true
-  sound-range =
+  pub consistent-range : in-range k ≡ true
+  consistent-range =
       and-right (all (in-kind (k .kind)) (blocks-of s)) _
-      (and-right (all permissible (permissions k)) _ (and-right (all (in-units unit) (objects-of s)) _ sound-settings))
+      (and-right (all permissible (permissions k)) _ (and-right (all (in-units unit) (objects-of s)) _ consistent-settings))
 
 -- accounts in range: the last serial, the kind and the edition; and others that are in range with them
 module _ (k : Accounts) (e : in-range k ≡ true) where

@@ -8,22 +8,21 @@ use mathlib.Core.List.{List, [], _∷_, map}
 use mathlib.Core.Bool.{Bool, true, false, not, cond, _&&_, false≢true}
 use mathlib.Core.Logic.{_↔_}
 use lib.ListN.{length, getD, List·getD-map, length-map}
-use lib.Seq.{getD-set-other, map-set-same}
-use lib.Dec.{ltb, eqb}
+use lib.Dec.{eqb}
 use borrow.Author.Tests.{not-true, eqb-false}
 use Rattle.accounts.specs.declared.Quota.{Quota}
 use Rattle.accounts.specs.declared.Hold.{Hold}
 use Rattle.accounts.specs.declared.Accounts.{Accounts}
-use Rattle.accounts.specs.Accounts.{QUOTAS, zero-quota, zero-hold, with-remainder, quota-at, remaining, set-remaining, less-paid, paid-back, charge}
-use Rattle.accounts.specs.Accounts.{refund, with-holds, used, unused, is-for, drop-records}
-use Rattle.accounts.specs.Accounts.{with-permissions, left-permissions, clear-at, clear-permissions}
-use Rattle.model.specs.Lists.{change-first}
+use Rattle.accounts.specs.Accounts.{zero-quota, zero-hold, charge, refund, clear-permissions, with-holds, used, unused, is-for, drop-records}
+use Rattle.accounts.proofs.Laws.{Kept as KeptBut, charge-kept, refund-kept, clear-kept}
+use Rattle.lists.specs.Lists.{change-first}
 use Rattle.model.specs.Holds.{with-count, take-record, raise-count, less-one, lower-count}
 use Rattle.model.specs.Refusals.{claims-first}
 use Rattle.model.specs.Consistent.{charge-of}
 use Rattle.model.specs.Calls.{State, allocated, claimed, given-back, released, freed, copied}
 use Rattle.model.specs.declared.Handle.{Handle}
-use Rattle.model.proofs.Bools.{and-left, and-right, and-both, and-no}
+use Rattle.model.proofs.Rows
+use Rattle.lists.proofs.Bools.{and-left, and-right, and-both, and-no}
 
 -- from k to k′ every grant stays, every quota but those that pay, each record at a place that passes a test, how many quotas and records there are, and the
 -- heap's kind and edition
@@ -66,48 +65,27 @@ kept-narrow pays p r k l f a =
       same-edition = a .same-edition;
     }
 
-module _ (q : ℕ) (p : ℕ → Bool) (k : Accounts) where
-  set-keeps : (n : ℕ) → Kept (eqb q) p k (set-remaining q n k)
-  unfolding set-remaining
-  set-keeps n =
-      record {
-        grants = map-set-same (λ (x : Quota). x .grant) (k .quotas) q (with-remainder n (quota-at q k)) zero-quota refl;
-        others = λ j e. getD-set-other (k .quotas) q j (with-remainder n (quota-at q k)) zero-quota (λ x. eqb-false q j e (sym x));
-        records = λ i e. refl;
-        places = refl;
-        same-kind = refl;
-        same-edition = refl;
-      }
+-- a change of one quota that keeps its grant
+quota-keeps : (q : ℕ) (p : ℕ → Bool) (k l : Accounts) → KeptBut q k l → Kept (eqb q) p k l
+quota-keeps q p k l e =
+    record {
+      grants = e .same-grants;
+      others = λ j n. e .same-others j (λ x. eqb-false q j n (sym x));
+      records = λ i n. ap (λ (hs : List Hold). getD hs i zero-hold) (e .same-holds);
+      places = ap length (e .same-holds);
+      same-kind = e .same-kind;
+      same-edition = e .same-edition;
+    }
 
-  when-keeps : (t : Bool) (n : ℕ) → Kept (eqb q) p k (cond t (set-remaining q n k) k)
-  when-keeps true n = set-keeps n
-  when-keeps false n = kept-same (eqb q) p k
+module _ (q : ℕ) (p : ℕ → Bool) (k : Accounts) (n : ℕ) where
+  pub charge-keeps : Kept (eqb q) p k (charge q n k)
+  charge-keeps = quota-keeps q p k (charge q n k) (charge-kept q n k)
 
-  pub charge-keeps : (n : ℕ) → Kept (eqb q) p k (charge q n k)
-  unfolding charge
-  charge-keeps n = when-keeps (ltb q QUOTAS) (less-paid n (remaining q k))
+  pub refund-keeps : Kept (eqb q) p k (refund q n k)
+  refund-keeps = quota-keeps q p k (refund q n k) (refund-kept q n k)
 
-  pub refund-keeps : (n : ℕ) → Kept (eqb q) p k (refund q n k)
-  unfolding refund
-  refund-keeps n = when-keeps (ltb q QUOTAS) (paid-back n (remaining q k))
-
--- cleared permissions are one quota's
-pub clear-keeps : (q n : ℕ) (p : ℕ → Bool) (k : Accounts) → Kept (eqb q) p k (clear-permissions q n k)
-unfolding clear-permissions
-clear-keeps q n p k = go (ltb q QUOTAS)
-  where
-    go : (t : Bool) → Kept (eqb q) p k (cond t (clear-at q n k) k)
-    go false = kept-same (eqb q) p k
-    go true =
-        record {
-          grants = map-set-same (λ (x : Quota). x .grant) (k .quotas) q (with-permissions (left-permissions q n k) (quota-at q k)) zero-quota refl;
-          others = λ j e. getD-set-other (k .quotas) q j (with-permissions (left-permissions q n k) (quota-at q k)) zero-quota
-              (λ x. eqb-false q j e (sym x));
-          records = λ i e. refl;
-          places = refl;
-          same-kind = refl;
-          same-edition = refl;
-        }
+  pub clear-keeps : Kept (eqb q) p k (clear-permissions q n k)
+  clear-keeps = quota-keeps q p k (clear-permissions q n k) (clear-kept q n k)
 
 -- a place is the first whose record passes a test
 unfoldable pub first-at : (Hold → Bool) → List Hold → ℕ → Bool

@@ -16,22 +16,24 @@ use Rattle.accounts.proofs.Laws.{refund-nothing}
 use Rattle.layout.specs.Bytes.{Octets}
 use Rattle.layout.specs.Blocks.{render}
 use Rattle.layout.proofs.Parse.{parse-is}
-use Rattle.model.specs.Lists.{all, any, total}
+use Rattle.lists.specs.Lists.{all, any, total}
 use Rattle.model.specs.Answers.{amount-of}
 use Rattle.model.specs.Objects.{blocks-of, objects, objects-of}
-use Rattle.model.specs.Consistent.{consistent, has-record, charged-for, charges}
+use Rattle.model.specs.Consistent.{accounted, has-record, charged-for, charges}
 use Rattle.model.specs.Refusals.{first-refusal, free-all-lines}
 use Rattle.model.specs.Calls.{State, leaves, unless, unchanged, state-of, freed, free-all}
 use Rattle.model.specs.declared.Handle.{Handle}
-use Rattle.model.proofs.Bools.{and-both}
-use Rattle.model.proofs.Consistent.{Tests, tests-exactly, consistent-cut, consistent-apart, consistent-facts, is-for-exactly}
-use Rattle.model.proofs.Settle.{stays, stays-objects, drop-none, settle-none}
-use Rattle.model.proofs.Lists.{none-exactly}
+use Rattle.model.proofs.Rows
+use Rattle.lists.proofs.Bools.{and-both}
+use Rattle.model.proofs.Consistent.{Tests, tests-exactly, accounted-cut, accounted-apart, accounted-facts, is-for-exactly}
+use Rattle.model.proofs.Settle.{stays-objects, drop-none, settle-none}
+use Rattle.lists.proofs.Lists.{none-exactly}
+use Rattle.model.specs.Space.{stays}
 
 -- in a consistent state the sum of a quota's charges is what it has spent
-pub charges-spent : (s : List ℕ) (k : Accounts) → consistent s k ≡ true → (q : ℕ) → q < length (k .quotas) → charges (k .holds) q (objects-of s) ≡ spent q k
+pub charges-spent : (s : List ℕ) (k : Accounts) → accounted s k ≡ true → (q : ℕ) → q < length (k .quotas) → charges (k .holds) q (objects-of s) ≡ spent q k
 unfolding spent remaining objects-of
-charges-spent s k c q h = omega (arith, consistent-facts s k c .balance q h)
+charges-spent s k c q h = omega (arith, accounted-facts s k c .balance q h)
 
 -- a quota without records is charged for nothing
 none-for : (q : ℕ) (hs : List Hold) → any (record-of q) hs ≡ false → (serial : ℕ) → has-record hs q serial ≡ false
@@ -45,9 +47,9 @@ unfolding charges total charged-for
 charges-none q hs e [] = refl
 charges-none q hs e (o ∷ os) = rw (none-for q hs e (o .serial)) (zero-add _ ∙ charges-none q hs e os)
 
-module _ (s : List ℕ) (k : Accounts) (o : Octets s) (c : consistent s k ≡ true) (q : ℕ) (none : any (record-of q) (k .holds) ≡ false) where
+module _ (s : List ℕ) (k : Accounts) (o : Octets s) (c : accounted s k ≡ true) (q : ℕ) (none : any (record-of q) (k .holds) ≡ false) where
   tests : Tests (blocks-of s) k
-  tests = tests-exactly (blocks-of s) k .0 (consistent-cut s k c .1)
+  tests = tests-exactly (blocks-of s) k .0 (accounted-cut s k c .1)
 
   stay : all (stays (k .holds)) (blocks-of s) ≡ true
   unfolding objects
@@ -58,7 +60,7 @@ module _ (s : List ℕ) (k : Accounts) (o : Octets s) (c : consistent s k ≡ tr
   freed-none =
       λ i.
       record {
-        blocks = settle-none (k .kind) q (k .holds) (blocks-of s) none stay (consistent-apart s k c) i;
+        blocks = settle-none (k .kind) q (k .holds) (blocks-of s) none stay (accounted-apart s k c) i;
         accounts = with-holds (drop-none q (k .holds) none i) (refund-nothing q k i);
       }
 
@@ -66,7 +68,7 @@ module _ (s : List ℕ) (k : Accounts) (o : Octets s) (c : consistent s k ≡ tr
   pub free-all-none : (unit : ℕ → ℕ) → free-all unit s k q ≡ unless (first-refusal (free-all-lines unit s k q)) s k (unchanged s k (amount-of 0))
   unfolding free-all
   free-all-none unit =
-      let again : render (blocks-of s) ≡ s = parse-is s (blocks-of s) o .0 (consistent-cut s k c .0) .0 in
+      let again : render (blocks-of s) ≡ s = parse-is s (blocks-of s) o .0 (accounted-cut s k c .0) .0 in
       rw (charges-none q (k .holds) none (objects-of s))
       (ap (λ (t : State). unless (first-refusal (free-all-lines unit s k q)) s k (leaves t (amount-of 0))) freed-none
       ∙ ap (λ (x : List ℕ). unless (first-refusal (free-all-lines unit s k q)) s k (unchanged x k (amount-of 0))) again)

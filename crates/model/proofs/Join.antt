@@ -10,12 +10,13 @@ use lib.ListN.{replicate, length-append, length-replicate}
 use lib.Dec.{lit<}
 use borrow.Author.Tests.{eqb-true, eq-eqb}
 use Rattle.layout.specs.Blocks.{Block, size, live, Writable, AllWritable, occupied}
-use Rattle.model.specs.Lists.{all, total}
+use Rattle.lists.specs.Lists.{all, total}
 use Rattle.model.specs.Objects.{objects-from}
 use Rattle.model.specs.Consistent.{long-enough, starts-free, free-apart}
 use Rattle.model.specs.Space.{join-front, join-free}
 use Rattle.model.specs.Joining.{append-joined, join-neighbours}
-use Rattle.model.proofs.Bools.{and-left, and-right, and-both}
+use Rattle.model.proofs.Rows
+use Rattle.lists.proofs.Bools.{and-left, and-right, and-both}
 use Rattle.model.proofs.Blocks.{whole-size, Whole, objects-free, apart-head, apart-tail, apart-cons, free-not-live}
 
 -- two free blocks as one

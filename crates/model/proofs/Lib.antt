@@ -6,8 +6,7 @@ pub mod Lines
 pub mod Inconsistent
 pub mod Quarantine
 pub mod Editions
-pub mod Bools
-pub mod Lists
+pub mod Rows
 pub mod Base
 pub mod Blocks
 pub mod Carve
@@ -20,7 +19,7 @@ pub mod Permissions
 pub mod Refusals
 pub mod Answers
 pub mod Consistent
-pub mod Sound
+pub mod Exactly
 pub mod Lookup
 pub mod Narrowing
 pub mod Listing

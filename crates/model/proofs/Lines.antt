@@ -8,7 +8,7 @@ use Rattle.model.specs.Cases.{block}
 use Rattle.model.specs.Lines.{opening, every-call, one-block, each-refused, filled-from, holders, records-from, full-heap, full-accounts, four-accounts}
 use Rattle.model.specs.Lines.{four-objects, barred-accounts, zero-state}
 use Rattle.model.specs.Lines.{heap-lengths, openings, first-lines, full-lines, last-lines, permission-lines}
-use Rattle.model.proofs.Computing.{computing-but-sound, computing}
+use Rattle.model.proofs.Computing.{computing-but-consistent, computing}
 
 pub openings-run : map opening heap-lengths ≡ openings
 unfolding computing parts accounts-of opening openings
@@ -21,7 +21,7 @@ first-lines-run = refl
 -- 8 before 9 before 10; a claim of a quota that has a record needs neither remainder nor record, and is refused by its count alone
 pub full-lines-run : (map first-refusal (full-lines 254) ≡ 8 ∷ 9 ∷ 8 ∷ 9 ∷ 8 ∷ 9 ∷ 0 ∷ [])
     × (map first-refusal (full-lines 255) ≡ 8 ∷ 9 ∷ 8 ∷ 9 ∷ 8 ∷ 9 ∷ 7 ∷ [])
-unfolding computing-but-sound accounts-of filled-from holders records-from full-heap full-accounts full-lines
+unfolding computing-but-consistent accounts-of filled-from holders records-from full-heap full-accounts full-lines
 full-lines-run = (refl, refl)
 
 pub last-lines-run : map (got unit) last-lines ≡ map wanted last-lines

@@ -15,14 +15,15 @@ use lib.Dec.{eqb}
 use borrow.Author.Tests.{eqb-true, eq-eqb, ne-eqb}
 use Rattle.accounts.specs.declared.Accounts.{Accounts}
 use Rattle.layout.specs.Blocks.{Block, size}
-use Rattle.model.specs.Lists.{any, total, first}
+use Rattle.lists.specs.Lists.{any, total, first}
 use Rattle.model.specs.Answers.{listed}
 use Rattle.model.specs.Objects.{blocks-of}
 use Rattle.model.specs.Refusals.{first-refusal, check-lines}
 use Rattle.model.specs.Calls.{unless, unchanged, listing-from, list-block}
 use Rattle.model.specs.declared.ListedBlock.{ListedBlock}
-use Rattle.model.proofs.Bools.{and-both}
-use Rattle.model.proofs.Lists.{member-any, first-some, first-found, first-none, none-exactly, total-append, unrelated, unrelated-same}
+use Rattle.model.proofs.Rows
+use Rattle.lists.proofs.Bools.{and-both}
+use Rattle.lists.proofs.Lists.{member-any, first-some, first-found, first-none, none-exactly, total-append, unrelated, unrelated-same}
 
 -- a block as it is listed at a place
 abbrev pub listed-at : ℕ → Block → ListedBlock

@@ -14,15 +14,16 @@ use Rattle.accounts.specs.declared.Hold.{Hold}
 use Rattle.accounts.specs.declared.Accounts.{Accounts}
 use Rattle.layout.specs.Blocks.{Block, size, live}
 use Rattle.accounts.specs.Accounts.{used}
-use Rattle.model.specs.Lists.{first}
+use Rattle.lists.specs.Lists.{first}
 use Rattle.model.specs.Objects.{object, objects-from, objects, blocks-of, objects-of, whole, names, lookup, lookup-whole}
-use Rattle.model.specs.Consistent.{consistent, has-serial, serials-differ, records-differ}
+use Rattle.model.specs.Consistent.{accounted, has-serial, serials-differ, records-differ}
 use Rattle.model.specs.declared.Handle.{Handle}
 use Rattle.model.proofs.Blocks.{live-occupied}
-use Rattle.model.proofs.Bools.{and-left, and-right, and-both}
-use Rattle.model.proofs.Lists.{first-some, first-none, first-found, member-any, search-some, search-none, unrelated-same}
-use Rattle.model.proofs.Consistent.{is-for-exactly, serials-unrelated, records-unrelated, same-hold, tests-exactly, consistent-cut}
-use Rattle.model.proofs.Consistent.{consistent-facts}
+use Rattle.model.proofs.Rows
+use Rattle.lists.proofs.Bools.{and-left, and-right, and-both}
+use Rattle.lists.proofs.Lists.{first-some, first-none, first-found, member-any, search-some, search-none, unrelated-same}
+use Rattle.model.proofs.Consistent.{is-for-exactly, serials-unrelated, records-unrelated, same-hold, tests-exactly, accounted-cut}
+use Rattle.model.proofs.Consistent.{accounted-facts}
 
 -- where serials differ, two objects with the same serial are the same
 pub same-serial : (os : List Handle) → serials-differ os ≡ true → (o p : Handle) → List·Memᴰ o os → List·Memᴰ p os → o .serial ≡ p .serial → o ≡ p
@@ -121,9 +122,9 @@ unfolding lookup-whole
 lookup-whole-none h s = search-none (whole h) h (whole-exactly h) (objects-of s)
 
 -- in a consistent heap serials differ, and every object has a byte, since a live block has at least 16
-pub consistent-differ : (s : List ℕ) (k : Accounts) → consistent s k ≡ true → serials-differ (objects-of s) ≡ true
+pub accounted-differ : (s : List ℕ) (k : Accounts) → accounted s k ≡ true → serials-differ (objects-of s) ≡ true
 unfolding objects-of
-consistent-differ s k e = tests-exactly (blocks-of s) k .0 (consistent-cut s k e .1) .differ
+accounted-differ s k e = tests-exactly (blocks-of s) k .0 (accounted-cut s k e .1) .differ
 
 long-objects : (at : ℕ) (bs : List Block)
     → ((b : Block) → List·Memᴰ b bs → live b ≡ true → 16 ≤ size b) → (o : Handle) → List·Memᴰ o (objects-from at bs) → 1 ≤ o .length
@@ -136,6 +137,6 @@ long-objects at (b ∷ bs) f o m = go (live b) refl (long-objects (at + size b) 
     go true t ih n = ⊎-elim (λ (e : o ≡ object at b). rw e (omega (arith, f b (List·Memᴰ·head refl) t))) (λ p. ih p) (List·Memᴰ·cases-cons n)
     go false t ih n = ih n
 
-pub consistent-byte : (s : List ℕ) (k : Accounts) → consistent s k ≡ true → (o : Handle) → List·Memᴰ o (objects-of s) → 1 ≤ o .length
+pub accounted-byte : (s : List ℕ) (k : Accounts) → accounted s k ≡ true → (o : Handle) → List·Memᴰ o (objects-of s) → 1 ≤ o .length
 unfolding objects-of objects
-consistent-byte s k e = long-objects 0 (blocks-of s) (λ b m l. consistent-facts s k e .long b m (live-occupied b l))
+accounted-byte s k e = long-objects 0 (blocks-of s) (λ b m l. accounted-facts s k e .long b m (live-occupied b l))

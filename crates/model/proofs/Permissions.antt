@@ -7,21 +7,21 @@ use mathlib.Core.List.{List, [], _∷_, map}
 use mathlib.Core.Bool.{Bool, true, false, cond, _&&_, true≢false, false≢true}
 use mathlib.Core.Logic.{_⊎_, inl, inr, ⊎-elim}
 use mathlib.Core.Option.{Option, none, some}
-use lib.ListN.{length, getD, set, length-set, List·getD-map}
-use lib.Seq.{map-set-same, getD-set-same}
-use lib.Dec.{ltb, eqb}
-use borrow.Author.Tests.{le-leb, lt-ltb}
+use lib.ListN.{length, getD, set, List·getD-map}
+use lib.Seq.{getD-set-same}
+use lib.Dec.{eqb}
+use borrow.Author.Tests.{le-leb}
 use Rattle.accounts.specs.declared.Quota.{Quota}
 use Rattle.accounts.specs.declared.Hold.{Hold}
 use Rattle.accounts.specs.declared.Accounts.{Accounts}
-use Rattle.accounts.specs.Accounts.{QUOTAS, ALLOCATE, CLAIM, FREE-ALL, zero-quota, with-remainder, with-holds, quota-at, remaining, set-remaining}
-use Rattle.accounts.specs.Accounts.{less-paid, paid-back, charge, refund}
-use Rattle.accounts.specs.Accounts.{with-permissions, permissions, permissible, permits, bit-left, cleared, left-permissions, clear-at, clear-permissions}
+use Rattle.accounts.specs.Accounts.{QUOTAS, ALLOCATE, CLAIM, FREE-ALL, zero-quota, with-holds, quota-at, put-quota, charged, refunded, charge, refund}
+use Rattle.accounts.specs.Accounts.{with-permissions, permissions, permissible, permits, bit-left, cleared, left-permissions, without, clear-permissions}
+use Rattle.accounts.proofs.Laws.{change-there, change-case, change-but}
 use Rattle.accounts.proofs.Permissions.{cleared-bits}
 use Rattle.layout.specs.Blocks.{Block, parse}
-use Rattle.model.specs.Lists.{all}
+use Rattle.lists.specs.Lists.{all}
 use Rattle.model.specs.Objects.{objects, objects-of, lookup, lookup-whole, found}
-use Rattle.model.specs.Consistent.{charge-of, charges, balanced-from, consistent-blocks, consistent-parsed, consistent}
+use Rattle.model.specs.Consistent.{charge-of, charges, balanced-from, accounted-blocks, accounted-parsed, accounted}
 use Rattle.model.specs.Holds.{take-record, raise-count}
 use Rattle.model.specs.Refusals.{first-refusal, claims-first, quota-lines, free-all-lines, release-lines, claim-lines, allocate-lines, reallocate-lines}
 use Rattle.model.specs.Refusals.{lend-lines, check-lines}
@@ -32,21 +32,17 @@ use Rattle.model.specs.declared.Handle.{Handle}
 use Rattle.model.specs.declared.Call.{Call}
 use Rattle.model.specs.declared.Call.the-variants.{Allocate, AllocateArray, Claim, Release, FreeAll, Reallocate, Lend, Remaining, CanRelease, ListBlock}
 use Rattle.model.specs.declared.Call.the-variants.{ClearPermissions, Sweep}
-use Rattle.model.proofs.Bools.{and-both, and-left, and-right, and-no, and-yes}
+use Rattle.model.proofs.Rows
+use Rattle.lists.proofs.Bools.{and-both, and-left, and-right, and-no, and-yes}
 
 -- payments leave the permissions
-set-permissions : (t : Bool) (q n : ℕ) (k : Accounts) → permissions (cond t (set-remaining q n k) k) ≡ permissions k
-unfolding set-remaining
-set-permissions true q n k = map-set-same (λ (x : Quota). x .permissions) (k .quotas) q (with-remainder n (quota-at q k)) zero-quota refl
-set-permissions false q n k = refl
-
 refund-permissions : (q n : ℕ) (k : Accounts) → permissions (refund q n k) ≡ permissions k
 unfolding refund
-refund-permissions q n k = set-permissions (ltb q QUOTAS) q (paid-back n (remaining q k)) k
+refund-permissions q n k = change-but q (refunded n) k (λ (x : Quota). x .permissions) (λ x. refl)
 
 charge-permissions : (q n : ℕ) (k : Accounts) → permissions (charge q n k) ≡ permissions k
 unfolding charge
-charge-permissions q n k = set-permissions (ltb q QUOTAS) q (less-paid n (remaining q k)) k
+charge-permissions q n k = change-but q (charged n) k (λ (x : Quota). x .permissions) (λ x. refl)
 
 claimed-permissions : (q : ℕ) (o : Handle) (k : Accounts) → permissions (claimed q o k) ≡ permissions k
 unfolding claimed
@@ -155,15 +151,18 @@ pub clear-exactly : (q n : ℕ) (k : Accounts) (bit : ℕ) → IsBit bit → q <
     → permits bit q (clear-permissions q n k) ≡ (permits bit q k && eqb (n / bit % 2) 0)
 unfolding clear-permissions permits
 clear-exactly q n k bit b h l =
-    rw (lt-ltb q QUOTAS h, getD-set-same (k .quotas) q (with-permissions (left-permissions q n k) (quota-at q k)) zero-quota l)
+    rw (change-there q (without n) k h, getD-set-same (k .quotas) q (without n (quota-at q k)) zero-quota l)
     (left-exactly bit n (quota-at q k .permissions) b)
 
 -- clearing sets none
 clear-sets-none : (q n : ℕ) (k : Accounts) (j bit : ℕ) → IsBit bit → permits bit j (clear-permissions q n k) ≡ true → permits bit j k ≡ true
 unfolding clear-permissions permits
-clear-sets-none q n k j bit b = go (ltb q QUOTAS)
+clear-sets-none q n k j bit b =
+    change-case q (without n) k
+    (λ (l : Accounts). eqb (quota-at j l .permissions / bit % 2) 1 ≡ true → eqb (quota-at j k .permissions / bit % 2) 1 ≡ true)
+    (at _ (set-at (k .quotas) q j (without n (quota-at q k)))) (λ e. e)
   where
-    at : (x : Quota) → (x ≡ quota-at j k) ⊎ ((q ≡ j) × (x ≡ with-permissions (left-permissions q n k) (quota-at q k)))
+    at : (x : Quota) → (x ≡ quota-at j k) ⊎ ((q ≡ j) × (x ≡ without n (quota-at q k)))
         → eqb (x .permissions / bit % 2) 1 ≡ true → eqb (quota-at j k .permissions / bit % 2) 1 ≡ true
     at x c e =
         ⊎-elim (λ (h : x ≡ quota-at j k). rw h at e)
@@ -172,11 +171,6 @@ clear-sets-none q n k j bit b = go (ltb q QUOTAS)
         ap (λ (y : Quota). y .permissions) (h .1) ∙ ap (λ (i : ℕ). cleared n (quota-at i k .permissions)) (h .0) in
         and-left (eqb (quota-at j k .permissions / bit % 2) 1) _ (sym (left-exactly bit n (quota-at j k .permissions) b) ∙ rw own at e))
         c
-
-    go : (t : Bool) → eqb (quota-at j (cond t (clear-at q n k) k) .permissions / bit % 2) 1 ≡ true
-        → eqb (quota-at j k .permissions / bit % 2) 1 ≡ true
-    go false e = e
-    go true e = at _ (set-at (k .quotas) q j (with-permissions (left-permissions q n k) (quota-at q k))) e
 
 -- the permissions of a quota in the list of all
 listed-at : (j : ℕ) (k : Accounts) → getD (permissions k) j 0 ≡ quota-at j k .permissions
@@ -206,13 +200,11 @@ permissible-after (x ∷ xs) (suc i) y p a =
 
 clear-permissible : (q n : ℕ) (k : Accounts) → all permissible (permissions k) ≡ true → all permissible (permissions (clear-permissions q n k)) ≡ true
 unfolding clear-permissions
-clear-permissible q n k a = go (ltb q QUOTAS)
-  where
-    go : (t : Bool) → all permissible (permissions (cond t (clear-at q n k) k)) ≡ true
-    go false = a
-    go true =
-        permissible-after (k .quotas) q (with-permissions (left-permissions q n k) (quota-at q k))
-        (le-leb (cleared n (quota-at q k .permissions)) 7 (cleared-bits n (quota-at q k .permissions) .3)) a
+clear-permissible q n k a =
+    change-case q (without n) k (λ (l : Accounts). all permissible (permissions l) ≡ true)
+    (permissible-after (k .quotas) q (without n (quota-at q k))
+    (le-leb (cleared n (quota-at q k .permissions)) 7 (cleared-bits n (quota-at q k .permissions) .3)) a)
+    a
 
 unless-permissible : (n : ℕ) (s : List ℕ) (k : Accounts) (done : Outcome) → all permissible (permissions k) ≡ true
     → all permissible (permissions (done .accounts)) ≡ true
@@ -276,39 +268,13 @@ balanced-after os hs from (x ∷ xs) zero p = refl
 balanced-after os hs from (x ∷ xs) (suc i) p =
     ap (λ (t : Bool). eqb (x .grant) (x .remainder + charges hs from os) && t) (balanced-after os hs (suc from) xs i p)
 
-grant-after : (xs : List Quota) (i j p : ℕ)
-    → getD (set xs i (with-permissions p (getD xs i zero-quota))) j zero-quota .grant ≡ getD xs j zero-quota .grant
-grant-after [] i j p = refl
-grant-after (x ∷ xs) zero zero p = refl
-grant-after (x ∷ xs) zero (suc j) p = refl
-grant-after (x ∷ xs) (suc i) zero p = refl
-grant-after (x ∷ xs) (suc i) (suc j) p = grant-after xs i j p
-
+-- so clearing leaves a state accounted for, or not
 module _ (q n : ℕ) (k : Accounts) where
-  -- what clearing keeps
-  pub record Cleared (k′ : Accounts) : Type 0 where
-    pub same-holds : k′ .holds ≡ k .holds
-    pub same-last : k′ .«last_serial» ≡ k .«last_serial»
-    pub same-grants : (j : ℕ) → quota-at j k′ .grant ≡ quota-at j k .grant
-    pub same-count : length (k′ .quotas) ≡ length (k .quotas)
-    pub same-consistent : (s : List ℕ) → consistent s k′ ≡ consistent s k
-
-  same-parsed : (b : Option (List Block)) → consistent-parsed b (clear-at q n k) ≡ consistent-parsed b k
-  unfolding consistent-parsed consistent-blocks
+  same-parsed : (b : Option (List Block)) → accounted-parsed b (put-quota q (without n (quota-at q k)) k) ≡ accounted-parsed b k
+  unfolding accounted-parsed accounted-blocks
   same-parsed none = refl
   same-parsed (some bs) = rw (balanced-after (objects bs) (k .holds) 0 (k .quotas) q (left-permissions q n k))
 
-  pub clear-kept : Cleared (clear-permissions q n k)
-  unfolding clear-permissions consistent
-  clear-kept = go (ltb q QUOTAS)
-    where
-      go : (t : Bool) → Cleared (cond t (clear-at q n k) k)
-      go false = record { same-holds = refl; same-last = refl; same-grants = λ j. refl; same-count = refl; same-consistent = λ s. refl }
-      go true =
-          record {
-            same-holds = refl;
-            same-last = refl;
-            same-grants = λ j. grant-after (k .quotas) q j (left-permissions q n k);
-            same-count = length-set (k .quotas) q (with-permissions (left-permissions q n k) (quota-at q k));
-            same-consistent = λ s. same-parsed (parse s);
-          }
+  pub clear-accounted : (s : List ℕ) → accounted s (clear-permissions q n k) ≡ accounted s k
+  unfolding clear-permissions accounted
+  clear-accounted s = change-case q (without n) k (λ (l : Accounts). accounted s l ≡ accounted s k) (same-parsed (parse s)) refl

@@ -13,22 +13,24 @@ use borrow.Author.Tests.{leb-true}
 use Rattle.accounts.specs.declared.Accounts.{Accounts}
 use Rattle.accounts.specs.declared.settings.Settings.{Settings}
 use Rattle.accounts.specs.Accounts.{zero-accounts}
-use Rattle.model.specs.Lists.{all, any}
+use Rattle.lists.specs.Lists.{all, any}
 use Rattle.model.specs.Answers.{Values, refused}
-use Rattle.model.specs.Refusals.{Line, _when_, line-number, line-holds, first-refusal, line-1, line-2, line-3, line-4, line-5, line-6, line-7}
+use Rattle.model.specs.Refusals.{Line, _when_, line-number, line-holds, first-refusal, line-1, line-2, line-3, line-4, line-5, line-6, line-7, row-lines}
 use Rattle.model.specs.Refusals.{line-8}
 use Rattle.model.specs.Refusals.{line-9, line-10, line-11, line-12, only-if, open-lines, check-lines, quota-lines, free-all-lines, lend-lines}
 use Rattle.model.specs.Refusals.{release-lines, claim-lines, allocate-lines, reallocate-lines}
 use Rattle.model.specs.Calls.{Outcome, unless, unchanged, open-heap, allocate, allocate-array, claim, release, free-all, reallocate, lend}
 use Rattle.model.specs.Calls.{remaining-of}
 use Rattle.model.specs.Calls.{can-release, check, list-block, clear, sweep}
+use Rattle.model.specs.Rows.{call-lines}
 use Rattle.model.specs.Step.{step}
 use Rattle.model.specs.declared.Handle.{Handle}
 use Rattle.model.specs.declared.Call.{Call}
 use Rattle.model.specs.declared.Call.the-variants.{Allocate, AllocateArray, Claim, Release, FreeAll, Reallocate, Lend, Remaining, CanRelease}
 use Rattle.model.specs.declared.Call.the-variants.{ListBlock}
 use Rattle.model.specs.declared.Call.the-variants.{ClearPermissions, Sweep}
-use Rattle.model.proofs.Bools.{and-left, and-right}
+use Rattle.model.proofs.Rows
+use Rattle.lists.proofs.Bools.{and-left, and-right}
 
 -- no line has the number 0, which stands for no refusal
 abbrev pub Numbered : List Line → Type 0
@@ -78,7 +80,7 @@ accepted-exactly ls p = (none-holds ls p, no-refusal ls)
 -- the table and each call's lines of it, under one name
 unfoldable pub tables : Unit {0}
 unfolding line-1 line-2 line-3 line-4 line-5 line-6 line-7 line-8 line-9 line-10 line-11 line-12 only-if
-    open-lines check-lines quota-lines free-all-lines lend-lines release-lines claim-lines allocate-lines reallocate-lines
+    open-lines row-lines
 tables = tt
 
 module _ (unit : ℕ → ℕ) (s : List ℕ) (k : Accounts) (q : ℕ) (h : Handle) (n : ℕ) where
@@ -95,21 +97,6 @@ module _ (unit : ℕ → ℕ) (s : List ℕ) (k : Accounts) (q : ℕ) (h : Handl
   unfolding tables
   columns = (refl, refl, refl, refl, refl, refl, refl, refl, refl)
 
--- the lines of a call
-abbrev pub lines-of : (ℕ → ℕ) → Call → List ℕ → Accounts → List Line
-lines-of unit (Allocate q n) s k = allocate-lines unit s k q n
-lines-of unit (AllocateArray q count size) s k = allocate-lines unit s k q (count * size)
-lines-of unit (Claim q h) s k = claim-lines unit s k q h
-lines-of unit (Release q h) s k = release-lines unit s k q h
-lines-of unit (FreeAll q) s k = free-all-lines unit s k q
-lines-of unit Sweep s k = check-lines unit s k
-lines-of unit (Reallocate q h n) s k = reallocate-lines unit s k q h n
-lines-of unit (Lend h) s k = lend-lines unit s k h
-lines-of unit (Remaining q) s k = quota-lines unit s k q
-lines-of unit (CanRelease q h) s k = release-lines unit s k q h
-lines-of unit (ListBlock at) s k = check-lines unit s k
-lines-of unit (ClearPermissions q n) s k = quota-lines unit s k q
-
 -- t is what `unless` gives over these lines, of which none has the number 0, with an outcome that answers no refusal
 pub record ByLines (ls : List Line) (s : List ℕ) (k : Accounts) (t : Outcome) : Type 0 where
   pub done : Outcome
@@ -118,7 +105,7 @@ pub record ByLines (ls : List Line) (s : List ℕ) (k : Accounts) (t : Outcome) 
   pub numbered : Numbered ls
 
 -- every call is given by its lines
-pub by-lines : (unit : ℕ → ℕ) (c : Call) (s : List ℕ) (k : Accounts) → ByLines (lines-of unit c s k) s k (step unit c s k)
+pub by-lines : (unit : ℕ → ℕ) (c : Call) (s : List ℕ) (k : Accounts) → ByLines (call-lines unit c s k) s k (step unit c s k)
 unfolding all tables step allocate allocate-array claim release free-all sweep reallocate lend remaining-of can-release list-block clear
 by-lines unit (Allocate q n) s k = record { done = _; outcome = refl; accepts = refl; numbered = refl }
 by-lines unit (AllocateArray q count size) s k = record { done = _; outcome = refl; accepts = refl; numbered = refl }
@@ -185,11 +172,11 @@ module _ {ls : List Line} {s : List ℕ} {k : Accounts} {t : Outcome} (b : ByLin
 
 -- so every call is refused with a number exactly if that line of its own holds and no earlier one does, and accepted exactly if none holds
 pub call-refused-exactly : (unit : ℕ → ℕ) (c : Call) (s : List ℕ) (k : Accounts) (n : ℕ) → (step unit c s k .values .refusal ≡ suc n)
-    ↔ FirstToHold (lines-of unit c s k) (suc n)
+    ↔ FirstToHold (call-lines unit c s k) (suc n)
 call-refused-exactly unit c s k = answers-refusal (by-lines unit c s k)
 
 pub call-accepted-exactly : (unit : ℕ → ℕ) (c : Call) (s : List ℕ) (k : Accounts) → (step unit c s k .values .refusal ≡ 0)
-    ↔ (any line-holds (lines-of unit c s k) ≡ false)
+    ↔ (any line-holds (call-lines unit c s k) ≡ false)
 call-accepted-exactly unit c s k = answers-none (by-lines unit c s k)
 
 -- a refused call changes nothing, and a refused open leaves the heap and gives accounts of zeros

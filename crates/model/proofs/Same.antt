@@ -18,7 +18,8 @@ use Rattle.layout.proofs.Numbers.{bytes-length}
 use Rattle.layout.proofs.Overwrite.{length-overwrite, getD-front, getD-behind}
 use Rattle.layout.proofs.Fields.{header-length}
 use Rattle.model.proofs.Touched.{within}
-use Rattle.model.proofs.Bools.{and-no}
+use Rattle.model.proofs.Rows
+use Rattle.lists.proofs.Bools.{and-no}
 
 -- a place that is not from start up to end is before start or from end on, and the other way round
 pub within-out : (start end i : ℕ) → within start end i ≡ false → (i < start) ⊎ (end ≤ i)

@@ -11,14 +11,15 @@ use lib.Dec.{leb, eqb, lit<}
 use Rattle.accounts.specs.declared.Hold.{Hold}
 use Rattle.accounts.specs.Accounts.{record-of, drop-records}
 use Rattle.layout.specs.Blocks.{Block, size, occupied, QUARANTINED, live, AllWritable}
-use Rattle.model.specs.Lists.{all, any, total, keep}
+use Rattle.lists.specs.Lists.{all, any, total, keep}
 use Rattle.model.specs.Objects.{objects-from, objects}
 use Rattle.model.specs.Consistent.{long-enough, free-apart, well-cut, held}
-use Rattle.model.specs.Space.{join-front, join-free, vacates, vacant, vacate, changed, reclaim, settle}
+use Rattle.model.specs.Space.{join-front, join-free, vacates, vacant, vacate, stays, changed, reclaim, settle}
 use Rattle.model.specs.Joining.{join-neighbours}
 use Rattle.model.specs.declared.Handle.{Handle}
-use Rattle.model.proofs.Bools.{and-left, and-right, and-both, or-left, or-right, or-neither, implies}
-use Rattle.model.proofs.Lists.{total-append}
+use Rattle.model.proofs.Rows
+use Rattle.lists.proofs.Bools.{and-left, and-right, and-both, or-left, or-right, or-neither, implies}
+use Rattle.lists.proofs.Lists.{total-append}
 use Rattle.model.proofs.Blocks.{whole-size, Whole, objects-live, objects-free, live-occupied}
 use Rattle.model.proofs.Join.{join-elim, join-objects, join-total, join-long, join-whole, join-writable, join-apart-all, join-same, join-assoc}
 use Rattle.model.proofs.Join.{join-replaced}
@@ -26,10 +27,6 @@ use Rattle.model.proofs.Join.{join-replaced}
 -- a record holds this object
 abbrev pub object-held : List Hold → Handle → Bool
 object-held hs o = held hs (o .serial)
-
--- a block that settling leaves alone: it is free, or a record holds it
-abbrev pub stays : List Hold → Block → Bool
-stays hs b = not (live b) || held hs (b .serial)
 
 -- every live block is held exactly if every object is
 pub stays-objects : (hs : List Hold) (at : ℕ) (bs : List Block) → all (object-held hs) (objects-from at bs) ≡ all (stays hs) bs

@@ -15,11 +15,12 @@ use Rattle.accounts.specs.declared.Hold.{Hold}
 use Rattle.layout.specs.Blocks.{Block, size, units, live, header-of, header-bytes, render-from, render, occupied}
 use Rattle.layout.proofs.Fields.{header-length}
 use Rattle.layout.proofs.Render.{render-cons}
-use Rattle.model.specs.Lists.{total}
+use Rattle.lists.specs.Lists.{total}
 use Rattle.model.specs.Consistent.{starts-free, free-apart, held}
 use Rattle.model.specs.Space.{join-front, join-free, vacates, vacate, changed, reclaim, settle}
 use Rattle.model.proofs.Touched.{within, starts-changed, reclaim-touches, settle-touches}
-use Rattle.model.proofs.Bools.{and-left}
+use Rattle.model.proofs.Rows
+use Rattle.lists.proofs.Bools.{and-left}
 use Rattle.model.proofs.Blocks.{apart-head, apart-tail, live-occupied}
 use Rattle.model.proofs.Join.{joined, join-apart, join-assoc}
 use Rattle.model.proofs.Same.{Same, same-refl, same-wider, same-any, same-append, header-backs}

@@ -6,10 +6,10 @@ use native.Mathlib.Nat.{add-zero}
 use mathlib.Core.List.{List}
 use mathlib.Core.Bool.{Bool, true, false, cond}
 use lib.ListN.{length}
-use lib.Dec.{ltb, eqb}
+use lib.Dec.{eqb}
 use Rattle.accounts.specs.declared.Accounts.{Accounts}
-use Rattle.accounts.specs.Accounts.{QUOTAS, remaining, set-remaining, less-paid, paid-back, charge, refund, with-holds}
-use Rattle.accounts.specs.Accounts.{clear-at, clear-permissions}
+use Rattle.accounts.specs.Accounts.{charge, with-holds}
+use Rattle.accounts.proofs.Laws.{charge-kept, refund-kept, clear-kept}
 use Rattle.model.specs.Objects.{objects-of, lookup, lookup-whole, found}
 use Rattle.model.specs.Consistent.{charge-of, charges}
 use Rattle.model.specs.Holds.{take-record, raise-count}
@@ -93,22 +93,9 @@ module _ (unit : ℕ → ℕ) where
   step-keeps (CanRelease q h) s k = unless-keeps (λ j. false) (λ x. true) (first-refusal (release-lines unit s k q h)) s k _ (kept-same _ _ k)
   step-keeps (ListBlock at) s k = unless-keeps (λ j. false) (λ x. true) (first-refusal (check-lines unit s k)) s k _ (kept-same _ _ k)
   step-keeps (ClearPermissions q n) s k = unless-keeps (eqb q) (λ x. true) (first-refusal (quota-lines unit s k q)) s k _
-      (clear-keeps q n (λ x. true) k)
+      (clear-keeps q (λ x. true) k n)
 
 -- payments leave the last serial
-set-serial : (t : Bool) (q n : ℕ) (k : Accounts) → cond t (set-remaining q n k) k .«last_serial» ≡ k .«last_serial»
-unfolding set-remaining
-set-serial true q n k = refl
-set-serial false q n k = refl
-
-refund-serial : (q n : ℕ) (k : Accounts) → refund q n k .«last_serial» ≡ k .«last_serial»
-unfolding refund
-refund-serial q n k = set-serial (ltb q QUOTAS) q (paid-back n (remaining q k)) k
-
-charge-serial : (q n : ℕ) (k : Accounts) → charge q n k .«last_serial» ≡ k .«last_serial»
-unfolding charge
-charge-serial q n k = set-serial (ltb q QUOTAS) q (less-paid n (remaining q k)) k
-
 claimed-serial : (q : ℕ) (o : Handle) (k : Accounts) → claimed q o k .«last_serial» ≡ k .«last_serial»
 unfolding claimed
 claimed-serial q o k = go (claims-first k q o)
@@ -117,15 +104,7 @@ claimed-serial q o k = go (claims-first k q o)
         → cond t (with-holds (take-record (o .serial) q (k .holds)) (charge q (charge-of (o .length)) k))
         (with-holds (raise-count (o .serial) q (k .holds)) k) .«last_serial»
         ≡ k .«last_serial»
-    go true = charge-serial q (charge-of (o .length)) k
-    go false = refl
-
-clear-serial : (q n : ℕ) (k : Accounts) → clear-permissions q n k .«last_serial» ≡ k .«last_serial»
-unfolding clear-permissions
-clear-serial q n k = go (ltb q QUOTAS)
-  where
-    go : (t : Bool) → cond t (clear-at q n k) k .«last_serial» ≡ k .«last_serial»
-    go true = refl
+    go true = charge-kept q (charge-of (o .length)) k .same-last
     go false = refl
 
 -- the serials that a call gives: one where it asks for a new object and is accepted
@@ -169,18 +148,18 @@ module _ (unit : ℕ → ℕ) where
   step-serial (AllocateArray q count size) s k = unless-next (first-refusal (allocate-lines unit s k q (count * size))) s k _ refl refl
   step-serial (Claim q h) s k = unless-same (first-refusal (claim-lines unit s k q h)) s k _ (claimed-serial q (found (lookup h s)) k)
   step-serial (Release q h) s k = unless-same (first-refusal (release-lines unit s k q h)) s k _
-      (refund-serial q (given-back q (found (lookup h s)) k) k)
+      (refund-kept q (given-back q (found (lookup h s)) k) k .same-last)
   step-serial (FreeAll q) s k = unless-same (first-refusal (free-all-lines unit s k q)) s k _
-      (refund-serial q (charges (k .holds) q (objects-of s)) k)
+      (refund-kept q (charges (k .holds) q (objects-of s)) k .same-last)
   step-serial Sweep s k = unless-same (first-refusal (check-lines unit s k)) s k _ refl
   step-serial (Reallocate q h n) s k =
       unless-next (first-refusal (reallocate-lines unit s k q h n)) s k _ refl
-      (refund-serial q _ (allocated q (new-object unit s k n) (state-of s k) .accounts))
+      (refund-kept q _ (allocated q (new-object unit s k n) (state-of s k) .accounts) .same-last)
   step-serial (Lend h) s k = unless-same (first-refusal (lend-lines unit s k h)) s k _ refl
   step-serial (Remaining q) s k = unless-same (first-refusal (quota-lines unit s k q)) s k _ refl
   step-serial (CanRelease q h) s k = unless-same (first-refusal (release-lines unit s k q h)) s k _ refl
   step-serial (ListBlock at) s k = unless-same (first-refusal (check-lines unit s k)) s k _ refl
-  step-serial (ClearPermissions q n) s k = unless-same (first-refusal (quota-lines unit s k q)) s k _ (clear-serial q n k)
+  step-serial (ClearPermissions q n) s k = unless-same (first-refusal (quota-lines unit s k q)) s k _ (clear-kept q n k .same-last)
 
 -- what a call leaves of the accounts beside what its rule names: every grant, every quota but its own, every record but those that it is about, how
 -- many quotas and records there are, kind and edition, and the last serial but for the one that it gives

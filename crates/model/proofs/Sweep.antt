@@ -7,14 +7,15 @@ use mathlib.Core.Bool.{Bool, true, false, not, cond, and-false, true≢false}
 use lib.Dec.{lit<}
 use borrow.Author.Tests.{eqb-true, not-true}
 use Rattle.layout.specs.Blocks.{Block, size, occupied, QUARANTINED, quarantined, live, AllWritable, render}
-use Rattle.model.specs.Lists.{all, total}
+use Rattle.lists.specs.Lists.{all, total}
 use Rattle.model.specs.Objects.{objects-from, objects}
 use Rattle.model.specs.Consistent.{long-enough, free-apart, well-cut}
-use Rattle.model.specs.Space.{join-front, join-free, changed, reclaim, unquarantine, swept}
+use Rattle.model.specs.Space.{join-front, join-free, changed, reclaim, unquarantine, not-quarantined, swept}
 use Rattle.model.specs.Joining.{join-neighbours}
 use Rattle.model.proofs.Touched.{sweep-touches}
-use Rattle.model.proofs.Bools.{and-left, and-right, and-both}
-use Rattle.model.proofs.Lists.{total-append}
+use Rattle.model.proofs.Rows
+use Rattle.lists.proofs.Bools.{and-left, and-right, and-both}
+use Rattle.lists.proofs.Lists.{total-append}
 use Rattle.model.proofs.Blocks.{whole-size, Whole, objects-free}
 use Rattle.model.proofs.Join.{join-elim, objects-cong, join-objects, join-total, join-all, join-long, join-whole, join-writable, join-apart-all}
 use Rattle.model.proofs.Join.{join-same, join-assoc, join-replaced}
@@ -97,9 +98,6 @@ swept-cut bs a =
     (join-apart-all (unquarantine-all bs))
 
 -- no block is quarantined any more
-abbrev pub not-quarantined : Block → Bool
-not-quarantined b = not (quarantined b)
-
 unquarantined-open : (bs : List Block) → all not-quarantined (unquarantine-all bs) ≡ true
 unfolding changed all
 unquarantined-open [] = refl

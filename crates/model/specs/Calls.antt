@@ -1,4 +1,4 @@
--- The calls (rules, section 8), in their order: each gives the refusal of its lines, or else what it answers and leaves.
+-- The calls (rules, section 8), in their order: each gives the refusal of its row, or else what it answers and leaves.
 use Prim.Native.Nat.{ℕ, zero, suc, _+_, _*_, _-_}
 use mathlib.Core.List.{List, [], _∷_}
 use mathlib.Core.Bool.{cond}
@@ -10,15 +10,15 @@ use Rattle.accounts.specs.Accounts.{zero-accounts, opened, with-holds, with-las
 use Rattle.accounts.specs.Accounts.{clear-permissions}
 use Rattle.layout.specs.Blocks.{Block, size, render, quarantined}
 use Rattle.rounding.specs.Rounding.{object-length}
-use Rattle.model.specs.Lists.{first, or-else, total, keep}
-use Rattle.model.specs.Answers.{Values, refused, accepted, given, amount-of, lent, listed}
+use Rattle.lists.specs.Lists.{first, or-else, total, keep}
+use Rattle.model.specs.Answers.{Values, zero-handle, refused, accepted, given, amount-of, lent, listed}
 use Rattle.model.specs.Objects.{blocks-of, objects-of, lookup, lookup-whole, found}
 use Rattle.model.specs.Consistent.{charge-of, charges}
 use Rattle.model.specs.Space.{carve, settle, swept, body-of, copy-into}
 use Rattle.model.specs.Holds.{count-of, take-record, raise-count, lower-count}
-use Rattle.model.specs.Refusals.{first-refusal, open-lines, check-lines, quota-lines, free-all-lines, lend-lines, release-lines, claim-lines}
-use Rattle.model.specs.Refusals.{claims-first, base-for, allocate-lines, reallocate-lines}
+use Rattle.model.specs.Refusals.{first-refusal, open-lines, arguments, refusal-of, claims-first, base-for}
 use Rattle.model.specs.declared.Handle.{Handle}
+use Rattle.model.specs.declared.Row.the-variants.{Check, Quota, FreeAll, Object, Held, Claim, Room, Exchange}
 use Rattle.model.specs.declared.ListedBlock.{ListedBlock}
 
 -- what a call leaves and answers
@@ -108,7 +108,7 @@ module _ (unit : ℕ → ℕ) where
   allocate s k q n =
       let o = new-object s k n in
       let done = leaves (allocated q o (state-of s k)) (given o) in
-      unless (first-refusal (allocate-lines unit s k q n)) s k done
+      unless (refusal-of unit Room (arguments q zero-handle n) s k) s k done
 
   -- Allocate array, rule 8.12
   unfoldable pub allocate-array : List ℕ → Accounts → ℕ → ℕ → ℕ → Outcome
@@ -119,26 +119,26 @@ module _ (unit : ℕ → ℕ) where
   claim s k q h =
       let o = found (lookup h s) in
       let done = unchanged s (claimed q o k) (amount-of (o .length)) in
-      unless (first-refusal (claim-lines unit s k q h)) s k done
+      unless (refusal-of unit Claim (arguments q h 0) s k) s k done
 
   unfoldable pub release : List ℕ → Accounts → ℕ → Handle → Outcome
   release s k q h =
       let o = found (lookup h s) in
       let done = leaves (released q o (state-of s k)) (amount-of (given-back q o k)) in
-      unless (first-refusal (release-lines unit s k q h)) s k done
+      unless (refusal-of unit Held (arguments q h 0) s k) s k done
 
   -- rule 8.22
   unfoldable pub free-all : List ℕ → Accounts → ℕ → Outcome
   free-all s k q =
       let back = charges (k .holds) q (objects-of s) in
       let done = leaves (freed q back (state-of s k)) (amount-of back) in
-      unless (first-refusal (free-all-lines unit s k q)) s k done
+      unless (refusal-of unit FreeAll (arguments q zero-handle 0) s k) s k done
 
   -- Sweep, rules 22.6 to 22.8: every quarantined block becomes free and joins those beside it; the sum of their sizes is answered
   unfoldable pub sweep : List ℕ → Accounts → Outcome
   sweep s k =
       let done = leaves (record { blocks = swept (blocks-of s); accounts = k }) (amount-of (total size (keep quarantined (blocks-of s)))) in
-      unless (first-refusal (check-lines unit s k)) s k done
+      unless (refusal-of unit Check (arguments 0 zero-handle 0) s k) s k done
 
   -- Reallocate, rules 8.23 and 8.24: allocate while the old object still counts, copy, then release once
   unfoldable pub reallocate : List ℕ → Accounts → ℕ → Handle → ℕ → Outcome
@@ -146,30 +146,32 @@ module _ (unit : ℕ → ℕ) where
       let old = found (lookup-whole h s) in
       let new = new-object s k n in
       let done = leaves (released q old (copied old new (allocated q new (state-of s k)))) (given new) in
-      unless (first-refusal (reallocate-lines unit s k q h n)) s k done
+      unless (refusal-of unit Exchange (arguments q h n) s k) s k done
 
   -- Lend, rule 8.29: the handle's range
   unfoldable pub lend : List ℕ → Accounts → Handle → Outcome
   lend s k h =
       let done = unchanged s k (lent (record { start = h .base; end = h .base + h .length })) in
-      unless (first-refusal (lend-lines unit s k h)) s k done
+      unless (refusal-of unit Object (arguments 0 h 0) s k) s k done
 
   -- Remaining and can release, rules 8.30 and 8.31
   unfoldable pub remaining-of : List ℕ → Accounts → ℕ → Outcome
-  remaining-of s k q = unless (first-refusal (quota-lines unit s k q)) s k (unchanged s k (amount-of (remaining q k)))
+  remaining-of s k q = unless (refusal-of unit Quota (arguments q zero-handle 0) s k) s k (unchanged s k (amount-of (remaining q k)))
 
   unfoldable pub can-release : List ℕ → Accounts → ℕ → Handle → Outcome
-  can-release s k q h = unless (first-refusal (release-lines unit s k q h)) s k (unchanged s k accepted)
+  can-release s k q h = unless (refusal-of unit Held (arguments q h 0) s k) s k (unchanged s k accepted)
 
   -- Clear permissions, rule 15.4: those whose bit is set in n; the answer is what is left
   unfoldable pub clear : List ℕ → Accounts → ℕ → ℕ → Outcome
-  clear s k q n = unless (first-refusal (quota-lines unit s k q)) s k (unchanged s (clear-permissions q n k) (amount-of (left-permissions q n k)))
+  clear s k q n =
+      let done = unchanged s (clear-permissions q n k) (amount-of (left-permissions q n k)) in
+      unless (refusal-of unit Quota (arguments q zero-handle 0) s k) s k done
 
   -- rule 8.35: the check that every call but open begins with
   unfoldable pub check : List ℕ → Accounts → Outcome
-  check s k = unless (first-refusal (check-lines unit s k)) s k (unchanged s k accepted)
+  check s k = unless (refusal-of unit Check (arguments 0 zero-handle 0) s k) s k (unchanged s k accepted)
 
   unfoldable pub list-block : List ℕ → Accounts → ℕ → Outcome
   list-block s k at =
       let b = first (λ l. eqb (l .offset) at) (listing-from 0 (blocks-of s)) in
-      unless (first-refusal (check-lines unit s k)) s k (unchanged s k (listed b))
+      unless (refusal-of unit Check (arguments 0 zero-handle 0) s k) s k (unchanged s k (listed b))

@@ -1,4 +1,5 @@
--- When heap and accounts are consistent (rules, section 5): one test for each rule, in their order. `sound` is all of them.
+-- When heap and accounts are consistent (rules, section 5): one test for each rule, in their order. `consistent` is all of them,
+-- `accounted` 5.1 to 5.8: heap and accounts account for each other, whatever the table of units and the settings are.
 use Prim.Native.Nat.{ℕ, suc, _+_, _%_}
 use mathlib.Core.List.{List, [], _∷_}
 use mathlib.Core.Bool.{Bool, true, false, not, cond, _&&_, _||_}
@@ -9,7 +10,7 @@ use Rattle.accounts.specs.declared.Hold.{Hold}
 use Rattle.accounts.specs.declared.Accounts.{Accounts}
 use Rattle.accounts.specs.Accounts.{QUOTAS, used, is-for, permissible, permissions}
 use Rattle.layout.specs.Blocks.{Block, size, occupied, parse, greatest-heap, quarantined}
-use Rattle.model.specs.Lists.{all, any, total}
+use Rattle.lists.specs.Lists.{all, any, total}
 use Rattle.model.specs.Objects.{objects, blocks-of, objects-of}
 use Rattle.model.specs.declared.Handle.{Handle}
 
@@ -82,8 +83,8 @@ balanced-from os hs q [] = true
 balanced-from os hs q (x ∷ xs) = eqb (x .grant) (x .remainder + charges hs q os) && balanced-from os hs (suc q) xs
 
 -- all of it, of a heap that is cut into these blocks
-unfoldable pub consistent-blocks : List Block → Accounts → Bool
-consistent-blocks bs k =
+unfoldable pub accounted-blocks : List Block → Accounts → Bool
+accounted-blocks bs k =
     let os = objects bs in
     let hs = k .holds in
     well-cut bs
@@ -94,12 +95,12 @@ consistent-blocks bs k =
     && (all (λ o. held hs (o .serial)) os
     && balanced-from os hs 0 (k .quotas))))))
 
-unfoldable pub consistent-parsed : Option (List Block) → Accounts → Bool
-consistent-parsed none k = false
-consistent-parsed (some bs) k = consistent-blocks bs k
+unfoldable pub accounted-parsed : Option (List Block) → Accounts → Bool
+accounted-parsed none k = false
+accounted-parsed (some bs) k = accounted-blocks bs k
 
-unfoldable pub consistent : List ℕ → Accounts → Bool
-consistent s k = consistent-parsed (parse s) k
+unfoldable pub accounted : List ℕ → Accounts → Bool
+accounted s k = accounted-parsed (parse s) k
 
 -- rule 5.10: base and length of an object are multiples of the unit of its length
 abbrev pub fits-unit : (ℕ → ℕ) → ℕ → ℕ → Bool
@@ -119,10 +120,11 @@ greatest-serial = 4294967294
 unfoldable pub in-range : Accounts → Bool
 in-range k = leb (k .«last_serial») greatest-serial && (ltb (k .kind) 2 && ltb (k .edition) 2)
 
--- what line 2 asks for: the state is consistent (5.1 to 5.8), every base and length fits its object's unit (5.10), every quota's permissions are
--- such (15.2), and blocks, last serial, kind and edition are as sections 22 and 23 want them. Rules that speak of a table of units or of settings stand
--- here, so that the laws of `consistent` know of none. The table is that of the edition in the accounts (23.5): who calls this hands it over.
-unfoldable pub sound : (ℕ → ℕ) → List ℕ → Accounts → Bool
-sound unit s k =
-    consistent s k
+-- all of section 5, for which line 2 asks: heap and accounts account for each other (5.1 to 5.8), every base and length fits its object's unit
+-- (5.10), every quota's permissions are such (15.2), and blocks, last serial, kind and edition are as sections 22 and 23 want them. Rules that speak
+-- of a table of units or of settings stand here, so that the laws of `accounted` know of none. The table is that of the edition in the accounts
+-- (23.5): who calls this hands it over.
+unfoldable pub consistent : (ℕ → ℕ) → List ℕ → Accounts → Bool
+consistent unit s k =
+    accounted s k
     && (all (in-units unit) (objects-of s) && (all permissible (permissions k) && (all (in-kind (k .kind)) (blocks-of s) && in-range k)))

@@ -1,4 +1,4 @@
--- What heaps of either edition answer, and which of them are sound (rules, section 23): both sides of each row of edition 2's table, through calls, and
+-- What heaps of either edition answer, and which of them are consistent (rules, section 23): both sides of each row of edition 2's table, through calls, and
 -- objects that fit their unit by one edition and not by the other.
 use Prim.Native.Nat.{ℕ, _-_}
 use mathlib.Core.List.{List, [], _∷_}
@@ -76,7 +76,7 @@ refusal-in e p =
     let k = with-edition e (accounts-with p) in
     check (table (k .edition)) (heap-with p) k .values .refusal
 
--- sound by both
+-- consistent by both
 unfoldable pub fitting-both : List Placed
 fitting-both =
     placed 8 4088 0 ∷ placed 16 4096 0 ∷ placed 16 8176 0 ∷ placed 32 8192 0 ∷ placed 32 16352 0 ∷ placed 64 16384 0 ∷ placed 64 32704 0 ∷ []

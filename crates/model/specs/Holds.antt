@@ -5,7 +5,7 @@ use mathlib.Core.Bool.{cond}
 use lib.Dec.{eqb}
 use Rattle.accounts.specs.declared.Hold.{Hold}
 use Rattle.accounts.specs.Accounts.{zero-hold, unused, is-for}
-use Rattle.model.specs.Lists.{first, change-first, or-else}
+use Rattle.lists.specs.Lists.{first, change-first, or-else}
 
 -- the count of a quota's record for a serial, 0 where it has none
 unfoldable pub count-of : ℕ → ℕ → List Hold → ℕ

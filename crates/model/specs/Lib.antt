@@ -1,10 +1,10 @@
-pub mod Lists
 pub mod Answers
 pub mod Objects
 pub mod Consistent
 pub mod Space
 pub mod Holds
 pub mod Refusals
+pub mod Rows
 pub mod Calls
 pub mod Step
 pub mod Marked

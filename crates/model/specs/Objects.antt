@@ -6,7 +6,7 @@ use mathlib.Core.Option.{Option}
 use lib.ListN.{length}
 use lib.Dec.{leb, eqb}
 use Rattle.layout.specs.Blocks.{Block, size, live, parse}
-use Rattle.model.specs.Lists.{first, or-else}
+use Rattle.lists.specs.Lists.{first, or-else}
 use Rattle.model.specs.Answers.{zero-handle}
 use Rattle.model.specs.declared.Handle.{Handle}
 

@@ -1,4 +1,4 @@
--- What heaps with quarantine answer and leave, and which of them are sound (rules, section 22). How the cases are run is `Tables`.
+-- What heaps with quarantine answer and leave, and which of them are consistent (rules, section 22). How the cases are run is `Tables`.
 use Prim.Native.Nat.{ℕ, _-_}
 use mathlib.Core.List.{List, [], _∷_}
 use mathlib.Core.Option.{some}

@@ -69,6 +69,10 @@ vacate kind b = record { serial = vacant kind; body = replicate (length (b .body
 abbrev pub vacates : List Hold → Block → Bool
 vacates hs b = live b && not (held hs (b .serial))
 
+-- a block that settling leaves alone: it is free, or a record holds it
+abbrev pub stays : List Hold → Block → Bool
+stays hs b = not (live b) || held hs (b .serial)
+
 -- each block that passes a test becomes another
 unfoldable pub changed : (Block → Bool) → (Block → Block) → List Block → List Block
 changed p f [] = []
@@ -93,6 +97,10 @@ unquarantine b = record { serial = 0; body = b .body }
 
 unfoldable pub swept : List Block → List Block
 swept bs = reclaim quarantined unquarantine bs
+
+-- a block that a sweep leaves
+abbrev pub not-quarantined : Block → Bool
+not-quarantined b = not (quarantined b)
 
 -- the body of the block with a serial; another body in its place
 unfoldable pub body-of : ℕ → List Block → List ℕ

@@ -67,6 +67,19 @@ pub enum Refusal {
     NotPermitted,
 }
 
+// The rows of the table of section 8 that differ in their lines: check, sweep and the listing; remaining and clear permissions; free-all; lend and the write of
+// a byte; release and can release; claim and can claim; allocate and allocate array; reallocate.
+pub enum Row {
+    Check,
+    Quota,
+    FreeAll,
+    Object,
+    Held,
+    Claim,
+    Room,
+    Exchange,
+}
+
 // The answer of a call that gives nothing but its verdict: open, can release, check.
 pub enum Verdict {
     Accepted,

@@ -12,17 +12,17 @@ use lib.Dec.{ltb}
 use Rattle.accounts.specs.declared.Accounts.{Accounts}
 use Rattle.layout.specs.Blocks.{Block, total-size, parse}
 use Rattle.layout.proofs.Render.{size-append}
-use Rattle.model.specs.Lists.{or-else}
+use Rattle.lists.specs.Lists.{or-else}
 use Rattle.model.specs.Answers.{accepted, refused, lent, refusal-number, verdict-values}
 use Rattle.model.specs.Objects.{blocks-of, lookup, found}
-use Rattle.model.specs.Refusals.{first-refusal, line-5, lend-lines}
+use Rattle.model.specs.Refusals.{first-refusal, line-5, lend-lines, row-lines}
 use Rattle.model.specs.Calls.{Outcome, unchanged, check, lend}
 use Rattle.model.specs.declared.Handle.{Handle}
 use Rattle.model.specs.declared.Refusal.{Refusal}
 use Rattle.model.specs.declared.Refusal.the-variants.{NoSuchObject}
 use Rattle.model.specs.declared.Verdict.{Verdict}
 use Rattle.model.specs.declared.Verdict.the-variants.{Accepted, Refused}
-use Rattle.model.proofs.Consistent.{consistent-cut}
+use Rattle.model.proofs.Consistent.{accounted-cut}
 use Rattle.lookup.specs.declared.Met.{Met}
 use Rattle.lookup.specs.declared.Lookup.the-variants.{Found, Missing}
 use Rattle.lookup.specs.Walk.{object-met, find-object}
@@ -31,7 +31,7 @@ use Rattle.lookup.proofs.Reached.{found-narrowed}
 use Rattle.lookup.proofs.Named.{Named, lookup-found, lookup-missing}
 use Rattle.queries.specs.Lending.{written, write-object, Spans}
 use Rattle.results.proofs.Lookups.{line-5-refuses, line-5-passes}
-use Rattle.results.proofs.Lines.{check-refuses, check-accepts, check-consistent, refused-is, accepted-is}
+use Rattle.results.proofs.Lines.{check-refuses, check-accepts, check-accounted, refused-is, accepted-is}
 
 -- a block of the heap has its header, and ends in the heap
 pub stands-inside : (s : List ℕ) (bs : List Block) → parse s ≡ some bs → (m : Met) → Stands bs m → (8 ≤ m .size) × (m .at + m .size ≤ length s)
@@ -47,16 +47,16 @@ stands-inside s bs e m w =
 module _ (unit : ℕ → ℕ) (s : List ℕ) (k : Accounts) (h : Handle) (v : Verdict) (told : verdict-values v ≡ check unit s k .values) where
   -- what the check refuses, lend refuses
   pub lend-refused : (r : Refusal) → v ≡ Refused r → first-refusal (lend-lines unit s k h) ≡ refusal-number r
-  unfolding lend-lines
+  unfolding row-lines
   lend-refused r e = check-refuses unit s k v told (line-5 (lookup h s) ∷ []) r e
 
   module _ (e : v ≡ Accepted) where
     cut : parse s ≡ some (blocks-of s)
-    cut = consistent-cut s k (check-consistent unit s k v told e .1) .0
+    cut = accounted-cut s k (check-accounted unit s k v told e .1) .0
 
     -- where the lookup finds none, it is refused
     pub lend-missing : find-object h s ≡ Missing → first-refusal (lend-lines unit s k h) ≡ refusal-number NoSuchObject
-    unfolding lend-lines
+    unfolding row-lines
     lend-missing q = check-accepts unit s k v told (line-5 (lookup h s) ∷ []) e ∙ line-5-refuses (lookup h s) [] (lookup-missing s (blocks-of s) cut h q)
 
     module _ (m : Met) (q : find-object h s ≡ Found m) where
@@ -65,7 +65,7 @@ module _ (unit : ℕ → ℕ) (s : List ℕ) (k : Accounts) (h : Handle) (v : Ve
 
       -- where it finds a block, it is accepted
       pub lend-accepted : first-refusal (lend-lines unit s k h) ≡ 0
-      unfolding lend-lines first-refusal
+      unfolding row-lines first-refusal
       lend-accepted = check-accepts unit s k v told (line-5 (lookup h s) ∷ []) e ∙ line-5-passes (lookup h s) (object-met m) [] (named .named)
 
       -- the handle's range lies in the block's object, and so in the heap

@@ -11,7 +11,7 @@ use lib.ListN.{length}
 use lib.Seq.{append-snoc}
 use Rattle.accounts.specs.declared.Accounts.{Accounts}
 use Rattle.layout.specs.Blocks.{Block, size, units, total-size, parse}
-use Rattle.model.specs.Lists.{first, or-else, total}
+use Rattle.lists.specs.Lists.{first, or-else, total}
 use Rattle.model.specs.Answers.{listed, block-values}
 use Rattle.model.specs.Objects.{blocks-of}
 use Rattle.model.specs.Refusals.{first-refusal, check-lines}
@@ -20,7 +20,7 @@ use Rattle.model.specs.declared.ListedBlock.{ListedBlock}
 use Rattle.model.specs.declared.BlockAnswer.{BlockAnswer}
 use Rattle.model.specs.declared.BlockAnswer.the-variants.{Listed}
 use Rattle.model.proofs.Consistent.{blocks-parsed}
-use Rattle.model.proofs.Lists.{total-append}
+use Rattle.lists.proofs.Lists.{total-append}
 use Rattle.model.proofs.Listing.{listed-at, block-at, block-at-from, list-block-step, step-at, step-end}
 use Rattle.lookup.proofs.Parsed.{met-of, met-parsed, total-parsed}
 use Rattle.results.specs.Results.{outcome}

@@ -15,7 +15,7 @@ ghost use Rattle.model.specs.Calls.{check as check-of, can-release, lend, remai
 ghost use Rattle.results.specs.Results.{outcome};
 ghost use Rattle.words.specs.Words.{edition-of, accounts-of};
 
-// Rule 8.35: whether heap and accounts are sound.
+// Rule 8.35: whether heap and accounts are consistent.
 pub fn check(heap: &[u8], words: &[u32; WORDS]) -> Verdict
     ensures { λ r. ⌜ verdict-values r ≡ check-of (table (edition-of (now (words .entry)))) (now (heap .entry)) (accounts-of (now (words .entry))) .values ⌝ }
 {

@@ -9,7 +9,8 @@ use borrow.Author.Tests.{ltb-true, ltb-false}
 use lib.Dec.{ltb}
 use lib.ListN.{length, getD, set, drop, length-set, List·getD-eq-default}
 use lib.Seq.{getD-set-same, getD-set-other, ext-getD}
-use Rattle.words.proofs.Words.{by-eq, length-table, getD-table, table-put}
+use Rattle.lists.proofs.Bools.{by-eq}
+use Rattle.words.proofs.Words.{length-table, getD-table, table-put}
 use Rattle.model.specs.Answers.{zero-handle}
 use Rattle.model.specs.declared.Handle.{Handle}
 use Rattle.queue.specs.declared.Queue.{Queue}

@@ -15,23 +15,23 @@ use Rattle.accounts.specs.declared.Hold.{Hold}
 use Rattle.accounts.specs.declared.Accounts.{Accounts}
 use Rattle.rounding.specs.Rounding.{Units, table}
 use Rattle.rounding.proofs.Editions.{table-is}
-use Rattle.model.specs.Lists.{is-none}
+use Rattle.lists.specs.Lists.{is-none}
 use Rattle.model.specs.Answers.{lent, zero-handle}
 use Rattle.model.specs.Objects.{objects-of, lookup}
-use Rattle.model.specs.Consistent.{allowed, sound}
+use Rattle.model.specs.Consistent.{allowed, consistent}
 use Rattle.model.specs.Holds.{count-of}
-use Rattle.model.specs.Refusals.{Line, _when_, first-refusal, line-1, line-2, line-5, lend-lines}
+use Rattle.model.specs.Refusals.{Line, _when_, first-refusal, line-1, line-2, line-5, row-lines}
 use Rattle.model.specs.Calls.{Outcome, unless, unchanged, can-release, lend}
 use Rattle.model.specs.Step.{step}
 use Rattle.model.specs.declared.Handle.{Handle}
 use Rattle.model.specs.declared.Call.the-variants.{Claim, Release}
 use Rattle.model.proofs.StepFrame.{step-keeps}
-use Rattle.model.proofs.Consistent.{sound-consistent, consistent-facts}
+use Rattle.model.proofs.Consistent.{consistent-accounted, accounted-facts}
 use Rattle.model.proofs.Lookup.{Narrowed, names-exactly, lookup-named, found-serial}
 use Rattle.invariant.proofs.Counts.{counted-used, member-count}
 use Rattle.ledger.specs.Ledger.{Ledger, Event, Called, ledger-of}
 use Rattle.ledger.specs.History.{by-own, History}
-use Rattle.ledger.specs.Demand3.{Holds, objects-in}
+use Rattle.ledger.specs.Demand3.{AsRecorded, objects-in}
 use Rattle.ledger.proofs.Narrowing.{held-found}
 use Rattle.ledger.proofs.Theorem.{demand-3-of}
 use Rattle.queue.specs.declared.Queue.{Queue}
@@ -68,14 +68,14 @@ given-still u h rest l w =
     let f = first-of (u .handles) rest (u .count) h w in
     rw (← receive-done u l (λ z. omega (arith, f .0))) (refl, f .1)
 
--- lend where heap and accounts are sound
-module _ (unit : ℕ → ℕ) (s : List ℕ) (k : Accounts) (a : allowed (length s) ≡ true) (w : sound unit s k ≡ true) (h : Handle) where
+-- lend where heap and accounts are consistent
+module _ (unit : ℕ → ℕ) (s : List ℕ) (k : Accounts) (a : allowed (length s) ≡ true) (w : consistent unit s k ≡ true) (h : Handle) where
   lend-gives : (o : Handle) → lookup h s ≡ some o → lend unit s k h ≡ unchanged s k (lent (record { start = h .base; end = h .base + h .length }))
-  unfolding lend lend-lines first-refusal line-1 line-2 line-5 is-none unless
+  unfolding lend row-lines first-refusal line-1 line-2 line-5 is-none unless
   lend-gives o e = rw (a, w, e)
 
   lend-refuses : lookup h s ≡ none → lend unit s k h .values .refusal ≡ 5
-  unfolding lend lend-lines first-refusal line-1 line-2 line-5 is-none unless
+  unfolding lend row-lines first-refusal line-1 line-2 line-5 is-none unless
   lend-refuses e = rw (a, w, e)
 
 module _ (tables : ℕ → ℕ → ℕ) where
@@ -122,8 +122,8 @@ module _ (tables : ℕ → ℕ → ℕ) where
 module _ (tables : ℕ → ℕ → ℕ) (units : (e : ℕ) → Units (tables e)) (begun : Ledger) where
   -- a count above 0 is a hold of the ledger, and a live object is held
   module _ (es : List Event) (s : List ℕ) (k : Accounts) (past : History tables (by-own tables) begun es s k) where
-    abbrev after : Holds (tables (k .edition)) (by-own tables) begun es [] s k
-    after = demand-3-of tables units .always begun es [] s k past
+    abbrev after : AsRecorded (tables (k .edition)) (by-own tables) (ledger-of begun es) s k
+    after = demand-3-of tables units .always begun es [] s k past .agrees
 
     counted-holds : (q serial : ℕ) → 0 < count-of serial q (k .holds) → HoldsIn q serial (ledger-of begun es)
     counted-holds q serial p =
@@ -134,7 +134,7 @@ module _ (tables : ℕ → ℕ → ℕ) (units : (e : ℕ) → Units (tables e))
     live-held : (o : Handle) → List·Memᴰ o (objects-of s) → (q : ℕ) × HoldsIn q (o .serial) (ledger-of begun es)
     unfolding objects-of
     live-held o m =
-        let f = consistent-facts s k (sound-consistent (tables (k .edition)) s k (after .kept-sound)) .recorded o m in
+        let f = accounted-facts s k (consistent-accounted (tables (k .edition)) s k (after .kept-consistent)) .recorded o m in
         let r = after .record-held (f .0) (f .1) (f .2) in
         (f .0 .quota, (r .0, r .1, r .2 ∙ f .3, omega (arith, r .3, r .4)))
 
@@ -216,12 +216,12 @@ module _ (tables : ℕ → ℕ → ℕ) (units : (e : ℕ) → Units (tables e))
         record {
           live =
               λ r f.
-              lend-gives (tables (k′ .edition)) s′ k′ (w .length-allowed) (w .kept-sound) h o
+              lend-gives (tables (k′ .edition)) s′ k′ (w .length-allowed) (w .kept-consistent) h o
               (held-found tables units begun s′ k′ h o (narrowed b) sent-events later now r (recorded-now b)
               (λ late early q. (let x = f late early q in (x .0, u .receiver, x .1, x .2, x .3))));
           gone =
               λ f.
-              lend-refuses (tables (k′ .edition)) s′ k′ (w .length-allowed) (w .kept-sound) h
+              lend-refuses (tables (k′ .edition)) s′ k′ (w .length-allowed) (w .kept-consistent) h
               (names-none (later ++ sent-events) s′ k′ now h (o .serial) (narrowed b .serial) f);
           still-given = λ v rest. given-still v h rest;
         }

@@ -11,17 +11,17 @@ use lib.Dec.{eqb}
 use borrow.Author.Tests.{eqb-true, eq-eqb}
 use Rattle.accounts.specs.declared.Accounts.{Accounts}
 use Rattle.rounding.specs.Rounding.{Units}
-use Rattle.model.specs.Lists.{or-else}
+use Rattle.lists.specs.Lists.{or-else}
 use Rattle.model.specs.Answers.{amount-of}
 use Rattle.model.specs.Objects.{blocks-of, objects, objects-of, lookup, found}
-use Rattle.model.specs.Consistent.{consistent, sound, has-record}
+use Rattle.model.specs.Consistent.{accounted, consistent, has-record}
 use Rattle.model.specs.Holds.{count-of, lower-count}
 use Rattle.model.specs.Refusals.{first-refusal, claim-lines}
 use Rattle.model.specs.Calls.{Outcome, State, leaves, unless, unchanged, state-of, claimed, given-back, released, claim, release, can-release}
 use Rattle.model.specs.Step.{step}
 use Rattle.model.specs.declared.Handle.{Handle}
 use Rattle.model.specs.declared.Call.the-variants.{Claim, CanRelease}
-use Rattle.model.proofs.Bools.{and-right}
+use Rattle.lists.proofs.Bools.{and-right}
 use Rattle.model.proofs.Refusals.{call-accepted-exactly}
 use Rattle.model.proofs.Lookup.{lookup-named}
 use Rattle.model.proofs.Settle.{object-held}
@@ -33,7 +33,7 @@ use Rattle.invariant.proofs.Counts.{record-counted, held-counted, lower-ordered
 use Rattle.invariant.proofs.Payments.{themselves}
 use Rattle.invariant.proofs.Transitions.{claimed-counts, released-objects}
 use Rattle.invariant.proofs.Passed.{Claimable, claim-passed, Releasable, release-passed}
-use Rattle.invariant.proofs.Releasing.{sound-fitting, Possible, Fitting, possible-good, does}
+use Rattle.invariant.proofs.Releasing.{consistent-fitting, Possible, Fitting, possible-good, does}
 use Rattle.ledger.specs.Ledger.{Ledger, Event, Called, ledger-of}
 use Rattle.ledger.specs.History.{by-own, History}
 use Rattle.ledger.proofs.Agreement.{Agrees}
@@ -110,9 +110,9 @@ module _ (tables : ℕ → ℕ → ℕ) (units : (e : ℕ) → Units (tables e))
 
   held-fitting : Fitting unit held
   held-fitting =
-      sound-fitting unit s (claimed to object k)
-      (subst (λ (n : ℕ). sound (tables n) s (claimed to object k) ≡ true) held-edition
-      (demand-3-of tables units .always begun claimed-events [] s (claimed to object k) claimed-past .kept-sound))
+      consistent-fitting unit s (claimed to object k)
+      (subst (λ (n : ℕ). consistent (tables n) s (claimed to object k) ≡ true) held-edition
+      (demand-3-of tables units .always begun claimed-events [] s (claimed to object k) claimed-past .agrees .kept-consistent))
 
   held-ordered : Ordered (claimed to object k .holds)
   held-ordered = good-ordered held held-good

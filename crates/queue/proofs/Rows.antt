@@ -7,7 +7,7 @@ use lib.ListN.{length, replicate}
 use Rattle.accounts.specs.declared.Hold.{Hold}
 use Rattle.accounts.specs.Accounts.{zero-hold, with-edition}
 use Rattle.rounding.specs.Rounding.{unit, table}
-use Rattle.words.specs.Words.{table as each-place}
+use Rattle.words.specs.Words.{tabulate}
 use Rattle.model.specs.Answers.{zero-handle}
 use Rattle.model.specs.Calls.{Outcome, lend, release}
 use Rattle.model.specs.Marked.{handle}
@@ -204,5 +204,5 @@ words-rows : (length words ≡ QUEUE-WORDS)
       count = 3;
       handles = handle 10 11 12 ∷ (replicate 14 zero-handle ++ (handle 20 21 22 ∷ []));
     })
-unfolding words handles-of each-place
+unfolding words handles-of tabulate
 words-rows = (refl, refl)

@@ -3,7 +3,7 @@ use Prim.Native.Nat.{ℕ, _+_, _*_, _≤_, _<_}
 use mathlib.Core.Path.{_≡_}
 use mathlib.Core.List.{List}
 use lib.ListN.{length, getD}
-use Rattle.words.specs.Words.{table}
+use Rattle.words.specs.Words.{tabulate}
 use Rattle.model.specs.declared.Handle.{Handle}
 use Rattle.queue.specs.declared.Queue.{Queue}
 use Rattle.queue.specs.Queue.{PLACES}
@@ -32,7 +32,7 @@ abbrev pub handle-in : List ℕ → ℕ → Handle
 handle-in words p = record { base = getD words (FIRST + 3 * p) 0; length = getD words (FIRST + 3 * p + 1) 0; serial = getD words (FIRST + 3 * p + 2) 0 }
 
 unfoldable pub handles-of : List ℕ → List Handle
-handles-of words = table PLACES (handle-in words) 0
+handles-of words = tabulate PLACES (handle-in words) 0
 
 -- the queue
 abbrev pub queue-of : List ℕ → Queue

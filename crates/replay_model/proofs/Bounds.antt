@@ -12,7 +12,7 @@ use lib.ListN.{length, getD, replicate, length-append}
 use Rattle.accounts.specs.declared.Accounts.{Accounts}
 use Rattle.layout.specs.Blocks.{Block, size, total-size, parse}
 use Rattle.lookup.proofs.Parsed.{total-parsed}
-use Rattle.model.specs.Lists.{total, or-else}
+use Rattle.lists.specs.Lists.{total, or-else}
 use Rattle.model.specs.Answers.{Values}
 use Rattle.model.specs.Objects.{blocks-of}
 use Rattle.accounts.specs.Accounts.{plain}

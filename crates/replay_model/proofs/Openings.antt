@@ -15,7 +15,7 @@ use Rattle.accounts.specs.Accounts.{QUOTAS, zero-accounts, plain}
 use Rattle.model.specs.Answers.{Values, accepted}
 use Rattle.model.specs.Refusals.{first-refusal, open-lines}
 use Rattle.model.specs.Calls.{Outcome, unless, leaves, fresh, open-heap}
-use Rattle.model.proofs.Bools.{and-right}
+use Rattle.lists.proofs.Bools.{and-right}
 use Rattle.ledger.specs.Ledger.{empty}
 use Rattle.ledger.specs.History.{Begins, Opening as Begun}
 use Rattle.replay_model.specs.Text.{is-digit, read-on, read-number, greatest-number}

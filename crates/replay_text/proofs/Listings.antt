@@ -9,14 +9,14 @@ use lib.Seq.{append-snoc}
 use Rattle.rounding.specs.Rounding.{table}
 use Rattle.accounts.specs.declared.Accounts.{Accounts}
 use Rattle.layout.specs.Blocks.{Block, size}
-use Rattle.model.specs.Lists.{total}
+use Rattle.lists.specs.Lists.{total}
 use Rattle.model.specs.Answers.{block-values}
 use Rattle.model.specs.Objects.{blocks-of}
 use Rattle.model.specs.Calls.{Outcome, listing-from, list-block}
 use Rattle.model.specs.declared.ListedBlock.{ListedBlock}
 use Rattle.model.specs.declared.BlockAnswer.{BlockAnswer}
 use Rattle.model.specs.declared.BlockAnswer.the-variants.{Listed}
-use Rattle.model.proofs.Lists.{total-append}
+use Rattle.lists.proofs.Lists.{total-append}
 use Rattle.model.proofs.Listing.{listed-at, block-at, list-block-step, step-at, step-end}
 use Rattle.results.specs.Results.{outcome}
 use Rattle.queries.proofs.Listed.{given-inside}

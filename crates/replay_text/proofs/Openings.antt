@@ -17,7 +17,7 @@ use Rattle.accounts.specs.Accounts.{plain}
 use Rattle.model.specs.Calls.{Outcome, unless, open-heap}
 use Rattle.model.specs.declared.Verdict.{Verdict}
 use Rattle.model.specs.declared.Verdict.the-variants.{Accepted, Refused}
-use Rattle.model.proofs.Bools.{and-no}
+use Rattle.lists.proofs.Bools.{and-no}
 use Rattle.model.proofs.Answers.{refusal-number-is}
 use Rattle.ledger.specs.History.{Opening as Begun}
 use Rattle.results.specs.Results.{outcome}

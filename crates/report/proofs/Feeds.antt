@@ -7,13 +7,14 @@ use native.Mathlib.Omega.{arith}
 use lib.ListN.{length, drop, getD, replicate}
 use lib.Dec.{eqb}
 use borrow.Author.Tests.{ne-eqb, ltb-true}
+use Rattle.lists.proofs.Bools.{and-parts}
 use Rattle.report.specs.Words.{value, is-digit, all-digits, digits, mark, text, line-text, words-right, words, all-zero}
 use Rattle.report.specs.Import.{line-of, with-line, lines-from}
 use Rattle.report.specs.Exact.{to-line-feed, lines-by-feed}
 use Rattle.report.specs.declared.Line.{Line}
 use Rattle.report.specs.declared.Line.the-variants.{Grant, Bad}
 use Rattle.report.specs.declared.ReportRefusal.the-variants.{Reserved}
-use Rattle.report.proofs.Hex.{and-parts, digits-are}
+use Rattle.report.proofs.Hex.{digits-are}
 use Rattle.report.proofs.Words.{text-right, text-words, words-text, words-length, line-length, line-told}
 use Rattle.report.proofs.Loops.{line-wrong}
 

@@ -9,12 +9,9 @@ use lib.Arith.{digits-div, digits-mod, digits-lt, mod-mul}
 use lib.ListN.{length, getD}
 use lib.Dec.{leb, ltb, lit<}
 use borrow.Author.Tests.{le-leb, lt-leb, lt-ltb, le-ltb, ltb-true, ltb-false, leb-true, leb-false}
+use Rattle.lists.proofs.Bools.{and-parts}
 use Rattle.report.specs.Words.{digit, value, is-digit, all-digits, digits, number}
 use Rattle.report.proofs.Rows
-
-pub and-parts : (x y : Bool) → (x && y) ≡ true → (x ≡ true) × (y ≡ true)
-and-parts true y e = (refl, e)
-and-parts false y e = absurd (false≢true e)
 
 -- a digit's character has its value
 module _ (d : ℕ) (h : d < 16) where

@@ -11,13 +11,14 @@ use lib.ListN.{length, take, drop, getD, set, length-append, length-take, length
 use lib.Seq.{take-suc, take-take, getD-take, getD-drop, drop-drop, length-take-le}
 use lib.Dec.{leb, eqb, lit<}
 use borrow.Author.Tests.{le-leb, eq-eqb, ne-eqb}
+use Rattle.lists.proofs.Bools.{and-parts}
 use Rattle.layout.specs.Bytes.{overwrite}
 use Rattle.layout.proofs.Overwrite.{overwrite-more, overwrite-two}
 use Rattle.report.specs.Words.{digit, value, is-digit, all-digits, digits, number, mark, text, line-text, word-right, words-right, words, all-zero}
 use Rattle.report.specs.Import.{line-of}
 use Rattle.report.specs.declared.Line.the-variants.{Grant, Bad}
 use Rattle.report.specs.declared.ReportRefusal.the-variants.{Character, Reserved}
-use Rattle.report.proofs.Hex.{and-parts, digits-length, digits-at, number-below}
+use Rattle.report.proofs.Hex.{digits-length, digits-at, number-below}
 use Rattle.report.proofs.Words.{words-digits, words-long}
 
 -- a character more

@@ -9,11 +9,12 @@ use lib.ListN.{length, take, drop, getD, replicate, length-append, length-drop, 
 use lib.Seq.{take-at, drop-at, getD-at, drop-cons, drop-drop, length-take-le}
 use lib.Dec.{leb, eqb}
 use borrow.Author.Tests.{le-leb, leb-true, eq-eqb, eqb-true}
+use Rattle.lists.proofs.Bools.{and-parts}
 use Rattle.report.specs.Words.{all-digits, digits, number, mark, text, line-text, word-right, words-right, words, all-zero}
 use Rattle.report.specs.Import.{line-of}
 use Rattle.report.specs.declared.Line.the-variants.{Grant, Bad}
 use Rattle.report.specs.declared.ReportRefusal.the-variants.{Character, Reserved}
-use Rattle.report.proofs.Hex.{and-parts, digits-length, digits-are, number-digits, number-below, digits-number}
+use Rattle.report.proofs.Hex.{digits-length, digits-are, number-digits, number-below, digits-number}
 
 -- a word, its mark and more text behind them
 module _ (m n : ℕ) (q : List ℕ) where

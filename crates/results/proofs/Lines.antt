@@ -11,16 +11,16 @@ use borrow.Author.Tests.{leb-true, le-leb, lt-leb, eq-eqb, not-false}
 use Rattle.accounts.specs.declared.Accounts.{Accounts}
 use Rattle.accounts.specs.Accounts.{QUOTAS, quota-at, permits}
 use Rattle.model.specs.Answers.{Values, refused, refusal-number, verdict-values}
-use Rattle.model.specs.Refusals.{Line, _when_, first-refusal, line-1, line-2, line-3, line-12, check-lines}
-use Rattle.model.specs.Lists.{all, any}
-use Rattle.model.specs.Consistent.{allowed, consistent, sound}
+use Rattle.model.specs.Refusals.{Line, _when_, first-refusal, line-1, line-2, line-3, line-12, check-lines, row-lines}
+use Rattle.lists.specs.Lists.{all, any}
+use Rattle.model.specs.Consistent.{allowed, accounted, consistent}
 use Rattle.model.specs.Calls.{Outcome, unless, unchanged, check}
 use Rattle.model.specs.declared.Refusal.{Refusal}
 use Rattle.model.specs.declared.Verdict.{Verdict}
 use Rattle.model.specs.declared.Verdict.the-variants.{Accepted, Refused}
-use Rattle.model.proofs.Bools.{and-left, and-right, or-neither}
+use Rattle.lists.proofs.Bools.{and-left, and-right, or-neither}
 use Rattle.model.proofs.Answers.{refusal-number-is}
-use Rattle.model.proofs.Consistent.{sound-consistent}
+use Rattle.model.proofs.Consistent.{consistent-accounted}
 use Rattle.model.proofs.Refusals.{Numbered, check-by-lines, refusal-of-lines, answers-none, unless-refused}
 
 -- the first two lines decide, or the others do
@@ -50,7 +50,7 @@ module _ (unit : ℕ → ℕ) (s : List ℕ) (k : Accounts) (v : Verdict) (told 
 
   -- what the check refuses is refused, whatever lines follow
   pub check-refuses : (r : Refusal) → v ≡ Refused r → first-refusal (line-1 s ∷ line-2 unit s k ∷ rest) ≡ refusal-number r
-  unfolding check-lines verdict-values
+  unfolding row-lines verdict-values
   check-refuses r e =
       let n = number-some r in
       let f : first-refusal (line-1 s ∷ line-2 unit s k ∷ []) ≡ suc (n .0) = sym checked ∙ ap (λ (x : Verdict). verdict-values x .refusal) e ∙ n .1 in
@@ -58,7 +58,7 @@ module _ (unit : ℕ → ℕ) (s : List ℕ) (k : Accounts) (v : Verdict) (told 
 
   -- what it accepts goes on to them
   pub check-accepts : v ≡ Accepted → first-refusal (line-1 s ∷ line-2 unit s k ∷ rest) ≡ first-refusal rest
-  unfolding check-lines verdict-values
+  unfolding row-lines verdict-values
   check-accepts e =
       after-two (line-1 s) (line-2 unit s k) rest (check-by-lines unit s k .numbered) (sym checked ∙ ap (λ (x : Verdict). verdict-values x .refusal) e)
 
@@ -91,16 +91,16 @@ unfolding line-3
 line-3-passes q rest h = line-passes 3 (leb QUOTAS q) rest (lt-leb QUOTAS q h)
 
 -- a state that the check accepts has an allowed length and is consistent
-pub check-consistent : (unit : ℕ → ℕ) (s : List ℕ) (k : Accounts) (v : Verdict) → verdict-values v ≡ check unit s k .values → v ≡ Accepted
-    → (allowed (length s) ≡ true) × (consistent s k ≡ true) × (sound unit s k ≡ true)
-unfolding check-lines line-1 line-2 any verdict-values
-check-consistent unit s k v told e =
+pub check-accounted : (unit : ℕ → ℕ) (s : List ℕ) (k : Accounts) (v : Verdict) → verdict-values v ≡ check unit s k .values → v ≡ Accepted
+    → (allowed (length s) ≡ true) × (accounted s k ≡ true) × (consistent unit s k ≡ true)
+unfolding row-lines line-1 line-2 any verdict-values
+check-accounted unit s k v told e =
     let z : check unit s k .values .refusal ≡ 0 = sym (ap (λ (x : Values). x .refusal) told) ∙ ap (λ (x : Verdict). verdict-values x .refusal) e in
     let n = answers-none (check-by-lines unit s k) .0 z in
-    let p = or-neither (not (allowed (length s))) (not (sound unit s k) || false) n in
-    let q = or-neither (not (sound unit s k)) false (p .1) in
-    let f = not-false (sound unit s k) (q .0) in
-    (not-false (allowed (length s)) (p .0), sound-consistent unit s k f, f)
+    let p = or-neither (not (allowed (length s))) (not (consistent unit s k) || false) n in
+    let q = or-neither (not (consistent unit s k)) false (p .1) in
+    let f = not-false (consistent unit s k) (q .0) in
+    (not-false (allowed (length s)) (p .0), consistent-accounted unit s k f, f)
 
 -- 12: the permission, by the bit of the quota's number
 pub line-12-refuses : (bit q : ℕ) (k : Accounts) (rest : List Line) → quota-at q k .permissions / bit % 2 ≡ 0 → first-refusal (line-12 bit k q ∷ rest) ≡ 12

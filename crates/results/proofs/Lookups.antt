@@ -20,17 +20,17 @@ use Rattle.lookup.specs.Walk.{object-met, find-object}
 use Rattle.lookup.proofs.Parsed.{total-parsed}
 use Rattle.lookup.proofs.Named.{lookup-found, lookup-missing}
 use Rattle.model.specs.Answers.{verdict-values, lent}
-use Rattle.model.specs.Lists.{is-none, or-else}
+use Rattle.lists.specs.Lists.{is-none, or-else}
 use Rattle.model.specs.Objects.{blocks-of, lookup, found}
 use Rattle.model.specs.Consistent.{allowed, has-record}
-use Rattle.model.specs.Refusals.{Line, first-refusal, line-1, line-2, line-3, line-5, line-6, lend-lines, release-lines}
+use Rattle.model.specs.Refusals.{Line, first-refusal, line-1, line-2, line-3, line-5, line-6, lend-lines, release-lines, row-lines}
 use Rattle.model.specs.Calls.{unchanged, check, lend}
 use Rattle.model.specs.declared.Handle.{Handle}
 use Rattle.model.specs.declared.Verdict.{Verdict}
 use Rattle.model.specs.declared.Verdict.the-variants.{Accepted}
-use Rattle.model.proofs.Bools.{and-right}
-use Rattle.model.proofs.Consistent.{consistent-cut}
-use Rattle.results.proofs.Lines.{check-accepts, check-consistent, accepted-is, line-refuses, line-passes, line-3-passes}
+use Rattle.lists.proofs.Bools.{and-right}
+use Rattle.model.proofs.Consistent.{accounted-cut}
+use Rattle.results.proofs.Lines.{check-accepts, check-accounted, accepted-is, line-refuses, line-passes, line-3-passes}
 use Rattle.results.proofs.Records.{found-some, nothing-some}
 
 -- a quota's number as a byte
@@ -55,12 +55,12 @@ pub record Located (s : List ℕ) (h : Handle) (m : Met) : Type 0 where
 
 module _ (unit : ℕ → ℕ) (s : List ℕ) (k : Accounts) (v : Verdict) (told : verdict-values v ≡ check unit s k .values) (accepts : v ≡ Accepted) where
   cut : parse s ≡ some (blocks-of s)
-  cut = consistent-cut s k (check-consistent unit s k v told accepts .1) .0
+  cut = accounted-cut s k (check-accounted unit s k v told accepts .1) .0
 
   short : length s ≤ 32768
   unfolding allowed
   short =
-      let e = check-consistent unit s k v told accepts .0 in
+      let e = check-accounted unit s k v told accepts .0 in
       leb-true (length s) 32768 (and-right (leb 64 (length s)) _ (and-right (eqb (length s % 8) 0) _ e))
 
   -- what the walk finds is the block of the object that the handle names, and where it finds none, the handle names none
@@ -106,13 +106,13 @@ module _ (k : Accounts) (serial q : ℕ) (holds : q < QUOTAS) where
 -- what lend, release and can release are refused with
 module _ (unit : ℕ → ℕ) (s : List ℕ) (k : Accounts) (v : Verdict) (told : verdict-values v ≡ check unit s k .values) (accepts : v ≡ Accepted) (h : Handle) where
   pub lend-missing : find-object h s ≡ Missing → first-refusal (lend-lines unit s k h) ≡ 5
-  unfolding lend-lines
+  unfolding row-lines
   lend-missing e =
       check-accepts unit s k v told (line-5 (lookup h s) ∷ []) accepts ∙ line-5-refuses (lookup h s) [] (unnamed unit s k v told accepts h e)
 
   module _ (m : Met) (e : find-object h s ≡ Found m) where
     pub lend-found : first-refusal (lend-lines unit s k h) ≡ 0
-    unfolding lend-lines first-refusal
+    unfolding row-lines first-refusal
     lend-found =
         check-accepts unit s k v told (line-5 (lookup h s) ∷ []) accepts
         ∙ line-5-passes (lookup h s) (object-met m) [] (located unit s k v told accepts h m e .named)
@@ -124,7 +124,7 @@ module _ (unit : ℕ → ℕ) (s : List ℕ) (k : Accounts) (v : Verdict) (told 
 
     module _ (q : ℕ) (l : q < QUOTAS) where
       sixth : first-refusal (release-lines unit s k q h) ≡ first-refusal (line-6 k q (object-met m) ∷ [])
-      unfolding release-lines
+      unfolding row-lines
       sixth =
           quota-found unit s k v told accepts q h m (line-6 k q (found (lookup h s)) ∷ []) l e
           ∙ ap (λ (o : Handle). first-refusal (line-6 k q o ∷ [])) (located unit s k v told accepts h m e .object)

@@ -9,7 +9,7 @@ use lib.ListN.{getD, set}
 use Rattle.accounts.specs.declared.Hold.{Hold}
 use Rattle.accounts.specs.Accounts.{zero-hold, first-from}
 use Rattle.accounts.specs.declared.Place.the-variants.{At, Nothing}
-use Rattle.model.specs.Lists.{any, first, change-first}
+use Rattle.lists.specs.Lists.{any, first, change-first}
 
 -- what a place of the search says, where it began at n
 record Says (p : Hold → Bool) (hs : List Hold) (n i : ℕ) : Type 0 where

@@ -2,27 +2,18 @@
 use Prim.Native.Nat.{ℕ, zero, suc, _+_, _*_, _-_, _/_, _%_, _≤_, _<_}
 use native.Mathlib.Omega.{arith}
 use mathlib.Core.Path.{_≡_, refl}
-use mathlib.Core.Bool.{Bool, true, false}
-use lib.Dec.{leb}
-use borrow.Author.Tests.{leb-true, leb-false, le-leb}
-use Rattle.rounding.specs.Rounding.{unit, unit-2, table, Units, object-length}
-use Rattle.rounding.proofs.Rounding.{multiple-stable, by-row, unit-is}
+use borrow.Author.Tests.{le-leb}
+use Rattle.rounding.specs.Rounding.{unit, rows-2, unit-2, table, Units, object-length}
+use Rattle.rounding.proofs.Rounding.{multiple-stable, by-rows, by-row, unit-is}
 use Rattle.rounding.proofs.Rows
 
 -- what holds of each row's unit on its row holds of the unit of any length
 module _ (P : ℕ → Type 0) (n : ℕ)
     (row-8 : n ≤ 4088 → P 8) (row-16 : 4089 ≤ n → n ≤ 8176 → P 16) (row-32 : 8177 ≤ n → n ≤ 16352 → P 32)
     (row-64 : 16353 ≤ n → n ≤ 32704 → P 64) (row-128 : 32705 ≤ n → P 128) where
-  by-tests-2 : (x y z w : Bool) → leb n 4088 ≡ x → leb n 8176 ≡ y → leb n 16352 ≡ z → leb n 32704 ≡ w → P (unit-2 n)
-  unfolding unit-2
-  by-tests-2 true y z w e f g h = rw e (row-8 (leb-true n 4088 e))
-  by-tests-2 false true z w e f g h = rw (e, f) (row-16 (leb-false n 4088 e) (leb-true n 8176 f))
-  by-tests-2 false false true w e f g h = rw (e, f, g) (row-32 (leb-false n 8176 f) (leb-true n 16352 g))
-  by-tests-2 false false false true e f g h = rw (e, f, g, h) (row-64 (leb-false n 16352 g) (leb-true n 32704 h))
-  by-tests-2 false false false false e f g h = rw (e, f, g, h) (row-128 (leb-false n 32704 h))
-
   pub by-row-2 : P (unit-2 n)
-  by-row-2 = by-tests-2 (leb n 4088) (leb n 8176) (leb n 16352) (leb n 32704) refl refl refl refl
+  unfolding unit-2
+  by-row-2 = by-rows P n 0 rows-2 128 (omega arith) (λ _. row-8, (row-16, (row-32, (row-64, row-128))))
 
 -- a length that is rounded in its row, none of which it leaves, is a multiple of its own unit
 rounded-multiple-2 : (n : ℕ) → object-length unit-2 n % unit-2 (object-length unit-2 n) ≡ 0

@@ -1,15 +1,16 @@
 -- Laws of the rounding of lengths: of any table of units, and of edition 1's.
-use Prim.Native.Nat.{ℕ, _+_, _*_, _-_, _/_, _%_, _^_, _≤_, _<_}
+use Prim.Native.Nat.{ℕ, suc, _+_, _*_, _-_, _/_, _%_, _^_, _≤_, _<_}
 use native.Mathlib.Nat.{mul-mod-left, lt-div-mul-add, div-mul-le-self, div-add-mod', eq-or-lt-of-le, dvd-of-mod-eq-zero, dvd-mul-left-of-dvd}
 use native.Mathlib.Nat.{mod-eq-zero-of-dvd}
 use native.Mathlib.Omega.{arith}
 use mathlib.Core.Path.{_≡_, refl, sym, ap, _∙_, subst}
-use mathlib.Core.Bool.{Bool, true, false}
+use mathlib.Core.List.{List, [], _∷_}
+use mathlib.Core.Bool.{Bool, true, false, cond}
 use mathlib.Core.Logic.{⊎-elim}
 use lib.Arith.{digits-div}
 use lib.Dec.{leb}
 use borrow.Author.Tests.{leb-true, leb-false}
-use Rattle.rounding.specs.Rounding.{unit, Units, object-length, alignment, leading-zeros, exponent, representable-alignment}
+use Rattle.rounding.specs.Rounding.{by, rows, unit, Units, object-length, alignment, leading-zeros, exponent, representable-alignment}
 use Rattle.rounding.proofs.Rows
 
 -- what an object's length is to the request
@@ -46,18 +47,29 @@ module _ (u : ℕ → ℕ) (units : Units u) where
   unfolding alignment
   alignment-positive n = units .positive (object-length u n)
 
--- what holds of each row's unit on its row holds of the unit of any length
+-- what holds of each row's value on its row, from a number on, and of the value behind them
+abbrev pub OnRows : (ℕ → Type 0) → ℕ → ℕ → List (ℕ × ℕ) → ℕ → Type 0
+OnRows P n low [] other = low ≤ n → P other
+OnRows P n low (row ∷ more) other = (low ≤ n → n ≤ row .0 → P (row .1)) × OnRows P n (suc (row .0)) more other
+
+-- holds of a table's value for any number
+module _ (P : ℕ → Type 0) (n : ℕ) where
+  by-test : (row : ℕ × ℕ) (later : ℕ) → (n ≤ row .0 → P (row .1)) → (row .0 < n → P later)
+      → (x : Bool) → leb n (row .0) ≡ x → P (cond (leb n (row .0)) (row .1) later)
+  by-test row later f g true e = rw e (f (leb-true n (row .0) e))
+  by-test row later f g false e = rw e (g (leb-false n (row .0) e))
+
+  pub by-rows : (low : ℕ) (more : List (ℕ × ℕ)) (other : ℕ) → low ≤ n → OnRows P n low more other → P (by more other n)
+  by-rows low [] other l f = f l
+  by-rows low (row ∷ more) other l f =
+      by-test row (by more other n) (f .0 l) (λ m. by-rows (suc (row .0)) more other m (f .1)) (leb n (row .0)) refl
+
+-- so of edition 1's unit
 module _ (P : ℕ → Type 0) (n : ℕ) (row-8 : n ≤ 8191 → P 8) (row-16 : 8192 ≤ n → n ≤ 16383 → P 16) (row-32 : 16384 ≤ n → n ≤ 32767 → P 32)
     (row-64 : 32768 ≤ n → P 64) where
-  by-tests : (x y z : Bool) → leb n 8191 ≡ x → leb n 16383 ≡ y → leb n 32767 ≡ z → P (unit n)
-  unfolding unit
-  by-tests true y z e f g = rw e (row-8 (leb-true n 8191 e))
-  by-tests false true z e f g = rw (e, f) (row-16 (leb-false n 8191 e) (leb-true n 16383 f))
-  by-tests false false true e f g = rw (e, f, g) (row-32 (leb-false n 16383 f) (leb-true n 32767 g))
-  by-tests false false false e f g = rw (e, f, g) (row-64 (leb-false n 32767 g))
-
   pub by-row : P (unit n)
-  by-row = by-tests (leb n 8191) (leb n 16383) (leb n 32767) refl refl refl
+  unfolding unit
+  by-row = by-rows P n 0 rows 64 (omega arith) (λ _. row-8, (row-16, (row-32, row-64)))
 
 -- what is a multiple of its unit rounds to itself
 multiple-stays : (k n : ℕ) → 0 < k → n % k ≡ 0 → (n + (k - 1)) / k * k ≡ n

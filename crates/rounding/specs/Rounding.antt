@@ -1,16 +1,28 @@
 -- Rounding of lengths (rules, sections 6 and 23). Everything is derived from one function, the unit of a length.
 use Prim.Native.Nat.{ℕ, zero, suc, _+_, _*_, _-_, _/_, _%_, _^_, _<_}
 use mathlib.Core.Path.{_≡_}
+use mathlib.Core.List.{List, [], _∷_}
 use mathlib.Core.Bool.{cond}
 use lib.Dec.{leb, ltb}
 
+-- a table: each row has the last number that it reaches, and its value; numbers behind the last row have one value more
+abbrev pub by : List (ℕ × ℕ) → ℕ → ℕ → ℕ
+by [] other n = other
+by (row ∷ more) other n = cond (leb n (row .0)) (row .1) (by more other n)
+
 -- rule 6.1; and 6.5: a length below the first row or above the last one has that row's unit
+abbrev pub rows : List (ℕ × ℕ)
+rows = (8191, 8) ∷ (16383, 16) ∷ (32767, 32) ∷ []
+
 unfoldable pub unit : ℕ → ℕ
-unit n = cond (leb n 8191) 8 (cond (leb n 16383) 16 (cond (leb n 32767) 32 64))
+unit n = by rows 64 n
 
 -- rule 23.1: edition 2
+abbrev pub rows-2 : List (ℕ × ℕ)
+rows-2 = (4088, 8) ∷ (8176, 16) ∷ (16352, 32) ∷ (32704, 64) ∷ []
+
 unfoldable pub unit-2 : ℕ → ℕ
-unit-2 n = cond (leb n 4088) 8 (cond (leb n 8176) 16 (cond (leb n 16352) 32 (cond (leb n 32704) 64 128)))
+unit-2 n = by rows-2 128 n
 
 -- rule 23.3: the table of an edition by its number in the accounts, 0 for edition 1
 unfoldable pub table : ℕ → ℕ → ℕ
@@ -47,8 +59,8 @@ representable-alignment n = 2 ^ (exponent n + 3)
 
 -- rules 6.7 and 23.6: which power of two the unit is for a count of leading zeros, by the edition's number; and the unit so found of a length
 abbrev pub power : ℕ → ℕ → ℕ
-power zero z = cond (leb z 16) 6 (cond (leb z 17) 5 (cond (leb z 18) 4 3))
-power (suc e) z = cond (leb z 16) 7 (cond (leb z 17) 6 (cond (leb z 18) 5 (cond (leb z 19) 4 3)))
+power zero z = by ((16, 6) ∷ (17, 5) ∷ (18, 4) ∷ []) 3 z
+power (suc e) z = by ((16, 7) ∷ (17, 6) ∷ (18, 5) ∷ (19, 4) ∷ []) 3 z
 
 unfoldable pub by-zeros : ℕ → ℕ → ℕ
 by-zeros e n = 2 ^ power e (leading-zeros 32 n)

@@ -10,12 +10,12 @@ use lib.Dec.{eqb}
 use borrow.Author.Tests.{eqb-true}
 use Rattle.accounts.specs.declared.Hold.{Hold}
 use Rattle.layout.specs.Blocks.{Block, size, QUARANTINED, quarantined, live}
-use Rattle.model.specs.Lists.{all, total}
+use Rattle.lists.specs.Lists.{all, total}
 use Rattle.model.specs.Consistent.{free-apart}
 use Rattle.model.specs.Space.{suitable, carve, vacate, unquarantine, changed, join-front, join-free, reclaim, settle, swept, copy-into}
-use Rattle.model.proofs.Bools.{and-left, and-right, and-both, or-right}
+use Rattle.lists.proofs.Bools.{and-left, and-right, and-both, or-right}
 use Rattle.model.proofs.Blocks.{free-not-live}
-use Rattle.model.proofs.Lists.{all-append}
+use Rattle.lists.proofs.Lists.{all-append}
 use Rattle.model.proofs.Carve.{new-block, new-live, cut-all, place, carved, carved-all}
 use Rattle.model.proofs.Join.{joined, join-elim}
 use Rattle.model.proofs.Settle.{vacate-unheld, vacated-all}

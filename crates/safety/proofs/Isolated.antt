@@ -11,11 +11,12 @@ use Rattle.accounts.specs.declared.Quota.{Quota}
 use Rattle.accounts.specs.declared.Accounts.{Accounts}
 use Rattle.accounts.specs.Accounts.{QUOTAS, remaining, used, permits, left-permissions, cleared}
 use Rattle.rounding.specs.Rounding.{table}
-use Rattle.model.specs.Lists.{total}
+use Rattle.lists.specs.Lists.{total}
 use Rattle.model.specs.Answers.{given, amount-of}
 use Rattle.model.specs.Objects.{blocks-of, objects, objects-of, lookup, lookup-whole, found}
-use Rattle.model.specs.Consistent.{consistent, sound, has-record, charged-for, charges}
-use Rattle.model.specs.Refusals.{Line, first-refusal, line-2, line-6, line-7, line-8, line-9, line-10, line-12, claims-first, quota-lines, free-all-lines}
+use Rattle.model.specs.Consistent.{accounted, consistent, has-record, charged-for, charges}
+use Rattle.model.specs.Refusals.{Line, first-refusal, line-2, line-6, line-7, line-8, line-9, line-10, line-12, claims-first, quota-lines}
+use Rattle.model.specs.Refusals.{free-all-lines, row-lines}
 use Rattle.model.specs.Refusals.{check-lines, lend-lines, release-lines, claim-lines, allocate-lines, reallocate-lines}
 use Rattle.model.specs.Calls.{Outcome, unless, new-object, given-back, allocate, allocate-array, claim, release, free-all, sweep, reallocate, lend}
 use Rattle.model.specs.Calls.{remaining-of, can-release, list-block, clear}
@@ -24,9 +25,9 @@ use Rattle.model.specs.declared.Handle.{Handle}
 use Rattle.model.specs.declared.Call.{Call}
 use Rattle.model.specs.declared.Call.the-variants.{Allocate, AllocateArray, Claim, Release, FreeAll, Reallocate, Lend, Remaining, CanRelease, ListBlock}
 use Rattle.model.specs.declared.Call.the-variants.{ClearPermissions, Sweep}
-use Rattle.model.proofs.Bools.{fails, implied, and-both}
-use Rattle.model.proofs.Lists.{member-all}
-use Rattle.model.proofs.Consistent.{tests-exactly, valid-exactly, consistent-cut, sound-consistent}
+use Rattle.lists.proofs.Bools.{fails, implied, and-both, same-test}
+use Rattle.lists.proofs.Lists.{member-all}
+use Rattle.model.proofs.Consistent.{tests-exactly, valid-exactly, accounted-cut, consistent-accounted}
 use Rattle.invariant.proofs.Good.{proper, Ordered}
 use Rattle.invariant.proofs.Counts.{record-counted}
 use Rattle.ledger.specs.History.{by-own}
@@ -34,10 +35,10 @@ use Rattle.safety.specs.Isolated.{MadeFor, Alike, Isolated}
 use Rattle.safety.proofs.Wrong
 
 -- the records of a consistent state are in order
-pub consistent-ordered : (s : List ℕ) (k : Accounts) → consistent s k ≡ true → Ordered (k .holds)
+pub accounted-ordered : (s : List ℕ) (k : Accounts) → accounted s k ≡ true → Ordered (k .holds)
 unfolding proper
-consistent-ordered s k c =
-    let t = tests-exactly (blocks-of s) k .0 (consistent-cut s k c .1) in
+accounted-ordered s k c =
+    let t = tests-exactly (blocks-of s) k .0 (accounted-cut s k c .1) in
     let valid = valid-exactly (objects (blocks-of s)) (k .holds) .0 (t .valid) in
     record {
       each =
@@ -45,11 +46,6 @@ consistent-ordered s k c =
           (let v = valid h m u in and-both (ltb (h .quota) QUOTAS) (leb 1 (h .count)) (lt-ltb (h .quota) QUOTAS (v .3)) (le-leb 1 (h .count) (v .4)))));
       differ = t .unique;
     }
-
--- a test that passes exactly where another does is the same
-same-test : (a b : Bool) → (a ≡ true → b ≡ true) → (b ≡ true → a ≡ true) → a ≡ b
-same-test true b f g = sym (f refl)
-same-test false b f g = sym (fails b (λ e. absurd (false≢true (g e))))
 
 -- `unless` answers the same where the refusals and what is due are the same
 unless-same : (m n : ℕ) (s : List ℕ) (k k′ : Accounts) (x y : Outcome) → m ≡ n → x .values ≡ y .values → unless m s k x .values ≡ unless n s k′ y .values
@@ -59,7 +55,7 @@ unless-same zero (suc n) s k k′ x y e v = absurd (omega (arith, e))
 unless-same (suc m) zero s k k′ x y e v = absurd (omega (arith, e))
 unless-same (suc m) (suc n) s k k′ x y e v = rw e
 
-module _ (unit : ℕ → ℕ) (q : ℕ) (s : List ℕ) (k k′ : Accounts) (c : sound unit s k ≡ true) (c′ : sound unit s k′ ≡ true) (a : Alike q k k′) where
+module _ (unit : ℕ → ℕ) (q : ℕ) (s : List ℕ) (k k′ : Accounts) (c : consistent unit s k ≡ true) (c′ : consistent unit s k′ ≡ true) (a : Alike q k k′) where
   remains : remaining q k ≡ remaining q k′
   unfolding remaining
   remains = ap (λ (x : Quota). x .remainder) (a .quota)
@@ -70,8 +66,8 @@ module _ (unit : ℕ → ℕ) (q : ℕ) (s : List ℕ) (k k′ : Accounts) (c : 
 
   records : (serial : ℕ) → has-record (k .holds) q serial ≡ has-record (k′ .holds) q serial
   records serial =
-      let r = record-counted (k .holds) (consistent-ordered s k (sound-consistent unit s k c)) serial q in
-      let r′ = record-counted (k′ .holds) (consistent-ordered s k′ (sound-consistent unit s k′ c′)) serial q in
+      let r = record-counted (k .holds) (accounted-ordered s k (consistent-accounted unit s k c)) serial q in
+      let r′ = record-counted (k′ .holds) (accounted-ordered s k′ (consistent-accounted unit s k′ c′)) serial q in
       same-test _ _ (λ e. r′ .1 (rw (a .holds serial) at (r .0 e))) (λ e. r .1 (rw (a .holds serial) (r′ .0 e)))
 
   -- what it pays for
@@ -82,11 +78,11 @@ module _ (unit : ℕ → ℕ) (q : ℕ) (s : List ℕ) (k k′ : Accounts) (c : 
 
   -- the lines of its calls
   same-allocate : (n : ℕ) → allocate-lines unit s k q n ≡ allocate-lines unit s k′ q n
-  unfolding allocate-lines line-2 line-8 line-9 line-10 line-12
+  unfolding row-lines line-2 line-8 line-9 line-10 line-12
   same-allocate n = rw (c, c′, permitted 1, remains, a .record-left, a .last)
 
   same-reallocate : (h : Handle) (n : ℕ) → reallocate-lines unit s k q h n ≡ reallocate-lines unit s k′ q h n
-  unfolding reallocate-lines line-2 line-6 line-8 line-9 line-10 line-12
+  unfolding row-lines line-2 line-6 line-8 line-9 line-10 line-12
   same-reallocate h n = rw (c, c′, permitted 1, records (found (lookup-whole h s) .serial), remains, a .record-left, a .last)
 
   same-object : (n : ℕ) → new-object unit s k n ≡ new-object unit s k′ n
@@ -94,27 +90,27 @@ module _ (unit : ℕ → ℕ) (q : ℕ) (s : List ℕ) (k k′ : Accounts) (c : 
   same-object n = rw (a .last)
 
   same-claim : (h : Handle) → claim-lines unit s k q h ≡ claim-lines unit s k′ q h
-  unfolding claim-lines line-2 line-7 line-8 line-9 line-12 claims-first
+  unfolding row-lines line-2 line-7 line-8 line-9 line-12 claims-first
   same-claim h = rw (c, c′, permitted 2, records (found (lookup h s) .serial), a .holds (found (lookup h s) .serial), remains, a .record-left)
 
   same-release : (h : Handle) → release-lines unit s k q h ≡ release-lines unit s k′ q h
-  unfolding release-lines line-2 line-6
+  unfolding row-lines line-2 line-6
   same-release h = rw (c, c′, records (found (lookup h s) .serial))
 
   same-quota : quota-lines unit s k q ≡ quota-lines unit s k′ q
-  unfolding quota-lines line-2
+  unfolding row-lines line-2
   same-quota = rw (c, c′)
 
   same-free-all : free-all-lines unit s k q ≡ free-all-lines unit s k′ q
-  unfolding free-all-lines line-2 line-12
+  unfolding row-lines line-2 line-12
   same-free-all = rw (c, c′, permitted 4)
 
   same-check : check-lines unit s k ≡ check-lines unit s k′
-  unfolding check-lines line-2
+  unfolding row-lines line-2
   same-check = rw (c, c′)
 
   same-lend : (h : Handle) → lend-lines unit s k h ≡ lend-lines unit s k′ h
-  unfolding lend-lines line-2
+  unfolding row-lines line-2
   same-lend h = rw (c, c′)
 
   same-back : (o : Handle) → given-back q o k ≡ given-back q o k′
@@ -149,7 +145,7 @@ isolated-of tables =
     record {
       always = λ q s k k′ c c′ a d m.
           subst (λ (e : ℕ). step (tables (k .edition)) d s k .values ≡ step (tables e) d s k′ .values) (a .edition)
-          (answers (tables (k .edition)) q s k k′ c (subst (λ (e : ℕ). sound (tables e) s k′ ≡ true) (sym (a .edition)) c′) a d m);
+          (answers (tables (k .edition)) q s k k′ c (subst (λ (e : ℕ). consistent (tables e) s k′ ≡ true) (sym (a .edition)) c′) a d m);
     }
 
 pub isolated : Isolated table own-step

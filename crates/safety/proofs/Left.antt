@@ -11,7 +11,7 @@ use Rattle.accounts.specs.declared.settings.Settings.{Settings}
 use Rattle.rounding.specs.Rounding.{Units, table}
 use Rattle.rounding.proofs.Editions.{table-is}
 use Rattle.layout.specs.Blocks.{Block, live, QUARANTINED, render}
-use Rattle.model.specs.Lists.{all}
+use Rattle.lists.specs.Lists.{all}
 use Rattle.model.specs.Objects.{blocks-of, objects, objects-of, lookup, lookup-whole, found}
 use Rattle.model.specs.Consistent.{long-enough, well-cut, charges}
 use Rattle.model.specs.Refusals.{first-refusal, quota-lines, free-all-lines, lend-lines, release-lines, claim-lines, check-lines, allocate-lines}
@@ -23,8 +23,8 @@ use Rattle.model.specs.declared.Handle.{Handle}
 use Rattle.model.specs.declared.Call.{Call}
 use Rattle.model.specs.declared.Call.the-variants.{Allocate, AllocateArray, Claim, Release, FreeAll, Reallocate, Lend, Remaining, CanRelease, ListBlock}
 use Rattle.model.specs.declared.Call.the-variants.{ClearPermissions, Sweep}
-use Rattle.model.proofs.Bools.{and-right, and-both}
-use Rattle.model.proofs.Lists.{all-member, member-all}
+use Rattle.lists.proofs.Bools.{and-right, and-both}
+use Rattle.lists.proofs.Lists.{all-member, member-all}
 use Rattle.model.proofs.Refusals.{unless-where}
 use Rattle.invariant.proofs.Good.{Good}
 use Rattle.invariant.proofs.Heaps.{good-heap, heap-again}
@@ -144,7 +144,7 @@ written-clean : (p : ℕ → Bool) (l : Ledger) (s s′ : List ℕ) (k : Account
 written-clean p l s s′ k a w b =
     member-all (clean-block p) (blocks-of s′)
     (λ c m.
-    clean-member p c (λ f. clean-passes p c f (all-member (clean-block p) (blocks-of s) b c (written-others s s′ k (a .octets) (a .sound) w c f m))))
+    clean-member p c (λ f. clean-passes p c f (all-member (clean-block p) (blocks-of s) b c (written-others s s′ k (a .octets) (a .passes) w c f m))))
 
 -- an opening leaves one block of zeros
 opened-blank : (g : Settings) (grants s : List ℕ) (k : Accounts) → Opened g grants s k → blank s ≡ true
@@ -190,7 +190,7 @@ nothing-left-of tables units =
       called = call-clean tables units;
       wrote = write-clean tables units;
       bytes = λ begun es s k h b.
-          (let a = history-agrees tables units begun es s k h in byte-zero s (heap-again s k (a .octets) (a .sound)) b);
+          (let a = history-agrees tables units begun es s k h in byte-zero s (heap-again s k (a .octets) (a .passes)) b);
     }
 
 -- and so of both editions' tables

@@ -11,12 +11,12 @@ use borrow.Author.Tests.{ltb-true, ltb-false, le-leb, lt-ltb}
 use Rattle.layout.specs.Blocks.{Block, size, units, live, header-of, header-bytes, render-from, render}
 use Rattle.layout.proofs.Fields.{header-length}
 use Rattle.layout.proofs.Render.{written-behind}
-use Rattle.model.specs.Lists.{all, any}
+use Rattle.lists.specs.Lists.{all, any}
 use Rattle.model.specs.Objects.{blocks-of, object, objects-from, objects, objects-of}
 use Rattle.model.specs.Calls.{listing-from}
 use Rattle.model.specs.declared.Handle.{Handle}
 use Rattle.model.specs.declared.ListedBlock.{ListedBlock}
-use Rattle.model.proofs.Bools.{and-left, and-right, and-both, or-left, or-neither}
+use Rattle.lists.proofs.Bools.{and-left, and-right, and-both, or-left, or-neither}
 use Rattle.model.proofs.Blocks.{objects-live, objects-free}
 use Rattle.ledger.specs.History.{in-object}
 use Rattle.safety.specs.Left.{clean-block, is-zero, OffHeaders}

@@ -16,19 +16,19 @@ use Rattle.accounts.specs.declared.Accounts.{Accounts}
 use Rattle.accounts.specs.Accounts.{QUOTAS}
 use Rattle.rounding.specs.Rounding.{Units, table}
 use Rattle.rounding.proofs.Editions.{table-is}
-use Rattle.model.specs.Lists.{all, total}
+use Rattle.lists.specs.Lists.{all, total}
 use Rattle.model.specs.Objects.{blocks-of, objects, objects-of}
-use Rattle.model.specs.Consistent.{consistent, charge-of, held, charged-for, charges, balanced-from}
+use Rattle.model.specs.Consistent.{accounted, charge-of, held, charged-for, charges, balanced-from}
 use Rattle.model.specs.Step.{own-step}
 use Rattle.model.specs.declared.Handle.{Handle}
-use Rattle.model.proofs.Bools.{and-left, and-right}
-use Rattle.model.proofs.Consistent.{tests-exactly, consistent-cut}
+use Rattle.lists.proofs.Bools.{and-left, and-right}
+use Rattle.model.proofs.Consistent.{tests-exactly, accounted-cut}
 use Rattle.invariant.proofs.Good.{Ordered}
 use Rattle.invariant.proofs.Counts.{held-counted, counted-quota, record-counted}
 use Rattle.ledger.specs.History.{by-own}
 use Rattle.ledger.proofs.Theorem.{history-agrees}
 use Rattle.safety.specs.Paid.{live-charges, paid-in, PaidFor}
-use Rattle.safety.proofs.Isolated.{consistent-ordered}
+use Rattle.safety.proofs.Isolated.{accounted-ordered}
 
 -- the sum of f over from, from + 1, .., so many
 sum-from : (ℕ → ℕ) → ℕ → ℕ → ℕ
@@ -89,11 +89,11 @@ module _ (hs : List Hold) (r : Ordered hs) where
       omega arith
 
 -- of every consistent state
-pub paid-consistent : (s : List ℕ) (k : Accounts) → consistent s k ≡ true → length (k .quotas) ≡ QUOTAS → live-charges s ≤ paid-in k
+pub paid-accounted : (s : List ℕ) (k : Accounts) → accounted s k ≡ true → length (k .quotas) ≡ QUOTAS → live-charges s ≤ paid-in k
 unfolding live-charges paid-in objects-of
-paid-consistent s k c n =
-    let t = tests-exactly (blocks-of s) k .0 (consistent-cut s k c .1) in
-    let a = charged-all (k .holds) (consistent-ordered s k c) (objects (blocks-of s)) (t .recorded) in
+paid-accounted s k c n =
+    let t = tests-exactly (blocks-of s) k .0 (accounted-cut s k c .1) in
+    let a = charged-all (k .holds) (accounted-ordered s k c) (objects (blocks-of s)) (t .recorded) in
     let b = paid-charges (objects (blocks-of s)) (k .holds) 0 (k .quotas) (t .balance) in
     let d = ap (sum-from (λ j. charges (k .holds) j (objects (blocks-of s))) 0) n in
     omega (arith, a, b, d)
@@ -101,7 +101,7 @@ paid-consistent s k c n =
 -- THE THEOREM: so of every history
 pub paid-for-of : (tables : ℕ → ℕ → ℕ) → ((e : ℕ) → Units (tables e)) → PaidFor tables (by-own tables)
 paid-for-of tables units =
-    record { always = λ begun es s k h. (let a = history-agrees tables units begun es s k h in paid-consistent s k (a .sound) (a .quotas)) }
+    record { always = λ begun es s k h. (let a = history-agrees tables units begun es s k h in paid-accounted s k (a .passes) (a .quotas)) }
 
 pub paid-for : PaidFor table own-step
 paid-for = paid-for-of table table-is

@@ -17,17 +17,17 @@ use Rattle.accounts.specs.Accounts.{with-permissions, with-last-serial}
 use Rattle.rounding.specs.Rounding.{Units, table}
 use Rattle.rounding.proofs.Editions.{table-is}
 use Rattle.layout.specs.Blocks.{Block, size, occupied, quarantined, live, render}
-use Rattle.model.specs.Lists.{all, any, total}
+use Rattle.lists.specs.Lists.{all, any, total}
 use Rattle.model.specs.Answers.{accepted}
 use Rattle.model.specs.Objects.{blocks-of, objects-from, objects, objects-of}
 use Rattle.model.specs.Consistent.{allowed, starts-free, free-apart, record-valid, charges, balanced-from}
 use Rattle.model.specs.Refusals.{first-refusal, line-1, open-lines}
 use Rattle.model.specs.Calls.{Outcome, unless, fresh, open-heap}
 use Rattle.model.specs.Step.{own-step}
-use Rattle.model.proofs.Bools.{and-left, and-right}
-use Rattle.model.proofs.Lists.{all-member}
+use Rattle.lists.proofs.Bools.{and-left, and-right}
+use Rattle.lists.proofs.Lists.{all-member}
 use Rattle.model.proofs.Blocks.{apart-head}
-use Rattle.model.proofs.Consistent.{Tests, tests-exactly, consistent-cut, consistent-apart}
+use Rattle.model.proofs.Consistent.{Tests, tests-exactly, accounted-cut, accounted-apart}
 use Rattle.invariant.proofs.Heaps.{heap-again, render-total}
 use Rattle.ledger.specs.Ledger.{Ledger, Event, Called, Wrote, Saved, Restored, spans-from, quarantined-of, empty, unrestored, ledger-of}
 use Rattle.ledger.specs.History.{Begins, Opening, Restoring, History, by-own}
@@ -163,7 +163,7 @@ module _ (tables : ℕ → ℕ → ℕ) (begun : Ledger) where
 -- a blank heap that agrees with an empty ledger, and its records
 module _ (l : Ledger) (s : List ℕ) (k : Accounts) (a : Agrees l s k) (none : NobodyHolds l) (b : blank s ≡ true) (rs : length (k .holds) ≡ HOLDS) where
   tests : Tests (blocks-of s) k
-  tests = tests-exactly (blocks-of s) k .0 (consistent-cut s k (a .sound) .1)
+  tests = tests-exactly (blocks-of s) k .0 (accounted-cut s k (a .passes) .1)
 
   no-objects : objects (blocks-of s) ≡ []
   unfolding objects-of
@@ -174,7 +174,7 @@ module _ (l : Ledger) (s : List ℕ) (k : Accounts) (a : Agrees l s k) (none : N
   no-spans = empty-list (quarantined-of s) (λ x m. List·Memᴰ·not-nil (subst (List·Memᴰ x) (none .1) (a .waits .both x .0 m)))
 
   again : render (blocks-of s) ≡ s
-  again = heap-again s k (a .octets) (a .sound)
+  again = heap-again s k (a .octets) (a .passes)
 
   extent : length s ≡ total size (blocks-of s)
   extent = ap length (sym again) ∙ render-total (blocks-of s)
@@ -186,7 +186,7 @@ module _ (l : Ledger) (s : List ℕ) (k : Accounts) (a : Agrees l s k) (none : N
   -- one free block covers the heap
   one : (b : Block) × (blocks-of s ≡ b ∷ []) × (occupied b ≡ false) × (live b ≡ false)
   unfolding objects
-  one = one-block 0 (blocks-of s) no-objects no-spans (consistent-apart s k (a .sound)) (omega (arith, extent, long))
+  one = one-block 0 (blocks-of s) no-objects no-spans (accounted-apart s k (a .passes)) (omega (arith, extent, long))
 
   module _ (g : Settings) where
     covers : blocks-of s ≡ fresh g (length s) (grants k) .blocks
@@ -243,9 +243,9 @@ module _ (tables : ℕ → ℕ → ℕ) (units : (e : ℕ) → Units (tables e))
   opened-returned g given es s k h p none =
       let d = demand-3-of tables units .always (empty g given) es [] s k h in
       let u = none-read tables (empty g given) es s k h p in
-      subst (λ (x : List ℕ). AsOpened g x s k) (d .grants-kept ∙ d .grants-begun u)
+      subst (λ (x : List ℕ). AsOpened g x s k) (d .agrees .grants-kept ∙ d .grants-begun u)
       (restored-returned (empty g given) es s k h (images tables (empty g given) (λ s k. ⊥) _ (λ s k w. absurd w) es s k h p) none g
-      (sym (d .kind-kept ∙ d .kind-begun u)) (sym (d .edition-kept ∙ d .edition-begun u)))
+      (sym (d .agrees .kind-kept ∙ d .kind-begun u)) (sym (d .agrees .edition-kept ∙ d .edition-begun u)))
 
   pub all-returned-of : AllReturned tables (by-own tables)
   all-returned-of = record { opened = opened-returned; restored = restored-returned }

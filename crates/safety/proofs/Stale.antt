@@ -13,24 +13,23 @@ use Rattle.accounts.specs.declared.Accounts.{Accounts}
 use Rattle.accounts.specs.Accounts.{ALLOCATE, CLAIM}
 use Rattle.rounding.specs.Rounding.{Units, table}
 use Rattle.rounding.proofs.Editions.{table-is}
-use Rattle.model.specs.Lists.{all, any, is-none}
+use Rattle.lists.specs.Lists.{all, any, is-none}
 use Rattle.model.specs.Answers.{Values, refused}
 use Rattle.model.specs.Objects.{objects-of, names, lookup, lookup-whole}
-use Rattle.model.specs.Consistent.{allowed, sound}
-use Rattle.model.specs.Refusals.{Line, _when_, line-holds, first-refusal, line-1, line-2, line-3, line-4, line-5, line-12, lend-lines}
-use Rattle.model.specs.Refusals.{claim-lines, release-lines, reallocate-lines}
+use Rattle.model.specs.Consistent.{allowed, consistent}
+use Rattle.model.specs.Refusals.{Line, _when_, line-holds, first-refusal, line-1, line-2, line-3, line-4, line-5, line-12, row-lines}
 use Rattle.model.specs.Calls.{Outcome, unless, unchanged}
 use Rattle.model.specs.Step.{step, own-step}
 use Rattle.model.specs.declared.Handle.{Handle}
 use Rattle.model.specs.declared.Call.{Call}
 use Rattle.model.specs.declared.Call.the-variants.{Allocate, AllocateArray, Claim, Release, FreeAll, Reallocate, Lend, Remaining, CanRelease, ListBlock}
 use Rattle.model.specs.declared.Call.the-variants.{ClearPermissions, Sweep}
-use Rattle.model.proofs.Bools.{and-right}
-use Rattle.model.proofs.Lists.{first-none, none-exactly}
+use Rattle.lists.proofs.Bools.{and-right}
+use Rattle.lists.proofs.Lists.{first-none, none-exactly}
 use Rattle.model.proofs.Refusals.{Numbered, by-lines, unless-refused}
 use Rattle.model.proofs.Lookup.{names-exactly, lookup-whole-none}
 use Rattle.model.proofs.StepFrame.{step-serial}
-use Rattle.model.proofs.Consistent.{consistent-facts}
+use Rattle.model.proofs.Consistent.{accounted-facts}
 use Rattle.ledger.specs.Ledger.{Ledger, Event, Called, Wrote, Saved, Restored, record-call, record-event, unrestored, ledger-of}
 use Rattle.ledger.specs.History.{History, by-own}
 use Rattle.ledger.specs.Demand3.{objects-in}
@@ -82,8 +81,8 @@ same-handle h g e = ap (λ (o : Option Handle). or-first o) e
     or-first none = g
     or-first (some x) = x
 
--- in a sound state of an allowed length without an object of the handle's serial
-module _ (unit : ℕ → ℕ) (s : List ℕ) (k : Accounts) (extent : allowed (length s) ≡ true) (fits : sound unit s k ≡ true) where
+-- in a consistent state of an allowed length without an object of the handle's serial
+module _ (unit : ℕ → ℕ) (s : List ℕ) (k : Accounts) (extent : allowed (length s) ≡ true) (fits : consistent unit s k ≡ true) where
   -- lines 1 and 2 don't hold, and 5 does
   reached : (front back : List Line) (o : Option Handle) → o ≡ none
       → first-refusal (line-1 s ∷ line-2 unit s k ∷ (front ++ (line-5 o ∷ back))) ≡ first-refusal (front ++ ((5 when true) ∷ back))
@@ -108,25 +107,25 @@ module _ (unit : ℕ → ℕ) (s : List ℕ) (k : Accounts) (extent : allowed (l
 
     module _ (q : ℕ) where
       claims : Answers (Claim q h)
-      unfolding claim-lines stale-refusal lines-before-5 line-3 line-12 all
+      unfolding row-lines stale-refusal lines-before-5 line-3 line-12 all
       claims = by-lines unit (Claim q h) s k .outcome ∙ refused-there (line-3 q ∷ line-12 CLAIM k q ∷ []) _ (lookup h s) nothing refl _
 
       releases : Answers (Release q h)
-      unfolding release-lines stale-refusal lines-before-5 line-3 all
+      unfolding row-lines stale-refusal lines-before-5 line-3 all
       releases = by-lines unit (Release q h) s k .outcome ∙ refused-there (line-3 q ∷ []) _ (lookup h s) nothing refl _
 
       can-releases : Answers (CanRelease q h)
-      unfolding release-lines stale-refusal lines-before-5 line-3 all
+      unfolding row-lines stale-refusal lines-before-5 line-3 all
       can-releases = by-lines unit (CanRelease q h) s k .outcome ∙ refused-there (line-3 q ∷ []) _ (lookup h s) nothing refl _
 
       reallocates : (n : ℕ) → Answers (Reallocate q h n)
-      unfolding reallocate-lines stale-refusal lines-before-5 line-3 line-4 line-12 all
+      unfolding row-lines stale-refusal lines-before-5 line-3 line-4 line-12 all
       reallocates n =
           by-lines unit (Reallocate q h n) s k .outcome
           ∙ refused-there (line-3 q ∷ line-12 ALLOCATE k q ∷ line-4 n ∷ []) _ (lookup-whole h s) nothing-whole refl _
 
     lends : Answers (Lend h)
-    unfolding lend-lines stale-refusal lines-before-5 all
+    unfolding row-lines stale-refusal lines-before-5 all
     lends = by-lines unit (Lend h) s k .outcome ∙ refused-there [] [] (lookup h s) nothing refl _
 
     answers : (c : Call) → handle-of c ≡ some h → Answers c
@@ -186,7 +185,7 @@ module _ (tables : ℕ → ℕ → ℕ) (begun : Ledger) where
 -- an object of the ledger has a serial that was given
 serial-given : (l : Ledger) (s : List ℕ) (k : Accounts) → Agrees l s k → (n : ℕ) → HasSerial n l → n ≤ k .«last_serial»
 unfolding objects-of
-serial-given l s k a n r = rw (← r .2) (consistent-facts s k (a .sound) .given (r .0) (a .matches .objects (r .0) .1 (r .1)))
+serial-given l s k a n r = rw (← r .2) (accounted-facts s k (a .passes) .given (r .0) (a .matches .objects (r .0) .1 (r .1)))
 
 -- THE THEOREM
 module _ (tables : ℕ → ℕ → ℕ) (units : (e : ℕ) → Units (tables e)) where
@@ -195,8 +194,8 @@ module _ (tables : ℕ → ℕ → ℕ) (units : (e : ℕ) → Units (tables e))
       → (HasSerial (h .serial) (ledger-of begun es) → ⊥) → NamesNothing (by-own tables) s k h
   unfolding stale-refusal
   names-nothing begun es s k past h gone =
-      let d = demand-3-of tables units .always begun es [] s k past in
-      let f = answers (tables (k .edition)) s k (d .length-allowed) (d .kept-sound) h (λ o m e. gone (o, d .live-recorded o m, e)) in
+      let d = demand-3-of tables units .always begun es [] s k past .agrees in
+      let f = answers (tables (k .edition)) s k (d .length-allowed) (d .kept-consistent) h (λ o m e. gone (o, d .live-recorded o m, e)) in
       record {
         refuses = f;
         by-5 = λ c e n. f c e ∙ ap (λ (m : ℕ). unchanged s k (refused m)) (none-in-front (lines-before-5 c k) n);

@@ -1,6 +1,6 @@
 -- What a quota has is its own. A call pays for and counts for its own quota alone. An object with a hold left stays live, since the objects after a call are
 -- old ones or the new one, and no call changes a byte of an object that stays.
-use Prim.Native.Nat.{ℕ, _-_, _*_, _<_}
+use Prim.Native.Nat.{ℕ, _*_, _<_}
 use native.Mathlib.Omega.{arith}
 use mathlib.Core.Path.{_≡_, refl, ap, sym, _∙_}
 use mathlib.Core.List.{List, List·Memᴰ, Memᴰ·cast}
@@ -26,7 +26,7 @@ use Rattle.model.specs.declared.Call.the-variants.{Allocate, AllocateArray, Cla
 use Rattle.model.specs.declared.Call.the-variants.{ClearPermissions, Sweep}
 use Rattle.model.proofs.Refusals.{unless-where}
 use Rattle.model.proofs.Lookup.{same-serial}
-use Rattle.model.proofs.Permissions.{clear-kept}
+use Rattle.accounts.proofs.Laws.{clear-kept}
 use Rattle.model.proofs.StepFrame.{step-keeps, pays}
 use Rattle.invariant.proofs.Good.{Good}
 use Rattle.invariant.proofs.Heaps.{good-ordered}

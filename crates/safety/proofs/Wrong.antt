@@ -12,14 +12,14 @@ use borrow.Author.Tests.{ltb-true}
 use Rattle.accounts.specs.declared.Quota.{Quota}
 use Rattle.accounts.specs.Accounts.{QUOTAS, plain, remaining}
 use Rattle.rounding.specs.Rounding.{table}
-use Rattle.model.specs.Lists.{all}
+use Rattle.lists.specs.Lists.{all}
 use Rattle.model.specs.Answers.{Values}
 use Rattle.model.specs.Objects.{objects-of}
 use Rattle.model.specs.Calls.{Outcome, open-heap}
 use Rattle.model.specs.declared.Handle.{Handle}
 use Rattle.model.specs.declared.Call.{Call}
 use Rattle.model.specs.declared.Call.the-variants.{Allocate, Claim, Release, Lend}
-use Rattle.model.proofs.Bools.{and-left, and-right}
+use Rattle.lists.proofs.Bools.{and-left, and-right}
 use Rattle.model.proofs.Computing.{computing}
 use Rattle.ledger.specs.Ledger.{Ledger, Event, Called, Wrote, empty}
 use Rattle.ledger.specs.History.{Run, Begins, Opening, in-object, Written, History}

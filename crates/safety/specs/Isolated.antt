@@ -6,8 +6,8 @@ use mathlib.Core.Bool.{true}
 use mathlib.Core.Option.{some}
 use Rattle.accounts.specs.declared.Accounts.{Accounts}
 use Rattle.accounts.specs.Accounts.{quota-at, used}
-use Rattle.model.specs.Lists.{all}
-use Rattle.model.specs.Consistent.{sound as is-sound}
+use Rattle.lists.specs.Lists.{all}
+use Rattle.model.specs.Consistent.{consistent as is-consistent}
 use Rattle.model.specs.Holds.{count-of}
 use Rattle.model.specs.declared.Call.{Call}
 use Rattle.ledger.specs.History.{Run}
@@ -25,7 +25,7 @@ pub record Alike (q : ℕ) (k k′ : Accounts) : Type 0 where
   pub last : k .«last_serial» ≡ k′ .«last_serial»
   pub record-left : all used (k .holds) ≡ all used (k′ .holds)
 
--- over the same heap they give the same answers. Any two sound states; no history is asked for
+-- over the same heap they give the same answers. Any two consistent states; no history is asked for
 pub record Isolated (tables : ℕ → ℕ → ℕ) (run : Run) : Type 0 where
-  pub always : (q : ℕ) (s : List ℕ) (k k′ : Accounts) → is-sound (tables (k .edition)) s k ≡ true → is-sound (tables (k′ .edition)) s k′ ≡ true
+  pub always : (q : ℕ) (s : List ℕ) (k k′ : Accounts) → is-consistent (tables (k .edition)) s k ≡ true → is-consistent (tables (k′ .edition)) s k′ ≡ true
       → Alike q k k′ → (c : Call) → MadeFor q c → run c s k .values ≡ run c s k′ .values

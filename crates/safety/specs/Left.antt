@@ -7,7 +7,7 @@ use lib.ListN.{getD}
 use lib.Dec.{eqb}
 use Rattle.accounts.specs.declared.Accounts.{Accounts}
 use Rattle.layout.specs.Blocks.{Block, live}
-use Rattle.model.specs.Lists.{all}
+use Rattle.lists.specs.Lists.{all}
 use Rattle.model.specs.Objects.{blocks-of, objects-of}
 use Rattle.model.specs.Calls.{listing-from}
 use Rattle.model.specs.declared.ListedBlock.{ListedBlock}

@@ -3,7 +3,7 @@ use Prim.Native.Nat.{ℕ, _-_, _≤_}
 use mathlib.Core.List.{List}
 use Rattle.accounts.specs.declared.Quota.{Quota}
 use Rattle.accounts.specs.declared.Accounts.{Accounts}
-use Rattle.model.specs.Lists.{total}
+use Rattle.lists.specs.Lists.{total}
 use Rattle.model.specs.Objects.{objects-of}
 use Rattle.model.specs.Consistent.{charge-of}
 use Rattle.model.specs.declared.Handle.{Handle}

@@ -1,20 +1,23 @@
 -- Stale handles (rules 24.1 to 24.3): once an object has left, no call reaches anything through a handle with its serial.
 use Prim.Native.Nat.{ℕ, _≤_}
 use mathlib.Core.Path.{_≡_}
-use mathlib.Core.List.{List, [], _∷_, _++_, List·Memᴰ}
-use mathlib.Core.Bool.{true, false}
+use mathlib.Core.List.{List, [], _∷_, _++_, map, List·Memᴰ}
+use mathlib.Core.Bool.{true, false, cond}
 use mathlib.Core.Option.{some}
+use lib.Dec.{eqb}
+use lib.ListN.{drop}
 use Rattle.accounts.specs.declared.Accounts.{Accounts}
-use Rattle.accounts.specs.Accounts.{ALLOCATE, CLAIM}
-use Rattle.model.specs.Lists.{any}
-use Rattle.model.specs.Answers.{refused}
+use Rattle.rounding.specs.Rounding.{unit}
+use Rattle.lists.specs.Lists.{any}
+use Rattle.model.specs.Answers.{refusal-number, refused}
 use Rattle.model.specs.Objects.{objects-of}
-use Rattle.model.specs.Refusals.{Line, _when_, line-holds, first-refusal, line-3, line-4, line-12}
+use Rattle.model.specs.Refusals.{Line, _when_, line-holds, first-refusal, lines-of, line-for}
+use Rattle.model.specs.Rows.{row-of, arguments-of}
 use Rattle.model.specs.Calls.{unchanged}
 use Rattle.model.specs.declared.Handle.{Handle}
 use Rattle.model.specs.declared.Call.{Call}
-use Rattle.model.specs.declared.Call.the-variants.{Allocate, AllocateArray, Claim, Release, FreeAll, Reallocate, Lend, Remaining, CanRelease, ListBlock}
-use Rattle.model.specs.declared.Call.the-variants.{ClearPermissions, Sweep}
+use Rattle.model.specs.declared.Refusal.{Refusal}
+use Rattle.model.specs.declared.Refusal.the-variants.{NoSuchObject}
 use Rattle.ledger.specs.Ledger.{Ledger, Event, Restored, unrestored, ledger-of}
 use Rattle.ledger.specs.History.{Run, History}
 use Rattle.ledger.specs.Demand3.{objects-in}
@@ -24,20 +27,16 @@ use Rattle.safety.specs.Arguments.{handle-of}
 abbrev pub HasSerial : ℕ → Ledger → Type 0
 HasSerial n l = (o : Handle) × List·Memᴰ o (objects-in l) × (o .serial ≡ n)
 
--- the lines of a call with a handle that stand in front of line 5 and can hold in a history, where 1 and 2 never do
+-- what stands in front of a line
+abbrev pub in-front-of : Refusal → List Refusal → List Refusal
+in-front-of r [] = []
+in-front-of r (x ∷ xs) = cond (eqb (refusal-number r) (refusal-number x)) [] (x ∷ in-front-of r xs)
+
+-- the lines of a call with a handle that stand in front of line 5 and can hold in a history, where 1 and 2 never do; these look
+-- at no byte of the heap and at no table
 unfoldable pub lines-before-5 : Call → Accounts → List Line
-lines-before-5 (Allocate q n) k = []
-lines-before-5 (AllocateArray q count size) k = []
-lines-before-5 (Claim q h) k = line-3 q ∷ line-12 CLAIM k q ∷ []
-lines-before-5 (Release q h) k = line-3 q ∷ []
-lines-before-5 (FreeAll q) k = []
-lines-before-5 Sweep k = []
-lines-before-5 (Reallocate q h n) k = line-3 q ∷ line-12 ALLOCATE k q ∷ line-4 n ∷ []
-lines-before-5 (Lend h) k = []
-lines-before-5 (Remaining q) k = []
-lines-before-5 (CanRelease q h) k = line-3 q ∷ []
-lines-before-5 (ListBlock at) k = []
-lines-before-5 (ClearPermissions q n) k = []
+lines-before-5 c k =
+    map (λ r. line-for unit r (row-of c) (arguments-of c) [] k) (in-front-of NoSuchObject (drop 2 (lines-of (row-of c))))
 
 -- what a call with a stale handle answers
 unfoldable pub stale-refusal : Call → Accounts → ℕ

@@ -7,6 +7,7 @@ use native.Mathlib.Omega.{arith}
 use lib.ListN.{length}
 use lib.Dec.{leb}
 use borrow.Author.Tests.{le-leb, lt-leb, leb-true}
+use Rattle.lists.proofs.Bools.{and-parts}
 use Rattle.settings.proofs.Rows
 use Rattle.settings.specs.declared.Entry.{Entry}
 use Rattle.settings.specs.declared.Read.the-variants.{Whole, Bad}
@@ -52,10 +53,6 @@ pub record Known (last at : ℕ) (s : List ℕ) (e : Entry) : Type 0 where
   pub short : e .end ≤ at + 68
   pub rises : last ≤ e .version
   pub inside : e .end ≤ length s
-
-and-parts : (x y : Bool) → (x && y) ≡ true → (x ≡ true) × (y ≡ true)
-and-parts true y e = (refl, e)
-and-parts false y e = let z : _≡_ {A = Bool} false true = e in let w : _≡_ {A = ℕ} 0 1 = cc in absurd (omega arith)
 
 pub known-at : (last at : ℕ) (s : List ℕ) → entry-fits last at s ≡ true → Known last at s (entry-at at s)
 unfolding entry-fits

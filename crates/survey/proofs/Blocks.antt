@@ -10,7 +10,7 @@ use Rattle.layout.specs.Blocks.{header-at, start-at}
 use Rattle.layout.specs.declared.Start.{Start}
 use Rattle.layout.specs.declared.Start.the-variants.{Block as Starts, Nothing as No-start}
 use Rattle.layout.proofs.Starts.{start-found}
-use Rattle.model.specs.Lists.{first}
+use Rattle.lists.specs.Lists.{first}
 use Rattle.model.specs.declared.Handle.{Handle}
 use Rattle.lookup.specs.declared.Met.{Met}
 use Rattle.lookup.specs.declared.Lookup.the-variants.{Found, Missing}

@@ -8,8 +8,8 @@ use mathlib.Core.Logic.{_⊎_, inl, inr, ⊎-elim}
 use native.Mathlib.Omega.{arith}
 use lib.ListN.{length, getD, set, replicate, length-set, getD-replicate, length-replicate}
 use lib.Seq.{getD-set-same, getD-set-other}
+use Rattle.lists.proofs.Bools.{by-eq}
 use Rattle.accounts.specs.Accounts.{HOLDS}
-use Rattle.audit.proofs.Cases.{by-eq}
 use Rattle.words.specs.Words.{serial-in}
 use Rattle.survey.specs.Index.{SLOTS, LINKS, END, FORKED, slot, bits-of, fork, Leads, here, head-of, Head, Reached, Growing, Built}
 use Rattle.survey.specs.Contracts.{Hung}

@@ -8,10 +8,10 @@ use borrow.Author.Tests.{eq-eqb, ne-eqb, lt-ltb, le-ltb, le-leb, lt-leb, eqb-tru
 use lib.Dec.{eqb, ltb, leb}
 use lib.ListN.{length, getD, set, length-set}
 use lib.Seq.{getD-set-same, getD-set-other, ext-getD}
+use Rattle.lists.proofs.Bools.{by-test, by-eq}
 use Rattle.accounts.specs.Accounts.{QUOTAS, HOLDS, zero-hold}
-use Rattle.model.specs.Lists.{all}
+use Rattle.lists.specs.Lists.{all}
 use Rattle.audit.specs.Keys.{well-formed, key-of, quota-of, for-serial}
-use Rattle.audit.proofs.Cases.{by-test, by-eq}
 use Rattle.audit.proofs.Tables.{all-at}
 use Rattle.audit.proofs.Records.{key-serial, key-quota, well-quota}
 use Rattle.audit.proofs.Striking.{zero-not}

@@ -8,8 +8,8 @@ use native.Mathlib.Omega.{arith}
 use borrow.Author.Tests.{ltb-true, ltb-false}
 use lib.Dec.{ltb}
 use lib.ListN.{length, drop}
+use Rattle.lists.proofs.Bools.{by-test}
 use Rattle.layout.specs.Blocks.{cut}
-use Rattle.audit.proofs.Cases.{by-test}
 use Rattle.survey.specs.Index.{keys-left}
 use Rattle.survey.specs.Contracts.{Stage, judged, Walked-to}
 use Rattle.survey.specs.Route.{Reaches, Last, Seeking, Passed, Halved}

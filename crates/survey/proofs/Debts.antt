@@ -11,10 +11,9 @@ use lib.ListN.{length, getD, drop, set, length-set, drop-of-length-le}
 use lib.Seq.{drop-cons}
 use Rattle.accounts.specs.declared.Quota.{Quota}
 use Rattle.accounts.specs.Accounts.{QUOTAS, zero-quota}
-use Rattle.model.specs.Lists.{all}
-use Rattle.model.proofs.Bools.{and-left, and-right, and-both, and-no}
+use Rattle.lists.specs.Lists.{all}
+use Rattle.lists.proofs.Bools.{and-left, and-right, and-both, and-no, by-test, same-test}
 use Rattle.audit.specs.Audit.{owes, entry-valid}
-use Rattle.audit.proofs.Cases.{by-test, same-test}
 use Rattle.audit.proofs.Tables.{owed-more, owed-all}
 
 -- two numbers are permissions exactly if their bits together are

@@ -16,11 +16,11 @@ use Rattle.layout.specs.Blocks.{start-at}
 use Rattle.layout.specs.declared.Header.{Header}
 use Rattle.layout.specs.declared.Start.the-variants.{Block as Starts, Nothing}
 use Rattle.layout.proofs.Starts.{start-found}
-use Rattle.model.specs.Lists.{all, any, keep}
+use Rattle.lists.specs.Lists.{all, any, keep}
 use Rattle.model.specs.Objects.{blocks-of}
-use Rattle.model.specs.Consistent.{is-of, held, consistent}
-use Rattle.model.proofs.Bools.{and-left, and-right, and-both}
-use Rattle.model.proofs.Consistent.{tests-exactly, consistent-cut, is-of-exactly}
+use Rattle.model.specs.Consistent.{is-of, held, accounted}
+use Rattle.lists.proofs.Bools.{and-left, and-right, and-both}
+use Rattle.model.proofs.Consistent.{tests-exactly, accounted-cut, is-of-exactly}
 use Rattle.lookup.specs.declared.Met.{Met}
 use Rattle.lookup.specs.Walk.{met-from, met, live-met}
 use Rattle.lookup.proofs.Walk.{met-nothing, met-block}
@@ -157,8 +157,8 @@ module _ {hs : List Hold} {s : List ℕ} {first table : List Bool} {i at : ℕ} 
         }
 
 -- the records of a consistent state are well-formed
-pub consistent-well : (s : List ℕ) (k : Accounts) → consistent s k ≡ true → all well-formed (k .holds) ≡ true
-consistent-well s k e = tests-well (blocks-of s) k (tests-exactly (blocks-of s) k .0 (consistent-cut s k e .1))
+pub accounted-well : (s : List ℕ) (k : Accounts) → accounted s k ≡ true → all well-formed (k .holds) ≡ true
+accounted-well s k e = tests-well (blocks-of s) k (tests-exactly (blocks-of s) k .0 (accounted-cut s k e .1))
 
 -- and stay so where a quota's are dropped
 pub drop-well : (q : ℕ) (hs : List Hold) → all well-formed hs ≡ true → all well-formed (drop-records q hs) ≡ true

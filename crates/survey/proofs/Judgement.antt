@@ -25,18 +25,18 @@ use Rattle.survey.proofs.Closing.{left-long}
 use Rattle.survey.proofs.Opening.{keyed, ready}
 use Rattle.model.specs.declared.Refusal.the-variants.{HeapLength, Inconsistent}
 use Rattle.model.specs.declared.Verdict.the-variants.{Accepted, Refused}
-use Rattle.model.specs.Lists.{all}
+use Rattle.lists.specs.Lists.{all}
 use Rattle.model.specs.Answers.{verdict-values}
-use Rattle.model.specs.Consistent.{allowed, in-range, sound, greatest-serial}
-use Rattle.model.specs.Refusals.{first-refusal, line-1, line-2, check-lines}
+use Rattle.model.specs.Consistent.{allowed, in-range, consistent, greatest-serial}
+use Rattle.model.specs.Refusals.{first-refusal, line-1, line-2, row-lines}
 use Rattle.model.specs.Calls.{unless, check}
-use Rattle.model.proofs.Bools.{and-left, and-right, and-no, and-yes}
+use Rattle.lists.proofs.Bools.{and-left, and-right, and-no, and-yes}
 use Rattle.audit.specs.Keys.{well-formed, keys-of}
 use Rattle.audit.specs.Audit.{owes, solvent, entry-valid, all-zero, begin, audit, audit-parsed, audited}
 use Rattle.audit.specs.Contracts.{Owing}
 use Rattle.audit.specs.Fitting.{fitting}
-use Rattle.audit.proofs.Fitting.{fitting-sound, unranged}
-use Rattle.audit.proofs.Consistency.{audited-is-consistent}
+use Rattle.audit.proofs.Fitting.{fitting-consistent, unranged}
+use Rattle.audit.proofs.Consistency.{audited-is-accounted}
 
 -- the two tests of each quota, one after the other
 valid-parts : (xs : List Quota) → all entry-valid xs ≡ (all solvent xs && all permissible (map (λ (x : Quota). x .permissions) xs))
@@ -57,12 +57,12 @@ one-fails w true r f p e = and-no (w && r) (f && p) (and-no f p e)
 module _ (unit : ℕ → ℕ) (s : List ℕ) (k : Accounts) where
   -- a length that is not allowed
   pub verdict-length : allowed (length s) ≡ false → verdict-values (Refused HeapLength) ≡ check unit s k .values
-  unfolding verdict-values check unless first-refusal check-lines line-1 line-2
+  unfolding verdict-values check unless first-refusal row-lines line-1 line-2
   verdict-length e = rw e
 
   -- numbers that are not in range
   pub verdict-range : allowed (length s) ≡ true → in-range k ≡ false → verdict-values (Refused Inconsistent) ≡ check unit s k .values
-  unfolding verdict-values check unless first-refusal check-lines line-1 line-2
+  unfolding verdict-values check unless first-refusal row-lines line-1 line-2
   verdict-range f e = rw (f, unranged unit s k e)
 
   module _ (fits : allowed (length s) ≡ true) (ranged : in-range k ≡ true) (long : length (k .quotas) ≡ QUOTAS) where
@@ -70,16 +70,16 @@ module _ (unit : ℕ → ℕ) (s : List ℕ) (k : Accounts) where
     abbrev beside : Bool
     beside = fitting unit (k .kind) 0 (parse s) && all permissible (permissions k)
 
-    same-verdict : (audited (parse s) k && beside) ≡ sound unit s k
-    same-verdict = ap (λ (x : Bool). x && beside) (audited-is-consistent s k long) ∙ fitting-sound unit s k ranged
+    same-verdict : (audited (parse s) k && beside) ≡ consistent unit s k
+    same-verdict = ap (λ (x : Bool). x && beside) (audited-is-accounted s k long) ∙ fitting-consistent unit s k ranged
 
     -- an audit that fails, and one that passes
     verdict-fails : (audited (parse s) k && beside) ≡ false → verdict-values (Refused Inconsistent) ≡ check unit s k .values
-    unfolding verdict-values check unless first-refusal check-lines line-1 line-2
+    unfolding verdict-values check unless first-refusal row-lines line-1 line-2
     verdict-fails e = rw (fits, sym same-verdict ∙ e)
 
     verdict-passes : (audited (parse s) k && beside) ≡ true → verdict-values Accepted ≡ check unit s k .values
-    unfolding verdict-values check unless first-refusal check-lines line-1 line-2
+    unfolding verdict-values check unless first-refusal row-lines line-1 line-2
     verdict-passes e = rw (fits, sym same-verdict ∙ e)
 
     -- a record that is not well-formed

@@ -7,12 +7,12 @@ use native.Mathlib.Omega.{arith}
 use borrow.Author.Tests.{eq-eqb, ne-eqb, lt-ltb, le-ltb, ltb-true, ltb-false}
 use lib.Dec.{ltb}
 use lib.ListN.{length, getD}
+use Rattle.lists.proofs.Bools.{by-test, by-eq}
 use Rattle.accounts.specs.declared.Hold.{Hold}
 use Rattle.accounts.specs.declared.Place.the-variants.{At, Nothing}
 use Rattle.accounts.specs.Accounts.{HOLDS, zero-hold, used, unused, lowest-unused, first-from}
 use Rattle.accounts.proofs.Laws.{First, None, first-found, none-nothing}
 use Rattle.audit.specs.Keys.{well-formed}
-use Rattle.audit.proofs.Cases.{by-test, by-eq}
 use Rattle.audit.proofs.Records.{no-serial}
 use Rattle.words.specs.Words.{hold-in, holds-of, accounts-of}
 use Rattle.words.proofs.Words.{holds-long, holds-at}

@@ -12,7 +12,7 @@ use Rattle.layout.specs.Blocks.{QUARANTINED, greatest-heap}
 use Rattle.layout.specs.declared.Header.{Header}
 use Rattle.model.specs.Objects.{names}
 use Rattle.model.specs.declared.Handle.{Handle}
-use Rattle.model.proofs.Bools.{and-right, and-no, fails}
+use Rattle.lists.proofs.Bools.{and-right, and-no, fails, by-test}
 use Rattle.model.proofs.Lookup.{Narrowed, names-exactly}
 use Rattle.lookup.specs.declared.Met.{Met}
 use Rattle.lookup.specs.declared.Lookup.{Lookup}
@@ -20,7 +20,6 @@ use Rattle.lookup.specs.declared.Lookup.the-variants.{Found, Missing}
 use Rattle.lookup.specs.Walk.{headed, met-at, live-met, object-met, holds-named, named-met, looked-up, find-object}
 use Rattle.lookup.proofs.Walk.{met-known, search-start, search-none}
 use Rattle.lookup.proofs.Reached.{object-low, object-high, object-here}
-use Rattle.audit.proofs.Cases.{by-test}
 use Rattle.survey.specs.Survey.{block-at, block-of}
 use Rattle.survey.specs.Route.{Last, edge-of, Halved}
 use Rattle.survey.proofs.Blocks.{met-block-at}

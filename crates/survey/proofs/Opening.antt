@@ -9,9 +9,9 @@ use borrow.Author.Tests.{eq-eqb, lt-ltb, ltb-true, ltb-false}
 use lib.Dec.{ltb}
 use lib.ListN.{length, getD, length-map, List·getD-map}
 use lib.Seq.{ext-getD}
+use Rattle.lists.proofs.Bools.{by-test, by-eq}
 use Rattle.accounts.specs.Accounts.{QUOTAS, HOLDS, zero-hold}
 use Rattle.audit.specs.Keys.{key-of, keys-of}
-use Rattle.audit.proofs.Cases.{by-test, by-eq}
 use Rattle.audit.proofs.Records.{no-key}
 use Rattle.words.specs.Words.{serial-in, hold-in, holds-of}
 use Rattle.words.proofs.Words.{holds-long, holds-at}

@@ -9,7 +9,7 @@ use lib.Dec.{eqb}
 use lib.ListN.{length}
 use Rattle.accounts.specs.declared.Hold.{Hold}
 use Rattle.accounts.specs.Accounts.{HOLDS, zero-hold, used}
-use Rattle.model.specs.Lists.{all, any}
+use Rattle.lists.specs.Lists.{all, any}
 use Rattle.audit.specs.Keys.{well-formed}
 use Rattle.audit.proofs.Records.{no-serial}
 use Rattle.audit.proofs.Tables.{all-at}

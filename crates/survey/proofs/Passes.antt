@@ -8,10 +8,10 @@ use native.Mathlib.Omega.{arith}
 use borrow.Author.Tests.{ltb-true, ltb-false}
 use lib.Dec.{ltb}
 use lib.ListN.{length, getD, List·getD-map}
+use Rattle.lists.proofs.Bools.{by-test, by-eq}
 use Rattle.accounts.specs.Accounts.{HOLDS, zero-hold, used}
-use Rattle.model.specs.Lists.{all}
+use Rattle.lists.specs.Lists.{all}
 use Rattle.audit.specs.Keys.{well-formed, key-of, keys-of}
-use Rattle.audit.proofs.Cases.{by-test, by-eq}
 use Rattle.audit.proofs.Tables.{all-places}
 use Rattle.audit.proofs.Records.{no-key, well-blank, well-possible, unused-zero, key-serial}
 use Rattle.words.specs.Words.{serial-in, rest-in, hold-in, holds-of, accounts-of}

@@ -10,9 +10,9 @@ use borrow.Author.Tests.{ltb-true, ltb-false}
 use lib.Dec.{ltb}
 use lib.ListN.{length, getD, set, length-set}
 use lib.Seq.{getD-set-same, getD-set-other}
+use Rattle.lists.proofs.Bools.{by-test, by-eq}
 use Rattle.accounts.specs.Accounts.{HOLDS}
 use Rattle.audit.specs.Keys.{for-serial}
-use Rattle.audit.proofs.Cases.{by-test, by-eq}
 use Rattle.survey.specs.Index.{SLOTS, LINKS, slot, fork, step, Leads, here, on, Findable, Growing}
 use Rattle.survey.specs.Contracts.{Hung}
 

@@ -6,8 +6,8 @@ use native.Mathlib.Omega.{arith}
 use borrow.Author.Tests.{lt-ltb, le-ltb}
 use lib.ListN.{length, getD, set, length-set, length-map, List·getD-map}
 use lib.Seq.{getD-set-same, getD-set-other, ext-getD}
+use Rattle.lists.proofs.Bools.{by-eq}
 use Rattle.accounts.specs.Accounts.{HOLDS}
-use Rattle.audit.proofs.Cases.{by-eq}
 use Rattle.survey.specs.Index.{CLOSED, inner, plain}
 
 -- a place in the table, and one behind it

@@ -13,14 +13,13 @@ use Rattle.layout.specs.declared.Header.{Header}
 use Rattle.layout.specs.declared.Start.the-variants.{Block as Starts, Nothing}
 use Rattle.layout.specs.Blocks.{read-header, header-at, starts-block, start-at}
 use Rattle.layout.proofs.Starts.{start-header}
-use Rattle.model.specs.Lists.{first}
-use Rattle.model.proofs.Bools.{and-no}
+use Rattle.lists.specs.Lists.{first}
+use Rattle.lists.proofs.Bools.{and-no, by-test}
 use Rattle.lookup.specs.declared.Met.{Met}
 use Rattle.lookup.specs.declared.Lookup.the-variants.{Found, Missing}
 use Rattle.lookup.specs.Walk.{headed, met-at, met, occupied-met, base-in, has-room}
 use Rattle.lookup.proofs.Multiple.{multiple-behind, multiple-gap}
 use Rattle.lookup.proofs.Walk.{met-block, met-short, Searching, search-start, search-found, search-ended, search-passed}
-use Rattle.audit.proofs.Cases.{by-test}
 use Rattle.survey.specs.Survey.{block-at, fit-place}
 use Rattle.survey.specs.Route.{TAKEN, Searched, Reaches, Last, Seeking, Passed}
 use Rattle.survey.proofs.Blocks.{met-block-at}

@@ -12,11 +12,11 @@ use borrow.Author.Tests.{ltb-true, ltb-false}
 use lib.Dec.{ltb}
 use lib.ListN.{length, getD, drop, set, length-set, getD-replicate}
 use lib.Seq.{getD-set-same, getD-set-other, drop-set-lt}
+use Rattle.lists.proofs.Bools.{by-test, by-eq}
 use Rattle.accounts.specs.Accounts.{QUOTAS, HOLDS}
 use Rattle.audit.specs.Keys.{quota-of, for-serial, strike, struck, Payment, cannot-pay, pays, pay, unpaid}
 use Rattle.audit.specs.Audit.{settled}
 use Rattle.audit.specs.Contracts.{Paid, Settled}
-use Rattle.audit.proofs.Cases.{by-test, by-eq}
 use Rattle.audit.proofs.Striking.{zero-not, paid-cannot, short-cannot, can-pay, pay-skip, pay-end, pay-fails, pay-hit, strike-set, struck-set, strike-none}
 use Rattle.survey.specs.Index.{step, Findable}
 use Rattle.survey.proofs.Paths.{before-path, find-on, find-struck}

@@ -16,9 +16,9 @@ use Rattle.accounts.specs.declared.Place.the-variants.{At, Nothing}
 use Rattle.accounts.specs.Accounts.{HOLDS, zero-hold, first-from}
 use Rattle.accounts.proofs.Laws.{found-first, nothing-none}
 use Rattle.layout.specs.Blocks.{greatest-heap}
-use Rattle.model.specs.Lists.{any, first}
+use Rattle.lists.specs.Lists.{any, first}
 use Rattle.model.specs.Consistent.{allowed}
-use Rattle.model.proofs.Bools.{and-left, and-right}
+use Rattle.lists.proofs.Bools.{and-left, and-right, by-test, by-eq}
 use Rattle.model.specs.Answers.{Values, verdict-values}
 use Rattle.model.specs.Calls.{check}
 use Rattle.model.specs.declared.Refusal.the-variants.{HeapLength, Inconsistent}
@@ -27,7 +27,6 @@ use Rattle.lookup.specs.declared.Met.{Met}
 use Rattle.lookup.specs.declared.Fit.the-variants.{Nowhere}
 use Rattle.lookup.specs.Walk.{has-room, met, fitted, find-fit}
 use Rattle.lookup.proofs.Fits.{fit-zero, fit-first}
-use Rattle.audit.proofs.Cases.{by-test, by-eq}
 use Rattle.survey.specs.declared.Wanted.{Wanted}
 use Rattle.survey.specs.declared.Surveyed.{Surveyed}
 use Rattle.survey.specs.Survey.{verdict-of, place-of, fit-place, refused-survey, Survey}

@@ -15,12 +15,12 @@ use Rattle.lookup.specs.declared.Met.{Met}
 use Rattle.lookup.specs.declared.Lookup.the-variants.{Found, Missing}
 use Rattle.lookup.specs.declared.Fit.the-variants.{At as Fits, Nowhere}
 use Rattle.lookup.specs.Walk.{met, live-met, object-met, holds-named, looked-up, multiple-from, base-in, fitted, find-object, find-fit}
-use Rattle.model.specs.Lists.{first}
+use Rattle.lists.specs.Lists.{first}
 use Rattle.model.specs.Objects.{names}
 use Rattle.model.specs.declared.Handle.{Handle}
 use Rattle.model.specs.declared.Verdict.the-variants.{Accepted}
-use Rattle.model.proofs.Bools.{and-left, and-right}
-use Rattle.model.proofs.Lists.{first-some}
+use Rattle.lists.proofs.Bools.{and-left, and-right}
+use Rattle.lists.proofs.Lists.{first-some}
 use Rattle.survey.specs.declared.Wanted.{Wanted}
 use Rattle.survey.specs.declared.Surveyed.{Surveyed}
 use Rattle.survey.specs.Survey.{verdict-of, handle-of, place-of, block-at, block-of, fit-place, Survey}

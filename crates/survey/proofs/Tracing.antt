@@ -10,12 +10,11 @@ use lib.Dec.{eqb}
 use lib.ListN.{length, getD}
 use Rattle.accounts.specs.declared.Hold.{Hold}
 use Rattle.accounts.specs.Accounts.{HOLDS, zero-hold, used, is-for, first-from}
-use Rattle.model.specs.Lists.{all}
+use Rattle.lists.specs.Lists.{all}
 use Rattle.model.specs.Consistent.{is-of}
-use Rattle.model.proofs.Bools.{and-left, and-no, fails}
+use Rattle.lists.proofs.Bools.{and-left, and-no, fails, by-test}
 use Rattle.model.proofs.Consistent.{is-of-exactly, is-for-exactly}
 use Rattle.audit.specs.Keys.{well-formed}
-use Rattle.audit.proofs.Cases.{by-test}
 use Rattle.audit.proofs.Tables.{all-at}
 use Rattle.audit.proofs.Records.{well-used}
 use Rattle.words.specs.Words.{hold-in, serial-in, quota-in, holds-of}

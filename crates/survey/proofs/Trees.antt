@@ -10,10 +10,9 @@ use borrow.Author.Tests.{eq-eqb, eqb-true, ltb-true, ltb-false}
 use lib.Dec.{eqb, ltb}
 use lib.ListN.{length, getD, set, length-set, replicate}
 use Rattle.accounts.specs.Accounts.{QUOTAS, HOLDS}
-use Rattle.model.proofs.Bools.{and-left, and-right}
+use Rattle.lists.proofs.Bools.{and-left, and-right, by-test, by-eq}
 use Rattle.audit.specs.Keys.{quota-of, for-serial, struck, pay, unpaid}
 use Rattle.audit.specs.Contracts.{Settled, Charged}
-use Rattle.audit.proofs.Cases.{by-test, by-eq}
 use Rattle.audit.proofs.Striking.{zero-not}
 use Rattle.words.specs.Words.{serial-in, quota-in}
 use Rattle.survey.specs.Index.{SLOTS, LINKS, END, FORKED, CLOSED, slot, bits-of, inner, plain, step, Leads, Findable, head-of, open-in, keys-left}

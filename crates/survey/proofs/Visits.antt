@@ -10,12 +10,11 @@ use native.Mathlib.Omega.{arith}
 use borrow.Author.Tests.{eq-eqb, ne-eqb, le-leb, lt-leb, leb-true, leb-false, eqb-true}
 use lib.Dec.{eqb, leb}
 use Rattle.model.specs.Consistent.{fits-unit}
-use Rattle.model.proofs.Bools.{and-no, and-left, and-right}
+use Rattle.lists.proofs.Bools.{and-no, and-left, and-right, by-eq}
 use Rattle.layout.specs.Blocks.{QUARANTINED}
 use Rattle.audit.specs.Keys.{strike, struck, pay, unpaid}
 use Rattle.audit.specs.Audit.{State, behind, visit, visit-free, visit-quarantined, visit-live, settled}
 use Rattle.audit.specs.Fitting.{fits-block}
-use Rattle.audit.proofs.Cases.{by-eq}
 use Rattle.survey.specs.Index.{keys-left}
 use Rattle.survey.specs.Contracts.{Ready, Done, Visited}
 

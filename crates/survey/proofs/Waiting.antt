@@ -8,8 +8,8 @@ use borrow.Author.Tests.{eq-eqb, ne-eqb, eqb-true, eqb-false}
 use lib.Dec.{eqb}
 use lib.ListN.{length, getD, set, length-set}
 use lib.Seq.{getD-set-same, getD-set-other}
+use Rattle.lists.proofs.Bools.{by-test, by-eq, same-test}
 use Rattle.audit.specs.Audit.{all-zero}
-use Rattle.audit.proofs.Cases.{by-test, by-eq, same-test}
 use Rattle.audit.proofs.Tables.{all-places, all-at}
 use Rattle.survey.specs.Index.{waiting}
 

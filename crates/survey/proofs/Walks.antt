@@ -18,11 +18,10 @@ use Rattle.layout.specs.Blocks.{Block, size, read-block, header-at, start-at, i
 use Rattle.layout.proofs.Starts.{start-found, start-header, start-no}
 use Rattle.layout.proofs.Fuel.{cut-end, cut-nothing, cut-at, cut-other, block-at, size-at}
 use Rattle.audit.specs.Audit.{all-zero, State, begin, behind, visit, audit, audit-parsed}
-use Rattle.model.specs.Lists.{all}
+use Rattle.lists.specs.Lists.{all}
 use Rattle.model.specs.Objects.{objects-from}
-use Rattle.model.proofs.Bools.{and-no}
+use Rattle.lists.proofs.Bools.{and-no, by-eq}
 use Rattle.audit.specs.Fitting.{fits-block, fitting}
-use Rattle.audit.proofs.Cases.{by-eq}
 use Rattle.audit.proofs.Fitting.{fitting-front}
 use Rattle.survey.specs.Index.{keys-left}
 use Rattle.survey.specs.Contracts.{Ready, Visited, Stage, judged, Walked-to}

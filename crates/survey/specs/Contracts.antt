@@ -10,7 +10,7 @@ use Rattle.accounts.specs.declared.Hold.{Hold}
 use Rattle.accounts.specs.Accounts.{QUOTAS, HOLDS, is-for, lowest-unused}
 use Rattle.layout.specs.Blocks.{Block, cut}
 use Rattle.framing.specs.Frames.{padded, stream-of}
-use Rattle.model.specs.Lists.{all}
+use Rattle.lists.specs.Lists.{all}
 use Rattle.audit.specs.Keys.{well-formed, keys-of}
 use Rattle.audit.specs.Audit.{behind, visit, audit-parsed}
 use Rattle.audit.specs.Contracts.{Settled}

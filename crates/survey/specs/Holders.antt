@@ -6,7 +6,7 @@ use mathlib.Core.Bool.{Bool, true, false, cond}
 use lib.ListN.{set}
 use Rattle.accounts.specs.declared.Hold.{Hold}
 use Rattle.accounts.specs.Accounts.{HOLDS}
-use Rattle.model.specs.Lists.{all, keep}
+use Rattle.lists.specs.Lists.{all, keep}
 use Rattle.model.specs.Consistent.{held}
 use Rattle.audit.specs.Keys.{well-formed}
 use Rattle.lookup.specs.declared.Met.{Met}

@@ -9,9 +9,9 @@ use mathlib.Core.Logic.{_⊎_}
 use lib.Dec.{eqb, ltb, leb}
 use lib.ListN.{length, getD}
 use Rattle.accounts.specs.Accounts.{QUOTAS, HOLDS}
-use Rattle.model.specs.Lists.{all}
+use Rattle.lists.specs.Lists.{all}
 use Rattle.audit.specs.Keys.{well-formed, key-of, for-serial}
-use Rattle.words.specs.Words.{table, hold-in, serial-in, holds-of}
+use Rattle.words.specs.Words.{tabulate, hold-in, serial-in, holds-of}
 
 -- the number of slots and of links; what an empty slot or link has; what is added to a slot's number when the record has others below it, and to a record's
 -- first link when it is closed
@@ -82,7 +82,7 @@ unfoldable pub key-left : List ℕ → List ℕ → List ℕ → ℕ → ℕ
 key-left words heads links p = cond (open-in words heads links p) (key-of (hold-in words p)) 0
 
 unfoldable pub keys-left : List ℕ → List ℕ → List ℕ → List ℕ
-keys-left words heads links = table HOLDS (key-left words heads links) 0
+keys-left words heads links = tabulate HOLDS (key-left words heads links) 0
 
 -- how many of the first n keys are not 0
 unfoldable pub waiting : ℕ → List ℕ → ℕ

@@ -5,7 +5,7 @@ use mathlib.Core.Bool.{Bool, cond, _&&_}
 use lib.Dec.{eqb}
 use Rattle.accounts.specs.declared.Hold.{Hold}
 use Rattle.accounts.specs.Accounts.{used}
-use Rattle.model.specs.Lists.{all, any, total}
+use Rattle.lists.specs.Lists.{all, any, total}
 use Rattle.audit.specs.Keys.{well-formed}
 use Rattle.survey.specs.declared.sharing.Holdings.{Holdings}
 use Rattle.survey.specs.Survey.{shares}

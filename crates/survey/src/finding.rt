@@ -13,7 +13,7 @@ ghost use mathlib.Core.Path.{_≡_};
 ghost use mathlib.Core.Bool.{true, not, cond, _&&_};
 ghost use lib.Dec.{eqb};
 ghost use Rattle.accounts.specs.Accounts.{HOLDS, first-from};
-ghost use Rattle.model.specs.Lists.{all};
+ghost use Rattle.lists.specs.Lists.{all};
 ghost use Rattle.audit.specs.Keys.{well-formed};
 ghost use Rattle.words.specs.Words.{holds-of};
 ghost use Rattle.survey.specs.Index.{Built};

@@ -13,7 +13,7 @@ ghost use mathlib.Core.Path.{_≡_};
 ghost use Prim.Native.Nat.{_<_};
 ghost use mathlib.Core.Bool.{true};
 ghost use Rattle.accounts.specs.Accounts.{HOLDS};
-ghost use Rattle.model.specs.Lists.{all};
+ghost use Rattle.lists.specs.Lists.{all};
 ghost use Rattle.audit.specs.Keys.{well-formed};
 ghost use Rattle.words.specs.Words.{hold-in, holds-of};
 ghost use Rattle.survey.specs.Index.{Built};

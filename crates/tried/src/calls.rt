@@ -3,9 +3,8 @@
 // 2 the size of its first block is spoiled.
 use crate::answers::numbers_of;
 use crate::answers::same_told;
-use crate::comparing::same_accounts;
 use crate::comparing::same_state;
-use crate::exports;
+use crate::performing;
 use crate::starting::bytes;
 use crate::starting::first;
 use crate::starting::second;
@@ -15,15 +14,15 @@ use crate::telling::tell;
 use model::Call;
 use words::WORDS;
 
-// Over the accounts where they lie.
-fn in_place(call: Call, refusal: u32) -> bool {
+// One call, with the refusal that is expected.
+fn answers(call: Call, refusal: u32) -> bool {
     let mut heap = bytes();
     let mut words = [0u32; WORDS];
     start_for(refusal, &mut heap, &mut words);
     let mut other = bytes();
     let mut others = [0u32; WORDS];
     start_for(refusal, &mut other, &mut others);
-    let given = exports::in_place(&mut heap, &mut words, call);
+    let given = performing::perform(&mut heap, &mut words, call);
     let wanted = numbers_of(heap::in_place::perform(&mut other, &mut others, call));
     if given.refusal != refusal {
         return false;
@@ -34,39 +33,14 @@ fn in_place(call: Call, refusal: u32) -> bool {
     same_state(&heap, &words, &other, &others)
 }
 
-// By value.
-fn by_value(call: Call, refusal: u32) -> bool {
-    let mut heap = bytes();
-    let mut words = [0u32; WORDS];
-    start_for(refusal, &mut heap, &mut words);
-    let mut other = bytes();
-    let mut others = [0u32; WORDS];
-    start_for(refusal, &mut other, &mut others);
-    let left = exports::by_value(&mut heap, words::accounts_of(&words), call);
-    let given = left.told;
-    let wanted = numbers_of(heap::in_place::perform(&mut other, &mut others, call));
-    if given.refusal != refusal {
-        return false;
-    }
-    if !same_told(given, wanted) {
-        return false;
-    }
-    if !check::same(&heap, &other) {
-        return false;
-    }
-    same_accounts(left.accounts, &others)
-}
-
-// A call that is accepted and one that is refused, both ways.
-fn tell_both(name: &[u8], by_value_name: &[u8], good: Call, bad: Call, refusal: u32) {
-    tell(name, in_place(good, 0) && in_place(bad, refusal));
-    tell(by_value_name, by_value(good, 0) && by_value(bad, refusal));
+// A call that is accepted and one that is refused.
+fn tell_both(name: &[u8], good: Call, bad: Call, refusal: u32) {
+    tell(name, answers(good, 0) && answers(bad, refusal));
 }
 
 fn allocations() {
     tell_both(
-        b"lokhazim_in_place_allocate",
-        b"lokhazim_allocate",
+        b"lokhazim_raw_allocate",
         Call::Allocate {
             quota: 0,
             length: 20,
@@ -78,8 +52,7 @@ fn allocations() {
         8,
     );
     tell_both(
-        b"lokhazim_in_place_allocate_array",
-        b"lokhazim_allocate_array",
+        b"lokhazim_raw_allocate_array",
         Call::AllocateArray {
             quota: 1,
             count: 3,
@@ -93,8 +66,7 @@ fn allocations() {
         4,
     );
     tell_both(
-        b"lokhazim_in_place_reallocate",
-        b"lokhazim_reallocate",
+        b"lokhazim_raw_reallocate",
         Call::Reallocate {
             quota: 0,
             handle: first(),
@@ -111,8 +83,7 @@ fn allocations() {
 
 fn holds() {
     tell_both(
-        b"lokhazim_in_place_claim",
-        b"lokhazim_claim",
+        b"lokhazim_raw_claim",
         Call::Claim {
             quota: 1,
             handle: first(),
@@ -124,8 +95,7 @@ fn holds() {
         12,
     );
     tell_both(
-        b"lokhazim_in_place_release",
-        b"lokhazim_release",
+        b"lokhazim_raw_release",
         Call::Release {
             quota: 0,
             handle: first(),
@@ -137,15 +107,13 @@ fn holds() {
         5,
     );
     tell_both(
-        b"lokhazim_in_place_free_all",
-        b"lokhazim_free_all",
+        b"lokhazim_raw_free_all",
         Call::FreeAll { quota: 1 },
         Call::FreeAll { quota: 2 },
         12,
     );
     tell_both(
-        b"lokhazim_in_place_clear_permissions",
-        b"lokhazim_clear_permissions",
+        b"lokhazim_raw_clear_permissions",
         Call::ClearPermissions { quota: 1, bits: 5 },
         Call::ClearPermissions { quota: 32, bits: 5 },
         3,
@@ -154,22 +122,19 @@ fn holds() {
 
 fn questions() {
     tell_both(
-        b"lokhazim_in_place_lend",
-        b"lokhazim_lend",
+        b"lokhazim_raw_lend",
         Call::Lend { handle: second() },
         Call::Lend { handle: stale() },
         5,
     );
     tell_both(
-        b"lokhazim_in_place_remaining",
-        b"lokhazim_remaining",
+        b"lokhazim_raw_remaining",
         Call::Remaining { quota: 0 },
         Call::Remaining { quota: 32 },
         3,
     );
     tell_both(
-        b"lokhazim_in_place_can_release",
-        b"lokhazim_can_release",
+        b"lokhazim_raw_can_release",
         Call::CanRelease {
             quota: 1,
             handle: second(),
@@ -183,23 +148,15 @@ fn questions() {
 }
 
 fn blocks() {
+    tell_both(b"lokhazim_raw_sweep", Call::Sweep, Call::Sweep, 2);
     tell_both(
-        b"lokhazim_in_place_sweep",
-        b"lokhazim_sweep",
-        Call::Sweep,
-        Call::Sweep,
-        2,
-    );
-    tell_both(
-        b"lokhazim_in_place_list_block",
-        b"lokhazim_list_block",
+        b"lokhazim_raw_list_block",
         Call::ListBlock { at: 24 },
         Call::ListBlock { at: 24 },
         2,
     );
     tell_both(
-        b"lokhazim_in_place_list_block, behind the last",
-        b"lokhazim_list_block, behind the last",
+        b"lokhazim_raw_list_block, behind the last",
         Call::ListBlock { at: 128 },
         Call::ListBlock { at: 0 },
         2,

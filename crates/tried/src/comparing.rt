@@ -1,5 +1,4 @@
 // Whether two things are the same: words, handles, states.
-use accounts::Accounts;
 use model::Handle;
 use words::WORDS;
 
@@ -43,12 +42,6 @@ pub(crate) fn same_state(
         return false;
     }
     same_words(words, others)
-}
-
-// Accounts by value, and words that hold them with no padding.
-pub(crate) fn same_accounts(accounts: Accounts, words: &[u32; WORDS]) -> bool {
-    let made = words::words_of(accounts);
-    same_words(&made, words)
 }
 
 pub(crate) fn same_handle(one: Handle, two: Handle) -> bool {

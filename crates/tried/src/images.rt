@@ -1,7 +1,5 @@
 // Images as C writes, reads and asks for them, of a plain heap of 128 bytes: 5,120 bytes in form 2 and 1,536 in form
-// 1. What is written by value is compared with what is written in place, and the other way round; what is read with
-// the state.
-use crate::comparing::same_accounts;
+// 1. What is written is compared with what `image` writes, and what is read with the state.
 use crate::comparing::same_state;
 use crate::starting::bytes;
 use crate::starting::plain_start;
@@ -31,26 +29,10 @@ fn writes() -> bool {
     let mut heap = bytes();
     let mut words = [0u32; WORDS];
     plain_start(&mut heap, &mut words);
-    let accounts = words::accounts_of(&words);
     let mut one = room();
     let mut two = room();
-    let reply = image_api::lokhazim_image_write(&mut one, &heap, accounts);
+    let reply = exports::lokhazim_raw_image_write(&mut one, &heap, &words);
     let answer = image::in_place::write_image(&mut two, &heap, &words);
-    if reply.refusal != 0 || reply.length != 5120 {
-        return false;
-    }
-    wrote(answer, 5120) && check::same(&one, &two)
-}
-
-fn writes_in_place() -> bool {
-    let mut heap = bytes();
-    let mut words = [0u32; WORDS];
-    plain_start(&mut heap, &mut words);
-    let accounts = words::accounts_of(&words);
-    let mut one = room();
-    let mut two = room();
-    let reply = image_api::lokhazim_image_in_place_write(&mut one, &heap, &words);
-    let answer = image::write_image(&mut two, &heap, accounts);
     if reply.refusal != 0 || reply.length != 5120 {
         return false;
     }
@@ -61,26 +43,10 @@ fn writes_form_1() -> bool {
     let mut heap = bytes();
     let mut words = [0u32; WORDS];
     plain_start(&mut heap, &mut words);
-    let accounts = words::accounts_of(&words);
     let mut one = room();
     let mut two = room();
-    let reply = image_api::lokhazim_image_write_form_1(&mut one, &heap, accounts);
+    let reply = exports::lokhazim_raw_image_write_form_1(&mut one, &heap, &words);
     let answer = image::in_place::write_form_1(&mut two, &heap, &words);
-    if reply.refusal != 0 || reply.length != 1536 {
-        return false;
-    }
-    wrote(answer, 1536) && check::same(&one, &two)
-}
-
-fn writes_form_1_in_place() -> bool {
-    let mut heap = bytes();
-    let mut words = [0u32; WORDS];
-    plain_start(&mut heap, &mut words);
-    let accounts = words::accounts_of(&words);
-    let mut one = room();
-    let mut two = room();
-    let reply = image_api::lokhazim_image_in_place_write_form_1(&mut one, &heap, &words);
-    let answer = image::write_form_1(&mut two, &heap, accounts);
     if reply.refusal != 0 || reply.length != 1536 {
         return false;
     }
@@ -92,34 +58,17 @@ fn finds_no_room() -> bool {
     let mut heap = bytes();
     let mut words = [0u32; WORDS];
     plain_start(&mut heap, &mut words);
-    let accounts = words::accounts_of(&words);
     let mut short = [170u8; SHORT];
-    let one = image_api::lokhazim_image_write(&mut short, &heap, accounts);
-    let two = image_api::lokhazim_image_in_place_write(&mut short, &heap, &words);
-    let three = image_api::lokhazim_image_write_form_1(&mut short, &heap, accounts);
-    let four = image_api::lokhazim_image_in_place_write_form_1(&mut short, &heap, &words);
-    if one.refusal != 25 || two.refusal != 25 || three.refusal != 25 || four.refusal != 25 {
+    let one = exports::lokhazim_raw_image_write(&mut short, &heap, &words);
+    let two = exports::lokhazim_raw_image_write_form_1(&mut short, &heap, &words);
+    if one.refusal != 25 || two.refusal != 25 {
         return false;
     }
     check::same(&short, &[170u8; SHORT])
 }
 
 // An image of the state, read into another heap.
-fn reads() -> bool {
-    let mut heap = bytes();
-    let mut words = [0u32; WORDS];
-    plain_start(&mut heap, &mut words);
-    let mut image = [0u8; 5120];
-    image::in_place::write_image(&mut image, &heap, &words);
-    let mut other = bytes();
-    let reply = image_api::lokhazim_image_read(&image, &mut other);
-    if reply.refusal != 0 || !check::same(&other, &heap) {
-        return false;
-    }
-    same_accounts(reply.accounts, &words)
-}
-
-fn reads_in_place() -> bool {
+fn resumes() -> bool {
     let mut heap = bytes();
     let mut words = [0u32; WORDS];
     plain_start(&mut heap, &mut words);
@@ -127,12 +76,12 @@ fn reads_in_place() -> bool {
     image::in_place::write_image(&mut image, &heap, &words);
     let mut other = bytes();
     let mut others = [4294967295u32; WORDS];
-    let refusal = image_api::lokhazim_image_in_place_read(&image, &mut other, &mut others);
+    let refusal = exports::lokhazim_raw_image_resume(&image, &mut other, &mut others);
     refusal == 0 && same_state(&other, &others, &heap, &words)
 }
 
 // One byte of the image is another: 22, the heap stays, and the accounts are zero.
-fn reads_no_spoiled() -> bool {
+fn resumes_no_spoiled() -> bool {
     let mut heap = bytes();
     let mut words = [0u32; WORDS];
     plain_start(&mut heap, &mut words);
@@ -141,13 +90,8 @@ fn reads_no_spoiled() -> bool {
     image[20] = 255;
     let mut other = bytes();
     let mut others = [4294967295u32; WORDS];
-    let reply = image_api::lokhazim_image_read(&image, &mut other);
-    let refusal = image_api::lokhazim_image_in_place_read(&image, &mut other, &mut others);
-    if reply.refusal != 22 || refusal != 22 {
-        return false;
-    }
-    same_accounts(reply.accounts, &[0u32; WORDS])
-        && same_state(&other, &others, &bytes(), &[0u32; WORDS])
+    let refusal = exports::lokhazim_raw_image_resume(&image, &mut other, &mut others);
+    refusal == 22 && same_state(&other, &others, &bytes(), &[0u32; WORDS])
 }
 
 // Into a state in use: what it was is gone.
@@ -160,7 +104,7 @@ fn restores() -> bool {
     let mut other = bytes();
     let mut others = [0u32; WORDS];
     start(&mut other, &mut others);
-    let refusal = image_api::lokhazim_image_in_place_restore(&image, &mut other, &mut others);
+    let refusal = exports::lokhazim_raw_image_restore(&image, &mut other, &mut others);
     refusal == 0 && same_state(&other, &others, &heap, &words)
 }
 
@@ -172,7 +116,7 @@ fn restores_no_spoiled() -> bool {
     let image = [255u8; 512];
     let before = heap;
     let held = words;
-    let refusal = image_api::lokhazim_image_in_place_restore(&image, &mut heap, &mut words);
+    let refusal = exports::lokhazim_raw_image_restore(&image, &mut heap, &mut words);
     refusal == 22 && same_state(&heap, &words, &before, &held)
 }
 
@@ -182,9 +126,9 @@ fn examines() -> bool {
     plain_start(&mut heap, &mut words);
     let mut image = [0u8; 5120];
     image::in_place::write_image(&mut image, &heap, &words);
-    let good = image_api::lokhazim_image_examine(&image);
+    let good = exports::lokhazim_image_examine(&image);
     image[20] = 255;
-    let bad = image_api::lokhazim_image_examine(&image);
+    let bad = exports::lokhazim_image_examine(&image);
     if good.refusal != 0 || good.form != 2 || good.heap_length != 128 {
         return false;
     }
@@ -193,34 +137,30 @@ fn examines() -> bool {
 
 // Of a heap of 128 bytes, of the longest, and of a length that no heap has.
 fn lengths() -> bool {
-    let short = image_api::lokhazim_image_length(128);
-    let long = image_api::lokhazim_image_length(32768);
-    short == 5120 && long == 37888 && image_api::lokhazim_image_length(60) == 0
+    let short = exports::lokhazim_image_length(128);
+    let long = exports::lokhazim_image_length(32768);
+    short == 5120 && long == 37888 && exports::lokhazim_image_length(60) == 0
 }
 
 fn form_1_lengths() -> bool {
-    let short = image_api::lokhazim_image_length_form_1(128);
-    let long = image_api::lokhazim_image_length_form_1(32768);
-    short == 1536 && long == 34816 && image_api::lokhazim_image_length_form_1(60) == 0
+    let short = exports::lokhazim_image_length_form_1(128);
+    let long = exports::lokhazim_image_length_form_1(32768);
+    short == 1536 && long == 34816 && exports::lokhazim_image_length_form_1(60) == 0
 }
 
 pub(crate) fn all() {
     let refuses = finds_no_room();
-    tell(b"lokhazim_image_write", writes() && refuses);
+    tell(b"lokhazim_raw_image_write", writes() && refuses);
     tell(
-        b"lokhazim_image_in_place_write",
-        writes_in_place() && refuses,
+        b"lokhazim_raw_image_write_form_1",
+        writes_form_1() && refuses,
     );
-    tell(b"lokhazim_image_write_form_1", writes_form_1() && refuses);
     tell(
-        b"lokhazim_image_in_place_write_form_1",
-        writes_form_1_in_place() && refuses,
+        b"lokhazim_raw_image_resume",
+        resumes() && resumes_no_spoiled(),
     );
-    let spoiled = reads_no_spoiled();
-    tell(b"lokhazim_image_read", reads() && spoiled);
-    tell(b"lokhazim_image_in_place_read", reads_in_place() && spoiled);
     tell(
-        b"lokhazim_image_in_place_restore",
+        b"lokhazim_raw_image_restore",
         restores() && restores_no_spoiled(),
     );
     tell(b"lokhazim_image_examine", examines());

@@ -4,16 +4,17 @@
 mod answers;
 mod calls;
 mod comparing;
-mod exports;
+mod counts;
 mod images;
 mod lending;
 mod moving;
 mod opening;
+mod performing;
 mod queues;
 mod replaying;
 mod reports;
 mod starting;
-mod statistics;
+mod stores;
 mod telling;
 mod writing;
 
@@ -26,6 +27,7 @@ fn main() {
     moving::all();
     queues::all();
     reports::all();
-    statistics::all();
+    counts::all();
+    stores::all();
     replaying::all();
 }

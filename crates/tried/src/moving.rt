@@ -4,8 +4,8 @@ use crate::starting::bytes;
 use crate::starting::first;
 use crate::starting::plain_start;
 use crate::telling::tell;
-use comparison_api::CompareReply;
-use comparison_api::NextReply;
+use exports::CompareReply;
+use exports::NextReply;
 use words::WORDS;
 
 // The state, in one form and in the other.
@@ -41,31 +41,31 @@ fn changed() -> [u8; 5120] {
 // Each form becomes the other, and is refused where it is of that form already.
 fn moves_up() -> bool {
     let mut out = [170u8; 5120];
-    let reply = image_api::lokhazim_image_move_up(&form_1(), &mut out);
+    let reply = exports::lokhazim_image_move_up(&form_1(), &mut out);
     reply.refusal == 0 && reply.length == 5120 && check::same(&out, &form_2())
 }
 
 fn moves_no_form_2_up() -> bool {
     let mut out = [170u8; 5120];
-    let reply = image_api::lokhazim_image_move_up(&form_2(), &mut out);
+    let reply = exports::lokhazim_image_move_up(&form_2(), &mut out);
     reply.refusal == 23 && reply.length == 0 && begins(&out, b"")
 }
 
 fn moves_down() -> bool {
     let mut out = [170u8; 1536];
-    let reply = image_api::lokhazim_image_move_down(&form_2(), &mut out);
+    let reply = exports::lokhazim_image_move_down(&form_2(), &mut out);
     reply.refusal == 0 && reply.length == 1536 && check::same(&out, &form_1())
 }
 
 fn moves_no_form_1_down() -> bool {
     let mut out = [170u8; 1536];
-    let reply = image_api::lokhazim_image_move_down(&form_1(), &mut out);
+    let reply = exports::lokhazim_image_move_down(&form_1(), &mut out);
     reply.refusal == 23 && reply.length == 0 && begins(&out, b"")
 }
 
 // What compare gives of two images and a number.
 fn compares(one: &[u8], two: &[u8], n: usize, wanted: CompareReply) -> bool {
-    let reply = comparison_api::lokhazim_image_compare(one, two, n);
+    let reply = exports::lokhazim_image_compare(one, two, n);
     if reply.refusal != wanted.refusal || reply.which != wanted.which || reply.kind != wanted.kind {
         return false;
     }
@@ -102,7 +102,7 @@ fn refuses_the_second() -> bool {
 
 // What the next difference is from a position.
 fn goes_on(one: &[u8], two: &[u8], part: u32, at: usize, wanted: NextReply) -> bool {
-    let reply = comparison_api::lokhazim_image_compare_next(one, two, part, at);
+    let reply = exports::lokhazim_image_compare_next(one, two, part, at);
     if reply.refusal != wanted.refusal || reply.which != wanted.which || reply.kind != wanted.kind {
         return false;
     }

@@ -1,13 +1,11 @@
 // Open, as C calls it: a heap of an allowed length and one that is too short, over whatever bytes and words there
 // are.
-use crate::comparing::same_accounts;
 use crate::comparing::same_state;
 use crate::starting::bytes;
 use crate::starting::grants;
 use crate::starting::quarantine;
 use crate::telling::tell;
-use accounts::Accounts;
-use c_api::Grants;
+use exports::Grants;
 use words::WORDS;
 
 // Words of a state that was there before.
@@ -16,10 +14,10 @@ fn used_words() -> [u32; WORDS] {
 }
 
 // Heap and words are those of an opening with the same settings.
-fn opens_in_place() -> bool {
+fn opens() -> bool {
     let mut heap = bytes();
     let mut words = used_words();
-    let refusal = c_api::lokhazim_in_place_open(
+    let refusal = exports::lokhazim_raw_open(
         &mut heap,
         &mut words,
         Grants { values: grants() },
@@ -33,10 +31,10 @@ fn opens_in_place() -> bool {
 }
 
 // The heap stays, and all words are zero.
-fn refuses_in_place() -> bool {
+fn refuses() -> bool {
     let mut heap = [170u8; 63];
     let mut words = used_words();
-    let refusal = c_api::lokhazim_in_place_open(
+    let refusal = exports::lokhazim_raw_open(
         &mut heap,
         &mut words,
         Grants { values: grants() },
@@ -46,36 +44,6 @@ fn refuses_in_place() -> bool {
     refusal == 1 && same_state(&heap, &words, &[170u8; 63], &[0u32; WORDS])
 }
 
-fn opens() -> bool {
-    let mut heap = bytes();
-    let reply = c_api::lokhazim_open(&mut heap, Grants { values: grants() }, 1, 0);
-    let mut other = bytes();
-    let mut others = used_words();
-    heap::in_place::open(&mut other, &mut others, grants(), quarantine());
-    if reply.refusal != 0 {
-        return false;
-    }
-    check::same(&heap, &other) && same_accounts(reply.accounts, &others)
-}
-
-fn refuses() -> bool {
-    let mut heap = [170u8; 63];
-    let reply = c_api::lokhazim_open(&mut heap, Grants { values: grants() }, 1, 0);
-    if reply.refusal != 1 {
-        return false;
-    }
-    check::same(&heap, &[170u8; 63]) && same_accounts(reply.accounts, &[0u32; WORDS])
-}
-
-// The words of zero accounts are zeros: so the comparison above says what it is to say.
-fn zeros() -> bool {
-    same_accounts(Accounts::zero(), &[0u32; WORDS])
-}
-
 pub(crate) fn all() {
-    tell(
-        b"lokhazim_in_place_open",
-        opens_in_place() && refuses_in_place(),
-    );
-    tell(b"lokhazim_open", opens() && refuses() && zeros());
+    tell(b"lokhazim_raw_open", opens() && refuses());
 }

@@ -11,7 +11,7 @@ fn replays() -> bool {
     let script =
         b"open 64 100 0 0 0 0 0 0 0 0 0 0 0 0 0 0 0 0 0 0 0 0 0 0 0 0 0 0 0 0 0 0 0\nalloc 0 10\nalloc 1 1\nall 0\n";
     let mut output = [170u8; ROOM];
-    let reply = replay_api::lokhazim_replay(script, &mut output);
+    let reply = exports::lokhazim_replay(script, &mut output);
     if reply.done != 1 || reply.length != 31 {
         return false;
     }
@@ -20,7 +20,7 @@ fn replays() -> bool {
 
 fn finds_no_room() -> bool {
     let mut output = [170u8; SHORT];
-    let reply = replay_api::lokhazim_replay(b"\n", &mut output);
+    let reply = exports::lokhazim_replay(b"\n", &mut output);
     reply.done == 0 && reply.length == 0 && begins(&output, b"")
 }
 

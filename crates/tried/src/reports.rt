@@ -2,8 +2,8 @@
 use crate::comparing::begins;
 use crate::telling::tell;
 use accounts::QUOTAS;
-use report_api::Grants;
-use report_api::ImportReply;
+use exports::Grants;
+use exports::ImportReply;
 
 // Quota 0 has a hundred bytes and quota 1 has 10.
 fn two_grants() -> [u32; QUOTAS] {
@@ -39,25 +39,35 @@ fn imports() -> bool {
     let text = b"00000064 00000000 00000000 00000000 00000000 00000000\n";
     let mut wanted = [0u32; QUOTAS];
     wanted[0] = 100;
-    is_import(report_api::lokhazim_report_import(text), wanted, 0, 0)
+    is_import(exports::lokhazim_raw_report_import(text), wanted, 0, 0)
 }
 
 fn refuses_a_short_line() -> bool {
     let text = b"00000064 00000000 00000000 00000000 00000000 00000000\n0000000a\n";
-    is_import(report_api::lokhazim_report_import(text), [0; QUOTAS], 31, 2)
+    is_import(
+        exports::lokhazim_raw_report_import(text),
+        [0; QUOTAS],
+        31,
+        2,
+    )
 }
 
 fn refuses_a_word() -> bool {
     let text = b"00000064 00000000 00000001 00000000 00000000 00000000\n";
-    is_import(report_api::lokhazim_report_import(text), [0; QUOTAS], 32, 1)
+    is_import(
+        exports::lokhazim_raw_report_import(text),
+        [0; QUOTAS],
+        32,
+        1,
+    )
 }
 
 // The lines, which are read back as the same grants, and two bytes behind them.
-fn exports() -> bool {
+fn writes_lines() -> bool {
     let mut text = [170u8; 1730];
     let mut other = [170u8; 1730];
     let grants = two_grants();
-    let reply = report_api::lokhazim_report_export(&mut text, Grants { values: grants });
+    let reply = exports::lokhazim_raw_report_export(&mut text, Grants { values: grants });
     report::export_grants(&mut other, grants);
     if reply.refusal != 0 || reply.length != 1728 {
         return false;
@@ -68,24 +78,24 @@ fn exports() -> bool {
 fn reads_back() -> bool {
     let mut text = [170u8; 1728];
     let grants = two_grants();
-    report_api::lokhazim_report_export(&mut text, Grants { values: grants });
-    is_import(report_api::lokhazim_report_import(&text), grants, 0, 0)
+    exports::lokhazim_raw_report_export(&mut text, Grants { values: grants });
+    is_import(exports::lokhazim_raw_report_import(&text), grants, 0, 0)
 }
 
 fn finds_no_room() -> bool {
     let mut text = [170u8; 1727];
     let grants = two_grants();
-    let reply = report_api::lokhazim_report_export(&mut text, Grants { values: grants });
+    let reply = exports::lokhazim_raw_report_export(&mut text, Grants { values: grants });
     reply.refusal == 34 && reply.length == 0 && begins(&text, b"")
 }
 
 pub(crate) fn all() {
     tell(
-        b"lokhazim_report_import",
+        b"lokhazim_raw_report_import",
         imports() && refuses_a_short_line() && refuses_a_word(),
     );
     tell(
-        b"lokhazim_report_export",
-        exports() && reads_back() && finds_no_room(),
+        b"lokhazim_raw_report_export",
+        writes_lines() && reads_back() && finds_no_room(),
     );
 }

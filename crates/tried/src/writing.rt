@@ -8,44 +8,24 @@ use crate::telling::tell;
 use words::WORDS;
 
 // One byte of the object at 8 is written, at 8 + 3, and behind its end none.
-fn writes_in_place() -> bool {
-    let mut heap = bytes();
-    let mut words = [0u32; WORDS];
-    start(&mut heap, &mut words);
-    let before = heap;
-    let held = words;
-    let gone = c_api::lokhazim_in_place_write(&mut heap, &words, stale(), 3, 9);
-    let behind = c_api::lokhazim_in_place_write(&mut heap, &words, first(), 16, 9);
-    if gone != 5 || behind != 0 {
-        return false;
-    }
-    if !check::same(&heap, &before) {
-        return false;
-    }
-    let refusal = c_api::lokhazim_in_place_write(&mut heap, &words, first(), 3, 9);
-    let mut wanted = before;
-    wanted[11] = 9;
-    refusal == 0 && check::same(&heap, &wanted) && same_words(&words, &held)
-}
-
 fn writes() -> bool {
     let mut heap = bytes();
     let mut words = [0u32; WORDS];
     start(&mut heap, &mut words);
     let before = heap;
-    let accounts = words::accounts_of(&words);
-    let gone = c_api::lokhazim_write(&mut heap, accounts, stale(), 3, 9);
-    let behind = c_api::lokhazim_write(&mut heap, accounts, first(), 16, 9);
+    let held = words;
+    let gone = exports::lokhazim_raw_write(&mut heap, &words, stale(), 3, 9);
+    let behind = exports::lokhazim_raw_write(&mut heap, &words, first(), 16, 9);
     if gone != 5 || behind != 0 {
         return false;
     }
     if !check::same(&heap, &before) {
         return false;
     }
-    let refusal = c_api::lokhazim_write(&mut heap, accounts, first(), 3, 9);
+    let refusal = exports::lokhazim_raw_write(&mut heap, &words, first(), 3, 9);
     let mut wanted = before;
     wanted[11] = 9;
-    refusal == 0 && check::same(&heap, &wanted)
+    refusal == 0 && check::same(&heap, &wanted) && same_words(&words, &held)
 }
 
 // A state, and the same with the size of its first block spoiled.
@@ -53,26 +33,13 @@ fn checks() -> bool {
     let mut heap = bytes();
     let mut words = [0u32; WORDS];
     start(&mut heap, &mut words);
-    let sound = c_api::lokhazim_in_place_check(&heap, &words);
+    let consistent = exports::lokhazim_raw_check(&heap, &words);
     heap[0] = 0;
-    let spoiled = c_api::lokhazim_in_place_check(&heap, &words);
-    sound == 0 && spoiled == 2
-}
-
-fn checks_by_value() -> bool {
-    let mut heap = bytes();
-    let mut words = [0u32; WORDS];
-    start(&mut heap, &mut words);
-    let accounts = words::accounts_of(&words);
-    let sound = c_api::lokhazim_check(&heap, accounts);
-    heap[0] = 0;
-    let spoiled = c_api::lokhazim_check(&heap, accounts);
-    sound == 0 && spoiled == 2
+    let spoiled = exports::lokhazim_raw_check(&heap, &words);
+    consistent == 0 && spoiled == 2
 }
 
 pub(crate) fn all() {
-    tell(b"lokhazim_in_place_write", writes_in_place());
-    tell(b"lokhazim_write", writes());
-    tell(b"lokhazim_in_place_check", checks());
-    tell(b"lokhazim_check", checks_by_value());
+    tell(b"lokhazim_raw_write", writes());
+    tell(b"lokhazim_raw_check", checks());
 }

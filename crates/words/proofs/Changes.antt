@@ -3,21 +3,20 @@ use Prim.Native.Nat.{ℕ, _+_, _-_, _*_, _/_, _%_, _^_, _≤_, _<_}
 use mathlib.Core.Path.{_≡_, refl, ap, sym, _∙_}
 use mathlib.Core.List.{List}
 use native.Mathlib.Omega.{arith}
-use borrow.Author.Tests.{lt-ltb, le-ltb, lt-leb}
+use borrow.Author.Tests.{le-ltb, lt-leb}
 use lib.ListN.{length, getD, set}
 use lib.Seq.{getD-set-same, getD-set-other}
 use Rattle.accounts.specs.declared.Accounts.{Accounts}
 use Rattle.accounts.specs.declared.Quota.{Quota}
 use Rattle.accounts.specs.declared.Hold.{Hold}
-use Rattle.accounts.specs.Accounts.{QUOTAS, HOLDS, zero-quota, quota-at, remaining, set-remaining, less-paid, paid-back, charge, refund, with-permissions}
-use Rattle.accounts.specs.Accounts.{left-permissions, clear-at, clear-permissions, put-hold}
-use Rattle.accounts.proofs.Laws.{set-same, charge-pays, charge-no-quota, refund-pays, refund-no-quota}
-use Rattle.accounts.proofs.Permissions.{clear-there, clear-no-quota}
-use Rattle.words.specs.Words.{WORDS, LAST, FIRST, KINDS, grant-in, remainder-in}
+use Rattle.accounts.specs.Accounts.{QUOTAS, HOLDS, zero-quota, quota-at, put-quota, remaining, less-paid, paid-back, charged, refunded, charge, refund}
+use Rattle.accounts.specs.Accounts.{with-remainder, without, left-permissions, clear-permissions, put-hold}
+use Rattle.accounts.proofs.Laws.{change-there, change-no-quota, change-same, charge-pays, refund-pays}
+use Rattle.words.specs.Words.{WORDS, grant-in, remainder-in}
 use Rattle.words.specs.Words.{spare-in, permissions-in, entry-in, rest-in, quotas-of, accounts-of, Padded}
 use Rattle.words.proofs.Words.{quotas-at}
 use Rattle.words.proofs.Readings.{remaining-is}
-use Rattle.words.proofs.Writing.{quotas-put, holds-kept, put-remainder, put-record, held}
+use Rattle.words.proofs.Writing.{put-entry, put-remainder, put-record, held}
 use Rattle.words.proofs.Padding.{padded-same, padded-remainder, padded-spare, padded-record}
 
 -- what a change does: the accounts that the words hold then, and padding as it was
@@ -25,34 +24,36 @@ abbrev pub Changed : List ℕ → List ℕ → Accounts → Type 0
 Changed words words′ k = (accounts-of words′ ≡ k) × Padded words words′
 
 -- paying
-charge-short : (q n : ℕ) (k : Accounts) → q < QUOTAS → remaining q k < n → charge q n k ≡ k
-unfolding charge less-paid
-charge-short q n k h l = rw (lt-ltb q QUOTAS h, lt-leb n (remaining q k) l) (set-same q k)
+charge-short : (q n : ℕ) (k : Accounts) → remaining q k < n → charge q n k ≡ k
+unfolding charge less-paid remaining
+charge-short q n k l = change-same q (charged n) k (rw (lt-leb n (remaining q k) l) refl)
 
-refund-over : (q n : ℕ) (k : Accounts) → q < QUOTAS → 2 ^ 32 ≤ remaining q k + n → refund q n k ≡ k
-unfolding refund paid-back
-refund-over q n k h l = rw (lt-ltb q QUOTAS h, le-ltb (remaining q k + n) (2 ^ 32) l) (set-same q k)
+refund-over : (q n : ℕ) (k : Accounts) → 2 ^ 32 ≤ remaining q k + n → refund q n k ≡ k
+unfolding refund paid-back remaining
+refund-over q n k l = change-same q (refunded n) k (rw (le-ltb (remaining q k + n) (2 ^ 32) l) refl)
 
 module _ (words : List ℕ) (q n : ℕ) where
   pub charges-none : QUOTAS ≤ q → Changed words words (charge q n (accounts-of words))
-  charges-none h = (sym (charge-no-quota q n (accounts-of words) h), padded-same words)
+  unfolding charge
+  charges-none h = (sym (change-no-quota q (charged n) (accounts-of words) h), padded-same words)
 
   pub refunds-none : QUOTAS ≤ q → Changed words words (refund q n (accounts-of words))
-  refunds-none h = (sym (refund-no-quota q n (accounts-of words) h), padded-same words)
+  unfolding refund
+  refunds-none h = (sym (change-no-quota q (refunded n) (accounts-of words) h), padded-same words)
 
   module _ (few : q < QUOTAS) where
     pub charges-short : remainder-in words q < n → Changed words words (charge q n (accounts-of words))
-    charges-short l = (sym (charge-short q n (accounts-of words) few (omega (arith, remaining-is words q few))), padded-same words)
+    charges-short l = (sym (charge-short q n (accounts-of words) (omega (arith, remaining-is words q few))), padded-same words)
 
     pub refunds-over : 2 ^ 32 ≤ remainder-in words q + n → Changed words words (refund q n (accounts-of words))
-    refunds-over l = (sym (refund-over q n (accounts-of words) few (omega (arith, remaining-is words q few))), padded-same words)
+    refunds-over l = (sym (refund-over q n (accounts-of words) (omega (arith, remaining-is words q few))), padded-same words)
 
     module _ (long : length words ≡ WORDS) where
       pub charges : n ≤ remainder-in words q → Changed words (set words (3 * q + 1) (remainder-in words q - n)) (charge q n (accounts-of words))
       charges l =
           let e = remaining-is words q few in (
             put-remainder words long q (remainder-in words q - n) few
-                ∙ ap (λ (x : ℕ). set-remaining q (x - n) (accounts-of words)) e
+                ∙ ap (λ (x : ℕ). put-quota q (with-remainder (x - n) (quota-at q (accounts-of words))) (accounts-of words)) e
                 ∙ sym (charge-pays q n (accounts-of words) few (omega arith)),
             padded-remainder words q (remainder-in words q - n) few,
           )
@@ -61,7 +62,7 @@ module _ (words : List ℕ) (q n : ℕ) where
       refunds l =
           let e = remaining-is words q few in (
             put-remainder words long q (remainder-in words q + n) few
-                ∙ ap (λ (x : ℕ). set-remaining q (x + n) (accounts-of words)) e
+                ∙ ap (λ (x : ℕ). put-quota q (with-remainder (x + n) (quota-at q (accounts-of words))) (accounts-of words)) e
                 ∙ sym (refund-pays q n (accounts-of words) few (omega arith)),
             padded-remainder words q (remainder-in words q + n) few,
           )
@@ -72,7 +73,8 @@ low-byte h b l = (omega arith, omega arith)
 
 module _ (words : List ℕ) (q n : ℕ) where
   pub clears-none : QUOTAS ≤ q → Changed words words (clear-permissions q n (accounts-of words))
-  clears-none h = (sym (clear-no-quota q n (accounts-of words) h), padded-same words)
+  unfolding clear-permissions
+  clears-none h = (sym (change-no-quota q (without n) (accounts-of words) h), padded-same words)
 
   module _ (few : q < QUOTAS) (long : length words ≡ WORDS) (left : ℕ) (small : left < 256) (is : left ≡ left-permissions q n (accounts-of words)) where
     abbrev word : ℕ
@@ -87,7 +89,7 @@ module _ (words : List ℕ) (q n : ℕ) where
     spare-after : spare-in after q ≡ word
     spare-after = getD-set-same words (3 * q + 2) word 0 (omega (arith, long))
 
-    entry-after : entry-in after q ≡ with-permissions (left-permissions q n (accounts-of words)) (quota-at q (accounts-of words))
+    entry-after : entry-in after q ≡ without n (quota-at q (accounts-of words))
     entry-after =
         let at = quotas-at words q few in
         let g : grant-in after q ≡ getD (quotas-of words) q zero-quota .grant = other (3 * q) (λ e. omega arith) ∙ sym (ap (λ (x : Quota). x .grant) at) in
@@ -98,17 +100,12 @@ module _ (words : List ℕ) (q n : ℕ) where
         λ i. record { grant = g i; remainder = r i; permissions = p i }
 
     pub clears : Changed words after (clear-permissions q n (accounts-of words))
+    unfolding clear-permissions
     clears =
-        let hs = holds-kept words after (λ j h. (other (FIRST + 2 * j) (λ e. omega arith), other (FIRST + 2 * j + 1) (λ e. omega arith))) in
-        let qs : quotas-of after ≡ set (quotas-of words) q (with-permissions (left-permissions q n (accounts-of words)) (quota-at q (accounts-of words))) =
-        quotas-put words after q few
-        (λ j h d. (other (3 * j) (λ e. omega arith), other (3 * j + 1) (λ e. omega arith), other (3 * j + 2) (λ e. d (omega arith))))
-        ∙ ap (set (quotas-of words) q) entry-after in
-        let last = other LAST (λ e. omega arith) in
-        let kinds = other KINDS (λ e. omega arith) in
-        let done : accounts-of after ≡ clear-at q n (accounts-of words) =
-        (λ i. record { quotas = qs i; «last_serial» = last i; holds = hs i; kind = kinds i % 256; edition = kinds i / 256 % 256 }) in (
-          done ∙ sym (clear-there q n (accounts-of words) few),
+        let done = put-entry words (3 * q + 2) word q few
+        (λ j d. (other (3 * j) (λ e. omega arith), other (3 * j + 1) (λ e. omega arith), other (3 * j + 2) (λ e. d (omega arith)))) (omega arith)
+        (without n (quota-at q (accounts-of words))) entry-after in (
+          done ∙ sym (change-there q (without n) (accounts-of words) few),
           padded-spare words long q word few (low-byte (spare-in words q / 256) left small .1),
         )
 

@@ -5,10 +5,10 @@ use mathlib.Core.List.{List}
 use native.Mathlib.Omega.{arith}
 use lib.ListN.{length, getD, set, length-set}
 use lib.Seq.{getD-set-same, getD-set-other}
+use Rattle.lists.proofs.Bools.{by-eq}
 use Rattle.accounts.specs.Accounts.{QUOTAS, HOLDS}
 use Rattle.words.specs.Words.{WORDS, LAST, FIRST, KINDS, rest-in, spare-in, kinds-of, Padded, Unpadded}
 use Rattle.words.specs.Opening.{Blank}
-use Rattle.words.proofs.Words.{by-eq}
 use Rattle.words.proofs.Writing.{held, held-other, held-rest}
 
 pub padded-same : (words : List ℕ) → Padded words words

@@ -9,12 +9,12 @@ use borrow.Author.Tests.{ltb-true, ltb-false}
 use lib.Dec.{ltb}
 use lib.ListN.{length, getD}
 use lib.Seq.{ext-getD}
+use Rattle.lists.proofs.Bools.{by-eq}
 use Rattle.accounts.specs.declared.Accounts.{Accounts}
 use Rattle.accounts.specs.declared.Quota.{Quota}
 use Rattle.accounts.specs.declared.Hold.{Hold}
 use Rattle.accounts.specs.Accounts.{QUOTAS, HOLDS, quota-at, hold-at}
 use Rattle.words.specs.Words.{WORDS, LAST, FIRST, KINDS, serial-in, rest-in, hold-in, spare-in, entry-in, kinds-of, accounts-of, Padded}
-use Rattle.words.proofs.Words.{by-eq}
 use Rattle.words.proofs.Readings.{hold-is, quota-is}
 
 -- a number by its lowest byte, or its two lowest, and the rest

@@ -1,19 +1,18 @@
 -- Words that are written: the accounts that they hold then.
 use Prim.Native.Nat.{ℕ, _+_, _*_, _/_, _%_, _<_}
-use mathlib.Core.Path.{_≡_, refl, ap, sym, subst, _∙_}
+use mathlib.Core.Path.{_≡_, ap, sym, _∙_}
 use mathlib.Core.List.{List}
 use native.Mathlib.Omega.{arith}
 use lib.ListN.{length, getD, set, length-set}
 use lib.Seq.{getD-set-same, getD-set-other}
-use Rattle.accounts.specs.declared.Accounts.{Accounts}
 use Rattle.accounts.specs.declared.Quota.{Quota}
 use Rattle.accounts.specs.declared.Hold.{Hold}
-use Rattle.accounts.specs.Accounts.{QUOTAS, HOLDS, zero-hold, zero-quota, remaining, set-remaining, with-remainder, hold-at, put-hold, with-last-serial}
-use Rattle.words.specs.Words.{WORDS, LAST, FIRST, KINDS, table, serial-in, rest-in}
-use Rattle.words.specs.Words.{quota-in, count-in, hold-in, grant-in, remainder-in, spare-in, permissions-in, entry-in}
-use Rattle.words.specs.Words.{holds-of, quotas-of, last-of, kinds-of, kind-of, edition-of, accounts-of, Padded}
+use Rattle.accounts.specs.Accounts.{QUOTAS, HOLDS, zero-hold, zero-quota, quota-at, put-quota, with-remainder, put-hold, with-last-serial}
+use Rattle.words.specs.Words.{WORDS, LAST, FIRST, KINDS, serial-in, rest-in}
+use Rattle.words.specs.Words.{hold-in, grant-in, remainder-in, spare-in, permissions-in, entry-in}
+use Rattle.words.specs.Words.{holds-of, quotas-of, accounts-of}
 use Rattle.words.specs.Filling.{Has-entry}
-use Rattle.words.proofs.Words.{by-eq, holds-long, holds-at, quotas-long, quotas-at, table-put, table-same}
+use Rattle.words.proofs.Words.{quotas-at, table-put, table-same}
 
 -- the words of a record, of a quota
 abbrev pub Same-hold : List ℕ → List ℕ → ℕ → Type 0
@@ -60,6 +59,18 @@ module _ (words : List ℕ) (at v : ℕ) where
   same-entry : (j : ℕ) → (3 * j ≡ at → ⊥) → (3 * j + 1 ≡ at → ⊥) → (3 * j + 2 ≡ at → ⊥) → Same-entry words (set words at v) j
   same-entry j a b c = (other (3 * j) a, other (3 * j + 1) b, other (3 * j + 2) c)
 
+-- a word of a quota
+module _ (words : List ℕ) (at v q : ℕ) (few : q < QUOTAS) where
+  pub put-entry : ((j : ℕ) → (j ≡ q → ⊥) → Same-entry words (set words at v) j) → at < LAST → (x : Quota) → entry-in (set words at v) q ≡ x
+      → accounts-of (set words at v) ≡ put-quota q x (accounts-of words)
+  put-entry others low x e =
+      let hs = holds-kept words (set words at v) (λ j h. same-hold words at v j (λ e. omega arith) (λ e. omega arith)) in
+      let qs : quotas-of (set words at v) ≡ set (quotas-of words) q x =
+      quotas-put words (set words at v) q few (λ j h n. others j n) ∙ ap (set (quotas-of words) q) e in
+      let last = other words at v LAST (λ e. omega arith) in
+      let kinds = other words at v KINDS (λ e. omega arith) in
+      λ i. record { quotas = qs i; «last_serial» = last i; holds = hs i; kind = kinds i % 256; edition = kinds i / 256 % 256 }
+
 -- the remainder of a quota
 module _ (words : List ℕ) (long : length words ≡ WORDS) (q v : ℕ) (few : q < QUOTAS) where
   abbrev pub owing : List ℕ
@@ -75,16 +86,10 @@ module _ (words : List ℕ) (long : length words ≡ WORDS) (q v : ℕ) (few : q
       ap (λ (x : ℕ). x % 256) (other words (3 * q + 1) v (3 * q + 2) (λ e. omega arith)) ∙ sym (ap (λ (x : Quota). x .permissions) at) in
       λ i. record { grant = g i; remainder = r i; permissions = p i }
 
-  pub put-remainder : accounts-of owing ≡ set-remaining q v (accounts-of words)
-  unfolding set-remaining
+  pub put-remainder : accounts-of owing ≡ put-quota q (with-remainder v (quota-at q (accounts-of words))) (accounts-of words)
   put-remainder =
-      let hs = holds-kept words owing (λ j h. same-hold words (3 * q + 1) v j (λ e. omega arith) (λ e. omega arith)) in
-      let qs : quotas-of owing ≡ set (quotas-of words) q (with-remainder v (getD (quotas-of words) q zero-quota)) =
-      quotas-put words owing q few (λ j h n. same-entry words (3 * q + 1) v j (λ e. omega arith) (λ e. n (omega arith)) (λ e. omega arith))
-      ∙ ap (set (quotas-of words) q) entry-owing in
-      let last = other words (3 * q + 1) v LAST (λ e. omega arith) in
-      let kinds = other words (3 * q + 1) v KINDS (λ e. omega arith) in
-      λ i. record { quotas = qs i; «last_serial» = last i; holds = hs i; kind = kinds i % 256; edition = kinds i / 256 % 256 }
+      put-entry words (3 * q + 1) v q few (λ j n. same-entry words (3 * q + 1) v j (λ e. omega arith) (λ e. n (omega arith)) (λ e. omega arith))
+      (omega arith) (with-remainder v (quota-at q (accounts-of words))) entry-owing
 
 -- the three words of a quota
 module _ (words : List ℕ) (long : length words ≡ WORDS) (i : ℕ) (x : Quota) (few : i < QUOTAS) where

@@ -24,9 +24,9 @@ KINDS = 3 * QUOTAS + 2 * HOLDS + 1
 
 -- the values of f at n places from i on
 module _ {A : Type 0} where
-  unfoldable pub table : ℕ → (ℕ → A) → ℕ → List A
-  table zero f i = []
-  table (suc n) f i = f i ∷ table n f (suc i)
+  unfoldable pub tabulate : ℕ → (ℕ → A) → ℕ → List A
+  tabulate zero f i = []
+  tabulate (suc n) f i = f i ∷ tabulate n f (suc i)
 
 -- the parts of the record at a place, and the record
 abbrev pub serial-in : List ℕ → ℕ → ℕ
@@ -61,10 +61,10 @@ abbrev pub entry-in : List ℕ → ℕ → Quota
 entry-in words q = record { grant = grant-in words q; remainder = remainder-in words q; permissions = permissions-in words q }
 
 unfoldable pub holds-of : List ℕ → List Hold
-holds-of words = table HOLDS (hold-in words) 0
+holds-of words = tabulate HOLDS (hold-in words) 0
 
 unfoldable pub quotas-of : List ℕ → List Quota
-quotas-of words = table QUOTAS (entry-in words) 0
+quotas-of words = tabulate QUOTAS (entry-in words) 0
 
 abbrev pub last-of : List ℕ → ℕ
 last-of words = getD words LAST 0

@@ -18,11 +18,11 @@ use Rattle.layout.proofs.Numbers.{bytes-length}
 use Rattle.layout.proofs.Overwrite.{overwrite-at}
 use Rattle.layout.proofs.Fields.{header-length, header-behind}
 use Rattle.layout.proofs.Render.{length-render, render-append, render-cons}
-use Rattle.model.specs.Lists.{total}
+use Rattle.lists.specs.Lists.{total}
 use Rattle.model.specs.Space.{left-over, cut-block}
 use Rattle.model.proofs.Touched.{within, carve-touches}
 use Rattle.writer.specs.Writes.{write-rest, units-after, write-object, write-next, carve-bytes}
-use Rattle.model.proofs.Bools.{or-neither}
+use Rattle.lists.proofs.Bools.{or-neither}
 use Rattle.model.proofs.Blocks.{Whole, total-is}
 use Rattle.model.proofs.Same.{Same, within-moved, same-refl, same-then, same-wider, same-append, same-header, same-number, same-zero, same-when}
 use Rattle.model.proofs.Same.{header-sizes}

@@ -19,14 +19,14 @@ use Rattle.layout.proofs.Overwrite.{overwrite-at}
 use Rattle.layout.proofs.Fields.{header-length}
 use Rattle.layout.proofs.Parts.{copy-all}
 use Rattle.layout.proofs.Render.{length-render, body-stands}
-use Rattle.model.specs.Lists.{any, total}
+use Rattle.lists.specs.Lists.{any, total}
 use Rattle.model.specs.Objects.{objects-from, objects}
 use Rattle.model.specs.Consistent.{has-serial, serials-differ}
 use Rattle.model.specs.Space.{body-of, copy-into}
 use Rattle.model.specs.declared.Handle.{Handle}
-use Rattle.model.proofs.Bools.{and-left, and-right, or-neither, or-left, or-right}
+use Rattle.lists.proofs.Bools.{and-left, and-right, or-neither, or-left, or-right}
 use Rattle.model.proofs.Blocks.{total-is, objects-live, objects-free, Placed, placed}
-use Rattle.model.proofs.Lists.{total-append}
+use Rattle.lists.proofs.Lists.{total-append}
 use Rattle.writer.proofs.FreeBytes.{render-at, place-length}
 
 -- a block with this serial

@@ -18,12 +18,12 @@ use Rattle.layout.specs.Blocks.{render}
 use Rattle.layout.proofs.Overwrite.{overwrite-at}
 use Rattle.layout.proofs.Fields.{header-length}
 use Rattle.layout.proofs.Render.{length-render, render-append, render-cons}
-use Rattle.model.specs.Lists.{total}
+use Rattle.lists.specs.Lists.{total}
 use Rattle.model.specs.Consistent.{starts-free}
 use Rattle.model.specs.Space.{vacate, unquarantine, join-front}
 use Rattle.model.specs.Joining.{append-joined, join-neighbours}
 use Rattle.model.proofs.Blocks.{total-is, free-not-live}
-use Rattle.model.proofs.Lists.{total-append}
+use Rattle.lists.proofs.Lists.{total-append}
 use Rattle.model.proofs.Join.{joined, joined-size, join-apart, join-both}
 use Rattle.writer.specs.Writes.{write-object, write-next, join-bytes, free-bytes, unquarantine-bytes}
 use Rattle.writer.proofs.CarveBytes.{zero-written, object-written, next-written}

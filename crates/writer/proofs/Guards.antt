@@ -8,19 +8,13 @@ use mathlib.Core.Bool.{Bool, true, false, _&&_}
 use lib.ListN.{length}
 use lib.Dec.{leb}
 use borrow.Author.Tests.{leb-true, le-leb, eq-eqb, ne-eqb}
-use Rattle.model.proofs.Bools.{and-left, and-right, and-both, fails}
+use Rattle.lists.proofs.Bools.{and-left, and-right, and-both, fails, same-test}
 use Rattle.lookup.specs.declared.Met.{Met}
 use Rattle.writer.specs.Writes.{carve-bytes}
 use Rattle.writer.specs.Carving.{Room, has-room, carve-in}
 use Rattle.writer.specs.Freeing.{room-at, free-block, free-end, quarantine-block, Inside, is-inside, vacate-block, vacate-end, vacate-in}
 use Rattle.writer.specs.Freeing.{vacate-end-in}
 use Rattle.writer.specs.Freeing.{unquarantine-block, unquarantine-in, free-end-in}
-
--- a test that both tests imply of each other is the same
-pub same-test : (a b : Bool) → (a ≡ true → b ≡ true) → (b ≡ true → a ≡ true) → a ≡ b
-same-test true b f g = sym (f refl)
-same-test false true f g = g refl
-same-test false false f g = refl
 
 module _ (m : Met) (base n : ℕ) where
   pub room-of-test : has-room m base n ≡ true → Room m base n

@@ -48,7 +48,7 @@ fn with_object(heap_length: u32, base: u32, length: u32, edition: u8) -> State {
     }
 }
 
-/// Tells whether a state is sound, after judging it both ways.
+/// Tells whether a state is consistent, after judging it both ways.
 fn is_sound(state: &State) -> bool {
     let sound = naive::is_sound(&state.heap, &state.accounts);
     assert_eq!(check(&state.heap, &state.accounts).is_ok(), sound);

@@ -1,4 +1,4 @@
-//! Heaps with quarantine: what becomes of released blocks, the sweep, and what is sound.
+//! Heaps with quarantine: what becomes of released blocks, the sweep, and what is consistent.
 
 use crate::naive;
 use crate::prng::Prng;
@@ -31,7 +31,7 @@ fn state_of(pieces: &[Piece], holds: &[Hold], kind: u8) -> State {
     }
 }
 
-/// Tells whether a state is sound, after judging it both ways and by the sweep.
+/// Tells whether a state is consistent, after judging it both ways and by the sweep.
 fn is_sound(state: &State) -> bool {
     let sound = naive::is_sound(&state.heap, &state.accounts);
     assert_eq!(check(&state.heap, &state.accounts).is_ok(), sound);

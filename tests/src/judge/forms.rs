@@ -156,8 +156,8 @@ pub fn put_word(image: &mut [u8], place: usize, word: u32) {
     seal(image);
 }
 
-/// Frames around the stream of a state, sound or not, as far as the form has room for it. The edition
-/// is byte 2 of form 2, the kind byte 3.
+/// Frames around the stream of a state, consistent or not, as far as the form has room for it. The
+/// edition is byte 2 of form 2, the kind byte 3.
 pub fn carry(form: Form, state: &State) -> Vec<u8> {
     let accounts = &state.accounts;
     let mut stream = Vec::with_capacity(form.head() + state.heap.len());

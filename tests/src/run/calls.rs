@@ -1,9 +1,8 @@
-//! One call made by the proved code, by value and in place, and by the reference on the same state,
-//! and compared.
+//! One call made by the proved code and by the reference on the same state, and compared.
 
 use crate::judge::compare::{call_failure, differences, Failure, Left};
 use crate::judge::tally::Tally;
-use crate::run::boundary::{by_value, in_place};
+use crate::run::boundary::calls;
 use crate::run::lent::Lent;
 use crate::run::words::{accounts_of, padding_differences, Words};
 use crate::state::{Answer, Call, State};
@@ -41,8 +40,8 @@ impl Pair {
         self.origin = format!("{part} seed {seed} case {number}");
     }
 
-    /// Makes a call by the reference and, by value and in place, by the proved code, and compares
-    /// answer, accounts and every byte. The state is taken on to what all left.
+    /// Makes a call by the reference and by the proved code, and compares answer, accounts and every
+    /// byte. The state is taken on to what both left.
     pub fn call(&mut self, state: &mut State, call: Call) -> Result<Answer, Failure> {
         let mut expected = state.clone();
         let wanted = expected.perform(call);
@@ -50,20 +49,12 @@ impl Pair {
             state: &expected,
             answer: &wanted,
         };
-        let mut wrong = Vec::new();
-        for made in [self.by_value(state, call), self.in_place(state, call)] {
-            wrong.extend(
-                made.wrong
-                    .iter()
-                    .map(|line| format!("{}: {line}", made.way)),
-            );
-            if made.state != expected || made.answer != wanted {
-                let differing = differences(&made.left(), &reference).into_iter();
-                wrong.extend(differing.map(|line| format!("{}: {line}", made.way)));
-            }
+        let mut made = self.made(state, call);
+        if made.state != expected || made.answer != wanted {
+            made.wrong.extend(differences(&made.left(), &reference));
         }
-        if !wrong.is_empty() {
-            return Err(call_failure(&self.origin, state, call, &wrong));
+        if !made.wrong.is_empty() {
+            return Err(call_failure(&self.origin, state, call, &made.wrong));
         }
         self.tally.count_call(call, state, &expected, &wanted);
         *state = expected;
@@ -78,30 +69,20 @@ impl Pair {
         }
     }
 
-    /// Makes a call by the proved code with the accounts by value.
-    fn by_value(&self, state: &State, call: Call) -> Made {
-        let mut lent = self.lent(&state.heap);
-        let (accounts, answer) = by_value::perform(lent.part(), &state.accounts, call);
-        let heap = lent.part().to_vec();
-        Made {
-            way: "by value",
-            state: State { heap, accounts },
-            answer,
-            wrong: outside(&lent),
-        }
-    }
-
-    /// Makes a call by the proved code over the accounts where they lie, with any padding.
-    fn in_place(&self, state: &State, call: Call) -> Made {
+    /// Makes a call by the proved code, over accounts with any padding.
+    fn made(&self, state: &State, call: Call) -> Made {
         let mut lent = self.lent(&state.heap);
         let mut words = match self.guarded {
             true => Words::guarded(state, call),
             false => Words::exact(state, call),
         };
         let before = *words.part();
-        let answer = in_place::perform(lent.part(), words.part(), call);
+        let answer = calls::perform(lent.part(), words.part(), call);
         let (heap, after) = (lent.part().to_vec(), *words.part());
-        let mut wrong = outside(&lent);
+        let mut wrong = Vec::new();
+        if !lent.guards_hold() {
+            wrong.push("the proved code wrote outside the heap".to_owned());
+        }
         wrong.extend(padding_differences(&before, &after, call));
         if !words.guards_hold() {
             wrong.push("the proved code wrote outside the accounts".to_owned());
@@ -111,7 +92,6 @@ impl Pair {
         }
         let accounts = accounts_of(&after);
         Made {
-            way: "in place",
             state: State { heap, accounts },
             answer,
             wrong,
@@ -121,7 +101,6 @@ impl Pair {
 
 /// What the proved code left of a call, and what is wrong with it by itself.
 struct Made {
-    way: &'static str,
     state: State,
     answer: Answer,
     wrong: Vec<String>,
@@ -135,12 +114,6 @@ impl Made {
             answer: &self.answer,
         }
     }
-}
-
-/// Says whether something was written outside a lent heap.
-fn outside(lent: &Lent) -> Vec<String> {
-    let wrong = (!lent.guards_hold()).then(|| "the proved code wrote outside the heap".to_owned());
-    wrong.into_iter().collect()
 }
 
 impl Default for Pair {

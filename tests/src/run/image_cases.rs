@@ -60,8 +60,8 @@ pub fn round_trip(
     Ok(())
 }
 
-/// Round trips of the n-th state of a seed in both forms: sound, damaged, or of a length that is not
-/// allowed.
+/// Round trips of the n-th state of a seed in both forms: consistent, damaged, or of a length that
+/// is not allowed.
 pub fn states(pair: &mut Pair, seed: u64, n: u64) -> Result<(), Failure> {
     pair.begin("image-state", seed, n);
     let mut numbers = Seed::of_case(seed, n);
@@ -201,8 +201,8 @@ pub fn harmed(pair: &mut Pair, seed: u64, n: u64) -> Result<(), Failure> {
     Ok(())
 }
 
-/// Gives the n-th image of a seed whose frames carry a state that is not sound, or bytes of any kind,
-/// and a heap to lend for it; none where no such state was made.
+/// Gives the n-th image of a seed whose frames carry a state that is not consistent, or bytes of
+/// any kind, and a heap to lend for it; none where no such state was made.
 pub fn forged_image(pair: &mut Pair, seed: u64, n: u64) -> Option<(Vec<u8>, Vec<u8>)> {
     pair.begin("forged-image", seed, n);
     let mut numbers = Seed::of_case(seed, n);

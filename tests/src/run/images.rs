@@ -44,27 +44,10 @@ impl Pair {
             image: written,
             heap: state.heap.clone(),
         };
-        let (mut image, mut heap) = (self.lend(lent), self.lend(&state.heap));
-        let (refusal, length) = proved::write(form, image.part(), heap.part(), &state.accounts);
-        let found = Done {
-            refusal,
-            length,
-            accounts: state.accounts.clone(),
-            image: image.part().to_vec(),
-            heap: heap.part().to_vec(),
-        };
-        let guards = image.guards_hold() && heap.guards_hold();
+        let (found, guards) = self.written(form, state, lent);
         self.judge("write", (lent, &state.heap), &found, &expected, guards)?;
-        let (found, guards) = self.written_in_place(form, state, lent);
-        self.judge(
-            "write in place",
-            (lent, &state.heap),
-            &found,
-            &expected,
-            guards,
-        )?;
-        self.tally.count_image(form.written, refusal);
-        Ok((refusal, found.image))
+        self.tally.count_image(form.written, found.refusal);
+        Ok((found.refusal, found.image))
     }
 
     /// Reads an image into a lent heap on both sides, compares, and gives the refusal and the
@@ -81,34 +64,22 @@ impl Pair {
             image: image.to_vec(),
             heap: restored,
         };
-        let (mut lent_image, mut heap) = (self.lend(image), self.lend(lent));
-        let (refusal, accounts) = proved::read(lent_image.part(), heap.part());
-        let found = Done {
-            refusal,
-            length: 0,
-            accounts,
-            image: lent_image.part().to_vec(),
-            heap: heap.part().to_vec(),
-        };
-        let guards = lent_image.guards_hold() && heap.guards_hold();
-        self.judge("read", (image, lent), &found, &expected, guards)?;
-        let (found, guards) = self.read_in_place(image, lent);
-        self.judge("read in place", (image, lent), &found, &expected, guards)?;
-        let (restored, guards) = self.restored_in_place(image, lent);
+        let (found, guards) = self.resumed(image, lent);
+        self.judge("resume", (image, lent), &found, &expected, guards)?;
+        let (restored, guards) = self.restored(image, lent);
         self.judge("restore", (image, lent), &restored, &expected, guards)?;
-        self.tally.count_image("read", refusal);
+        self.tally.count_image("read", found.refusal);
         let (heap, accounts) = (found.heap, found.accounts);
-        Ok((refusal, State { heap, accounts }))
+        Ok((found.refusal, State { heap, accounts }))
     }
 
-    /// Writes an image over the accounts where they lie, with any padding; says what is left, and whether
-    /// no other byte or word has changed.
-    fn written_in_place(&self, form: Form, state: &State, lent: &[u8]) -> (Done, bool) {
+    /// Writes an image of accounts with any padding; says what is left, and whether no other byte or
+    /// word has changed.
+    fn written(&self, form: Form, state: &State, lent: &[u8]) -> (Done, bool) {
         let (mut image, mut heap) = (self.lend(lent), self.lend(&state.heap));
         let mut words = self.lend_words(state);
         let before = *words.part();
-        let (refusal, length) =
-            proved::write_in_place(form, image.part(), heap.part(), words.part());
+        let (refusal, length) = proved::write(form, image.part(), heap.part(), words.part());
         let found = Done {
             refusal,
             length,
@@ -120,11 +91,11 @@ impl Pair {
         (found, same && image.guards_hold() && heap.guards_hold())
     }
 
-    /// Reads an image into words that hold anything, as above; their padding is to be zero then.
-    fn read_in_place(&self, image: &[u8], lent: &[u8]) -> (Done, bool) {
+    /// Resumes into words that hold anything, as above; their padding is to be zero then.
+    fn resumed(&self, image: &[u8], lent: &[u8]) -> (Done, bool) {
         let (mut lent_image, mut heap) = (self.lend(image), self.lend(lent));
         let mut words = self.lend_any_words(image, lent);
-        let refusal = proved::read_in_place(lent_image.part(), heap.part(), words.part());
+        let refusal = proved::resume(lent_image.part(), heap.part(), words.part());
         let found = Done {
             refusal,
             length: 0,
@@ -138,11 +109,11 @@ impl Pair {
 
     /// Restores an image over words that hold anything, as above. Where it is refused, every word has to
     /// stay; the accounts are told as zero then, as of a read.
-    fn restored_in_place(&self, image: &[u8], lent: &[u8]) -> (Done, bool) {
+    fn restored(&self, image: &[u8], lent: &[u8]) -> (Done, bool) {
         let (mut lent_image, mut heap) = (self.lend(image), self.lend(lent));
         let mut words = self.lend_any_words(image, lent);
         let before = *words.part();
-        let refusal = proved::restore_in_place(lent_image.part(), heap.part(), words.part());
+        let refusal = proved::restore(lent_image.part(), heap.part(), words.part());
         let (accounts, as_told) = match refusal {
             0 => (accounts_of(words.part()), is_plain(words.part())),
             _ => (Accounts::default(), *words.part() == before),

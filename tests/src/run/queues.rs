@@ -13,7 +13,7 @@ use crate::judge::compare::Failure;
 use crate::judge::cut::live_handles;
 use crate::run::boundary::queue as proved;
 use crate::run::calls::Pair;
-use crate::run::sending::{receive_in_place, send_by_value, send_in_place};
+use crate::run::sending;
 use crate::seed::Seed;
 use crate::state::{Call, State};
 
@@ -39,9 +39,8 @@ fn number<T>(answer: &Result<T, QueueRefusal>) -> u32 {
 }
 
 impl Queues {
-    /// Sends on both sides, by the proved code with accounts and queue by value and where they lie,
-    /// and takes state and queue on to what all left; gives the refusal. A refused send has to leave
-    /// everything.
+    /// Sends on both sides, and takes state and queue on to what both left; gives the refusal. A
+    /// refused send has to leave everything.
     ///
     /// # Panics
     ///
@@ -50,12 +49,10 @@ impl Queues {
         let before = (state.clone(), queue.clone());
         let wanted = number(&send(&mut state.heap, &mut state.accounts, queue, handle));
         let asked = (&before.1, handle);
-        for made in [send_by_value, send_in_place] {
-            let (left, found, refusal) = made(&before.0, &before.1, handle);
-            assert_eq!(refusal, wanted, "proved, then reference, of {asked:?}");
-            assert_eq!(found, *queue, "the queue that {asked:?} leaves");
-            assert!(left == *state, "heap and accounts that {asked:?} leaves");
-        }
+        let (left, found, refusal) = sending::send(&before.0, &before.1, handle);
+        assert_eq!(refusal, wanted, "proved, then reference, of {asked:?}");
+        assert_eq!(found, *queue, "the queue that {asked:?} leaves");
+        assert!(left == *state, "heap and accounts that {asked:?} leaves");
         if wanted != 0 {
             assert!(before == (state.clone(), queue.clone()), "{asked:?}");
         }
@@ -64,8 +61,7 @@ impl Queues {
         wanted
     }
 
-    /// Receives on both sides, by the proved code with the queue by value and where it lies, and
-    /// takes the queue on to what all left.
+    /// Receives on both sides, and takes the queue on to what both left.
     ///
     /// # Errors
     ///
@@ -79,14 +75,12 @@ impl Queues {
         let wanted = receive(queue);
         let refusal = number(&wanted);
         let numbers = (refusal, wanted.as_ref().copied().unwrap_or_default());
-        for made in [proved::receive, receive_in_place] {
-            let (found, refusal, handle) = made(&before);
-            assert_eq!((refusal, handle), numbers, "proved, then reference");
-            assert_eq!(
-                found, *queue,
-                "the queue that a receive of {before:?} leaves"
-            );
-        }
+        let (found, proved, handle) = sending::receive(&before);
+        assert_eq!((proved, handle), numbers, "proved, then reference");
+        assert_eq!(
+            found, *queue,
+            "the queue that a receive of {before:?} leaves"
+        );
         if refusal != 0 {
             assert_eq!(*queue, before);
         }

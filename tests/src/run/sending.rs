@@ -1,4 +1,4 @@
-//! Sends and receives by the proved code, with accounts and queue by value and where they lie.
+//! Sends and receives by the proved code, over accounts and queue in place.
 
 use lokhazim_reference::{Handle, Queue};
 
@@ -14,24 +14,15 @@ pub type Sent = (State, Queue, u32);
 /// What a receive left, its refusal, and the handle.
 pub type Received = (Queue, u32, Handle);
 
-/// Sends by the proved code with accounts and queue by value.
-pub fn send_by_value(state: &State, queue: &Queue, handle: Handle) -> Sent {
-    let mut lent = Lent::guarded(&state.heap);
-    let (accounts, found, refusal) = proved::send(lent.part(), &state.accounts, queue, handle);
-    let heap = lent.part().to_vec();
-    assert!(lent.guards_hold(), "{queue:?} wrote outside the heap");
-    (State { heap, accounts }, found, refusal)
-}
-
-/// Sends by the proved code over the accounts, with any padding, which has to stay, and the queue
-/// where they lie. A refused send has to leave every word.
-pub fn send_in_place(state: &State, queue: &Queue, handle: Handle) -> Sent {
+/// Sends by the proved code over accounts with any padding, which has to stay. A refused send has to
+/// leave every word of accounts and queue.
+pub fn send(state: &State, queue: &Queue, handle: Handle) -> Sent {
     let claim = Call::Claim(queue.receiver, handle);
     let mut lent = Lent::guarded(&state.heap);
     let mut words = Words::guarded(state, claim);
     let mut lying = QueueWords::guarded(queue);
     let before = (*words.part(), *lying.part());
-    let refusal = proved::send_in_place(lent.part(), words.part(), lying.part(), handle);
+    let refusal = proved::send(lent.part(), words.part(), lying.part(), handle);
     let (heap, after) = (lent.part().to_vec(), (*words.part(), *lying.part()));
     assert!(lent.guards_hold(), "{queue:?} wrote outside the heap");
     assert!(words.guards_hold(), "{queue:?} wrote outside the accounts");
@@ -43,12 +34,11 @@ pub fn send_in_place(state: &State, queue: &Queue, handle: Handle) -> Sent {
     (State { heap, accounts }, queue_of(&after.1), refusal)
 }
 
-/// Receives by the proved code over the queue where it lies. A refused receive has to leave every
-/// word.
-pub fn receive_in_place(queue: &Queue) -> Received {
+/// Receives by the proved code. A refused receive has to leave every word of the queue.
+pub fn receive(queue: &Queue) -> Received {
     let mut lying = QueueWords::guarded(queue);
     let before = *lying.part();
-    let (refusal, handle) = proved::receive_in_place(lying.part());
+    let (refusal, handle) = proved::receive(lying.part());
     let after = *lying.part();
     assert!(lying.guards_hold(), "{queue:?} wrote outside the queue");
     assert!(refusal == 0 || after == before, "{queue:?} refused");

@@ -1,7 +1,7 @@
 //! Every field of the accounts goes through the library and back, as Rust sets it.
 
 use super::*;
-use crate::layout::{Accounts, Hold, Quota, HOLDS, QUOTAS};
+use crate::layout::{Accounts, Hold, Quota, QuotaId, HOLDS, QUOTAS};
 
 const INCONSISTENT: u32 = 2;
 
@@ -148,8 +148,8 @@ fn marked_handle(n: usize) -> Handle {
 /// A queue with this count whose other fields are distinct numbers.
 fn marked_queue(count: u32) -> Queue {
     Queue {
-        sender: 0x0101_0101,
-        receiver: 0x0202_0202,
+        sender: QuotaId::new(0x0101_0101),
+        receiver: QuotaId::new(0x0202_0202),
         count,
         handles: core::array::from_fn(|i| marked_handle(3 * i + 3)),
     }

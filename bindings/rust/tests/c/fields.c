@@ -104,13 +104,13 @@ static void visit_grants(struct lokhazim_grants *it)
     }
 }
 
-static void visit_amount(struct lokhazim_amount *it)
+static void visit_amount_reply(struct lokhazim_amount_reply *it)
 {
     visit32(&it->refusal);
     visit32(&it->amount);
 }
 
-static void visit_given_handle(struct lokhazim_given_handle *it)
+static void visit_handle_reply(struct lokhazim_handle_reply *it)
 {
     visit32(&it->refusal);
     visit_handle(&it->handle);
@@ -243,8 +243,8 @@ int main(int count, char **words)
     EXCHANGE(accounts);
     EXCHANGE(handle);
     EXCHANGE(grants);
-    EXCHANGE(amount);
-    EXCHANGE(given_handle);
+    EXCHANGE(amount_reply);
+    EXCHANGE(handle_reply);
     EXCHANGE(range_reply);
     EXCHANGE(block_reply);
     EXCHANGE(image_reply);

@@ -11,11 +11,14 @@
 #include <stdlib.h>
 #include <string.h>
 
-static _Alignas(LOKHAZIM_ALIGNMENT) uint8_t heap[LOKHAZIM_HEAP_MAX];
+static _Alignas(LOKHAZIM_ALIGNMENT) uint8_t memory[LOKHAZIM_HEAP_MAX];
 static _Alignas(LOKHAZIM_ALIGNMENT) uint8_t other[LOKHAZIM_HEAP_MAX];
 static uint8_t image[LOKHAZIM_IMAGE_MAX + 1];
 static uint8_t changed[LOKHAZIM_IMAGE_MAX];
 static struct lokhazim_accounts accounts;
+static struct lokhazim_accounts back;
+static const struct lokhazim_heap heap = { memory, sizeof memory, &accounts };
+static const struct lokhazim_heap second = { other, sizeof other, &back };
 
 /* Every quota holds objects, and every record is used. */
 static void fill(void)
@@ -24,11 +27,11 @@ static void fill(void)
     for (uint32_t i = 0; i < LOKHAZIM_QUOTAS; i++) {
         grants.values[i] = 100000 + i;
     }
-    CHECK(lokhazim_heap_open(heap, sizeof heap, &accounts, grants, LOKHAZIM_PLAIN, LOKHAZIM_EDITION_1) == LOKHAZIM_ACCEPTED);
+    CHECK(lokhazim_heap_open(&heap, grants, LOKHAZIM_PLAIN, LOKHAZIM_EDITION_1) == LOKHAZIM_ACCEPTED);
     for (uint32_t i = 0; i < LOKHAZIM_HOLDS; i++) {
         struct lokhazim_handle handle;
-        CHECK(lokhazim_heap_allocate(heap, sizeof heap, &accounts, i % LOKHAZIM_QUOTAS, 1 + i % 40, &handle) == LOKHAZIM_ACCEPTED);
-        memset(heap + handle.base, (int)i, handle.length);
+        CHECK(lokhazim_heap_allocate(&heap, i % LOKHAZIM_QUOTAS, 1 + i % 40, &handle) == LOKHAZIM_ACCEPTED);
+        memset(memory + handle.base, (int)i, handle.length);
     }
 }
 
@@ -38,10 +41,10 @@ static void compare(void)
     struct lokhazim_compare_reply reply;
     struct lokhazim_next_reply next;
     const size_t length = LOKHAZIM_IMAGE_MAX;
-    heap[8] ^= 1;
+    memory[8] ^= 1;
     accounts.holds[5].count = 2;
     accounts.quotas[LOKHAZIM_QUOTAS - 1].permissions = LOKHAZIM_MAY_CLAIM;
-    CHECK(lokhazim_heap_save(heap, sizeof heap, &accounts, changed, sizeof changed, NULL) == LOKHAZIM_IMAGE_ACCEPTED);
+    CHECK(lokhazim_heap_save(&heap, changed, sizeof changed, NULL) == LOKHAZIM_ACCEPTED);
 
     reply = lokhazim_image_compare(image, length, changed, length, 0);
     CHECK(reply.refusal == 0 && reply.kind == LOKHAZIM_QUOTA_DIFFERS && reply.place == LOKHAZIM_QUOTAS - 1 && reply.length == 0);
@@ -90,9 +93,10 @@ static void not_compared(void)
     compare_refused(image, length, changed, length, 2);
     compare_refused(changed, length, image, length, 1);
     compare_refused(image, length, image, 0, 2);
-    CHECK(lokhazim_heap_open(heap, 64, &accounts, (struct lokhazim_grants){ { 0 } }, LOKHAZIM_PLAIN, LOKHAZIM_EDITION_1)
+    const struct lokhazim_heap least = { memory, LOKHAZIM_HEAP_MIN, &accounts };
+    CHECK(lokhazim_heap_open(&least, (struct lokhazim_grants){ { 0 } }, LOKHAZIM_PLAIN, LOKHAZIM_EDITION_1)
           == LOKHAZIM_ACCEPTED);
-    CHECK(lokhazim_heap_save(heap, 64, &accounts, changed, sizeof changed, NULL) == LOKHAZIM_IMAGE_ACCEPTED);
+    CHECK(lokhazim_heap_save(&least, changed, sizeof changed, NULL) == LOKHAZIM_ACCEPTED);
     compare_refused(image, length, changed, lokhazim_image_length(64), 0);
 }
 
@@ -101,8 +105,8 @@ static void not_carried(const char *why)
 {
     size_t length = 1;
     memset(changed, 7, sizeof changed);
-    if (lokhazim_heap_save_form_1(heap, sizeof heap, &accounts, changed, sizeof changed, &length) != LOKHAZIM_IMAGE_NOT_CARRIED
-        || lokhazim_heap_save_form_1(heap, sizeof heap, &accounts, changed, 0, NULL) != LOKHAZIM_IMAGE_NOT_CARRIED) {
+    if (lokhazim_heap_save_form_1(&heap, changed, sizeof changed, &length) != LOKHAZIM_IMAGE_NOT_CARRIED
+        || lokhazim_heap_save_form_1(&heap, changed, 0, NULL) != LOKHAZIM_IMAGE_NOT_CARRIED) {
         fprintf(stderr, "FAILED: form 1 is written though %s.\n", why);
         exit(EXIT_FAILURE);
     }
@@ -115,29 +119,28 @@ static void fill_form_1(void)
     struct lokhazim_grants grants = { { 1000 } };
     struct lokhazim_handle handle;
     grants.values[LOKHAZIM_FORM_1_QUOTAS - 1] = 2000;
-    CHECK(lokhazim_heap_open(heap, sizeof heap, &accounts, grants, LOKHAZIM_PLAIN, LOKHAZIM_EDITION_1) == LOKHAZIM_ACCEPTED);
-    CHECK(lokhazim_heap_allocate(heap, sizeof heap, &accounts, LOKHAZIM_FORM_1_QUOTAS - 1, 40, &handle) == LOKHAZIM_ACCEPTED);
+    CHECK(lokhazim_heap_open(&heap, grants, LOKHAZIM_PLAIN, LOKHAZIM_EDITION_1) == LOKHAZIM_ACCEPTED);
+    CHECK(lokhazim_heap_allocate(&heap, LOKHAZIM_FORM_1_QUOTAS - 1, 40, &handle) == LOKHAZIM_ACCEPTED);
     accounts.holds[LOKHAZIM_FORM_1_HOLDS - 1] = accounts.holds[0];
     accounts.holds[0] = (struct lokhazim_hold){ 0, 0, 0 };
-    CHECK(lokhazim_heap_check(heap, sizeof heap, &accounts) == LOKHAZIM_ACCEPTED);
+    CHECK(lokhazim_heap_check(&heap) == LOKHAZIM_ACCEPTED);
 }
 
 /* Form 1 carries what fits it, and is refused by 28 for each single thing that doesn't. */
 static void form_1(void)
 {
     size_t length = 1;
-    struct lokhazim_accounts back;
     struct lokhazim_accounts kept;
     fill_form_1();
     kept = accounts;
     memset(&back, 0, sizeof back);
-    CHECK(lokhazim_image_length_form_1(sizeof heap) == LOKHAZIM_IMAGE_MAX_FORM_1 && lokhazim_image_length_form_1(65) == 0);
-    CHECK(lokhazim_heap_save_form_1(heap, sizeof heap, &accounts, image, LOKHAZIM_IMAGE_MAX_FORM_1 - 1, &length) == LOKHAZIM_IMAGE_ROOM);
-    CHECK(lokhazim_heap_save_form_1(heap, sizeof heap, &accounts, image, sizeof image, &length) == LOKHAZIM_IMAGE_ACCEPTED);
+    CHECK(lokhazim_image_length_form_1(sizeof memory) == LOKHAZIM_IMAGE_MAX_FORM_1 && lokhazim_image_length_form_1(65) == 0);
+    CHECK(lokhazim_heap_save_form_1(&heap, image, LOKHAZIM_IMAGE_MAX_FORM_1 - 1, &length) == LOKHAZIM_IMAGE_ROOM);
+    CHECK(lokhazim_heap_save_form_1(&heap, image, sizeof image, &length) == LOKHAZIM_ACCEPTED);
     CHECK(length == LOKHAZIM_IMAGE_MAX_FORM_1);
     CHECK(lokhazim_image_examine(image, length).form == 1);
-    CHECK(lokhazim_heap_restore(other, sizeof other, &back, image, length) == LOKHAZIM_IMAGE_ACCEPTED);
-    CHECK(memcmp(heap, other, sizeof heap) == 0 && same(&accounts, &back));
+    CHECK(lokhazim_heap_restore(&second, image, length) == LOKHAZIM_ACCEPTED);
+    CHECK(memcmp(memory, other, sizeof memory) == 0 && same(&accounts, &back));
 
     accounts.quotas[LOKHAZIM_FORM_1_QUOTAS].grant = 1;
     accounts.quotas[LOKHAZIM_FORM_1_QUOTAS].remainder = 1;
@@ -147,13 +150,13 @@ static void form_1(void)
     accounts.holds[LOKHAZIM_FORM_1_HOLDS - 1] = (struct lokhazim_hold){ 0, 0, 0 };
     not_carried("a record behind its own is used");
     accounts = kept;
-    CHECK(lokhazim_heap_clear_permissions(heap, sizeof heap, &accounts, LOKHAZIM_QUOTAS - 1, LOKHAZIM_MAY_CLAIM, NULL)
+    CHECK(lokhazim_heap_clear_permissions(&heap, LOKHAZIM_QUOTAS - 1, LOKHAZIM_MAY_CLAIM, NULL)
           == LOKHAZIM_ACCEPTED);
     not_carried("a quota lacks a permission");
 
-    CHECK(lokhazim_heap_save(heap, sizeof heap, &accounts, changed, sizeof changed, &length) == LOKHAZIM_IMAGE_ACCEPTED);
+    CHECK(lokhazim_heap_save(&heap, changed, sizeof changed, &length) == LOKHAZIM_ACCEPTED);
     CHECK(lokhazim_image_examine(changed, length).form == 2);
-    CHECK(lokhazim_heap_restore(other, sizeof other, &back, changed, length) == LOKHAZIM_IMAGE_ACCEPTED && same(&accounts, &back));
+    CHECK(lokhazim_heap_restore(&second, changed, length) == LOKHAZIM_ACCEPTED && same(&accounts, &back));
     const struct lokhazim_compare_reply reply = lokhazim_image_compare(image, LOKHAZIM_IMAGE_MAX_FORM_1, changed, length, 0);
     CHECK(reply.refusal == LOKHAZIM_IMAGE_FORMS_DIFFER && reply.which == 0);
 }
@@ -164,20 +167,20 @@ static void moves(void)
     static uint8_t back[LOKHAZIM_IMAGE_MAX_FORM_1];
     struct lokhazim_image_reply reply;
     fill_form_1();
-    CHECK(lokhazim_heap_save_form_1(heap, sizeof heap, &accounts, image, sizeof image, NULL) == LOKHAZIM_IMAGE_ACCEPTED);
+    CHECK(lokhazim_heap_save_form_1(&heap, image, sizeof image, NULL) == LOKHAZIM_ACCEPTED);
     memset(changed, 7, sizeof changed);
     reply = lokhazim_image_move_up(image, LOKHAZIM_IMAGE_MAX_FORM_1, changed, sizeof changed - 1);
     CHECK(reply.refusal == LOKHAZIM_IMAGE_ROOM && reply.length == 0 && changed[0] == 7);
     reply = lokhazim_image_move_down(image, LOKHAZIM_IMAGE_MAX_FORM_1, changed, sizeof changed);
     CHECK(reply.refusal == LOKHAZIM_IMAGE_FORM && reply.length == 0 && changed[0] == 7);
     reply = lokhazim_image_move_up(image, LOKHAZIM_IMAGE_MAX_FORM_1, changed, sizeof changed);
-    CHECK(reply.refusal == LOKHAZIM_IMAGE_ACCEPTED && reply.length == sizeof changed);
+    CHECK(reply.refusal == LOKHAZIM_ACCEPTED && reply.length == sizeof changed);
     CHECK(lokhazim_image_examine(changed, sizeof changed).form == 2);
     reply = lokhazim_image_move_down(changed, sizeof changed, back, sizeof back);
-    CHECK(reply.refusal == LOKHAZIM_IMAGE_ACCEPTED && reply.length == sizeof back && memcmp(image, back, sizeof back) == 0);
+    CHECK(reply.refusal == LOKHAZIM_ACCEPTED && reply.length == sizeof back && memcmp(image, back, sizeof back) == 0);
 
     accounts.quotas[0].permissions = LOKHAZIM_MAY_CLAIM;
-    CHECK(lokhazim_heap_save(heap, sizeof heap, &accounts, changed, sizeof changed, NULL) == LOKHAZIM_IMAGE_ACCEPTED);
+    CHECK(lokhazim_heap_save(&heap, changed, sizeof changed, NULL) == LOKHAZIM_ACCEPTED);
     reply = lokhazim_image_move_down(changed, sizeof changed, back, 0);
     CHECK(reply.refusal == LOKHAZIM_IMAGE_NOT_CARRIED && memcmp(image, back, sizeof back) == 0);
 }
@@ -188,17 +191,16 @@ static void marked(uint8_t kind, uint8_t edition)
     const size_t length = LOKHAZIM_IMAGE_MAX;
     uint32_t differences[3] = { LOKHAZIM_NO_DIFFERENCE, LOKHAZIM_NO_DIFFERENCE, LOKHAZIM_NO_DIFFERENCE };
     size_t count = 0;
-    struct lokhazim_accounts back;
     struct lokhazim_next_reply next = { 0, 0, 0, 0, 0, 0, 0 };
     memset(&back, 0, sizeof back);
     fill_form_1();
-    CHECK(lokhazim_heap_save(heap, sizeof heap, &accounts, image, sizeof image, NULL) == LOKHAZIM_IMAGE_ACCEPTED);
+    CHECK(lokhazim_heap_save(&heap, image, sizeof image, NULL) == LOKHAZIM_ACCEPTED);
     accounts.kind = kind;
     accounts.edition = edition;
     not_carried("the heap has quarantine or is of edition 2");
-    CHECK(lokhazim_heap_save(heap, sizeof heap, &accounts, changed, sizeof changed, NULL) == LOKHAZIM_IMAGE_ACCEPTED);
+    CHECK(lokhazim_heap_save(&heap, changed, sizeof changed, NULL) == LOKHAZIM_ACCEPTED);
     CHECK(image[6] == LOKHAZIM_EDITION_1 && image[7] == LOKHAZIM_PLAIN && changed[6] == edition && changed[7] == kind);
-    CHECK(lokhazim_heap_restore(other, sizeof other, &back, changed, length) == LOKHAZIM_IMAGE_ACCEPTED && same(&accounts, &back));
+    CHECK(lokhazim_heap_restore(&second, changed, length) == LOKHAZIM_ACCEPTED && same(&accounts, &back));
 
     if (kind != LOKHAZIM_PLAIN) {
         differences[count++] = LOKHAZIM_KIND_DIFFERS;
@@ -219,40 +221,40 @@ static void marked(uint8_t kind, uint8_t edition)
 static void resume(size_t length)
 {
     struct lokhazim_accounts zeros;
-    struct lokhazim_accounts back;
     memset(&zeros, 0, sizeof zeros);
     memset(&back, 5, sizeof back);
-    CHECK(lokhazim_heap_resume(other, sizeof other, &back, image, length - 512) == LOKHAZIM_IMAGE_FRAME);
+    CHECK(lokhazim_heap_resume(&second, image, length - 512) == LOKHAZIM_IMAGE_FRAME);
     CHECK(other[0] == 9 && other[sizeof other - 1] == 9 && same(&zeros, &back));
-    CHECK(lokhazim_heap_resume(other, sizeof other, &back, image, length) == LOKHAZIM_IMAGE_ACCEPTED);
-    CHECK(memcmp(heap, other, sizeof heap) == 0 && same(&accounts, &back));
+    CHECK(lokhazim_heap_resume(&second, image, length) == LOKHAZIM_ACCEPTED);
+    CHECK(memcmp(memory, other, sizeof memory) == 0 && same(&accounts, &back));
 }
 
 int main(void)
 {
+    const struct lokhazim_heap mixed_up = { memory, sizeof memory, &back };
+    const struct lokhazim_heap shorter = { other, sizeof other - 8, &back };
     size_t length = 1;
-    struct lokhazim_accounts back;
     memset(&back, 0, sizeof back);
     fill();
     memset(image, 7, sizeof image);
 
-    CHECK(lokhazim_image_length(sizeof heap) == LOKHAZIM_IMAGE_MAX && lokhazim_image_length(65) == 0);
-    CHECK(lokhazim_heap_save(heap, sizeof heap, &accounts, image, LOKHAZIM_IMAGE_MAX - 1, &length) == LOKHAZIM_IMAGE_ROOM);
+    CHECK(lokhazim_image_length(sizeof memory) == LOKHAZIM_IMAGE_MAX && lokhazim_image_length(65) == 0);
+    CHECK(lokhazim_heap_save(&heap, image, LOKHAZIM_IMAGE_MAX - 1, &length) == LOKHAZIM_IMAGE_ROOM);
     CHECK(length == 0 && image[0] == 7);
-    CHECK(lokhazim_heap_save(heap, sizeof heap, &back, image, sizeof image, NULL) == LOKHAZIM_IMAGE_HEAP_INCONSISTENT);
-    CHECK(lokhazim_heap_save(heap, sizeof heap, &accounts, image, sizeof image, &length) == LOKHAZIM_IMAGE_ACCEPTED);
+    CHECK(lokhazim_heap_save(&mixed_up, image, sizeof image, NULL) == LOKHAZIM_INCONSISTENT);
+    CHECK(lokhazim_heap_save(&heap, image, sizeof image, &length) == LOKHAZIM_ACCEPTED);
     CHECK(length == LOKHAZIM_IMAGE_MAX && image[length] == 7);
 
-    CHECK(lokhazim_heap_restore(other, sizeof other, &back, image, length) == LOKHAZIM_IMAGE_ACCEPTED);
-    CHECK(memcmp(heap, other, sizeof heap) == 0 && same(&accounts, &back));
-    CHECK(lokhazim_heap_check(other, sizeof other, &back) == LOKHAZIM_ACCEPTED);
+    CHECK(lokhazim_heap_restore(&second, image, length) == LOKHAZIM_ACCEPTED);
+    CHECK(memcmp(memory, other, sizeof memory) == 0 && same(&accounts, &back));
+    CHECK(lokhazim_heap_check(&second) == LOKHAZIM_ACCEPTED);
 
     image[600] ^= 1;
     memset(other, 9, sizeof other);
-    CHECK(lokhazim_heap_restore(other, sizeof other, &back, image, length) == LOKHAZIM_IMAGE_FRAME);
-    CHECK(lokhazim_heap_restore(other, sizeof other, &back, image, length + 1) == LOKHAZIM_IMAGE_LENGTH);
+    CHECK(lokhazim_heap_restore(&second, image, length) == LOKHAZIM_IMAGE_FRAME);
+    CHECK(lokhazim_heap_restore(&second, image, length + 1) == LOKHAZIM_IMAGE_LENGTH);
     image[600] ^= 1;
-    CHECK(lokhazim_heap_restore(other, sizeof other - 8, &back, image, length) == LOKHAZIM_IMAGE_ROOM);
+    CHECK(lokhazim_heap_restore(&shorter, image, length) == LOKHAZIM_IMAGE_ROOM);
     CHECK(other[0] == 9 && other[sizeof other - 1] == 9 && same(&accounts, &back));
     resume(length);
     compare();

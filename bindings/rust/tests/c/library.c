@@ -8,9 +8,9 @@
 
 #include <string.h>
 
-static _Alignas(LOKHAZIM_ALIGNMENT) uint8_t heap[LOKHAZIM_HEAP_MAX];
-#define HEAP heap, sizeof heap
+static _Alignas(LOKHAZIM_ALIGNMENT) uint8_t memory[LOKHAZIM_HEAP_MAX];
 static struct lokhazim_accounts accounts;
+static const struct lokhazim_heap heap = { memory, sizeof memory, &accounts };
 
 static struct lokhazim_handle handles[LOKHAZIM_HOLDS];
 
@@ -42,7 +42,7 @@ static void grants_come_back(void)
     for (uint32_t i = 0; i < LOKHAZIM_QUOTAS; i++) {
         grants.values[i] = 100000 + 1000 * i;
     }
-    ACCEPTED(lokhazim_heap_open(HEAP, &accounts, grants, LOKHAZIM_PLAIN, LOKHAZIM_EDITION_1));
+    ACCEPTED(lokhazim_heap_open(&heap, grants, LOKHAZIM_PLAIN, LOKHAZIM_EDITION_1));
     for (int i = 0; i < LOKHAZIM_QUOTAS; i++) {
         CHECK(accounts.quotas[i].grant == grants.values[i]);
         CHECK(accounts.quotas[i].remainder == grants.values[i]);
@@ -57,27 +57,29 @@ static void accounts_come_back(void)
 {
     const struct lokhazim_accounts before = distinct();
     struct lokhazim_accounts after = before;
+    const struct lokhazim_heap refused = { memory, sizeof memory, &after };
+    const struct lokhazim_heap short_heap = { memory, 65, &after };
     struct lokhazim_handle handle = { 8, 16, 1 };
     struct lokhazim_handle given = { 1, 2, 3 };
     uint32_t amount = 4;
-    REFUSED(INCONSISTENT, lokhazim_heap_allocate(HEAP, &after, 0, 8, &given));
+    REFUSED(INCONSISTENT, lokhazim_heap_allocate(&refused, 0, 8, &given));
     CHECK(same(&before, &after) && given.base == 0 && given.length == 0 && given.serial == 0);
-    REFUSED(INCONSISTENT, lokhazim_heap_allocate_array(HEAP, &after, 0, 2, 4, &given));
+    REFUSED(INCONSISTENT, lokhazim_heap_allocate_array(&refused, 0, 2, 4, &given));
     CHECK(same(&before, &after));
-    REFUSED(INCONSISTENT, lokhazim_heap_claim(HEAP, &after, 0, handle, &amount));
+    REFUSED(INCONSISTENT, lokhazim_heap_claim(&refused, 0, handle, &amount));
     CHECK(same(&before, &after) && amount == 0);
-    REFUSED(INCONSISTENT, lokhazim_heap_release(HEAP, &after, 0, handle, NULL));
+    REFUSED(INCONSISTENT, lokhazim_heap_release(&refused, 0, handle, NULL));
     CHECK(same(&before, &after));
-    REFUSED(INCONSISTENT, lokhazim_heap_free_all(HEAP, &after, 0, NULL));
+    REFUSED(INCONSISTENT, lokhazim_heap_free_all(&refused, 0, NULL));
     CHECK(same(&before, &after));
-    REFUSED(INCONSISTENT, lokhazim_heap_clear_permissions(HEAP, &after, 0, LOKHAZIM_MAY_ALL, NULL));
+    REFUSED(INCONSISTENT, lokhazim_heap_clear_permissions(&refused, 0, LOKHAZIM_MAY_ALL, NULL));
     CHECK(same(&before, &after));
     amount = 4;
-    REFUSED(INCONSISTENT, lokhazim_heap_sweep(HEAP, &after, &amount));
+    REFUSED(INCONSISTENT, lokhazim_heap_sweep(&refused, &amount));
     CHECK(same(&before, &after) && amount == 0);
-    REFUSED(INCONSISTENT, lokhazim_heap_reallocate(HEAP, &after, 0, handle, 8, &given));
+    REFUSED(INCONSISTENT, lokhazim_heap_reallocate(&refused, 0, handle, 8, &given));
     CHECK(same(&before, &after));
-    REFUSED(HEAP_LENGTH, lokhazim_heap_open(heap, 65, &after, (struct lokhazim_grants){ { 1 } }, LOKHAZIM_QUARANTINE, LOKHAZIM_EDITION_1));
+    REFUSED(HEAP_LENGTH, lokhazim_heap_open(&short_heap, (struct lokhazim_grants){ { 1 } }, LOKHAZIM_QUARANTINE, LOKHAZIM_EDITION_1));
     CHECK(same(&(struct lokhazim_accounts){ .last_serial = 0 }, &after));
 }
 
@@ -98,9 +100,9 @@ static void fill(void)
     for (uint32_t i = 0; i < LOKHAZIM_HOLDS; i++) {
         const uint32_t quota = i % LOKHAZIM_QUOTAS;
         uint32_t bytes = 0;
-        ACCEPTED(lokhazim_heap_allocate(HEAP, &accounts, quota, length_of(i), &handles[i]));
+        ACCEPTED(lokhazim_heap_allocate(&heap, quota, length_of(i), &handles[i]));
         for (uint32_t n = 1; n < count_of(i); n++) {
-            ACCEPTED(lokhazim_heap_claim(HEAP, &accounts, quota, handles[i], &bytes));
+            ACCEPTED(lokhazim_heap_claim(&heap, quota, handles[i], &bytes));
             CHECK(bytes == length_of(i));
         }
     }
@@ -120,7 +122,7 @@ static void fields_are_read(void)
         uint32_t remainder = 0;
         CHECK(accounts.quotas[i].grant == 100000 + 1000 * i);
         CHECK(accounts.quotas[i].remainder == accounts.quotas[i].grant - spent[i]);
-        ACCEPTED(lokhazim_heap_remaining(HEAP, &accounts, i, &remainder));
+        ACCEPTED(lokhazim_heap_remaining(&heap, i, &remainder));
         CHECK(remainder == accounts.quotas[i].remainder);
     }
     CHECK(accounts.last_serial == LOKHAZIM_HOLDS);
@@ -128,7 +130,7 @@ static void fields_are_read(void)
 
 static enum lokhazim_refusal check(void)
 {
-    return lokhazim_heap_check(HEAP, &accounts);
+    return lokhazim_heap_check(&heap);
 }
 
 /* Changes one field, which has to be refused, and changes it back. */
@@ -165,13 +167,13 @@ static void handle_is_noticed(struct lokhazim_handle right)
 {
     struct lokhazim_handle wrong[3] = { right, right, right };
     uint8_t *object = NULL;
-    ACCEPTED(lokhazim_heap_lend(HEAP, &accounts, right, &object));
-    CHECK(object == heap + right.base);
+    ACCEPTED(lokhazim_heap_lend(&heap, right, &object));
+    CHECK(object == memory + right.base);
     wrong[0].base += 8;
     wrong[1].length += 8;
     wrong[2].serial += 1;
     for (int n = 0; n < 3; n++) {
-        REFUSED(NO_SUCH_OBJECT, lokhazim_heap_lend(HEAP, &accounts, wrong[n], &object));
+        REFUSED(NO_SUCH_OBJECT, lokhazim_heap_lend(&heap, wrong[n], &object));
         CHECK(object == NULL);
     }
 }
@@ -180,12 +182,12 @@ static void handle_is_noticed(struct lokhazim_handle right)
 static size_t replies_are_read(uint32_t i, size_t at)
 {
     struct lokhazim_block_reply block;
-    const struct lokhazim_range_reply range = lokhazim_lend(HEAP, accounts, handles[i]);
+    const struct lokhazim_range_reply range = lokhazim_raw_lend(memory, sizeof memory, &accounts, handles[i]);
     CHECK(handles[i].base == at + LOKHAZIM_HEADER && handles[i].length == length_of(i));
     CHECK(handles[i].serial == i + 1);
     CHECK(range.refusal == 0 && range.start == handles[i].base);
     CHECK(range.end == handles[i].base + handles[i].length);
-    ACCEPTED(lokhazim_heap_list_block(HEAP, &accounts, at, &block));
+    ACCEPTED(lokhazim_heap_list_block(&heap, at, &block));
     CHECK(block.found == 1 && block.offset == at && block.serial == i + 1);
     CHECK(block.size == length_of(i) + LOKHAZIM_HEADER);
     return at + block.size;
@@ -206,21 +208,21 @@ static void numbers_in_order(void)
     struct lokhazim_handle given;
     struct lokhazim_handle moved;
     uint32_t refund = 0;
-    ACCEPTED(lokhazim_heap_open(HEAP, &accounts, (struct lokhazim_grants){ { 0, 0, 0, 500 } }, LOKHAZIM_PLAIN, LOKHAZIM_EDITION_1));
-    ACCEPTED(lokhazim_heap_allocate_array(HEAP, &accounts, 3, 5, 12, &given));
+    ACCEPTED(lokhazim_heap_open(&heap, (struct lokhazim_grants){ { 0, 0, 0, 500 } }, LOKHAZIM_PLAIN, LOKHAZIM_EDITION_1));
+    ACCEPTED(lokhazim_heap_allocate_array(&heap, 3, 5, 12, &given));
     CHECK(given.base == 8 && given.length == 64 && given.serial == 1);
-    ACCEPTED(lokhazim_heap_write(HEAP, &accounts, given, 63, 255));
-    ACCEPTED(lokhazim_heap_write(HEAP, &accounts, given, 64, 254));
-    CHECK(heap[8 + 63] == 255 && heap[8 + 64] != 254);
-    ACCEPTED(lokhazim_heap_reallocate(HEAP, &accounts, 3, given, 70, &moved));
+    ACCEPTED(lokhazim_heap_write(&heap, given, 63, 255));
+    ACCEPTED(lokhazim_heap_write(&heap, given, 64, 254));
+    CHECK(memory[8 + 63] == 255 && memory[8 + 64] != 254);
+    ACCEPTED(lokhazim_heap_reallocate(&heap, 3, given, 70, &moved));
     CHECK(moved.base == 80 && moved.length == 72 && moved.serial == 2);
-    CHECK(heap[80 + 63] == 255 && heap[8 + 63] == 0);
-    REFUSED(NOT_HELD, lokhazim_heap_can_release(HEAP, &accounts, 2, moved));
-    ACCEPTED(lokhazim_heap_can_release(HEAP, &accounts, 3, moved));
-    ACCEPTED(lokhazim_heap_free_all(HEAP, &accounts, 3, &refund));
+    CHECK(memory[80 + 63] == 255 && memory[8 + 63] == 0);
+    REFUSED(NOT_HELD, lokhazim_heap_can_release(&heap, 2, moved));
+    ACCEPTED(lokhazim_heap_can_release(&heap, 3, moved));
+    ACCEPTED(lokhazim_heap_free_all(&heap, 3, &refund));
     CHECK(refund == 80 && accounts.quotas[3].remainder == 500);
-    ACCEPTED(lokhazim_heap_allocate(HEAP, &accounts, 3, 8, &given));
-    ACCEPTED(lokhazim_heap_release(HEAP, &accounts, 3, given, &refund));
+    ACCEPTED(lokhazim_heap_allocate(&heap, 3, 8, &given));
+    ACCEPTED(lokhazim_heap_release(&heap, 3, given, &refund));
     CHECK(refund == 16 && accounts.quotas[3].remainder == 500);
 }
 
@@ -259,30 +261,31 @@ static void parts_of_an_object(void)
     struct lokhazim_handle moved;
     uint8_t *object = NULL;
     uint32_t amount = 0;
-    ACCEPTED(lokhazim_heap_open(HEAP, &accounts, (struct lokhazim_grants){ { 500, 500 } }, LOKHAZIM_PLAIN, LOKHAZIM_EDITION_1));
-    ACCEPTED(lokhazim_heap_allocate(HEAP, &accounts, 0, 16, &whole));
+    ACCEPTED(lokhazim_heap_open(&heap, (struct lokhazim_grants){ { 500, 500 } }, LOKHAZIM_PLAIN, LOKHAZIM_EDITION_1));
+    ACCEPTED(lokhazim_heap_allocate(&heap, 0, 16, &whole));
     for (uint32_t at = 0; at < 16; at++) {
         for (uint32_t bytes = 1; at + bytes <= 16; bytes++) {
             const struct lokhazim_handle part = lokhazim_handle_narrowed(whole, at, bytes);
-            ACCEPTED(lokhazim_heap_lend(HEAP, &accounts, part, &object));
-            CHECK(object == heap + whole.base + at && lokhazim_lend(HEAP, accounts, part).end == whole.base + at + bytes);
-            ACCEPTED(lokhazim_heap_write(HEAP, &accounts, part, bytes - 1, (uint8_t)(at + 1)));
+            ACCEPTED(lokhazim_heap_lend(&heap, part, &object));
+            CHECK(object == memory + whole.base + at);
+            CHECK(lokhazim_raw_lend(memory, sizeof memory, &accounts, part).end == whole.base + at + bytes);
+            ACCEPTED(lokhazim_heap_write(&heap, part, bytes - 1, (uint8_t)(at + 1)));
             CHECK(object[bytes - 1] == at + 1);
-            ACCEPTED(lokhazim_heap_write(HEAP, &accounts, part, bytes, 99));
+            ACCEPTED(lokhazim_heap_write(&heap, part, bytes, 99));
             CHECK(object[bytes] != 99);
-            ACCEPTED(lokhazim_heap_claim(HEAP, &accounts, 1, part, &amount));
+            ACCEPTED(lokhazim_heap_claim(&heap, 1, part, &amount));
             CHECK(amount == 16 && accounts.quotas[1].remainder == 500 - 24);
-            ACCEPTED(lokhazim_heap_can_release(HEAP, &accounts, 1, part));
-            ACCEPTED(lokhazim_heap_release(HEAP, &accounts, 1, part, &amount));
+            ACCEPTED(lokhazim_heap_can_release(&heap, 1, part));
+            ACCEPTED(lokhazim_heap_release(&heap, 1, part, &amount));
             CHECK(amount == 24 && accounts.quotas[1].remainder == 500);
-            REFUSED(NOT_HELD, lokhazim_heap_release(HEAP, &accounts, 1, part, &amount));
+            REFUSED(NOT_HELD, lokhazim_heap_release(&heap, 1, part, &amount));
             if (bytes < 16) {
-                REFUSED(NO_SUCH_OBJECT, lokhazim_heap_reallocate(HEAP, &accounts, 0, part, 8, &moved));
+                REFUSED(NO_SUCH_OBJECT, lokhazim_heap_reallocate(&heap, 0, part, 8, &moved));
             }
         }
     }
-    ACCEPTED(lokhazim_heap_reallocate(HEAP, &accounts, 0, lokhazim_handle_narrowed(whole, 0, 16), 8, &moved));
-    REFUSED(NO_SUCH_OBJECT, lokhazim_heap_lend(HEAP, &accounts, lokhazim_handle_narrowed(moved, 0, 9), &object));
+    ACCEPTED(lokhazim_heap_reallocate(&heap, 0, lokhazim_handle_narrowed(whole, 0, 16), 8, &moved));
+    REFUSED(NO_SUCH_OBJECT, lokhazim_heap_lend(&heap, lokhazim_handle_narrowed(moved, 0, 9), &object));
 }
 
 /* Quota q loses the permissions with the bits of q. Then each call goes by its own bit of its own quota. */
@@ -294,29 +297,29 @@ static void permissions_are_read(void)
     for (uint32_t q = 0; q < LOKHAZIM_QUOTAS; q++) {
         grants.values[q] = 500;
     }
-    ACCEPTED(lokhazim_heap_open(HEAP, &accounts, grants, LOKHAZIM_PLAIN, LOKHAZIM_EDITION_1));
-    ACCEPTED(lokhazim_heap_allocate(HEAP, &accounts, 0, 8, &object));
+    ACCEPTED(lokhazim_heap_open(&heap, grants, LOKHAZIM_PLAIN, LOKHAZIM_EDITION_1));
+    ACCEPTED(lokhazim_heap_allocate(&heap, 0, 8, &object));
     for (uint32_t q = 1; q <= LOKHAZIM_MAY_ALL; q++) {
-        ACCEPTED(lokhazim_heap_claim(HEAP, &accounts, q, object, NULL));
+        ACCEPTED(lokhazim_heap_claim(&heap, q, object, NULL));
     }
     for (uint32_t q = 0; q <= LOKHAZIM_MAY_ALL; q++) {
         uint32_t left = 99;
-        ACCEPTED(lokhazim_heap_clear_permissions(HEAP, &accounts, q, q | 0xFFFFFFF8u, &left));
+        ACCEPTED(lokhazim_heap_clear_permissions(&heap, q, q | 0xFFFFFFF8u, &left));
         CHECK(left == LOKHAZIM_MAY_ALL - q && accounts.quotas[q].permissions == left);
-        ACCEPTED(lokhazim_heap_clear_permissions(HEAP, &accounts, q, 0, &left));
+        ACCEPTED(lokhazim_heap_clear_permissions(&heap, q, 0, &left));
         CHECK(left == LOKHAZIM_MAY_ALL - q);
     }
-    REFUSED(QUOTA_NUMBER, lokhazim_heap_clear_permissions(HEAP, &accounts, LOKHAZIM_QUOTAS, 0, NULL));
+    REFUSED(QUOTA_NUMBER, lokhazim_heap_clear_permissions(&heap, LOKHAZIM_QUOTAS, 0, NULL));
     for (uint32_t q = 0; q <= LOKHAZIM_MAY_ALL; q++) {
         const uint32_t left = accounts.quotas[q].permissions;
         const int makes = left & LOKHAZIM_MAY_ALLOCATE ? LOKHAZIM_ACCEPTED : LOKHAZIM_NOT_PERMITTED;
         const int claims = left & LOKHAZIM_MAY_CLAIM ? LOKHAZIM_ACCEPTED : LOKHAZIM_NOT_PERMITTED;
         const int frees = left & LOKHAZIM_MAY_FREE_ALL ? LOKHAZIM_ACCEPTED : LOKHAZIM_NOT_PERMITTED;
-        CHECK((int)lokhazim_heap_allocate(HEAP, &accounts, q, 8, &given) == makes);
-        CHECK((int)lokhazim_heap_allocate_array(HEAP, &accounts, q, 2, 4, &given) == makes);
-        CHECK((int)lokhazim_heap_claim(HEAP, &accounts, q, object, NULL) == claims);
-        CHECK((int)lokhazim_heap_reallocate(HEAP, &accounts, q, object, 8, &given) == makes);
-        CHECK((int)lokhazim_heap_free_all(HEAP, &accounts, q, NULL) == frees);
+        CHECK((int)lokhazim_heap_allocate(&heap, q, 8, &given) == makes);
+        CHECK((int)lokhazim_heap_allocate_array(&heap, q, 2, 4, &given) == makes);
+        CHECK((int)lokhazim_heap_claim(&heap, q, object, NULL) == claims);
+        CHECK((int)lokhazim_heap_reallocate(&heap, q, object, 8, &given) == makes);
+        CHECK((int)lokhazim_heap_free_all(&heap, q, NULL) == frees);
     }
 }
 

@@ -9,19 +9,20 @@
 #include "lokhazim_queue.h"
 #include "lokhazim_report.h"
 #include "lokhazim_settings.h"
-#include "lokhazim_stats.h"
+#include "lokhazim_statistics.h"
 
 #include <string.h>
 
 #define IS(type, object, field, number) CHECK(((const struct type *)&(object))->field == (number))
 
-static _Alignas(LOKHAZIM_ALIGNMENT) uint8_t heap[LOKHAZIM_HEAP_MAX];
+static _Alignas(LOKHAZIM_ALIGNMENT) uint8_t memory[LOKHAZIM_HEAP_MAX];
 static struct lokhazim_accounts accounts;
 static uint8_t image[LOKHAZIM_IMAGE_MAX];
 static uint8_t other[LOKHAZIM_IMAGE_MAX];
 
 /* A heap of 512 bytes, with quarantine, of edition 1. Quota q is granted 1000 + 100 q. */
-#define SMALL heap, (size_t)512
+static struct lokhazim_heap small;
+#define RAW memory, (size_t)512, &accounts
 
 static struct lokhazim_grants some_grants(void)
 {
@@ -57,22 +58,33 @@ static void is_first_object(const struct lokhazim_handle handle)
 /* The heap of 512 bytes anew, with the first object, which quota 3 holds twice. */
 static void begin(void)
 {
-    const struct lokhazim_open_reply opened =
-        lokhazim_open(SMALL, some_grants(), LOKHAZIM_QUARANTINE, LOKHAZIM_EDITION_1);
-    IS(lokhazim_open_reply, opened, refusal, 0);
-    accounts = opened.accounts;
-    is_first_object(lokhazim_in_place_allocate(SMALL, &accounts, 3, 40).handle);
-    ACCEPTED(lokhazim_heap_claim(SMALL, &accounts, 3, first_object(), NULL));
+    struct lokhazim_handle handle;
+    small.bytes = memory;
+    small.length = 512;
+    small.accounts = &accounts;
+    ACCEPTED(lokhazim_heap_open(&small, some_grants(), LOKHAZIM_QUARANTINE, LOKHAZIM_EDITION_1));
+    ACCEPTED(lokhazim_heap_allocate(&small, 3, 40, &handle));
+    is_first_object(handle);
+    ACCEPTED(lokhazim_heap_claim(&small, 3, first_object(), NULL));
+}
+
+/* What is allocated lies in the bytes, and the accounts and the length are those of the struct. */
+static void heaps_mean(void)
+{
+    uint8_t *object;
+    begin();
+    IS(lokhazim_heap, small, bytes, memory);
+    IS(lokhazim_heap, small, length, 512);
+    IS(lokhazim_heap, small, accounts, &accounts);
+    ACCEPTED(lokhazim_heap_lend(&small, first_object(), &object));
+    CHECK(object == memory + 8);
+    small.length = 504;
+    REFUSED(INCONSISTENT, lokhazim_heap_check(&small));
 }
 
 static void accounts_mean(void)
 {
     const struct lokhazim_grants grants = some_grants();
-    struct lokhazim_open_reply opened = lokhazim_open(heap, 65, grants, LOKHAZIM_QUARANTINE, LOKHAZIM_EDITION_1);
-    IS(lokhazim_open_reply, opened, refusal, LOKHAZIM_HEAP_LENGTH);
-    IS(lokhazim_open_reply, opened, accounts.quotas[3].grant, 0);
-    opened = lokhazim_open(SMALL, grants, LOKHAZIM_QUARANTINE, LOKHAZIM_EDITION_1);
-    IS(lokhazim_open_reply, opened, accounts.quotas[3].grant, 1300);
     begin();
     for (uint32_t q = 0; q < LOKHAZIM_QUOTAS; q++) {
         IS(lokhazim_grants, grants, values[q], 1000 + 100 * q);
@@ -93,44 +105,27 @@ static void accounts_mean(void)
 /* The second object has 16 bytes and the base 56. */
 static void handles_mean(void)
 {
-    struct lokhazim_handle_reply by_value;
-    struct lokhazim_given_handle in_place;
+    struct lokhazim_handle_reply reply;
     begin();
-    by_value = lokhazim_allocate(SMALL, accounts, 0, 1000);
-    IS(lokhazim_handle_reply, by_value, refusal, LOKHAZIM_QUOTA_EXCEEDED);
-    IS(lokhazim_handle_reply, by_value, handle.base, 0);
-    IS(lokhazim_handle_reply, by_value, accounts.quotas[0].remainder, 1000);
-    in_place = lokhazim_in_place_allocate(SMALL, &accounts, 0, 1000);
-    IS(lokhazim_given_handle, in_place, refusal, LOKHAZIM_QUOTA_EXCEEDED);
-    IS(lokhazim_given_handle, in_place, handle.base, 0);
-    by_value = lokhazim_reallocate(SMALL, accounts, 3, first_object(), 16);
-    IS(lokhazim_handle_reply, by_value, refusal, 0);
-    IS(lokhazim_handle_reply, by_value, handle.base, 56);
-    IS(lokhazim_handle_reply, by_value, accounts.last_serial, 2);
-    begin();
-    in_place = lokhazim_in_place_reallocate(SMALL, &accounts, 3, first_object(), 16);
-    IS(lokhazim_given_handle, in_place, refusal, 0);
-    IS(lokhazim_given_handle, in_place, handle.serial, 2);
+    reply = lokhazim_raw_allocate(RAW, 0, 1000);
+    IS(lokhazim_handle_reply, reply, refusal, LOKHAZIM_QUOTA_EXCEEDED);
+    IS(lokhazim_handle_reply, reply, handle.base, 0);
+    reply = lokhazim_raw_reallocate(RAW, 3, first_object(), 16);
+    IS(lokhazim_handle_reply, reply, refusal, 0);
+    IS(lokhazim_handle_reply, reply, handle.base, 56);
+    IS(lokhazim_handle_reply, reply, handle.serial, 2);
 }
 
 static void amounts_mean(void)
 {
-    struct lokhazim_amount_reply by_value;
-    struct lokhazim_amount in_place;
+    struct lokhazim_amount_reply reply;
     begin();
-    by_value = lokhazim_claim(SMALL, accounts, 5, first_object());
-    IS(lokhazim_amount_reply, by_value, refusal, 0);
-    IS(lokhazim_amount_reply, by_value, amount, 40);
-    IS(lokhazim_amount_reply, by_value, accounts.quotas[5].remainder, 1500 - 48);
-    by_value = lokhazim_claim(SMALL, accounts, 5, no_object());
-    IS(lokhazim_amount_reply, by_value, refusal, LOKHAZIM_NO_SUCH_OBJECT);
-    IS(lokhazim_amount_reply, by_value, amount, 0);
-    in_place = lokhazim_in_place_claim(SMALL, &accounts, 5, first_object());
-    IS(lokhazim_amount, in_place, refusal, 0);
-    IS(lokhazim_amount, in_place, amount, 40);
-    in_place = lokhazim_remaining(SMALL, accounts, LOKHAZIM_QUOTAS);
-    IS(lokhazim_amount, in_place, refusal, LOKHAZIM_QUOTA_NUMBER);
-    IS(lokhazim_amount, in_place, amount, 0);
+    reply = lokhazim_raw_claim(RAW, 5, no_object());
+    IS(lokhazim_amount_reply, reply, refusal, LOKHAZIM_NO_SUCH_OBJECT);
+    IS(lokhazim_amount_reply, reply, amount, 0);
+    reply = lokhazim_raw_claim(RAW, 5, first_object());
+    IS(lokhazim_amount_reply, reply, refusal, 0);
+    IS(lokhazim_amount_reply, reply, amount, 40);
 }
 
 /* Bytes 12 up to 20 of the first object; and the block behind it, of 24 bytes, with the second object. */
@@ -141,21 +136,22 @@ static void questions_mean(void)
     struct lokhazim_handle given;
     const struct lokhazim_handle part = { .base = 20, .length = 8, .serial = 1 };
     begin();
-    range = lokhazim_lend(SMALL, accounts, part);
+    range = lokhazim_raw_lend(RAW, part);
     IS(lokhazim_range_reply, range, refusal, 0);
     IS(lokhazim_range_reply, range, start, 20);
     IS(lokhazim_range_reply, range, end, 28);
-    range = lokhazim_in_place_lend(SMALL, &accounts, no_object());
+    range = lokhazim_raw_lend(RAW, no_object());
     IS(lokhazim_range_reply, range, refusal, LOKHAZIM_NO_SUCH_OBJECT);
     IS(lokhazim_range_reply, range, end, 0);
-    ACCEPTED(lokhazim_heap_allocate(SMALL, &accounts, 0, 16, &given));
-    block = lokhazim_in_place_list_block(SMALL, &accounts, 48);
+    ACCEPTED(lokhazim_heap_allocate(&small, 0, 16, &given));
+    ACCEPTED(lokhazim_heap_list_block(&small, 48, &block));
     IS(lokhazim_block_reply, block, refusal, 0);
     IS(lokhazim_block_reply, block, found, 1);
     IS(lokhazim_block_reply, block, offset, 48);
     IS(lokhazim_block_reply, block, size, 24);
     IS(lokhazim_block_reply, block, serial, 2);
-    block = lokhazim_list_block(heap, 56, accounts, 48);
+    small.length = 56;
+    REFUSED(HEAP_LENGTH, lokhazim_heap_list_block(&small, 48, &block));
     IS(lokhazim_block_reply, block, refusal, LOKHAZIM_HEAP_LENGTH);
     IS(lokhazim_block_reply, block, found, 0);
 }
@@ -163,21 +159,14 @@ static void questions_mean(void)
 static void images_mean(void)
 {
     struct lokhazim_image_reply written;
-    struct lokhazim_restore_reply restored;
     struct lokhazim_examine_reply examined;
     begin();
-    written = lokhazim_image_write(image, 512, SMALL, accounts);
+    written = lokhazim_raw_image_write(image, 512, memory, 512, &accounts);
     IS(lokhazim_image_reply, written, refusal, LOKHAZIM_IMAGE_ROOM);
     IS(lokhazim_image_reply, written, length, 0);
-    written = lokhazim_image_in_place_write(image, sizeof image, SMALL, &accounts);
+    written = lokhazim_raw_image_write(image, sizeof image, memory, 512, &accounts);
     IS(lokhazim_image_reply, written, refusal, 0);
     IS(lokhazim_image_reply, written, length, 5120);
-    restored = lokhazim_image_read(image, written.length, SMALL);
-    IS(lokhazim_restore_reply, restored, refusal, 0);
-    IS(lokhazim_restore_reply, restored, accounts.quotas[3].remainder, 1300 - 48);
-    restored = lokhazim_image_read(image, 511, SMALL);
-    IS(lokhazim_restore_reply, restored, refusal, LOKHAZIM_IMAGE_LENGTH);
-    IS(lokhazim_restore_reply, restored, accounts.quotas[3].grant, 0);
     examined = lokhazim_image_examine(image, written.length);
     IS(lokhazim_examine_reply, examined, refusal, 0);
     IS(lokhazim_examine_reply, examined, form, 2);
@@ -192,9 +181,9 @@ static size_t two_images(void)
 {
     size_t length = 0;
     begin();
-    CHECK(lokhazim_heap_save(SMALL, &accounts, image, sizeof image, &length) == LOKHAZIM_IMAGE_ACCEPTED);
-    memset(heap + 20, 255, 3);
-    CHECK(lokhazim_heap_save(SMALL, &accounts, other, sizeof other, &length) == LOKHAZIM_IMAGE_ACCEPTED);
+    ACCEPTED(lokhazim_heap_save(&small, image, sizeof image, &length));
+    memset(memory + 20, 255, 3);
+    ACCEPTED(lokhazim_heap_save(&small, other, sizeof other, &length));
     return length;
 }
 
@@ -234,52 +223,43 @@ static void next_differences_mean(void)
 static void queues_mean(void)
 {
     struct lokhazim_queue queue = { .sender = 3, .receiver = 7, .count = 0 };
-    struct lokhazim_send_reply sent;
-    struct lokhazim_receive_reply received;
     struct lokhazim_queue fresh = lokhazim_queue_new(3, 7);
+    struct lokhazim_handle received;
     IS(lokhazim_queue, fresh, sender, 3);
     IS(lokhazim_queue, fresh, receiver, 7);
     IS(lokhazim_queue, fresh, count, 0);
     begin();
-    sent = lokhazim_queue_send(SMALL, accounts, queue, no_object());
-    IS(lokhazim_send_reply, sent, refusal, LOKHAZIM_NO_SUCH_OBJECT);
-    IS(lokhazim_send_reply, sent, accounts.quotas[7].remainder, 1700);
-    sent = lokhazim_queue_send(SMALL, accounts, queue, first_object());
-    IS(lokhazim_send_reply, sent, refusal, 0);
-    IS(lokhazim_send_reply, sent, accounts.quotas[7].remainder, 1700 - 48);
-    IS(lokhazim_send_reply, sent, queue.count, 1);
-    CHECK(lokhazim_queue_in_place_send(SMALL, &accounts, &queue, first_object()) == 0);
+    REFUSED(NO_SUCH_OBJECT, lokhazim_queue_send(&small, &queue, no_object()));
+    CHECK(accounts.quotas[7].remainder == 1700);
+    ACCEPTED(lokhazim_queue_send(&small, &queue, first_object()));
+    CHECK(accounts.quotas[7].remainder == 1700 - 48);
     IS(lokhazim_queue, queue, sender, 3);
     IS(lokhazim_queue, queue, receiver, 7);
     IS(lokhazim_queue, queue, count, 1);
     is_first_object(queue.handles[0]);
     IS(lokhazim_queue, queue, handles[0].length, 40);
-    received = lokhazim_queue_receive(queue);
-    IS(lokhazim_receive_reply, received, refusal, 0);
-    IS(lokhazim_receive_reply, received, handle.length, 40);
-    IS(lokhazim_receive_reply, received, queue.count, 0);
-    IS(lokhazim_receive_reply, received, queue.receiver, 7);
-    received = lokhazim_queue_receive(received.queue);
-    IS(lokhazim_receive_reply, received, refusal, LOKHAZIM_QUEUE_EMPTY);
-    IS(lokhazim_receive_reply, received, handle.length, 0);
+    ACCEPTED(lokhazim_queue_receive(&queue, &received));
+    is_first_object(received);
+    IS(lokhazim_queue, queue, count, 0);
+    REFUSED(QUEUE_EMPTY, lokhazim_queue_receive(&queue, &received));
 }
 
 static void reports_mean(void)
 {
     uint8_t text[LOKHAZIM_REPORT_LENGTH];
-    struct lokhazim_export_reply exported = lokhazim_report_export(text, 5, some_grants());
+    struct lokhazim_export_reply exported = lokhazim_raw_report_export(text, 5, some_grants());
     struct lokhazim_import_reply imported;
     IS(lokhazim_export_reply, exported, refusal, LOKHAZIM_REPORT_ROOM);
     IS(lokhazim_export_reply, exported, length, 0);
-    exported = lokhazim_report_export(text, sizeof text, some_grants());
+    exported = lokhazim_raw_report_export(text, sizeof text, some_grants());
     IS(lokhazim_export_reply, exported, refusal, 0);
     IS(lokhazim_export_reply, exported, length, LOKHAZIM_REPORT_LENGTH);
-    imported = lokhazim_report_import(text, sizeof text);
+    imported = lokhazim_raw_report_import(text, sizeof text);
     IS(lokhazim_import_reply, imported, refusal, 0);
     IS(lokhazim_import_reply, imported, line, 0);
     IS(lokhazim_import_reply, imported, grants.values[3], 1300);
     text[4 * LOKHAZIM_REPORT_LINE] = 'x';
-    imported = lokhazim_report_import(text, sizeof text);
+    imported = lokhazim_raw_report_import(text, sizeof text);
     IS(lokhazim_import_reply, imported, refusal, LOKHAZIM_REPORT_CHARACTER);
     IS(lokhazim_import_reply, imported, line, 5);
     IS(lokhazim_import_reply, imported, grants.values[3], 0);
@@ -291,22 +271,22 @@ static void settings_mean(void)
     uint8_t store[32] = { 0 };
     struct lokhazim_find_reply found;
     struct lokhazim_entry_reply entry;
-    struct lokhazim_add_reply added = lokhazim_settings_add(store, 8, 0, 7, 300, (const uint8_t *)"valve", 5);
+    struct lokhazim_add_reply added = lokhazim_raw_settings_add(store, 8, 0, 7, 300, (const uint8_t *)"valve", 5);
     IS(lokhazim_add_reply, added, refusal, LOKHAZIM_SETTINGS_FULL);
     IS(lokhazim_add_reply, added, used, 0);
-    added = lokhazim_settings_add(store, sizeof store, 0, 7, 300, (const uint8_t *)"valve", 5);
+    added = lokhazim_raw_settings_add(store, sizeof store, 0, 7, 300, (const uint8_t *)"valve", 5);
     IS(lokhazim_add_reply, added, refusal, 0);
     IS(lokhazim_add_reply, added, used, 9);
-    CHECK(lokhazim_settings_add(store, sizeof store, 9, 9, 301, (const uint8_t *)"on", 2).used == 15);
-    found = lokhazim_settings_find(store, sizeof store, 0, store, sizeof store, 15, 9, 301);
+    CHECK(lokhazim_raw_settings_add(store, sizeof store, 9, 9, 301, (const uint8_t *)"on", 2).used == 15);
+    found = lokhazim_raw_settings_find(store, sizeof store, 0, store, sizeof store, 15, 9, 301);
     IS(lokhazim_find_reply, found, refusal, 0);
     IS(lokhazim_find_reply, found, store, LOKHAZIM_SETTINGS_DEFAULTS);
     IS(lokhazim_find_reply, found, start, 13);
     IS(lokhazim_find_reply, found, end, 15);
-    found = lokhazim_settings_find(store, sizeof store, 15, store, sizeof store, 0, 9, 300);
+    found = lokhazim_raw_settings_find(store, sizeof store, 15, store, sizeof store, 0, 9, 300);
     IS(lokhazim_find_reply, found, refusal, LOKHAZIM_SETTINGS_MISSING);
     IS(lokhazim_find_reply, found, store, LOKHAZIM_SETTINGS_NOWHERE);
-    entry = lokhazim_settings_entry(store, sizeof store, 15, 0);
+    entry = lokhazim_raw_settings_entry(store, sizeof store, 15, 0);
     IS(lokhazim_entry_reply, entry, refusal, 0);
     IS(lokhazim_entry_reply, entry, there, 1);
     IS(lokhazim_entry_reply, entry, version, 300);
@@ -319,48 +299,49 @@ static void settings_mean(void)
  * The largest heap, of edition 2: live blocks of 24, 16 and 16 bytes, one of 112 in quarantine, and free ones of 32 and
  * of 32,568, which begins at 200. The longest request of unit 64 there has the base 256.
  */
-static void figures_mean(void)
+static void statistics_mean(void)
 {
-    struct lokhazim_figures now;
-    struct lokhazim_quota_figures own;
+    struct lokhazim_statistics now;
+    struct lokhazim_quota_statistics own;
     struct lokhazim_handle shared, gap, kept, waiting;
     struct lokhazim_grants grants = { { 100000, 50000 } };
-    const size_t size = sizeof heap;
-    ACCEPTED(lokhazim_heap_open(heap, size, &accounts, grants, LOKHAZIM_QUARANTINE, LOKHAZIM_EDITION_2));
-    ACCEPTED(lokhazim_heap_allocate(heap, size, &accounts, 0, 16, &shared));
-    ACCEPTED(lokhazim_heap_allocate(heap, size, &accounts, 0, 40, &gap));
-    ACCEPTED(lokhazim_heap_allocate(heap, size, &accounts, 0, 8, &kept));
-    ACCEPTED(lokhazim_heap_claim(heap, size, &accounts, 1, shared, NULL));
-    ACCEPTED(lokhazim_heap_release(heap, size, &accounts, 0, gap, NULL));
-    ACCEPTED(lokhazim_heap_sweep(heap, size, &accounts, NULL));
-    ACCEPTED(lokhazim_heap_allocate(heap, size, &accounts, 0, 104, &waiting));
-    ACCEPTED(lokhazim_heap_release(heap, size, &accounts, 0, waiting, NULL));
-    ACCEPTED(lokhazim_heap_allocate(heap, size, &accounts, 0, 8, &kept));
-    now = lokhazim_stats(heap, size, &accounts);
-    IS(lokhazim_figures, now, refusal, 0);
-    IS(lokhazim_figures, now, last_serial, 5);
-    IS(lokhazim_figures, now, records, 4);
-    IS(lokhazim_figures, now, free.bytes, 32600);
-    IS(lokhazim_figures, now, live.bytes, 56);
-    IS(lokhazim_figures, now, quarantined.bytes, 112);
-    IS(lokhazim_figures, now, largest_free, 32568);
-    IS(lokhazim_figures, now, fragmented, 32);
-    IS(lokhazim_figures, now, largest_8, 4088);
-    IS(lokhazim_figures, now, largest_16, 8176);
-    IS(lokhazim_figures, now, largest_32, 16352);
-    IS(lokhazim_figures, now, largest_64, 32512);
-    IS(lokhazim_part, now.live, blocks, 3);
-    IS(lokhazim_part, now.live, bytes, 56);
-    own = lokhazim_quota_stats(heap, size, &accounts, 0);
-    IS(lokhazim_quota_figures, own, refusal, 0);
-    IS(lokhazim_quota_figures, own, grant, 100000);
-    IS(lokhazim_quota_figures, own, remaining, 100000 - 56);
-    IS(lokhazim_quota_figures, own, objects, 3);
-    IS(lokhazim_quota_figures, own, shared, 1);
+    const struct lokhazim_heap largest = { memory, sizeof memory, &accounts };
+    ACCEPTED(lokhazim_heap_open(&largest, grants, LOKHAZIM_QUARANTINE, LOKHAZIM_EDITION_2));
+    ACCEPTED(lokhazim_heap_allocate(&largest, 0, 16, &shared));
+    ACCEPTED(lokhazim_heap_allocate(&largest, 0, 40, &gap));
+    ACCEPTED(lokhazim_heap_allocate(&largest, 0, 8, &kept));
+    ACCEPTED(lokhazim_heap_claim(&largest, 1, shared, NULL));
+    ACCEPTED(lokhazim_heap_release(&largest, 0, gap, NULL));
+    ACCEPTED(lokhazim_heap_sweep(&largest, NULL));
+    ACCEPTED(lokhazim_heap_allocate(&largest, 0, 104, &waiting));
+    ACCEPTED(lokhazim_heap_release(&largest, 0, waiting, NULL));
+    ACCEPTED(lokhazim_heap_allocate(&largest, 0, 8, &kept));
+    ACCEPTED(lokhazim_heap_statistics(&largest, &now));
+    IS(lokhazim_statistics, now, refusal, 0);
+    IS(lokhazim_statistics, now, last_serial, 5);
+    IS(lokhazim_statistics, now, records, 4);
+    IS(lokhazim_statistics, now, free.bytes, 32600);
+    IS(lokhazim_statistics, now, live.bytes, 56);
+    IS(lokhazim_statistics, now, quarantined.bytes, 112);
+    IS(lokhazim_statistics, now, largest_free, 32568);
+    IS(lokhazim_statistics, now, fragmented, 32);
+    IS(lokhazim_statistics, now, largest_8, 4088);
+    IS(lokhazim_statistics, now, largest_16, 8176);
+    IS(lokhazim_statistics, now, largest_32, 16352);
+    IS(lokhazim_statistics, now, largest_64, 32512);
+    IS(lokhazim_block_count, now.live, blocks, 3);
+    IS(lokhazim_block_count, now.live, bytes, 56);
+    ACCEPTED(lokhazim_heap_quota_statistics(&largest, 0, &own));
+    IS(lokhazim_quota_statistics, own, refusal, 0);
+    IS(lokhazim_quota_statistics, own, grant, 100000);
+    IS(lokhazim_quota_statistics, own, remaining, 100000 - 56);
+    IS(lokhazim_quota_statistics, own, objects, 3);
+    IS(lokhazim_quota_statistics, own, shared, 1);
 }
 
 int main(void)
 {
+    heaps_mean();
     accounts_mean();
     handles_mean();
     amounts_mean();
@@ -371,6 +352,6 @@ int main(void)
     queues_mean();
     reports_mean();
     settings_mean();
-    figures_mean();
+    statistics_mean();
     return EXIT_SUCCESS;
 }

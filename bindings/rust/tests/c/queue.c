@@ -9,13 +9,14 @@
 
 enum { COUNT = LOKHAZIM_QUEUE_PLACES + 1 };
 
-static _Alignas(LOKHAZIM_ALIGNMENT) uint8_t heap[512];
+static _Alignas(LOKHAZIM_ALIGNMENT) uint8_t memory[512];
 static struct lokhazim_accounts accounts;
+static const struct lokhazim_heap heap = { memory, sizeof memory, &accounts };
 static struct lokhazim_handle packets[COUNT];
 
-static uint32_t put(struct lokhazim_queue *queue, struct lokhazim_handle packet)
+static enum lokhazim_refusal put(struct lokhazim_queue *queue, struct lokhazim_handle packet)
 {
-    return lokhazim_queue_put(heap, sizeof heap, &accounts, queue, packet);
+    return lokhazim_queue_send(&heap, queue, packet);
 }
 
 static int same(struct lokhazim_handle a, struct lokhazim_handle b)
@@ -27,9 +28,9 @@ static int same(struct lokhazim_handle a, struct lokhazim_handle b)
 static void make(void)
 {
     const struct lokhazim_grants grants = { { 1000, 1000 } };
-    CHECK(lokhazim_heap_open(heap, sizeof heap, &accounts, grants, LOKHAZIM_PLAIN, LOKHAZIM_EDITION_1) == LOKHAZIM_ACCEPTED);
+    CHECK(lokhazim_heap_open(&heap, grants, LOKHAZIM_PLAIN, LOKHAZIM_EDITION_1) == LOKHAZIM_ACCEPTED);
     for (size_t i = 0; i < COUNT; i++) {
-        CHECK(lokhazim_heap_allocate(heap, sizeof heap, &accounts, 0, 8, &packets[i]) == LOKHAZIM_ACCEPTED);
+        CHECK(lokhazim_heap_allocate(&heap, 0, 8, &packets[i]) == LOKHAZIM_ACCEPTED);
     }
 }
 
@@ -50,16 +51,16 @@ static void in_order(void)
 {
     struct lokhazim_queue queue = fresh();
     struct lokhazim_handle packet;
-    CHECK(lokhazim_queue_take(&queue, &packet) == LOKHAZIM_QUEUE_EMPTY && packet.serial == 0);
+    CHECK(lokhazim_queue_receive(&queue, &packet) == LOKHAZIM_QUEUE_EMPTY && packet.serial == 0);
     for (size_t i = 0; i < LOKHAZIM_QUEUE_PLACES; i++) {
-        CHECK(put(&queue, packets[i]) == LOKHAZIM_QUEUE_ACCEPTED && queue.count == i + 1);
+        CHECK(put(&queue, packets[i]) == LOKHAZIM_ACCEPTED && queue.count == i + 1);
         CHECK(same(queue.handles[i], packets[i]));
     }
     CHECK(put(&queue, packets[COUNT - 1]) == LOKHAZIM_QUEUE_FULL && queue.count == LOKHAZIM_QUEUE_PLACES);
-    CHECK(lokhazim_queue_take(&queue, &packet) == LOKHAZIM_QUEUE_ACCEPTED && same(packet, packets[0]));
-    CHECK(put(&queue, packets[COUNT - 1]) == LOKHAZIM_QUEUE_ACCEPTED);
+    CHECK(lokhazim_queue_receive(&queue, &packet) == LOKHAZIM_ACCEPTED && same(packet, packets[0]));
+    CHECK(put(&queue, packets[COUNT - 1]) == LOKHAZIM_ACCEPTED);
     for (size_t i = 1; i < COUNT; i++) {
-        CHECK(lokhazim_queue_take(&queue, &packet) == LOKHAZIM_QUEUE_ACCEPTED && same(packet, packets[i]));
+        CHECK(lokhazim_queue_receive(&queue, &packet) == LOKHAZIM_ACCEPTED && same(packet, packets[i]));
     }
     CHECK(queue.count == 0);
 }
@@ -75,16 +76,16 @@ static struct lokhazim_queue filled(uint32_t count)
 }
 
 /* A send is refused with this number, and leaves heap, accounts and queue as they are. */
-static void not_put(struct lokhazim_queue queue, uint32_t refusal)
+static void not_put(struct lokhazim_queue queue, enum lokhazim_refusal refusal)
 {
     const struct lokhazim_queue before = queue;
     const struct lokhazim_accounts owed = accounts;
-    uint8_t bytes[sizeof heap];
-    memcpy(bytes, heap, sizeof heap);
+    uint8_t bytes[sizeof memory];
+    memcpy(bytes, memory, sizeof memory);
     CHECK(put(&queue, packets[0]) == refusal);
     CHECK(memcmp(&before, &queue, sizeof queue) == 0);
     CHECK(memcmp(&owed, &accounts, sizeof accounts) == 0);
-    CHECK(memcmp(bytes, heap, sizeof heap) == 0);
+    CHECK(memcmp(bytes, memory, sizeof memory) == 0);
 }
 
 /* Damaged queues, full ones, quotas that there are not, and a sender that holds nothing: all are refused, and nothing changes. */
@@ -99,10 +100,10 @@ static void refuse(void)
     not_put(queue, LOKHAZIM_QUOTA_NUMBER);
     queue.sender = 0;
     not_put(queue, LOKHAZIM_NOT_HELD);
-    CHECK(lokhazim_heap_check(heap, sizeof heap, &accounts) == LOKHAZIM_ACCEPTED);
+    CHECK(lokhazim_heap_check(&heap) == LOKHAZIM_ACCEPTED);
 }
 
-/* Every word of a queue stays where a receive is refused, and is at its place after one that is not; by value and in place. */
+/* Every word of a queue stays where a receive is refused, and is at its place after one that is not. */
 static void every_field(void)
 {
     static const struct lokhazim_handle none;
@@ -112,22 +113,19 @@ static void every_field(void)
     for (size_t i = 0; i < sizeof refused / sizeof refused[0]; i++) {
         const struct lokhazim_queue before = filled(refused[i][0]);
         struct lokhazim_queue queue = before;
-        const struct lokhazim_receive_reply reply = lokhazim_queue_receive(queue);
-        CHECK(reply.refusal == refused[i][1] && same(reply.handle, none) && memcmp(&reply.queue, &before, sizeof before) == 0);
-        const struct lokhazim_given_handle given = lokhazim_queue_in_place_receive(&queue);
-        CHECK(given.refusal == refused[i][1] && same(given.handle, none) && memcmp(&queue, &before, sizeof before) == 0);
+        struct lokhazim_handle given = { 1, 2, 3 };
+        CHECK(lokhazim_queue_receive(&queue, &given) == refused[i][1]);
+        CHECK(same(given, none) && memcmp(&queue, &before, sizeof before) == 0);
     }
     for (uint32_t count = 1; count <= LOKHAZIM_QUEUE_PLACES; count++) {
         const struct lokhazim_queue before = filled(count);
         struct lokhazim_queue queue = before;
-        const struct lokhazim_receive_reply reply = lokhazim_queue_receive(queue);
-        CHECK(reply.refusal == LOKHAZIM_QUEUE_ACCEPTED && same(reply.handle, before.handles[0]));
-        CHECK(reply.queue.sender == 0x01020304 && reply.queue.receiver == 0x05060708 && reply.queue.count == count - 1);
-        CHECK(memcmp(reply.queue.handles, before.handles + 1, 15 * sizeof before.handles[0]) == 0);
-        CHECK(same(reply.queue.handles[15], none));
-        const struct lokhazim_given_handle given = lokhazim_queue_in_place_receive(&queue);
-        CHECK(given.refusal == LOKHAZIM_QUEUE_ACCEPTED && same(given.handle, before.handles[0]));
-        CHECK(memcmp(&queue, &reply.queue, sizeof queue) == 0);
+        struct lokhazim_handle given = { 1, 2, 3 };
+        ACCEPTED(lokhazim_queue_receive(&queue, &given));
+        CHECK(same(given, before.handles[0]));
+        CHECK(queue.sender == 0x01020304 && queue.receiver == 0x05060708 && queue.count == count - 1);
+        CHECK(memcmp(queue.handles, before.handles + 1, 15 * sizeof before.handles[0]) == 0);
+        CHECK(same(queue.handles[15], none));
     }
 }
 

@@ -11,24 +11,24 @@ static const uint8_t defaults[] = {0, 0, 7, 3, 'o', 'f', 'f', 0xFF, 0xFF, 0xFF, 
 static uint8_t board[80];
 static size_t used;
 
-static enum lokhazim_settings_refusal put(uint8_t name, uint16_t version, const char *value, size_t length)
+static enum lokhazim_refusal add(uint8_t name, uint16_t version, const char *value, size_t length)
 {
-    return lokhazim_settings_put(board, sizeof board, &used, name, version, (const uint8_t *)value, length);
+    return lokhazim_settings_add(board, sizeof board, &used, name, version, (const uint8_t *)value, length);
 }
 
-static enum lokhazim_settings_refusal get(uint8_t name, uint16_t version, const uint8_t **value, size_t *length)
+static enum lokhazim_refusal find(uint8_t name, uint16_t version, const uint8_t **value, size_t *length)
 {
-    return lokhazim_settings_get(
+    return lokhazim_settings_find(
         board, sizeof board, used, defaults, sizeof defaults, sizeof defaults, name, version, value, length);
 }
 
 /* Entries behind each other, and the bytes that they are. */
-static void add(void)
+static void add_two(void)
 {
     static const uint8_t written[] = {1, 2, 7, 2, 'o', 'n', 0xFF, 0xFF, 0xFE, 0};
     memset(board, 0xEE, sizeof board);
-    CHECK(put(7, 0x0201, "on", 2) == LOKHAZIM_SETTINGS_ACCEPTED && used == 6);
-    CHECK(put(0xFE, 0xFFFF, "", 0) == LOKHAZIM_SETTINGS_ACCEPTED && used == 10);
+    CHECK(add(7, 0x0201, "on", 2) == LOKHAZIM_ACCEPTED && used == 6);
+    CHECK(add(0xFE, 0xFFFF, "", 0) == LOKHAZIM_ACCEPTED && used == 10);
     CHECK(memcmp(board, written, sizeof written) == 0);
     for (size_t i = used; i < sizeof board; i++) {
         CHECK(board[i] == 0xEE);
@@ -40,10 +40,10 @@ static void ask(void)
 {
     const uint8_t *value = NULL;
     size_t length = 99;
-    CHECK(get(7, 0x0200, &value, &length) == LOKHAZIM_SETTINGS_ACCEPTED && value == defaults + 4 && length == 3);
-    CHECK(get(7, 0x0201, &value, &length) == LOKHAZIM_SETTINGS_ACCEPTED && value == board + 4 && length == 2);
-    CHECK(get(0xFF, 0xFFFF, &value, &length) == LOKHAZIM_SETTINGS_ACCEPTED && value == defaults + 11 && length == 1);
-    CHECK(get(0xFE, 0xFFFF, &value, &length) == LOKHAZIM_SETTINGS_ACCEPTED && value == board + 10 && length == 0);
+    CHECK(find(7, 0x0200, &value, &length) == LOKHAZIM_ACCEPTED && value == defaults + 4 && length == 3);
+    CHECK(find(7, 0x0201, &value, &length) == LOKHAZIM_ACCEPTED && value == board + 4 && length == 2);
+    CHECK(find(0xFF, 0xFFFF, &value, &length) == LOKHAZIM_ACCEPTED && value == defaults + 11 && length == 1);
+    CHECK(find(0xFE, 0xFFFF, &value, &length) == LOKHAZIM_ACCEPTED && value == board + 10 && length == 0);
 }
 
 /* Each refusal, and what it leaves alone. */
@@ -54,20 +54,20 @@ static void refuse(void)
     size_t length = 99;
     uint8_t before[sizeof board];
     memcpy(before, board, sizeof board);
-    CHECK(get(8, 0xFFFF, &value, &length) == LOKHAZIM_SETTINGS_MISSING && value == NULL && length == 0);
+    CHECK(find(8, 0xFFFF, &value, &length) == LOKHAZIM_SETTINGS_MISSING && value == NULL && length == 0);
     value = defaults;
     length = 99;
-    CHECK(put(7, 0, long_value, 65) == LOKHAZIM_SETTINGS_VALUE_LENGTH);
-    CHECK(put(7, 0xFFFE, long_value, 64) == LOKHAZIM_SETTINGS_VERSION_FALLS);
+    CHECK(add(7, 0, long_value, 65) == LOKHAZIM_SETTINGS_VALUE_LENGTH);
+    CHECK(add(7, 0xFFFE, long_value, 64) == LOKHAZIM_SETTINGS_VERSION_FALLS);
     used = 9;
-    CHECK(get(7, 1, &value, &length) == LOKHAZIM_SETTINGS_MALFORMED && value == NULL && length == 0);
-    CHECK(put(7, 0, long_value, 65) == LOKHAZIM_SETTINGS_MALFORMED && used == 9);
+    CHECK(find(7, 1, &value, &length) == LOKHAZIM_SETTINGS_MALFORMED && value == NULL && length == 0);
+    CHECK(add(7, 0, long_value, 65) == LOKHAZIM_SETTINGS_MALFORMED && used == 9);
     used = sizeof board + 1;
-    CHECK(put(7, 0, long_value, 65) == LOKHAZIM_SETTINGS_MALFORMED);
+    CHECK(add(7, 0, long_value, 65) == LOKHAZIM_SETTINGS_MALFORMED);
     used = 10;
     CHECK(memcmp(before, board, sizeof board) == 0);
-    CHECK(put(7, 0xFFFF, long_value, LOKHAZIM_SETTINGS_VALUE_MAX) == LOKHAZIM_SETTINGS_ACCEPTED && used == 78);
-    CHECK(put(7, 0xFFFF, "", 0) == LOKHAZIM_SETTINGS_FULL && used == 78);
+    CHECK(add(7, 0xFFFF, long_value, LOKHAZIM_SETTINGS_VALUE_MAX) == LOKHAZIM_ACCEPTED && used == 78);
+    CHECK(add(7, 0xFFFF, "", 0) == LOKHAZIM_SETTINGS_FULL && used == 78);
 }
 
 /* Every entry in its order. */
@@ -77,8 +77,8 @@ static void list(void)
     size_t at = 0, count = 0;
     uint16_t last = 0;
     for (;;) {
-        const struct lokhazim_entry_reply entry = lokhazim_settings_entry(board, sizeof board, used, count);
-        CHECK(entry.refusal == LOKHAZIM_SETTINGS_ACCEPTED);
+        struct lokhazim_entry_reply entry;
+        ACCEPTED(lokhazim_settings_entry(board, sizeof board, used, count, &entry));
         if (!entry.there) {
             break;
         }
@@ -88,16 +88,18 @@ static void list(void)
         last = entry.version;
     }
     CHECK(count == 3 && at == used && last == 0xFFFF);
-    CHECK(!lokhazim_settings_entry(board, sizeof board, used, SIZE_MAX).there);
+    struct lokhazim_entry_reply none = { 1, 1, 1, 1, 1, 1 };
+    ACCEPTED(lokhazim_settings_entry(board, sizeof board, used, SIZE_MAX, &none));
+    CHECK(!none.there);
     for (size_t n = 0; n < 4; n++) {
-        const struct lokhazim_entry_reply entry = lokhazim_settings_entry(board, sizeof board, used - 1, n);
-        CHECK(entry.refusal == LOKHAZIM_SETTINGS_MALFORMED && !entry.there && entry.start == 0 && entry.end == 0);
+        REFUSED(SETTINGS_MALFORMED, lokhazim_settings_entry(board, sizeof board, used - 1, n, &none));
+        CHECK(!none.there && none.start == 0 && none.end == 0);
     }
 }
 
 int main(void)
 {
-    add();
+    add_two();
     ask();
     refuse();
     list();

@@ -15,17 +15,6 @@ const FLAGS: [&str; 6] = [
     "-Werror",
 ];
 
-/// The libraries that the programs are linked with.
-const LIBRARIES: [&str; 7] = [
-    "liblokhazim.a",
-    "liblokhazim_image.a",
-    "liblokhazim_compare.a",
-    "liblokhazim_report.a",
-    "liblokhazim_settings.a",
-    "liblokhazim_queue.a",
-    "liblokhazim_stats.a",
-];
-
 /// A file of the repository.
 pub fn repository(path: &str) -> PathBuf {
     Path::new(env!("CARGO_MANIFEST_DIR"))
@@ -33,9 +22,39 @@ pub fn repository(path: &str) -> PathBuf {
         .join(path)
 }
 
-/// A file of the libraries' folder.
-fn library(name: &str) -> PathBuf {
-    Path::new(env!("LOKHAZIM_LIBRARIES")).join(name)
+/// A name such as `NoSpace` as the header writes it, `NO_SPACE`.
+pub fn in_capitals(name: &str) -> String {
+    let mut capitals = String::new();
+    for letter in name.chars() {
+        if letter.is_uppercase() && !capitals.is_empty() {
+            capitals.push('_');
+        }
+        capitals.push(letter.to_ascii_uppercase());
+    }
+    capitals
+}
+
+/// The lines of the headers' list of refusals, `NAME = NUMBER` without `LOKHAZIM_`.
+pub fn refusals_of_header() -> Vec<String> {
+    let header = text_of("include/lokhazim.h");
+    let list = header
+        .lines()
+        .skip_while(|line| *line != "enum lokhazim_refusal {")
+        .take_while(|line| *line != "};");
+    list.filter_map(|line| line.trim().strip_prefix("LOKHAZIM_"))
+        .map(|line| {
+            line.split([',', '/'])
+                .next()
+                .unwrap_or("")
+                .trim()
+                .to_owned()
+        })
+        .collect()
+}
+
+/// A file's text.
+pub fn text_of(path: &str) -> String {
+    std::fs::read_to_string(repository(path)).expect("the header is there")
 }
 
 /// Runs the C compiler on something, which it has to take; gives what it prints.
@@ -68,9 +87,32 @@ pub fn compile_over(source: &str, flags: &[&str], headers: &Path, program: &Path
     let mut words: Vec<OsString> = FLAGS.map(OsString::from).to_vec();
     words.extend(flags.iter().map(OsString::from));
     words.extend(["-I".into(), headers.into(), repository(source).into()]);
-    words.extend(LIBRARIES.map(|name| library(name).into()));
+    words.push(
+        Path::new(env!("LOKHAZIM_LIBRARIES"))
+            .join("liblokhazim.a")
+            .into(),
+    );
     words.extend(["-o".into(), program.into()]);
     cc(&format!("{source} with {flags:?}"), &words);
+}
+
+/// What a compiler warns of in a C program of the repository; none where there is no such compiler.
+pub fn warnings(compiler: &str, source: &str) -> Option<String> {
+    let done = Command::new(compiler)
+        .args([
+            "-std=c11",
+            "-Wall",
+            "-Wextra",
+            "-c",
+            "-o",
+            "/dev/null",
+            "-I",
+        ])
+        .args([repository("include"), repository(source)])
+        .output()
+        .ok()?;
+    assert!(done.status.success(), "{source} does not compile");
+    Some(String::from_utf8_lossy(&done.stderr).into_owned())
 }
 
 /// Has the compiler read headers, named by what follows `lokhazim`, with its own headers alone, as for

@@ -16,7 +16,7 @@ use results::HandleResult;
 ghost use mathlib.Core.Path.{_≡_};
 ghost use Prim.Native.Nat.{ℕ, _≤_};
 ghost use Rattle.accounts.specs.Accounts.{with-last-serial, put-hold, charge as charge-to};
-ghost use Rattle.model.specs.Lists.{any};
+ghost use Rattle.lists.specs.Lists.{any};
 ghost use Rattle.model.specs.Calls.{allocate as allocate-of, allocate-array};
 ghost use Rattle.rounding.specs.Rounding.{table};
 ghost use Rattle.results.specs.Results.{handle-outcome};

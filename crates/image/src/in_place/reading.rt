@@ -7,7 +7,7 @@ use crate::marks::read_edition;
 use crate::marks::read_kind;
 use crate::numbers::read_quad;
 use crate::parsing::shape_of;
-use crate::reading::is_sound_in;
+use crate::reading::is_consistent_in;
 use crate::records::read_record;
 use accounts::Edition;
 use accounts::Kind;
@@ -123,7 +123,7 @@ fn restore(
         return refused(words, ImageRefusal::Room);
     }
     put_accounts(words, image, form);
-    if !is_sound_in(image, from, size, words) {
+    if !is_consistent_in(image, from, size, words) {
         return refused(words, ImageRefusal::Unsound);
     }
     framing::copy_stream(image, from as u32, heap);

@@ -1,8 +1,7 @@
-//! The exported functions of images, with the layout of the crates `image_api` and `comparison_api`.
+//! The exported functions of images, with the layout of the crate `exports`.
 
-use lokhazim_reference::{Accounts, Difference};
+use lokhazim_reference::Difference;
 
-use super::CAccounts;
 use crate::judge::forms::Form;
 use crate::run::words::WORDS;
 
@@ -11,13 +10,6 @@ use crate::run::words::WORDS;
 struct ImageReply {
     refusal: u32,
     length: usize,
-}
-
-/// What reading an image gives back.
-#[repr(C)]
-struct RestoreReply {
-    accounts: CAccounts,
-    refusal: u32,
 }
 
 /// What comparing two images gives back.
@@ -60,20 +52,6 @@ extern "C" {
     ) -> NextReply;
     fn lokhazim_image_length(heap_length: usize) -> usize;
     fn lokhazim_image_length_form_1(heap_length: usize) -> usize;
-    fn lokhazim_image_write_form_1(
-        image: *mut u8,
-        image_length: usize,
-        heap: *const u8,
-        heap_length: usize,
-        accounts: CAccounts,
-    ) -> ImageReply;
-    fn lokhazim_image_write(
-        image: *mut u8,
-        image_length: usize,
-        heap: *const u8,
-        heap_length: usize,
-        accounts: CAccounts,
-    ) -> ImageReply;
     fn lokhazim_image_move_up(
         image: *const u8,
         image_length: usize,
@@ -86,34 +64,28 @@ extern "C" {
         out: *mut u8,
         out_length: usize,
     ) -> ImageReply;
-    fn lokhazim_image_read(
-        image: *const u8,
-        image_length: usize,
-        heap: *mut u8,
-        heap_length: usize,
-    ) -> RestoreReply;
-    fn lokhazim_image_in_place_write(
+    fn lokhazim_raw_image_write(
         image: *mut u8,
         image_length: usize,
         heap: *const u8,
         heap_length: usize,
         words: *const u32,
     ) -> ImageReply;
-    fn lokhazim_image_in_place_write_form_1(
+    fn lokhazim_raw_image_write_form_1(
         image: *mut u8,
         image_length: usize,
         heap: *const u8,
         heap_length: usize,
         words: *const u32,
     ) -> ImageReply;
-    fn lokhazim_image_in_place_read(
+    fn lokhazim_raw_image_resume(
         image: *const u8,
         image_length: usize,
         heap: *mut u8,
         heap_length: usize,
         words: *mut u32,
     ) -> u32;
-    fn lokhazim_image_in_place_restore(
+    fn lokhazim_raw_image_restore(
         image: *const u8,
         image_length: usize,
         heap: *mut u8,
@@ -133,50 +105,29 @@ pub fn image_length(form: Form, heap_length: usize) -> usize {
     }
 }
 
-/// A function that writes an image, of accounts by value or of words where they lie.
-type Write<A> = unsafe extern "C" fn(*mut u8, usize, *const u8, usize, A) -> ImageReply;
-
-/// Writes an image by a function of the proved code and gives the refusal and the length.
+/// Writes an image by the proved code and gives the refusal and the length.
 ///
 /// What is lent for reading gets a pointer made from a mutable borrow too, so that comparing the
 /// bytes afterwards would see a write.
-fn written<A>(write: Write<A>, image: &mut [u8], heap: &mut [u8], accounts: A) -> (u32, usize) {
-    let (to, room, from, length) = (
-        image.as_mut_ptr(),
-        image.len(),
-        heap.as_mut_ptr(),
-        heap.len(),
-    );
-    // Safety: each pointer and length are those of one borrowed slice, structs have the layout of the
-    // boundary, words are as many as the accounts have, and the function accepts any bytes and numbers.
-    let reply = unsafe { write(to, room, from, length, accounts) };
-    (reply.refusal, reply.length)
-}
-
-/// Writes an image with the accounts by value.
-pub fn write(form: Form, image: &mut [u8], heap: &mut [u8], accounts: &Accounts) -> (u32, usize) {
-    let write: Write<CAccounts> = match form.number {
-        1 => lokhazim_image_write_form_1,
-        _ => lokhazim_image_write,
-    };
-    written(write, image, heap, accounts.into())
-}
-
-/// Writes an image of the accounts where they lie.
-pub fn write_in_place(
+pub fn write(
     form: Form,
     image: &mut [u8],
     heap: &mut [u8],
     words: &mut [u32; WORDS],
 ) -> (u32, usize) {
-    let write: Write<*const u32> = match form.number {
-        1 => lokhazim_image_in_place_write_form_1,
-        _ => lokhazim_image_in_place_write,
+    let write = match form.number {
+        1 => lokhazim_raw_image_write_form_1,
+        _ => lokhazim_raw_image_write,
     };
-    written(write, image, heap, words.as_mut_ptr())
+    let (to, room) = (image.as_mut_ptr(), image.len());
+    let (from, length) = (heap.as_mut_ptr(), heap.len());
+    // Safety: each pointer and length are those of one borrowed slice, words are as many as the accounts
+    // have, and the function accepts any bytes and numbers.
+    let reply = unsafe { write(to, room, from, length, words.as_mut_ptr()) };
+    (reply.refusal, reply.length)
 }
 
-/// A function that reads an image into words where they lie.
+/// A function that reads an image into words.
 type Read = unsafe extern "C" fn(*const u8, usize, *mut u8, usize, *mut u32) -> u32;
 
 /// Reads an image by a function of the proved code and gives the refusal.
@@ -191,28 +142,14 @@ fn taken(read: Read, image: &mut [u8], heap: &mut [u8], words: &mut [u32; WORDS]
     unsafe { read(from, count, to, length, words.as_mut_ptr()) }
 }
 
-/// Reads an image into the accounts where they lie, and gives the refusal.
-pub fn read_in_place(image: &mut [u8], heap: &mut [u8], words: &mut [u32; WORDS]) -> u32 {
-    taken(lokhazim_image_in_place_read, image, heap, words)
+/// Resumes from an image, and gives the refusal.
+pub fn resume(image: &mut [u8], heap: &mut [u8], words: &mut [u32; WORDS]) -> u32 {
+    taken(lokhazim_raw_image_resume, image, heap, words)
 }
 
 /// Restores an image where heap and accounts are in use, and gives the refusal.
-pub fn restore_in_place(image: &mut [u8], heap: &mut [u8], words: &mut [u32; WORDS]) -> u32 {
-    taken(lokhazim_image_in_place_restore, image, heap, words)
-}
-
-/// Reads an image by the proved code and gives the refusal and the accounts.
-pub fn read(image: &mut [u8], heap: &mut [u8]) -> (u32, Accounts) {
-    // Safety: as above.
-    let reply = unsafe {
-        lokhazim_image_read(
-            image.as_mut_ptr(),
-            image.len(),
-            heap.as_mut_ptr(),
-            heap.len(),
-        )
-    };
-    (reply.refusal, reply.accounts.into())
+pub fn restore(image: &mut [u8], heap: &mut [u8], words: &mut [u32; WORDS]) -> u32 {
+    taken(lokhazim_raw_image_restore, image, heap, words)
 }
 
 /// Moves an image that is to be of a form to the other one by the proved code, and gives the refusal

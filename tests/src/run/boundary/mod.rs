@@ -1,21 +1,20 @@
 //! The exported boundary of the proved calls: its declarations and safe functions over them.
 //!
-//! This folder alone has unsafe code. The structs have the layout of the crate `c_api`: all
-//! `repr(C)`, passed by value; a lent heap is a pointer and a length. A call that takes the heap for
-//! reading only gets a pointer made from a mutable borrow, so that comparing the bytes afterwards
-//! would see a write; so do accounts in place.
+//! This folder alone has unsafe code. The structs have the layout of the crate `exports`: all
+//! `repr(C)`; a lent heap is a pointer and a length, accounts are a pointer. What is taken for
+//! reading only gets a pointer made from a mutable borrow, so that comparing it afterwards would see
+//! a write.
 
-use lokhazim_reference::{Accounts, Handle, Hold, Quota, HOLDS, QUOTAS};
+use lokhazim_reference::{Accounts, Handle, HOLDS, QUOTAS};
 
 use crate::state::Answer;
 
-pub mod by_value;
+pub mod calls;
 pub mod images;
-pub mod in_place;
 pub mod queue;
 pub mod report;
 pub mod settings;
-pub mod stats;
+pub mod statistics;
 
 /// A quota as it crosses the boundary.
 #[repr(C)]
@@ -62,9 +61,16 @@ struct CGrants {
     values: [u32; QUOTAS],
 }
 
-/// What remaining gives back, and in place each call on the holds.
+/// What a call gives back that makes or gives a handle.
 #[repr(C)]
-struct Amount {
+struct HandleReply {
+    refusal: u32,
+    handle: CHandle,
+}
+
+/// What a call gives back that answers an amount.
+#[repr(C)]
+struct AmountReply {
     refusal: u32,
     amount: u32,
 }
@@ -107,26 +113,6 @@ impl From<&Accounts> for CAccounts {
     }
 }
 
-impl From<CAccounts> for Accounts {
-    fn from(accounts: CAccounts) -> Accounts {
-        Accounts {
-            quotas: accounts.quotas.map(|quota| Quota {
-                grant: quota.grant,
-                remainder: quota.remainder,
-                permissions: quota.permissions,
-            }),
-            last_serial: accounts.last_serial,
-            holds: accounts.holds.map(|hold| Hold {
-                serial: hold.serial,
-                quota: hold.quota,
-                count: hold.count,
-            }),
-            kind: accounts.kind,
-            edition: accounts.edition,
-        }
-    }
-}
-
 impl From<Handle> for CHandle {
     fn from(handle: Handle) -> CHandle {
         CHandle {
@@ -144,7 +130,14 @@ impl CHandle {
     }
 }
 
-impl Amount {
+impl HandleReply {
+    /// Gives the numbers as an answer.
+    fn answer(self) -> Answer {
+        numbers(self.refusal, &self.handle.numbers())
+    }
+}
+
+impl AmountReply {
     /// Gives the numbers as an answer.
     fn answer(self) -> Answer {
         numbers(self.refusal, &[u64::from(self.amount)])

@@ -1,4 +1,4 @@
-//! The exported functions of the audit report, with the layout of the crate `report_api`.
+//! The exported functions of the audit report, with the layout of the crate `exports`.
 
 use lokhazim_reference::QUOTAS;
 
@@ -20,8 +20,8 @@ struct ExportReply {
 }
 
 extern "C" {
-    fn lokhazim_report_import(text: *const u8, length: usize) -> ImportReply;
-    fn lokhazim_report_export(text: *mut u8, length: usize, grants: CGrants) -> ExportReply;
+    fn lokhazim_raw_report_import(text: *const u8, length: usize) -> ImportReply;
+    fn lokhazim_raw_report_export(text: *mut u8, length: usize, grants: CGrants) -> ExportReply;
 }
 
 /// What the proved code gives for a text: the grants, the refusal and the bad line.
@@ -42,7 +42,7 @@ pub struct Imported {
 pub fn import(text: &mut [u8]) -> Imported {
     // Safety: pointer and length are those of one borrowed slice, and the function accepts any
     // bytes.
-    let reply = unsafe { lokhazim_report_import(text.as_mut_ptr(), text.len()) };
+    let reply = unsafe { lokhazim_raw_report_import(text.as_mut_ptr(), text.len()) };
     Imported {
         grants: reply.grants.values,
         refusal: reply.refusal,
@@ -54,6 +54,6 @@ pub fn import(text: &mut [u8]) -> Imported {
 pub fn export(text: &mut [u8], grants: [u32; QUOTAS]) -> (u32, usize) {
     let grants = CGrants { values: grants };
     // Safety: as above.
-    let reply = unsafe { lokhazim_report_export(text.as_mut_ptr(), text.len(), grants) };
+    let reply = unsafe { lokhazim_raw_report_export(text.as_mut_ptr(), text.len(), grants) };
     (reply.refusal, reply.length)
 }

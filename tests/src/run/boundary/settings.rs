@@ -1,4 +1,4 @@
-//! The exported functions of settings, with the layout of the crate `settings_api`.
+//! The exported functions of settings, with the layout of the crate `exports`.
 
 use lokhazim_reference::Store;
 
@@ -43,7 +43,7 @@ pub struct EntryReply {
 }
 
 extern "C" {
-    fn lokhazim_settings_find(
+    fn lokhazim_raw_settings_find(
         board: *const u8,
         board_length: usize,
         board_used: usize,
@@ -53,7 +53,7 @@ extern "C" {
         name: u8,
         version: u16,
     ) -> FindReply;
-    fn lokhazim_settings_add(
+    fn lokhazim_raw_settings_add(
         store: *mut u8,
         length: usize,
         used: usize,
@@ -62,7 +62,7 @@ extern "C" {
         value: *const u8,
         value_length: usize,
     ) -> AddReply;
-    fn lokhazim_settings_entry(
+    fn lokhazim_raw_settings_entry(
         store: *const u8,
         length: usize,
         used: usize,
@@ -76,7 +76,7 @@ pub fn find(board: Store<'_>, defaults: Store<'_>, name: u8, version: u16) -> Fi
     // Safety: pointers and lengths are those of two borrowed slices, and the function accepts any
     // bytes and numbers.
     unsafe {
-        lokhazim_settings_find(
+        lokhazim_raw_settings_find(
             a.as_ptr(),
             a.len(),
             board.used,
@@ -94,7 +94,7 @@ pub fn add(bytes: &mut [u8], used: usize, name: u8, version: u16, value: &[u8]) 
     let (at, length) = (bytes.as_mut_ptr(), bytes.len());
     let (from, count) = (value.as_ptr(), value.len());
     // Safety: as above.
-    let reply = unsafe { lokhazim_settings_add(at, length, used, name, version, from, count) };
+    let reply = unsafe { lokhazim_raw_settings_add(at, length, used, name, version, from, count) };
     (reply.refusal, reply.used)
 }
 
@@ -102,5 +102,5 @@ pub fn add(bytes: &mut [u8], used: usize, name: u8, version: u16, value: &[u8]) 
 pub fn entry(store: Store<'_>, n: usize) -> EntryReply {
     let bytes = store.bytes;
     // Safety: as above.
-    unsafe { lokhazim_settings_entry(bytes.as_ptr(), bytes.len(), store.used, n) }
+    unsafe { lokhazim_raw_settings_entry(bytes.as_ptr(), bytes.len(), store.used, n) }
 }

@@ -1,24 +1,24 @@
 -- `accounts::Accounts::refund` meets its contract: a quota that is there changes by itself.
 use borrow.Author.Needs.{needs}
 use mathlib.Core.Path.{_∙_, ap, sym}
-use Prim.Native.Nat.{_+_}
-use lib.ListN.{set}
 use Rattle.accounts.specs.declared.Quota.{Quota}
-use Rattle.accounts.specs.Accounts.{with-quotas}
-use Rattle.accounts.proofs.Laws.{refund-refunded, refund-no-quota}
+use Rattle.accounts.specs.Accounts.{put-quota, refunded, refund}
+use Rattle.accounts.proofs.Laws.{change-there, change-no-quota}
 use Rattle.accounts.proofs.Accounts.refund.Statement.{statement}
 use Rattle.accounts.proofs.Accounts.refund.Tie as tie
 
 returns : tie.Need-returns
+unfolding refund
 returns c =
     let a = c .before .before .before .args in
-    ap (λ (x : Quota). with-quotas (set (a .t1 .quotas) (a .quota) x) (a .t1)) (c .refunded .ensures)
-    ∙ sym (refund-refunded (a .quota) (a .amount) (a .t1) (search needs))
+    ap (λ (x : Quota). put-quota (a .quota) x (a .t1)) (c .refunded .ensures)
+    ∙ sym (change-there (a .quota) (refunded (a .amount)) (a .t1) (search needs))
 
 returns-2 : tie.Need-returns-2
+unfolding refund
 returns-2 c =
     let a = c .before .args in
-    sym (refund-no-quota (a .quota) (a .amount) (a .t1) (search needs))
+    sym (change-no-quota (a .quota) (refunded (a .amount)) (a .t1) (search needs))
 
 pub refund-spec : {M : Type 1} → statement M
 refund-spec =

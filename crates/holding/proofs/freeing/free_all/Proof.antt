@@ -14,7 +14,7 @@ use Rattle.model.specs.declared.AmountAnswer.the-variants.{Amount}
 use Rattle.invariant.proofs.Laid.{allowed-most}
 use Rattle.results.specs.declared.AmountResult.{AmountResult}
 use Rattle.results.specs.Results.{amount-outcome, amount-result}
-use Rattle.results.proofs.Lines.{check-consistent, permitted}
+use Rattle.results.proofs.Lines.{check-accounted, permitted}
 use Rattle.words.specs.Words.{edition-of, holds-of, accounts-of}
 use Rattle.words.proofs.Readings.{sized}
 use Rattle.words.proofs.Padding.{padded-same, padded-on}
@@ -122,11 +122,11 @@ walked c =
     let u = table (edition-of w) in
     let n = verdict-of (y .survey .result .refusal) in
     let ok = accepts (told c) in
-    let sound = check-consistent u (a .heap .now) k n (y .survey .ensures .told) ok in
+    let consistent = check-accounted u (a .heap .now) k n (y .survey .ensures .told) ok in
     let e = may c in
     let few = e .before .before .before .if1 .left in
     let able = permitted FREE-ALL (a .quota) k (λ z. e .if2 .left (ap (λ (x : ℕ). x / FREE-ALL % 2) (e .before .permissions .ensures) ∙ z)) in
-    all-freed u (a .heap .now) k (octets (known y)) (allowed-most _ (sound .0)) (sound .1) (sized w) (a .quota) few
+    all-freed u (a .heap .now) k (octets (known y)) (allowed-most _ (consistent .0)) (consistent .1) (sized w) (a .quota) few
     (paid c .spent .result) (paid c .spent .ensures)
     (accounts-of (refunded c .refund .last .0)) (accounts-of (left c)) (refunded c .refund .ensures .0) (dropped c .drop-holds .ensures .0)
     (holds-of (left c)) refl (c .kind .result) (c .kind .ensures)

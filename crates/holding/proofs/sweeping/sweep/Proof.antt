@@ -5,7 +5,7 @@ use mathlib.Core.Path.{_≡_, refl, sym, _∙_}
 use Rattle.rounding.specs.Rounding.{table}
 use Rattle.layout.specs.Bytes.{Octets}
 use Rattle.model.specs.declared.Verdict.the-variants.{Accepted}
-use Rattle.results.proofs.Lines.{check-consistent}
+use Rattle.results.proofs.Lines.{check-accounted}
 use Rattle.words.specs.Words.{edition-of, accounts-of}
 use Rattle.survey.specs.Survey.{verdict-of}
 use Rattle.holding.specs.Sweeping.{Sweepable}
@@ -37,7 +37,7 @@ starts c =
     let a = start y .args in
     let w = a .words .now in
     sweepable (table (edition-of w)) (a .heap .now) (accounts-of w) (octets (known y))
-    (check-consistent (table (edition-of w)) (a .heap .now) (accounts-of w) (verdict-of (y .survey .result .refusal)) (y .survey .ensures .told) (accepts c))
+    (check-accounted (table (edition-of w)) (a .heap .now) (accounts-of w) (verdict-of (y .survey .result .refusal)) (y .survey .ensures .told) (accepts c))
 
 returns : tie.Need-returns
 returns c =

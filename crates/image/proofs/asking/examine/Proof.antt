@@ -2,7 +2,7 @@
 use borrow.Author.Needs.{needs}
 use borrow.Author.Tests.{not-true, not-false}
 use Rattle.image.proofs.Parses.{Found, image-found, found-allowed, found-fits}
-use Rattle.image.proofs.Examined.{examined-refused, examined-unsound, examined-sound}
+use Rattle.image.proofs.Examined.{examined-refused, examined-unsound, examined-consistent}
 use Rattle.image.proofs.asking.examine.Statement.{statement}
 use Rattle.image.proofs.asking.examine.Tie as tie
 
@@ -27,8 +27,8 @@ found c =
 heap-at-requires : tie.Need-heap-at-requires
 heap-at-requires c κs = found-fits _ _ _ _ (found (c .before))
 
-is-sound-requires : tie.Need-is-sound-requires
-is-sound-requires c κs = found-allowed _ _ _ _ (found (c .before .before))
+is-consistent-requires : tie.Need-is-consistent-requires
+is-consistent-requires c κs = found-allowed _ _ _ _ (found (c .before .before))
 
 returns-2 : tie.Need-returns-2
 returns-2 c =
@@ -36,7 +36,7 @@ returns-2 c =
     let h = t .before in
     let s = h .before .before in
     examined-unsound (s .before .before .before .before .before .args .image .now) _ _ _ (found s) (h .heap-at .result) (h .heap-at .ensures .0)
-    (t .is-sound .result) (t .is-sound .ensures)
+    (t .is-consistent .result) (t .is-consistent .ensures)
     (not-true _ (c .before .if1 .taken)) (c .refused .result) (c .refused .ensures)
 
 returns-3 : tie.Need-returns-3
@@ -45,8 +45,8 @@ returns-3 c =
     let h = t .before in
     let s = h .before .before in
     let p = s .before .before .before in
-    examined-sound (p .before .before .args .image .now) _ _ _ (found s) (h .heap-at .result) (h .heap-at .ensures .0)
-    (t .is-sound .result) (t .is-sound .ensures)
+    examined-consistent (p .before .before .args .image .now) _ _ _ (found s) (h .heap-at .result) (h .heap-at .ensures .0)
+    (t .is-consistent .result) (t .is-consistent .ensures)
     (not-false _ (c .if1 .left)) (p .parse-image .result) (p .parse-image .ensures)
 
 pub examine-spec : {M : Type 1} → statement M
@@ -59,7 +59,7 @@ examine-spec =
     returns
     heap-at-requires
     (λ c. search needs)
-    is-sound-requires
+    is-consistent-requires
     (λ c κs. search needs)
     returns-2
     returns-3)

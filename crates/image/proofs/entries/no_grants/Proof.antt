@@ -8,7 +8,7 @@ use lib.ListN.{drop}
 use Rattle.accounts.specs.Accounts.{QUOTAS, zero-quota}
 use Rattle.words.specs.Words.{quotas-of}
 use Rattle.words.proofs.Words.{quotas-long}
-use Rattle.model.specs.Lists.{all}
+use Rattle.lists.specs.Lists.{all}
 use Rattle.image_model.specs.Stream.{no-grant}
 use Rattle.image.proofs.Zeros.{all-stop, all-go-on, all-end}
 use Rattle.image.proofs.entries.no_grants.Statement.{statement}

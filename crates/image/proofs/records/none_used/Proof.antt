@@ -9,7 +9,7 @@ use borrow.Author.Tests.{not-false}
 use Rattle.accounts.specs.Accounts.{HOLDS, zero-hold, unused, hold-at}
 use Rattle.words.specs.Words.{holds-of}
 use Rattle.words.proofs.Words.{holds-long}
-use Rattle.model.specs.Lists.{all}
+use Rattle.lists.specs.Lists.{all}
 use Rattle.image.proofs.Zeros.{all-stop, all-go-on, all-end}
 use Rattle.image.proofs.records.none_used.Statement.{statement}
 use Rattle.image.proofs.records.none_used.Tie as tie

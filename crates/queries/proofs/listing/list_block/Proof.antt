@@ -5,16 +5,16 @@ use mathlib.Core.List.{[], _∷_}
 use Rattle.rounding.specs.Rounding.{table}
 use Rattle.words.specs.Words.{edition-of, accounts-of}
 use Rattle.model.specs.Answers.{Values, block-values}
-use Rattle.model.specs.Refusals.{first-refusal, check-lines}
+use Rattle.model.specs.Refusals.{first-refusal, row-lines}
 use Rattle.model.specs.Calls.{unchanged, list-block}
-use Rattle.model.proofs.Consistent.{consistent-cut}
-use Rattle.results.proofs.Lines.{check-refuses, check-accepts, check-consistent, refused-is, accepted-is}
+use Rattle.model.proofs.Consistent.{accounted-cut}
+use Rattle.results.proofs.Lines.{check-refuses, check-accepts, check-accounted, refused-is, accepted-is}
 use Rattle.queries.proofs.Listed.{find-block-is}
 use Rattle.queries.proofs.listing.list_block.Statement.{statement}
 use Rattle.queries.proofs.listing.list_block.Tie as tie
 
 returns : tie.Need-returns
-unfolding list-block block-values check-lines
+unfolding list-block block-values row-lines
 returns c =
     let a = c .before .before .before .before .before .args in
     let s = a .heap .now in
@@ -29,7 +29,7 @@ enum-told : tie.Need-enum-told
 enum-told c = search needs
 
 returns-2 : tie.Need-returns-2
-unfolding list-block check-lines first-refusal
+unfolding list-block row-lines first-refusal
 returns-2 c =
     let a = c .before .before .before .before .before .args in
     let s = a .heap .now in
@@ -38,8 +38,8 @@ returns-2 c =
     let u = table (edition-of w) in
     let e = c .before .before .before .check in
     let t = c .before .enum-told .given .1 in
-    let p = check-consistent u s k (e .result) (e .ensures) t .1 in
-    ap (λ (v : Values). unchanged s k v) (ap block-values (c .find-block .ensures) ∙ find-block-is s (a .at) (consistent-cut s k p .0))
+    let p = check-accounted u s k (e .result) (e .ensures) t .1 in
+    ap (λ (v : Values). unchanged s k v) (ap block-values (c .find-block .ensures) ∙ find-block-is s (a .at) (accounted-cut s k p .0))
     ∙ accepted-is _ s k _ (check-accepts u s k (e .result) (e .ensures) [] t)
 
 pub list-block-spec : {M : Type 1} → statement M

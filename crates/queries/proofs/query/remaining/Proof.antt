@@ -6,7 +6,7 @@ use mathlib.Core.List.{[], _∷_}
 use Rattle.rounding.specs.Rounding.{table}
 use Rattle.words.specs.Words.{edition-of, accounts-of}
 use Rattle.model.specs.Answers.{amount-of, amount-values}
-use Rattle.model.specs.Refusals.{first-refusal, line-3, quota-lines}
+use Rattle.model.specs.Refusals.{first-refusal, line-3, row-lines}
 use Rattle.model.specs.Calls.{unchanged, remaining-of}
 use Rattle.model.specs.declared.Refusal.the-variants.{QuotaNumber}
 use Rattle.results.proofs.Lines.{check-refuses, check-accepts, refused-is, accepted-is, line-3-refuses, line-3-passes}
@@ -14,7 +14,7 @@ use Rattle.queries.proofs.query.remaining.Statement.{statement}
 use Rattle.queries.proofs.query.remaining.Tie as tie
 
 returns : tie.Need-returns
-unfolding remaining-of amount-values quota-lines
+unfolding remaining-of amount-values row-lines
 returns c =
     let a = c .before .before .before .before .before .args in
     let s = a .heap .now in
@@ -29,7 +29,7 @@ enum-told : tie.Need-enum-told
 enum-told c = search needs
 
 returns-2 : tie.Need-returns-2
-unfolding remaining-of amount-values quota-lines
+unfolding remaining-of amount-values row-lines
 returns-2 c =
     let a = c .before .before .before .before .before .args in
     let s = a .heap .now in
@@ -41,7 +41,7 @@ returns-2 c =
     refused-is _ s k _ QuotaNumber (check-accepts u s k (e .result) (e .ensures) (line-3 (a .quota) ∷ []) t ∙ line-3-refuses (a .quota) [] (c .if1 .taken))
 
 returns-3 : tie.Need-returns-3
-unfolding remaining-of amount-values quota-lines first-refusal
+unfolding remaining-of amount-values row-lines first-refusal
 returns-3 c =
     let a = c .before .before .before .before .before .before .args in
     let s = a .heap .now in

@@ -6,7 +6,7 @@ use mathlib.Core.Path.{_≡_, refl, ap, sym, _∙_}
 use lib.ListN.{length, getD, set, length-set}
 use lib.Seq.{getD-set-same, getD-set-other}
 use borrow.Author.Needs.{needs}
-use Rattle.words.proofs.Words.{by-eq}
+use Rattle.lists.proofs.Bools.{by-eq}
 use Rattle.queue.specs.Places.{FIRST, LAST, QUEUE-WORDS}
 use Rattle.queue.proofs.InWords.{last-zero}
 use Rattle.queue.proofs.places.move_up.Statement.{statement}

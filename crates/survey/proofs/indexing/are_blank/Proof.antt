@@ -8,7 +8,7 @@ use mathlib.Core.Bool.{false≢true}
 use mathlib.Core.List.{List}
 use lib.Bits.{bitOr, or-add-and, and-le-l, and-le-r}
 use lib.ListN.{getD}
-use Rattle.audit.proofs.Cases.{by-eq}
+use Rattle.lists.proofs.Bools.{by-eq}
 use Rattle.accounts.specs.Accounts.{HOLDS}
 use Rattle.words.specs.Words.{WORDS, FIRST}
 use Rattle.survey.proofs.indexing.are_blank.Statement.{statement}

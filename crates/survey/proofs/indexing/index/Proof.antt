@@ -9,7 +9,7 @@ use mathlib.Core.Bool.{Bool, true, false}
 use mathlib.Core.List.{List}
 use lib.ListN.{length}
 use Rattle.accounts.specs.Accounts.{HOLDS, zero-hold}
-use Rattle.model.specs.Lists.{all}
+use Rattle.lists.specs.Lists.{all}
 use Rattle.audit.specs.Keys.{well-formed}
 use Rattle.audit.proofs.Tables.{all-fails}
 use Rattle.audit.proofs.Records.{well-blank, well-possible}

@@ -10,7 +10,7 @@ use mathlib.Core.List.{List}
 use lib.Dec.{eqb, ltb}
 use lib.ListN.{length, getD, set}
 use Rattle.accounts.specs.Accounts.{QUOTAS, HOLDS}
-use Rattle.model.proofs.Bools.{and-no, and-both}
+use Rattle.lists.proofs.Bools.{and-no, and-both}
 use Rattle.audit.specs.Contracts.{Charged}
 use Rattle.words.specs.Words.{serial-in, quota-in}
 use Rattle.survey.specs.Index.{LINKS, FORKED, CLOSED, slot, bits-of, inner, plain, step}

@@ -6,7 +6,7 @@ use mathlib.Core.Path.{_≡_, refl, ap, sym, _∙_}
 use mathlib.Core.Bool.{Bool}
 use lib.Dec.{ltb}
 use Rattle.accounts.specs.Accounts.{HOLDS}
-use Rattle.model.specs.Lists.{any}
+use Rattle.lists.specs.Lists.{any}
 use Rattle.words.specs.Words.{hold-in, holds-of}
 use Rattle.survey.specs.Survey.{shares}
 use Rattle.survey.specs.Contracts.{sought}

@@ -6,7 +6,7 @@ use Prim.Native.Nat.{_+_}
 use mathlib.Core.Path.{ap, sym, _∙_}
 use Rattle.accounts.specs.Accounts.{remaining}
 use Rattle.layout.specs.Bytes.{Octets}
-use Rattle.model.specs.Lists.{any}
+use Rattle.lists.specs.Lists.{any}
 use Rattle.results.specs.declared.HandleResult.{HandleResult}
 use Rattle.survey.specs.Survey.{shares}
 use Rattle.allocation.proofs.Grants.{shares-kept, size-small, room-there, exceeds, unrecorded, unnumbered, unplaced, made}

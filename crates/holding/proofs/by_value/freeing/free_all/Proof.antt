@@ -17,7 +17,7 @@ use Rattle.model.specs.declared.AmountAnswer.the-variants.{Amount}
 use Rattle.invariant.proofs.Laid.{allowed-most}
 use Rattle.results.specs.declared.AmountResult.{AmountResult}
 use Rattle.results.specs.Results.{amount-outcome}
-use Rattle.results.proofs.Lines.{check-consistent, permitted}
+use Rattle.results.proofs.Lines.{check-accounted, permitted}
 use Rattle.words.specs.Words.{holds-of}
 use Rattle.holding.specs.Emptying.{flags-of, Emptiable, Emptied}
 use Rattle.holding.proofs.FreedAll.{all-by-check, all-by-quota, all-by-permission, all-passes, all-refuses, all-freed}
@@ -100,10 +100,10 @@ walked c =
     let u = table (a .t2 .edition) in
     let k = told c .before .before .check in
     let yes = told c .enum-told .given .1 in
-    let sound = check-consistent u (a .heap .now) (a .t2) (k .result) (k .ensures) yes in
+    let consistent = check-accounted u (a .heap .now) (a .t2) (k .result) (k .ensures) yes in
     let below = may c .before .if1 .left in
     let left = dropped c .drop-holds .result in
-    all-freed u (a .heap .now) (a .t2) (octets (known c)) (allowed-most _ (sound .0)) (sound .1)
+    all-freed u (a .heap .now) (a .t2) (octets (known c)) (allowed-most _ (consistent .0)) (consistent .1)
     (sized (start c)) (a .quota) below (paid c .spent .result) (paid c .spent .ensures)
     (refunded c .refund .result) left (refunded c .refund .ensures) (dropped c .drop-holds .ensures)
     (holds-of (c .before .before .words-of .result)) (ap (λ (x : Accounts). x .holds) (c .before .before .words-of .ensures .1)) (left .kind) refl

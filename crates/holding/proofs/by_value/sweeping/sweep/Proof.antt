@@ -4,7 +4,7 @@ use Rattle.rounding.specs.Rounding.{table}
 use borrow.Author.Needs.{needs}
 use native.Mathlib.Omega.{arith}
 use Rattle.layout.specs.Bytes.{Octets}
-use Rattle.results.proofs.Lines.{check-consistent}
+use Rattle.results.proofs.Lines.{check-accounted}
 use Rattle.holding.proofs.SweptAll.{sweep-refuses, sweepable, sweep-gives}
 use Rattle.holding.proofs.by_value.sweeping.sweep.Statement.{statement}
 use Rattle.holding.proofs.by_value.sweeping.sweep.Tie as tie
@@ -31,7 +31,7 @@ sweep-blocks-requires c κs =
     let b = k .before .before in
     let a = b .before .args in
     sweepable (table (a .accounts .edition)) (a .heap .now) (a .accounts) (octets b)
-    (check-consistent (table (a .accounts .edition)) (a .heap .now) (a .accounts) (k .check .result) (k .check .ensures) (t .enum-told .given .1))
+    (check-accounted (table (a .accounts .edition)) (a .heap .now) (a .accounts) (k .check .result) (k .check .ensures) (t .enum-told .given .1))
 
 cast-given : tie.Need-cast-given
 cast-given c =
@@ -42,7 +42,7 @@ cast-given c =
     let a = b .before .args in
     let p =
     sweepable (table (a .accounts .edition)) (a .heap .now) (a .accounts) (octets b)
-    (check-consistent (table (a .accounts .edition)) (a .heap .now) (a .accounts) (k .check .result) (k .check .ensures) (t .enum-told .given .1))
+    (check-accounted (table (a .accounts .edition)) (a .heap .now) (a .accounts) (k .check .result) (k .check .ensures) (t .enum-told .given .1))
     in
     omega (arith, w .sweep-blocks .ensures (p .0) (p .1) .2)
 

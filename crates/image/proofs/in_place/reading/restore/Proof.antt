@@ -9,7 +9,7 @@ use Rattle.accounts.specs.declared.Accounts.{Accounts}
 use Rattle.framing.specs.Frames.{padded, stream-of}
 use Rattle.image_model.specs.declared.ReadAnswer.the-variants.{Restored}
 use Rattle.image_model.specs.Answers.{restored-to}
-use Rattle.image_model.specs.Images.{own-sound}
+use Rattle.image_model.specs.Images.{own-consistent}
 use Rattle.image_model.specs.Reading.{accounts-of as accounts-said}
 use Rattle.image.proofs.Restores.{restore-room, restore-unsound, restore-done}
 use Rattle.image.proofs.in_place.reading.restore.Statement.{statement}
@@ -33,17 +33,17 @@ returns c =
     )
 
 -- where the heap has the image's length: what the check says of the accounts that the image says
-abbrev room : tie.After-is-sound-in → tie.Else1
+abbrev room : tie.After-is-consistent-in → tie.Else1
 room c = c .before .before .before .before
 
-abbrev start : tie.After-is-sound-in → tie.Start
+abbrev start : tie.After-is-consistent-in → tie.Start
 start c = room c .before .before .before .before
 
-told : (c : tie.After-is-sound-in)
-    → c .is-sound-in .result ≡ own-sound (padded (start c .args .size) (drop (room c .before .heap-at .result) (stream (start c)))) (said (start c))
+told : (c : tie.After-is-consistent-in)
+    → c .is-consistent-in .result ≡ own-consistent (padded (start c .args .size) (drop (room c .before .heap-at .result) (stream (start c)))) (said (start c))
 told c =
-    c .is-sound-in .ensures
-    ∙ ap (λ (k : Accounts). own-sound (padded (start c .args .size) (drop (room c .before .heap-at .result) (stream (start c)))) k)
+    c .is-consistent-in .ensures
+    ∙ ap (λ (k : Accounts). own-consistent (padded (start c .args .size) (drop (room c .before .heap-at .result) (stream (start c)))) k)
     (c .before .before .put-accounts .ensures .0)
 
 returns-2 : tie.Need-returns-2
@@ -55,7 +55,7 @@ returns-2 c =
     let e = c .refused2 .ensures in (
       (λ i. restored-to (s .args .heap .now) (e .1 .0 i) (e .0 i))
           ∙ restore-unsound (s .args .form) (s .args .size) (stream s) (s .args .heap .now) (said s) (room v .if1 .left) (h .result) (h .ensures .0)
-          (v .is-sound-in .result) (told v) (not-true _ (t .if2 .taken)),
+          (v .is-consistent-in .result) (told v) (not-true _ (t .if2 .taken)),
       e .1 .1,
     )
 
@@ -69,7 +69,7 @@ returns-3 c =
     let there = w .copy-stream .last .1 .1 .0 in (
       ap (λ (k : Accounts). restored-to there k Restored) (v .before .before .put-accounts .ensures .0)
           ∙ restore-done (s .args .form) (s .args .size) (stream s) (s .args .heap .now) (said s) (room v .if1 .left) (h .result) (h .ensures .0)
-          (v .is-sound-in .result) there (told v) (not-false _ (p .if2 .left)) (w .copy-stream .ensures),
+          (v .is-consistent-in .result) there (told v) (not-false _ (p .if2 .left)) (w .copy-stream .ensures),
       v .before .before .put-accounts .ensures .1,
     )
 

@@ -5,16 +5,16 @@ use mathlib.Core.List.{[]}
 use borrow.Author.Needs.{needs}
 use Rattle.rounding.specs.Rounding.{table}
 use Rattle.model.specs.Answers.{Values, block-values}
-use Rattle.model.specs.Refusals.{first-refusal, check-lines}
+use Rattle.model.specs.Refusals.{first-refusal, row-lines}
 use Rattle.model.specs.Calls.{unchanged, list-block}
-use Rattle.model.proofs.Consistent.{consistent-cut}
-use Rattle.results.proofs.Lines.{check-refuses, check-accepts, check-consistent, refused-is, accepted-is}
+use Rattle.model.proofs.Consistent.{accounted-cut}
+use Rattle.results.proofs.Lines.{check-refuses, check-accepts, check-accounted, refused-is, accepted-is}
 use Rattle.queries.proofs.Listed.{find-block-is}
 use Rattle.queries.proofs.by_value.listing.list_block.Statement.{statement}
 use Rattle.queries.proofs.by_value.listing.list_block.Tie as tie
 
 returns : tie.Need-returns
-unfolding list-block block-values check-lines
+unfolding list-block block-values row-lines
 returns c =
     let a = c .before .before .before .before .before .args in
     let r = c .before .refusal .given in
@@ -26,14 +26,14 @@ enum-told : tie.Need-enum-told
 enum-told c = search needs
 
 returns-2 : tie.Need-returns-2
-unfolding list-block check-lines first-refusal
+unfolding list-block row-lines first-refusal
 returns-2 c =
     let a = c .before .before .before .before .before .args in
     let k = c .before .before .before .check in
     let t = c .before .enum-told .given .1 in
-    let p = check-consistent (table (a .accounts .edition)) (a .heap .now) (a .accounts) (k .result) (k .ensures) t .1 in
+    let p = check-accounted (table (a .accounts .edition)) (a .heap .now) (a .accounts) (k .result) (k .ensures) t .1 in
     ap (λ (v : Values). unchanged (a .heap .now) (a .accounts) v)
-    (ap block-values (c .find-block .ensures) ∙ find-block-is (a .heap .now) (a .at) (consistent-cut (a .heap .now) (a .accounts) p .0))
+    (ap block-values (c .find-block .ensures) ∙ find-block-is (a .heap .now) (a .at) (accounted-cut (a .heap .now) (a .accounts) p .0))
     ∙ accepted-is _ (a .heap .now) (a .accounts) _ (check-accepts (table (a .accounts .edition)) (a .heap .now) (a .accounts) (k .result) (k .ensures) [] t)
 
 pub list-block-spec : {M : Type 1} → statement M

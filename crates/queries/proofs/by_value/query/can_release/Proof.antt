@@ -9,7 +9,7 @@ use Rattle.survey.specs.Survey.{Survey}
 use Rattle.queries.proofs.Found.{looked-up-is, record-is}
 use mathlib.Core.List.{[], _∷_}
 use Rattle.model.specs.Objects.{lookup, found}
-use Rattle.model.specs.Refusals.{line-3, line-5, line-6, release-lines}
+use Rattle.model.specs.Refusals.{line-3, line-5, line-6, row-lines}
 use Rattle.model.specs.Calls.{can-release}
 use Rattle.model.specs.declared.Refusal.the-variants.{QuotaNumber, NoSuchObject, NotHeld}
 use Rattle.results.proofs.Lines.{check-refuses, check-accepts, refused-is, accepted-is, line-3-refuses}
@@ -18,7 +18,7 @@ use Rattle.queries.proofs.by_value.query.can_release.Statement.{stateme
 use Rattle.queries.proofs.by_value.query.can_release.Tie as tie
 
 returns : tie.Need-returns
-unfolding can-release verdict-values release-lines
+unfolding can-release verdict-values row-lines
 returns c =
     let a = c .before .before .before .before .before .before .before .args in
     let s = a .heap .now in
@@ -38,7 +38,7 @@ enum-told : tie.Need-enum-told
 enum-told c = search needs
 
 returns-2 : tie.Need-returns-2
-unfolding can-release verdict-values release-lines
+unfolding can-release verdict-values row-lines
 returns-2 c =
     let a = c .before .before .before .before .before .before .before .args in
     let s = a .heap .now in
@@ -55,7 +55,7 @@ returns-2 c =
     refused-is _ s k _ QuotaNumber (check-accepts u s k (v .result) told (line-3 (a .quota) ∷ rest) yes ∙ line-3-refuses (a .quota) rest (c .if1 .taken))
 
 returns-3 : tie.Need-returns-3
-unfolding can-release verdict-values release-lines
+unfolding can-release verdict-values row-lines
 returns-3 c =
     let a = c .before .before .before .before .before .before .before .before .before .before .args in
     let s = a .heap .now in

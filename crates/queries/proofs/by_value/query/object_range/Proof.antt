@@ -9,7 +9,7 @@ use Rattle.queries.proofs.Found.{looked-up-is}
 use mathlib.Core.List.{[], _∷_}
 use Rattle.model.specs.Answers.{range-values}
 use Rattle.model.specs.Objects.{lookup}
-use Rattle.model.specs.Refusals.{line-5, lend-lines}
+use Rattle.model.specs.Refusals.{line-5, row-lines}
 use Rattle.model.specs.Calls.{lend}
 use Rattle.model.specs.declared.Refusal.the-variants.{NoSuchObject}
 use Rattle.results.proofs.Lines.{check-refuses, refused-is}
@@ -18,7 +18,7 @@ use Rattle.queries.proofs.by_value.query.object_range.Statement.{statem
 use Rattle.queries.proofs.by_value.query.object_range.Tie as tie
 
 returns : tie.Need-returns
-unfolding lend range-values lend-lines
+unfolding lend range-values row-lines
 returns c =
     let a = c .before .before .before .before .before .before .before .args in
     let s = a .heap .now in

@@ -5,7 +5,7 @@ use mathlib.Core.List.{[], _∷_}
 use borrow.Author.Needs.{needs}
 use Rattle.rounding.specs.Rounding.{table}
 use Rattle.model.specs.Answers.{amount-of, amount-values}
-use Rattle.model.specs.Refusals.{first-refusal, line-3, quota-lines}
+use Rattle.model.specs.Refusals.{first-refusal, line-3, row-lines}
 use Rattle.model.specs.Calls.{unchanged, remaining-of}
 use Rattle.model.specs.declared.Refusal.the-variants.{QuotaNumber}
 use Rattle.results.proofs.Lines.{check-refuses, check-accepts, refused-is, accepted-is, line-3-refuses, line-3-passes}
@@ -13,7 +13,7 @@ use Rattle.queries.proofs.by_value.query.remaining.Statement.{statement
 use Rattle.queries.proofs.by_value.query.remaining.Tie as tie
 
 returns : tie.Need-returns
-unfolding remaining-of amount-values quota-lines
+unfolding remaining-of amount-values row-lines
 returns c =
     let a = c .before .before .before .before .before .args in
     let r = c .before .refusal .given in
@@ -25,7 +25,7 @@ enum-told : tie.Need-enum-told
 enum-told c = search needs
 
 returns-2 : tie.Need-returns-2
-unfolding remaining-of amount-values quota-lines
+unfolding remaining-of amount-values row-lines
 returns-2 c =
     let a = c .before .before .before .before .before .args in
     let k = c .before .before .before .check in
@@ -34,7 +34,7 @@ returns-2 c =
     (c .before .enum-told .given .1) ∙ line-3-refuses (a .quota) [] (c .if1 .taken))
 
 returns-3 : tie.Need-returns-3
-unfolding remaining-of amount-values quota-lines first-refusal
+unfolding remaining-of amount-values row-lines first-refusal
 returns-3 c =
     let a = c .before .before .before .before .before .before .args in
     let k = c .before .before .before .before .check in

@@ -1,0 +1,9 @@
+pub mod CallRows
+pub mod Histories
+pub mod Writes
+pub mod StaleWrites
+pub mod Typing
+pub mod Restoring
+pub mod Elsewhere
+pub mod Wrong
+pub mod InPlace

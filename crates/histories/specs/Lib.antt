@@ -1,0 +1,3 @@
+pub mod Performs
+pub mod Restores
+pub mod Wrong

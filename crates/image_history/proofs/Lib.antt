@@ -1,5 +1,0 @@
-pub mod Typing
-pub mod Restoring
-pub mod Elsewhere
-pub mod Wrong
-pub mod InPlace

@@ -1,2 +1,0 @@
-pub mod Restores
-pub mod Wrong

@@ -1,8 +1,0 @@
--- The crate's laws.
-pub mod Joins
-pub mod Rooms
-pub mod Units
-pub mod Lengths
-pub mod Parts
-pub mod Laws
-pub mod Computed

@@ -1,3 +1,0 @@
--- The crate's definitions.
-pub mod Stats
-pub mod Tallies
