@@ -9,7 +9,7 @@ use Rattle.model.specs.declared.ListedBlock.{ListedBlock}
 use Rattle.model.specs.Answers.{Values, zero-handle, refused}
 use Rattle.model.specs.Calls.{Outcome, check}
 use Rattle.model.proofs.Refusals.{changes-nothing}
-use Rattle.results.specs.Results.{outcome}
+use Rattle.calls.specs.Outcomes.{outcome}
 use Rattle.c_api.specs.Replies.{open-reply, handle-reply, amount-reply, handle-numbers, amount-numbers, range-numbers}
 use Rattle.c_api.specs.Replies.{block-numbers, found-block, reply-with, Exact}
 use Rattle.c_api.specs.declared.OpenReply.{OpenReply}

@@ -13,7 +13,7 @@ use Rattle.accounts.specs.declared.settings.Settings.{Settings}
 use Rattle.model.specs.declared.ListedBlock.{ListedBlock}
 use Rattle.model.specs.Answers.{Values, zero-handle, zero-range, refused}
 use Rattle.model.specs.Calls.{Outcome}
-use Rattle.results.specs.Results.{outcome}
+use Rattle.calls.specs.Outcomes.{outcome}
 use Rattle.c_api.specs.declared.OpenReply.{OpenReply}
 use Rattle.c_api.specs.declared.HandleReply.{HandleReply}
 use Rattle.c_api.specs.declared.GivenHandle.{GivenHandle}

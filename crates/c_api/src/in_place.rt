@@ -12,7 +12,7 @@ ghost use mathlib.Core.Path.{_≡_};
 ghost use Rattle.rounding.specs.Rounding.{table};
 ghost use Rattle.model.specs.Answers.{refused};
 ghost use Rattle.model.specs.Calls.{open-heap, allocate, allocate-array, claim, release, free-all, reallocate, clear, sweep};
-ghost use Rattle.results.specs.Results.{outcome};
+ghost use Rattle.calls.specs.Outcomes.{outcome};
 ghost use Rattle.words.specs.Words.{edition-of, accounts-of, Padded, Unpadded};
 ghost use Rattle.c_api.specs.Replies.{settings-of, amount-numbers, handle-numbers};
 
@@ -31,7 +31,7 @@ pub extern "C" fn lokhazim_in_place_open(
 {
     let values = grants.values;
     let settings = settings_of(kind, edition);
-    number_of(holding::open(heap, words, values, settings))
+    number_of(calls::open(heap, words, values, settings))
 }
 
 // A new object of at least `length` bytes.
@@ -46,7 +46,7 @@ pub extern "C" fn lokhazim_in_place_allocate(
         ≡ allocate (table (edition-of (now (words .entry)))) (now (heap .entry)) (accounts-of (now (words .entry))) quota length ⌝ }
     ensures pads { λ _. ⌜ Padded (now (words .entry)) (now (words .exit)) ⌝ }
 {
-    handle_of(allocation::allocate(heap, words, quota, length))
+    handle_of(calls::allocate(heap, words, quota, length))
 }
 
 // A new object for `count` elements of `size` bytes.
@@ -62,7 +62,7 @@ pub extern "C" fn lokhazim_in_place_allocate_array(
         ≡ allocate-array (table (edition-of (now (words .entry)))) (now (heap .entry)) (accounts-of (now (words .entry))) quota count size ⌝ }
     ensures pads { λ _. ⌜ Padded (now (words .entry)) (now (words .exit)) ⌝ }
 {
-    handle_of(allocation::allocate_array(heap, words, quota, count, size))
+    handle_of(calls::allocate_array(heap, words, quota, count, size))
 }
 
 // A quota holds an object, or holds it once more; the amount is the object's length.
@@ -77,7 +77,7 @@ pub extern "C" fn lokhazim_in_place_claim(
         ≡ claim (table (edition-of (now (words .entry)))) (now (heap .entry)) (accounts-of (now (words .entry))) quota handle ⌝ }
     ensures pads { λ _. ⌜ Padded (now (words .entry)) (now (words .exit)) ⌝ }
 {
-    amount_of(holding::claim(heap, words, quota, handle))
+    amount_of(calls::claim(heap, words, quota, handle))
 }
 
 // A quota gives up one hold; the amount is what it gets back.
@@ -92,7 +92,7 @@ pub extern "C" fn lokhazim_in_place_release(
         ≡ release (table (edition-of (now (words .entry)))) (now (heap .entry)) (accounts-of (now (words .entry))) quota handle ⌝ }
     ensures pads { λ _. ⌜ Padded (now (words .entry)) (now (words .exit)) ⌝ }
 {
-    amount_of(allocation::release(heap, words, quota, handle))
+    amount_of(calls::release(heap, words, quota, handle))
 }
 
 // A quota gives up all its holds; the amount is what it gets back.
@@ -106,7 +106,7 @@ pub extern "C" fn lokhazim_in_place_free_all(
         ≡ free-all (table (edition-of (now (words .entry)))) (now (heap .entry)) (accounts-of (now (words .entry))) quota ⌝ }
     ensures pads { λ _. ⌜ Padded (now (words .entry)) (now (words .exit)) ⌝ }
 {
-    amount_of(holding::free_all(heap, words, quota))
+    amount_of(calls::free_all(heap, words, quota))
 }
 
 // Those permissions of a quota are cleared whose bit is set in a number; the amount is what is left of them.
@@ -121,7 +121,7 @@ pub extern "C" fn lokhazim_in_place_clear_permissions(
         ≡ clear (table (edition-of (now (words .entry)))) (now (heap .entry)) (accounts-of (now (words .entry))) quota bits ⌝ }
     ensures pads { λ _. ⌜ Padded (now (words .entry)) (now (words .exit)) ⌝ }
 {
-    amount_of(holding::clear_permissions(heap, words, quota, bits))
+    amount_of(calls::clear_permissions(heap, words, quota, bits))
 }
 
 // A new object of at least `length` bytes with the old one's first bytes, and the old one is released once.
@@ -137,7 +137,7 @@ pub extern "C" fn lokhazim_in_place_reallocate(
         ≡ reallocate (table (edition-of (now (words .entry)))) (now (heap .entry)) (accounts-of (now (words .entry))) quota handle length ⌝ }
     ensures pads { λ _. ⌜ Padded (now (words .entry)) (now (words .exit)) ⌝ }
 {
-    handle_of(allocation::reallocate(heap, words, quota, handle, length))
+    handle_of(calls::reallocate(heap, words, quota, handle, length))
 }
 
 // Every quarantined block becomes free, and the sum of their sizes is answered.
@@ -146,5 +146,5 @@ pub extern "C" fn lokhazim_in_place_sweep(heap: &mut [u8], words: &[u32; WORDS])
     ensures { λ r. ⌜ outcome (now (heap .exit)) (accounts-of (now (words .entry))) (amount-numbers r)
         ≡ sweep (table (edition-of (now (words .entry)))) (now (heap .entry)) (accounts-of (now (words .entry))) ⌝ }
 {
-    amount_of(holding::sweep(heap, words))
+    amount_of(calls::sweep(heap, words))
 }

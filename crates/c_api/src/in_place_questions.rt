@@ -12,8 +12,8 @@ ghost use mathlib.Core.Path.{_≡_};
 ghost use Rattle.rounding.specs.Rounding.{table};
 ghost use Rattle.model.specs.Answers.{refused};
 ghost use Rattle.model.specs.Calls.{lend, remaining-of, can-release, list-block, check};
-ghost use Rattle.results.specs.Results.{outcome};
-ghost use Rattle.queries.specs.Lending.{write-object};
+ghost use Rattle.calls.specs.Outcomes.{outcome};
+ghost use Rattle.calls.specs.Lending.{write-object};
 ghost use Rattle.words.specs.Words.{edition-of, accounts-of};
 ghost use Rattle.c_api.specs.Replies.{amount-numbers, range-numbers, block-numbers, Exact};
 
@@ -27,7 +27,7 @@ pub extern "C" fn lokhazim_in_place_lend(
     ensures { λ r. ⌜ outcome (now (heap .entry)) (accounts-of (now (words .entry))) (range-numbers r)
         ≡ lend (table (edition-of (now (words .entry)))) (now (heap .entry)) (accounts-of (now (words .entry))) handle ⌝ }
 {
-    reply_of_range(queries::object_range(heap, words, handle))
+    reply_of_range(calls::object_range(heap, words, handle))
 }
 
 // One byte of a handle's range is written, at a place that counts from the handle's base. A place at or beyond its length is accepted, and nothing is
@@ -43,7 +43,7 @@ pub extern "C" fn lokhazim_in_place_write(
     ensures { λ r. ⌜ outcome (now (heap .exit)) (accounts-of (now (words .entry))) (refused r)
         ≡ write-object (table (edition-of (now (words .entry)))) (now (heap .entry)) (accounts-of (now (words .entry))) handle at byte ⌝ }
 {
-    number_of(queries::write_object(heap, words, handle, at, byte))
+    number_of(calls::write_object(heap, words, handle, at, byte))
 }
 
 // What remains of a quota.
@@ -56,7 +56,7 @@ pub extern "C" fn lokhazim_in_place_remaining(
     ensures { λ r. ⌜ outcome (now (heap .entry)) (accounts-of (now (words .entry))) (amount-numbers r)
         ≡ remaining-of (table (edition-of (now (words .entry)))) (now (heap .entry)) (accounts-of (now (words .entry))) quota ⌝ }
 {
-    amount_of(queries::remaining(heap, words, quota))
+    amount_of(calls::remaining(heap, words, quota))
 }
 
 // The refusal that release would give, 0 where it would be accepted.
@@ -70,7 +70,7 @@ pub extern "C" fn lokhazim_in_place_can_release(
     ensures { λ r. ⌜ outcome (now (heap .entry)) (accounts-of (now (words .entry))) (refused r)
         ≡ can-release (table (edition-of (now (words .entry)))) (now (heap .entry)) (accounts-of (now (words .entry))) quota handle ⌝ }
 {
-    number_of(queries::can_release(heap, words, quota, handle))
+    number_of(calls::can_release(heap, words, quota, handle))
 }
 
 // The block that starts at a place of the heap, if one does.
@@ -84,7 +84,7 @@ pub extern "C" fn lokhazim_in_place_list_block(
         ≡ list-block (table (edition-of (now (words .entry)))) (now (heap .entry)) (accounts-of (now (words .entry))) at ⌝ }
     ensures zeros { λ r. ⌜ Exact r ⌝ }
 {
-    reply_of_block(queries::list_block(heap, words, at))
+    reply_of_block(calls::list_block(heap, words, at))
 }
 
 // The refusal that every call but open begins with: 1, 2 or none.
@@ -93,5 +93,5 @@ pub extern "C" fn lokhazim_in_place_check(heap: &[u8], words: &[u32; WORDS]) -> 
     ensures { λ r. ⌜ outcome (now (heap .entry)) (accounts-of (now (words .entry))) (refused r)
         ≡ check (table (edition-of (now (words .entry)))) (now (heap .entry)) (accounts-of (now (words .entry))) ⌝ }
 {
-    number_of(queries::check(heap, words))
+    number_of(calls::check(heap, words))
 }

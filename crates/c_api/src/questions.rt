@@ -11,8 +11,8 @@ use model::Handle;
 ghost use mathlib.Core.Path.{_≡_};
 ghost use Rattle.rounding.specs.Rounding.{table};
 ghost use Rattle.model.specs.Calls.{lend, remaining-of, can-release, list-block, check};
-ghost use Rattle.results.specs.Results.{outcome};
-ghost use Rattle.queries.specs.Lending.{write-object};
+ghost use Rattle.calls.specs.Outcomes.{outcome};
+ghost use Rattle.calls.specs.Lending.{write-object};
 ghost use Rattle.model.specs.Answers.{refused};
 ghost use Rattle.c_api.specs.Replies.{amount-numbers, range-numbers, block-numbers, Exact};
 

@@ -19,8 +19,8 @@ ghost use mathlib.Core.Path.{_≡_};
 ghost use Prim.Native.Nat.{ℕ};
 ghost use mathlib.Core.List.{List};
 ghost use Rattle.model.specs.Answers.{refused, verdict-values, handle-values, amount-values, range-values, block-values};
-ghost use Rattle.results.specs.Results.{opened-outcome, amount-outcome};
-ghost use Rattle.results.specs.Results.{handle-outcome};
+ghost use Rattle.calls.specs.Outcomes.{opened-outcome, amount-outcome};
+ghost use Rattle.calls.specs.Outcomes.{handle-outcome};
 ghost use Rattle.c_api.specs.Replies.{open-reply, handle-reply, amount-reply, handle-numbers, amount-numbers, range-numbers, block-numbers, Exact};
 
 // The refusal's number, 0 where there is none.

@@ -19,7 +19,7 @@ use Rattle.ledger.specs.Ledger.{Event, Called, empty}
 use Rattle.ledger.specs.History.{Begins, Opening, History}
 use Rattle.ledger.specs.Demand3.{Holds}
 use Rattle.ledger.proofs.Theorem.{demand-3}
-use Rattle.results.specs.Results.{opened-outcome, opened-result}
+use Rattle.calls.specs.Outcomes.{opened-outcome, opened-result}
 use Rattle.call_history.specs.Performs.{Granted, Performs, Opens, Calls, Writes}
 use Rattle.call_history.proofs.Rows
 

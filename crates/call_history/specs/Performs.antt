@@ -17,7 +17,7 @@ use Rattle.model.specs.declared.Call.{Call}
 use Rattle.model.specs.declared.Verdict.the-variants.{Accepted}
 use Rattle.ledger.specs.Ledger.{Event, Called, Wrote}
 use Rattle.ledger.specs.History.{Written}
-use Rattle.results.specs.Results.{opened-outcome}
+use Rattle.calls.specs.Outcomes.{opened-outcome}
 
 -- grants as an opening takes them: one for each quota, of 32 bits
 pub record Granted (grants : List ℕ) : Type 0 where

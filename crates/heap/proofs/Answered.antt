@@ -10,11 +10,11 @@ use Rattle.model.specs.declared.Answer.{Answer}
 use Rattle.model.specs.declared.Answer.the-variants.{Handle as OfHandle, Amount as OfAmount}
 use Rattle.model.specs.declared.Call.{Call}
 use Rattle.model.proofs.Answers.{handle-back, amount-back}
-use Rattle.results.specs.Results.{outcome}
-use Rattle.results.specs.Results.{handle-outcome}
-use Rattle.results.specs.Results.{amount-outcome}
-use Rattle.results.specs.declared.HandleResult.{HandleResult}
-use Rattle.results.specs.declared.AmountResult.{AmountResult}
+use Rattle.calls.specs.Outcomes.{outcome}
+use Rattle.calls.specs.Outcomes.{handle-outcome}
+use Rattle.calls.specs.Outcomes.{amount-outcome}
+use Rattle.calls.specs.declared.results.HandleResult.{HandleResult}
+use Rattle.calls.specs.declared.results.AmountResult.{AmountResult}
 use Rattle.heap.specs.declared.performing.Performed.{Performed}
 
 -- the heap with a result, and an outcome with the answer that is made of its values

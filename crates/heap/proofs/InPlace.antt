@@ -10,7 +10,7 @@ use Rattle.model.specs.Calls.{Outcome}
 use Rattle.model.specs.Step.{Answered, step, performed}
 use Rattle.model.specs.declared.Answer.{Answer}
 use Rattle.model.specs.declared.Call.{Call}
-use Rattle.results.specs.Results.{outcome}
+use Rattle.calls.specs.Outcomes.{outcome}
 
 abbrev answered : List ℕ → Accounts → Answer → Answered
 answered s k a = record { heap = s; accounts = k; answer = a }

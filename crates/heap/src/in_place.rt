@@ -1,21 +1,21 @@
 // Every call over the accounts where they lie, under one name, and `perform`, which makes any call of a history.
 mod performing;
 
-pub use allocation::allocate;
-pub use allocation::allocate_array;
-pub use allocation::reallocate;
-pub use allocation::release;
-pub use holding::claim;
-pub use holding::clear_permissions;
-pub use holding::free_all;
-pub use holding::open;
-pub use holding::sweep;
+pub use calls::allocate;
+pub use calls::allocate_array;
+pub use calls::can_claim;
+pub use calls::can_release;
+pub use calls::check;
+pub use calls::claim;
+pub use calls::clear_permissions;
+pub use calls::free_all;
+pub use calls::lend;
+pub use calls::list_block;
+pub use calls::object_range;
+pub use calls::open;
+pub use calls::reallocate;
+pub use calls::release;
+pub use calls::remaining;
+pub use calls::sweep;
+pub use calls::write_object;
 pub use performing::perform;
-pub use queries::can_claim;
-pub use queries::can_release;
-pub use queries::check;
-pub use queries::lend;
-pub use queries::list_block;
-pub use queries::object_range;
-pub use queries::remaining;
-pub use queries::write_object;

@@ -1,9 +1,9 @@
 // A call of a history, given with its arguments, is made by the function of its name.
 use accounts::Accounts;
+use calls::AmountResult;
+use calls::HandleResult;
 use model::Answer;
 use model::Call;
-use results::AmountResult;
-use results::HandleResult;
 ghost use mathlib.Core.Path.{_≡_};
 ghost use Rattle.rounding.specs.Rounding.{table};
 ghost use Rattle.model.specs.Step.{performed};
@@ -54,59 +54,59 @@ pub fn perform(heap: &mut [u8], accounts: Accounts, call: Call) -> Performed
         ≡ performed (table (accounts .edition)) call (now (heap .entry)) accounts ⌝ }
 {
     match call {
-        Call::Allocate { quota, length } => of_handle(allocation::by_value::allocate(
+        Call::Allocate { quota, length } => of_handle(calls::by_value::allocate(
             heap,
             accounts,
             quota,
             length,
         )),
         Call::AllocateArray { quota, count, size } => {
-            of_handle(allocation::by_value::allocate_array(heap, accounts, quota, count, size))
+            of_handle(calls::by_value::allocate_array(heap, accounts, quota, count, size))
         }
-        Call::Claim { quota, handle } => of_amount(holding::by_value::claim(
+        Call::Claim { quota, handle } => of_amount(calls::by_value::claim(
             heap,
             accounts,
             quota,
             handle,
         )),
-        Call::Release { quota, handle } => of_amount(allocation::by_value::release(
+        Call::Release { quota, handle } => of_amount(calls::by_value::release(
             heap,
             accounts,
             quota,
             handle,
         )),
-        Call::FreeAll { quota } => of_amount(holding::by_value::free_all(heap, accounts, quota)),
-        Call::Sweep => of_amount(holding::by_value::sweep(heap, accounts)),
+        Call::FreeAll { quota } => of_amount(calls::by_value::free_all(heap, accounts, quota)),
+        Call::Sweep => of_amount(calls::by_value::sweep(heap, accounts)),
         Call::Reallocate {
             quota,
             handle,
             length,
-        } => of_handle(allocation::by_value::reallocate(heap, accounts, quota, handle, length)),
+        } => of_handle(calls::by_value::reallocate(heap, accounts, quota, handle, length)),
         Call::Lend { handle } => {
             unchanged(
                 accounts,
-                Answer::Range(queries::by_value::object_range(heap, accounts, handle)),
+                Answer::Range(calls::by_value::object_range(heap, accounts, handle)),
             )
         }
         Call::Remaining { quota } => {
             unchanged(
                 accounts,
-                Answer::Amount(queries::by_value::remaining(heap, accounts, quota)),
+                Answer::Amount(calls::by_value::remaining(heap, accounts, quota)),
             )
         }
         Call::CanRelease { quota, handle } => {
             unchanged(
                 accounts,
-                Answer::Verdict(queries::by_value::can_release(heap, accounts, quota, handle)),
+                Answer::Verdict(calls::by_value::can_release(heap, accounts, quota, handle)),
             )
         }
         Call::ListBlock { at } => {
             unchanged(
                 accounts,
-                Answer::Block(queries::by_value::list_from(heap, accounts, at)),
+                Answer::Block(calls::by_value::list_from(heap, accounts, at)),
             )
         }
-        Call::ClearPermissions { quota, bits } => of_amount(holding::by_value::clear_permissions(
+        Call::ClearPermissions { quota, bits } => of_amount(calls::by_value::clear_permissions(
             heap,
             accounts,
             quota,

@@ -19,7 +19,7 @@ use Rattle.model.specs.Refusals.{first-refusal, line-1, line-2}
 use Rattle.model.specs.Consistent.{allowed}
 use Rattle.model.specs.Lists.{all}
 use Rattle.model.specs.Calls.{check}
-use Rattle.results.proofs.Lines.{check-refuses, check-accepts, number-some}
+use Rattle.calls.proofs.Lines.{check-refuses, check-accepts, number-some}
 use Rattle.framing.specs.declared.FrameAnswer.{FrameAnswer}
 use Rattle.framing.specs.declared.FrameAnswer.the-variants.{Written as FramesWritten, NoRoom}
 use Rattle.framing.specs.Frames.{frames-for, has-room, Framed, write-frames}

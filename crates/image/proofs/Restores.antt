@@ -22,7 +22,7 @@ use Rattle.model.specs.Refusals.{Line, _when_, first-refusal, line-1, line-2}
 use Rattle.model.specs.Calls.{check}
 use Rattle.model.proofs.Bools.{and-left, and-right}
 use Rattle.model.proofs.Refusals.{Numbered}
-use Rattle.results.proofs.Lines.{check-refuses, check-consistent, number-some}
+use Rattle.calls.proofs.Lines.{check-refuses, check-consistent, number-some}
 use Rattle.framing.specs.Frames.{padded, stream-of}
 use Rattle.image_model.specs.declared.Form.{Form}
 use Rattle.image_model.specs.declared.ImageRefusal.{ImageRefusal}

@@ -18,8 +18,8 @@ use Rattle.model.specs.declared.BlockAnswer.{BlockAnswer}
 use Rattle.model.specs.declared.BlockAnswer.the-variants.{Listed}
 use Rattle.model.proofs.Lists.{total-append}
 use Rattle.model.proofs.Listing.{listed-at, block-at, list-block-step, step-at, step-end}
-use Rattle.results.specs.Results.{outcome}
-use Rattle.queries.proofs.Listed.{given-inside}
+use Rattle.calls.specs.Outcomes.{outcome}
+use Rattle.calls.proofs.Listed.{given-inside}
 use Rattle.replay_model.specs.Replay.{block-line, block-lines}
 use Rattle.replay_model.specs.Events.{Reached}
 use Rattle.replay_model.proofs.Reaching.{reached-checked}

@@ -20,7 +20,7 @@ use Rattle.model.specs.declared.Verdict.the-variants.{Accepted, Refused}
 use Rattle.model.proofs.Bools.{and-no}
 use Rattle.model.proofs.Answers.{refusal-number-is}
 use Rattle.ledger.specs.History.{Opening as Begun}
-use Rattle.results.specs.Results.{outcome}
+use Rattle.calls.specs.Outcomes.{outcome}
 use Rattle.replay_model.specs.Replay.{ok-line, no-line, run-lines, run-opened}
 use Rattle.replay_model.specs.Events.{Reached, Granted}
 use Rattle.replay_text.specs.Contracts.{Zeros}

@@ -28,7 +28,7 @@ use Rattle.audit.specs.Keys.{well-formed}
 use Rattle.audit.proofs.Consistency.{tests-well}
 use Rattle.lookup.specs.Walk.{met}
 use Rattle.lookup.proofs.Parsed.{total-parsed}
-use Rattle.results.proofs.Lines.{number-some}
+use Rattle.calls.proofs.Lines.{number-some}
 use Rattle.survey.specs.Shares.{how-many, is-own, is-shared, holdings}
 use Rattle.stats.specs.declared.Figures.{Figures}
 use Rattle.stats.specs.declared.QuotaFigures.{QuotaFigures}

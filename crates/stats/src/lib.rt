@@ -111,7 +111,7 @@ fn grant_in(words: &[u32; WORDS], quota: usize) -> u32
 pub fn stats(heap: &[u8], words: &[u32; WORDS]) -> Figures
     ensures { λ r. ⌜ r ≡ stats (table (edition-of (now (words .entry)))) (now (heap .entry)) (accounts-of (now (words .entry))) ⌝ }
 {
-    if let Verdict::Refused(refusal) = queries::check(heap, words) {
+    if let Verdict::Refused(refusal) = calls::check(heap, words) {
         return no_figures(refusal.number());
     }
     let tally = walk(heap);
@@ -140,7 +140,7 @@ pub fn stats(heap: &[u8], words: &[u32; WORDS]) -> Figures
 pub fn quota_stats(heap: &[u8], words: &[u32; WORDS], quota: u32) -> QuotaFigures
     ensures { λ r. ⌜ r ≡ quota-stats (table (edition-of (now (words .entry)))) (now (heap .entry)) (accounts-of (now (words .entry))) quota ⌝ }
 {
-    if let Verdict::Refused(refusal) = queries::check(heap, words) {
+    if let Verdict::Refused(refusal) = calls::check(heap, words) {
         return no_quota_figures(refusal.number());
     }
     if QUOTAS <= quota as usize {

@@ -16,8 +16,8 @@ use Rattle.model.specs.declared.Call.the-variants.{Claim, Lend}
 use Rattle.model.proofs.Refusals.{by-lines, refusal-of-lines, unless-refused}
 use Rattle.ledger.specs.History.{by-own}
 use Rattle.safety.specs.Stale.{lines-before-5, stale-refusal, NamesNothing}
-use Rattle.queries.specs.Claimable.{can-claim}
-use Rattle.queries.specs.Lending.{write-object}
+use Rattle.calls.specs.Claimable.{can-claim}
+use Rattle.calls.specs.Lending.{write-object}
 
 module _ (tables : ℕ → ℕ → ℕ) (s : List ℕ) (k : Accounts) (h : Handle)
     (nothing : NamesNothing (by-own tables) s k h) where

@@ -21,7 +21,7 @@ use Rattle.ledger.specs.Ledger.{Ledger, Event, Wrote}
 use Rattle.ledger.specs.History.{by-own, in-object, Written, History}
 use Rattle.ledger.proofs.LentParts.{range-inside}
 use Rattle.ledger.proofs.Theorem.{history-agrees}
-use Rattle.queries.specs.Lending.{written, write-object}
+use Rattle.calls.specs.Lending.{written, write-object}
 
 -- a byte at a place of bytes leaves bytes
 octets-set : (s : List ℕ) (i b : ℕ) → b < 256 → Octets s → Octets (set s i b)

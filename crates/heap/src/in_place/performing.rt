@@ -16,32 +16,32 @@ pub fn perform(heap: &mut [u8], words: &mut [u32; WORDS], call: Call) -> Answer
 {
     match call {
         Call::Allocate { quota, length } => {
-            Answer::Handle(allocation::allocate(heap, words, quota, length))
+            Answer::Handle(calls::allocate(heap, words, quota, length))
         }
         Call::AllocateArray { quota, count, size } => {
-            Answer::Handle(allocation::allocate_array(heap, words, quota, count, size))
+            Answer::Handle(calls::allocate_array(heap, words, quota, count, size))
         }
         Call::Claim { quota, handle } => {
-            Answer::Amount(holding::claim(heap, words, quota, handle))
+            Answer::Amount(calls::claim(heap, words, quota, handle))
         }
         Call::Release { quota, handle } => {
-            Answer::Amount(allocation::release(heap, words, quota, handle))
+            Answer::Amount(calls::release(heap, words, quota, handle))
         }
-        Call::FreeAll { quota } => Answer::Amount(holding::free_all(heap, words, quota)),
-        Call::Sweep => Answer::Amount(holding::sweep(heap, words)),
+        Call::FreeAll { quota } => Answer::Amount(calls::free_all(heap, words, quota)),
+        Call::Sweep => Answer::Amount(calls::sweep(heap, words)),
         Call::Reallocate {
             quota,
             handle,
             length,
-        } => Answer::Handle(allocation::reallocate(heap, words, quota, handle, length)),
-        Call::Lend { handle } => Answer::Range(queries::object_range(heap, words, handle)),
-        Call::Remaining { quota } => Answer::Amount(queries::remaining(heap, words, quota)),
+        } => Answer::Handle(calls::reallocate(heap, words, quota, handle, length)),
+        Call::Lend { handle } => Answer::Range(calls::object_range(heap, words, handle)),
+        Call::Remaining { quota } => Answer::Amount(calls::remaining(heap, words, quota)),
         Call::CanRelease { quota, handle } => {
-            Answer::Verdict(queries::can_release(heap, words, quota, handle))
+            Answer::Verdict(calls::can_release(heap, words, quota, handle))
         }
-        Call::ListBlock { at } => Answer::Block(queries::list_block(heap, words, at)),
+        Call::ListBlock { at } => Answer::Block(calls::list_block(heap, words, at)),
         Call::ClearPermissions { quota, bits } => {
-            Answer::Amount(holding::clear_permissions(heap, words, quota, bits))
+            Answer::Amount(calls::clear_permissions(heap, words, quota, bits))
         }
     }
 }

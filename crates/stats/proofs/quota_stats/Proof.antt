@@ -10,7 +10,7 @@ use Rattle.words.specs.Words.{edition-of, holds-of, accounts-of}
 use Rattle.words.proofs.Readings.{quota-is}
 use Rattle.model.specs.Refusals.{first-refusal, line-3, row-lines}
 use Rattle.model.specs.declared.Refusal.the-variants.{QuotaNumber}
-use Rattle.results.proofs.Lines.{check-refuses, check-accepts, check-consistent, line-3-refuses, line-3-passes}
+use Rattle.calls.proofs.Lines.{check-refuses, check-accepts, check-consistent, line-3-refuses, line-3-passes}
 use Rattle.survey.specs.declared.sharing.Holdings.{Holdings}
 use Rattle.stats.specs.Stats.{quota-stats, quota-figures, no-quota-figures}
 use Rattle.stats.proofs.Laws.{quota-refused, quota-accepted, held-all}

@@ -13,7 +13,7 @@ use Rattle.words.specs.Words.{edition-of, accounts-of}
 use Rattle.model.specs.Objects.{blocks-of}
 use Rattle.model.specs.Consistent.{consistent}
 use Rattle.model.specs.Refusals.{first-refusal, row-lines}
-use Rattle.results.proofs.Lines.{check-refuses, check-accepts, check-consistent}
+use Rattle.calls.proofs.Lines.{check-refuses, check-accepts, check-consistent}
 use Rattle.survey.proofs.Surveys.{allowed-range}
 use Rattle.lookup.specs.Walk.{met}
 use Rattle.stats.specs.declared.tallying.Tally.{Tally}

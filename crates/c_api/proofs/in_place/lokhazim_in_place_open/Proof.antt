@@ -3,7 +3,7 @@ use mathlib.Core.Path.{ap, _∙_}
 use borrow.Author.Needs.{needs}
 use Rattle.accounts.specs.declared.settings.Settings.{Settings}
 use Rattle.model.specs.Calls.{open-heap}
-use Rattle.results.specs.Results.{outcome}
+use Rattle.calls.specs.Outcomes.{outcome}
 use Rattle.words.specs.Words.{accounts-of}
 use Rattle.c_api.proofs.in_place.lokhazim_in_place_open.Statement.{statement}
 use Rattle.c_api.proofs.in_place.lokhazim_in_place_open.Tie as tie

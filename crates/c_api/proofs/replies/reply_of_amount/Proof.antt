@@ -1,6 +1,6 @@
 -- `c_api::reply_of_amount` meets its contract: the numbers are those of the answer, and the accounts those of the result.
 use mathlib.Core.Path.{ap}
-use Rattle.results.specs.Results.{outcome}
+use Rattle.calls.specs.Outcomes.{outcome}
 use borrow.Author.Needs.{needs}
 use Rattle.c_api.proofs.replies.reply_of_amount.Statement.{statement}
 use Rattle.c_api.proofs.replies.reply_of_amount.Tie as tie

@@ -1,6 +1,6 @@
 -- `c_api::reply_of_opened` meets its contract: the number is that of the verdict, and the accounts those of the result.
 use mathlib.Core.Path.{ap}
-use Rattle.results.specs.Results.{outcome}
+use Rattle.calls.specs.Outcomes.{outcome}
 use borrow.Author.Needs.{needs}
 use Rattle.c_api.proofs.replies.reply_of_opened.Statement.{statement}
 use Rattle.c_api.proofs.replies.reply_of_opened.Tie as tie

@@ -10,7 +10,7 @@ use Rattle.rounding.specs.Rounding.{table}
 use Rattle.model.specs.Answers.{answer-values}
 use Rattle.model.specs.Step.{own-step}
 use Rattle.model.proofs.Answers.{performed-step}
-use Rattle.results.specs.Results.{outcome}
+use Rattle.calls.specs.Outcomes.{outcome}
 use lib.Seq.{slice}
 use Rattle.replay_model.specs.Lines.{lines}
 use Rattle.replay_model.specs.Replay.{bad-line, answer-line, ending, run-lines}

@@ -4,7 +4,7 @@ use borrow.Author.Needs.{needs}
 use lib.ListN.{length}
 use Rattle.rounding.specs.Rounding.{table}
 use Rattle.words.specs.Words.{edition-of, accounts-of}
-use Rattle.results.proofs.Lines.{check-consistent}
+use Rattle.calls.proofs.Lines.{check-consistent}
 use Rattle.image_model.specs.declared.Form.{Form}
 use Rattle.image_model.specs.Stream.{form-2}
 use Rattle.image_model.proofs.Written.{allowed-most}

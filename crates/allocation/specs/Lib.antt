@@ -1,4 +1,0 @@
--- The crate's definitions.
-pub mod Ready
-pub mod Releasing
-pub mod Asked

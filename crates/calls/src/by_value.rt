@@ -1,0 +1,34 @@
+// The same calls with the accounts by value: they go in, and come back changed in the result; and the walker over the blocks.
+mod allocating;
+mod claiming;
+mod freeing;
+mod lending;
+mod listing;
+mod opening;
+mod permissions;
+mod query;
+mod reallocating;
+mod releasing;
+mod sweeping;
+mod walker;
+
+pub use allocating::allocate;
+pub use allocating::allocate_array;
+pub use claiming::claim;
+pub use freeing::free_all;
+pub use lending::lend;
+pub use lending::write_object;
+pub use opening::open;
+pub use opening::open_plain;
+pub use permissions::clear_permissions;
+pub use query::can_release;
+pub use query::object_range;
+pub use query::remaining;
+pub use reallocating::reallocate;
+pub use releasing::release;
+pub use sweeping::sweep;
+pub use walker::Step;
+pub use walker::Walker;
+pub use walker::list_from;
+pub use walker::next;
+pub use walker::walk;

@@ -1,4 +1,0 @@
--- The crate's definitions.
-pub mod Claims
-pub mod Emptying
-pub mod Sweeping

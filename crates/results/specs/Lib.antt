@@ -1,2 +1,0 @@
--- The crate's definitions.
-pub mod Results
