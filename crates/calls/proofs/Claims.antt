@@ -22,7 +22,8 @@ use Rattle.model.specs.Lists.{all, any, or-else}
 use Rattle.model.specs.Objects.{lookup, found}
 use Rattle.model.specs.Consistent.{charge-of}
 use Rattle.model.specs.Holds.{with-count, count-of, take-record, raise-count}
-use Rattle.model.specs.Refusals.{Line, _when_, first-refusal, line-5, line-7, line-8, line-9, line-12, only-if, claims-first, claim-lines, greatest-count, row-lines}
+use Rattle.model.specs.Refusals.{Line, _when_, first-refusal, line-5, line-7, line-8, line-9, line-12, only-if, claims-first, claim-lines, greatest-count}
+use Rattle.model.specs.Refusals.{row-lines}
 use Rattle.model.specs.Calls.{Outcome, unless, unchanged, claimed, check, claim}
 use Rattle.model.specs.declared.Handle.{Handle}
 use Rattle.model.specs.declared.Refusal.the-variants.{CountLimit, QuotaExceeded, HoldsExhausted}

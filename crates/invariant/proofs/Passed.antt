@@ -13,7 +13,8 @@ use Rattle.model.specs.Lists.{any, all, is-none}
 use Rattle.rounding.specs.Rounding.{object-length}
 use Rattle.model.specs.Objects.{lookup, lookup-whole, found}
 use Rattle.model.specs.Consistent.{charge-of, has-record}
-use Rattle.model.specs.Refusals.{Line, _when_, line-holds, line-1, line-2, line-3, line-4, line-5, line-6, line-7, line-8, line-9, line-10, line-11, line-12, row-lines}
+use Rattle.model.specs.Refusals.{Line, _when_, line-holds, line-1, line-2, line-3, line-4, line-5, line-6, line-7, line-8, line-9, line-10, line-11, line-12}
+use Rattle.model.specs.Refusals.{row-lines}
 use Rattle.model.specs.Refusals.{only-if, claims-first, base-for, free-all-lines, release-lines, claim-lines, allocate-lines, reallocate-lines}
 use Rattle.layout.specs.Blocks.{QUARANTINED}
 use Rattle.model.specs.declared.Handle.{Handle}

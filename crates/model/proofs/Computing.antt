@@ -12,7 +12,8 @@ use Rattle.model.specs.Consistent.{in-units, in-kind, in-range, sound}
 use Rattle.model.specs.Space.{outside-occupied, suitable, first-candidate, lowest-base, left-over, cut-block, carve-from, carve, vacate, changed}
 use Rattle.model.specs.Space.{join-front, join-free, reclaim, settle, swept, body-of, copy-into}
 use Rattle.model.specs.Holds.{count-of, take-record, raise-count, less-one, lower-count}
-use Rattle.model.specs.Refusals.{first-refusal, line-1, line-2, line-3, line-4, line-5, line-6, line-7, line-8, line-9, line-10, line-12, only-if, row-lines}
+use Rattle.model.specs.Refusals.{first-refusal, line-1, line-2, line-3, line-4, line-5, line-6, line-7, line-8, line-9, line-10, line-12, only-if}
+use Rattle.model.specs.Refusals.{row-lines}
 use Rattle.model.specs.Refusals.{claims-first, open-lines, base-for}
 use Rattle.model.specs.Refusals.{line-11}
 use Rattle.model.specs.Calls.{unless, fresh, open-heap, allocated, claimed, given-back, released, freed, copied, new-object, allocate, allocate-array}

@@ -163,7 +163,9 @@ module _ (unit : ℕ → ℕ) where
 
   -- Clear permissions, rule 15.4: those whose bit is set in n; the answer is what is left
   unfoldable pub clear : List ℕ → Accounts → ℕ → ℕ → Outcome
-  clear s k q n = unless (refusal-of unit Quota (arguments q zero-handle 0) s k) s k (unchanged s (clear-permissions q n k) (amount-of (left-permissions q n k)))
+  clear s k q n =
+      let done = unchanged s (clear-permissions q n k) (amount-of (left-permissions q n k)) in
+      unless (refusal-of unit Quota (arguments q zero-handle 0) s k) s k done
 
   -- rule 8.35: the check that every call but open begins with
   unfoldable pub check : List ℕ → Accounts → Outcome

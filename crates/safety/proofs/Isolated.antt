@@ -15,7 +15,8 @@ use Rattle.model.specs.Lists.{total}
 use Rattle.model.specs.Answers.{given, amount-of}
 use Rattle.model.specs.Objects.{blocks-of, objects, objects-of, lookup, lookup-whole, found}
 use Rattle.model.specs.Consistent.{consistent, sound, has-record, charged-for, charges}
-use Rattle.model.specs.Refusals.{Line, first-refusal, line-2, line-6, line-7, line-8, line-9, line-10, line-12, claims-first, quota-lines, free-all-lines, row-lines}
+use Rattle.model.specs.Refusals.{Line, first-refusal, line-2, line-6, line-7, line-8, line-9, line-10, line-12, claims-first, quota-lines, free-all-lines}
+use Rattle.model.specs.Refusals.{row-lines}
 use Rattle.model.specs.Refusals.{check-lines, lend-lines, release-lines, claim-lines, allocate-lines, reallocate-lines}
 use Rattle.model.specs.Calls.{Outcome, unless, new-object, given-back, allocate, allocate-array, claim, release, free-all, sweep, reallocate, lend}
 use Rattle.model.specs.Calls.{remaining-of, can-release, list-block, clear}
