@@ -1,0 +1,3 @@
+// The judgement of the calls.
+mod asking;
+mod judging;
