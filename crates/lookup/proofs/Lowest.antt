@@ -61,22 +61,26 @@ module _ (a n : ℕ) where
   unfolding has-room
   room-yes m e h = rw e (le-leb (base-in a m + n) (m .at + m .size) h)
 
-fitted-met : (a : ℕ) (m : Met) (b : ℕ) (o : Option Met) → fitted a o ≡ At m b → (o ≡ some m) × (base-in a m ≡ b)
-fitted-met a m b none q = (cc, cc)
-fitted-met a m b (some x) q = (cc, cc)
+-- a fit is of a block
+fitted-met : (a p b : ℕ) (o : Option Met) → fitted a o ≡ At p b → (m : Met) × (o ≡ some m) × (m .at ≡ p) × (base-in a m ≡ b)
+fitted-met a p b none q = let z : _≡_ {A = ℕ} 0 1 = cc in absurd (omega arith)
+fitted-met a p b (some m) q = (m, refl, cc, cc)
 
 nowhere-met : (a : ℕ) (o : Option Met) → fitted a o ≡ Nowhere → o ≡ none
 nowhere-met a none q = refl
 nowhere-met a (some x) q = cc
 
--- b is the lowest base for n bytes at alignment a, in the block m, a free block of a heap that is cut into the blocks bs
-pub record Fitting (a n : ℕ) (s : List ℕ) (bs : List Block) (m : Met) (b : ℕ) : Type 0 where
+-- b is the lowest base for n bytes at alignment a, in the block at p, a free block of a heap that is cut into the blocks bs
+pub record Fitting (a n : ℕ) (s : List ℕ) (bs : List Block) (p b : ℕ) : Type 0 where
   pub lowest : lowest-base (length s) (blocks-of s) a n ≡ some b
-  pub stands : Stands bs m
+  pub room : Met
+  pub place : room .at ≡ p
+  pub found : first (has-room a n) (met s) ≡ some room
+  pub stands : Stands bs room
   pub free : occupied (stands .block) ≡ false
   pub multiple : b % a ≡ 0
-  pub low : m .at + 8 ≤ b
-  pub high : b + n ≤ m .at + m .size
+  pub low : p + 8 ≤ b
+  pub high : b + n ≤ p + room .size
 
 module _ (a n : ℕ) (positive : 0 < a) where
   -- where a free block holds a run at a multiple of a, the first block that has room has its base no higher
@@ -129,11 +133,13 @@ module _ (a n : ℕ) (positive : 0 < a) where
         rw (le-leb 8 b (omega arith), le-leb (b + n) (length s) (omega arith), w .split) out
 
     -- what was found is the lowest base
-    pub base-found : (m : Met) (b : ℕ) → find-fit a n s ≡ At m b → Fitting a n s bs m b
-    base-found m b q =
-        let g = fitted-met a m b (first (has-room a n) (met s)) (sym (fit-first a n s positive) ∙ q) in
-        let f = g .0 in
-        let is = g .1 in
+    pub base-found : (p b : ℕ) → find-fit a n s ≡ At p b → Fitting a n s bs p b
+    base-found p b q =
+        let g = fitted-met a p b (first (has-room a n) (met s)) (sym (fit-first a n s positive) ∙ q) in
+        let m = g .0 in
+        let f = g .1 in
+        let here = g .2 in
+        let is = g .3 in
         let t = first-some (has-room a n) (met s) m f .1 in
         let w = search-stands s bs e (has-room a n) m f in
         let free : occupied (w .block) ≡ false = rw (w .serial) at (room-free a n m t) in
@@ -143,11 +149,14 @@ module _ (a n : ℕ) (positive : 0 < a) where
         record {
           lowest = rw (blocks-parsed s bs e)
               (some-lowest (length s) bs a n positive b (record { multiple = multiple; fits = run-suitable m w free b low high; lower = none-lower m b f is }));
+          room = m;
+          place = here;
+          found = f;
           stands = w;
           free = free;
           multiple = multiple;
-          low = low;
-          high = high;
+          low = omega (arith, low);
+          high = omega (arith, high);
         }
 
     -- where no block has room, there is no base

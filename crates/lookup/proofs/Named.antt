@@ -16,11 +16,11 @@ use Rattle.model.proofs.Bools.{and-left}
 use Rattle.model.proofs.Lists.{first-some}
 use Rattle.model.proofs.Consistent.{blocks-parsed}
 use Rattle.lookup.specs.declared.Met.{Met}
-use Rattle.lookup.specs.declared.Lookup.the-variants.{Found, Missing}
-use Rattle.lookup.specs.Walk.{met, live-met, object-met, holds-named, looked-up, find-object}
+use Rattle.lookup.specs.Walk.{met, live-met, object-met, holds-named, find-object}
 use Rattle.lookup.proofs.Parsed.{placed, met-of, met-parsed, Stands, search-stands}
 
-abbrev as-object : Option Met → Option Handle
+-- the object of a block that was found
+abbrev pub as-object : Option Met → Option Handle
 as-object none = none
 as-object (some m) = some (object-met m)
 
@@ -41,14 +41,6 @@ first-object p at back (b ∷ bs) = go (live b) (p (object at b)) refl refl (fir
     go true false ex ey ih = rw (ex, same, ey) ih
     go false y ex ey ih = rw ex ih
 
-found-met : (m : Met) (o : Option Met) → looked-up o ≡ Found m → o ≡ some m
-found-met m none q = cc
-found-met m (some x) q = cc
-
-missing-met : (o : Option Met) → looked-up o ≡ Missing → o ≡ none
-missing-met none q = refl
-missing-met (some x) q = cc
-
 -- the handle names the object of the block m, a live block of a heap that is cut into the blocks bs
 pub record Named (s : List ℕ) (bs : List Block) (h : Handle) (m : Met) : Type 0 where
   pub named : lookup h s ≡ some (object-met m)
@@ -56,20 +48,19 @@ pub record Named (s : List ℕ) (bs : List Block) (h : Handle) (m : Met) : Type 
   pub living : live (stands .block) ≡ true
 
 module _ (s : List ℕ) (bs : List Block) (e : parse s ≡ some bs) (h : Handle) where
-  lookup-met : lookup h s ≡ as-object (first (holds-named h) (met s))
-  unfolding lookup objects-of objects holds-named
+  -- the lookup's object is that of the block that the walk finds
+  pub lookup-met : lookup h s ≡ as-object (find-object h s)
+  unfolding lookup objects-of objects holds-named find-object
   lookup-met = rw (blocks-parsed s bs e, met-parsed s bs e) (first-object (names h) 0 0 bs)
 
   -- what was found is the block of the object that the handle names
-  pub lookup-found : (m : Met) → find-object h s ≡ Found m → Named s bs h m
+  pub lookup-found : (m : Met) → find-object h s ≡ some m → Named s bs h m
   unfolding find-object holds-named
   lookup-found m q =
-      let f = found-met m (first (holds-named h) (met s)) q in
-      let t = first-some (holds-named h) (met s) m f .1 in
-      let w = search-stands s bs e (holds-named h) m f in
-      record { named = lookup-met ∙ ap as-object f; stands = w; living = rw (w .serial) at (and-left (live-met m) (names h (object-met m)) t) }
+      let t = first-some (holds-named h) (met s) m q .1 in
+      let w = search-stands s bs e (holds-named h) m q in
+      record { named = lookup-met ∙ ap as-object q; stands = w; living = rw (w .serial) at (and-left (live-met m) (names h (object-met m)) t) }
 
   -- where none was found, the handle names none
-  pub lookup-missing : find-object h s ≡ Missing → lookup h s ≡ none
-  unfolding find-object
-  lookup-missing q = lookup-met ∙ ap as-object (missing-met (first (holds-named h) (met s)) q)
+  pub lookup-missing : find-object h s ≡ none → lookup h s ≡ none
+  lookup-missing q = lookup-met ∙ ap as-object q

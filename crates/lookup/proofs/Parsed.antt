@@ -19,8 +19,6 @@ use Rattle.layout.proofs.Render.{size-append}
 use Rattle.layout.proofs.Parse.{parse-cut}
 use Rattle.model.specs.Lists.{first}
 use Rattle.lookup.specs.declared.Met.{Met}
-use Rattle.lookup.specs.declared.Lookup.{Lookup}
-use Rattle.lookup.specs.declared.Lookup.the-variants.{Found, Missing}
 use Rattle.lookup.specs.Walk.{met-at, met-from, met}
 use Rattle.lookup.proofs.Walk.{met-block, met-known}
 
@@ -46,9 +44,9 @@ walked-end fuel back at s bs h e =
     let known : Walked fuel back at s [] = record { meets = nothing fuel; ends = λ l. omega arith } in
     rw q at known
   where
-    missing : (x : Lookup) → met-at at s ≡ x → met-at at s ≡ Missing
-    missing Missing p = p
-    missing (Found m) p = let k = met-known at s m p in absurd (omega arith)
+    missing : (x : Option Met) → met-at at s ≡ x → met-at at s ≡ none
+    missing none p = p
+    missing (some m) p = let k = met-known at s m p in absurd (omega arith)
 
     nothing : (k : ℕ) → met-from k at s ≡ []
     nothing zero = refl

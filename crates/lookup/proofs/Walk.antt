@@ -4,23 +4,19 @@
 use mathlib.Core.Path.{_≡_, refl, ap, sym, _∙_}
 use mathlib.Core.List.{List}
 use mathlib.Core.Bool.{Bool, true, false, cond}
-use mathlib.Core.Option.{none, some}
+use mathlib.Core.Option.{Option, none, some}
 use Prim.Native.Nat.{ℕ, zero, suc, _+_, _*_, _≤_, _<_}
 use native.Mathlib.Omega.{arith}
-use lib.Dec.{leb}
-use borrow.Author.Tests.{leb-true, leb-false}
-use lib.ListN.{length, drop}
+use lib.ListN.{length}
 use Rattle.layout.specs.Bytes.{read-number}
-use Rattle.layout.specs.Blocks.{read-header, start-at}
+use Rattle.layout.specs.Blocks.{start-at}
 use Rattle.layout.specs.declared.Header.{Header}
 use Rattle.layout.specs.declared.Start.{Start}
 use Rattle.layout.specs.declared.Start.the-variants.{Block as Starts, Nothing}
-use Rattle.layout.proofs.Fields.{read-fits, read-three}
-use Rattle.layout.proofs.Starts.{start-yes, start-found}
+use Rattle.layout.proofs.Fields.{read-three}
+use Rattle.layout.proofs.Starts.{start-found}
 use Rattle.model.specs.Lists.{first}
 use Rattle.lookup.specs.declared.Met.{Met}
-use Rattle.lookup.specs.declared.Lookup.{Lookup}
-use Rattle.lookup.specs.declared.Lookup.the-variants.{Found, Missing}
 use Rattle.lookup.specs.Walk.{headed, met-start, met-at, met-from, met}
 
 -- a block that was met at a place of s: it has a header, ends in s, and its numbers are those that are read there
@@ -34,21 +30,21 @@ pub record MetAt (at : ℕ) (s : List ℕ) (m : Met) : Type 0 where
 
 module _ (at : ℕ) (s : List ℕ) where
   -- where no block starts, none is met
-  pub met-nothing : start-at at s ≡ Nothing → met-at at s ≡ Missing
+  pub met-nothing : start-at at s ≡ Nothing → met-at at s ≡ none
   unfolding met-at
   met-nothing e = rw e
 
   -- where one starts, it is met
-  pub met-block : (h : Header) → start-at at s ≡ Starts h → met-at at s ≡ Found (headed at h)
+  pub met-block : (h : Header) → start-at at s ≡ Starts h → met-at at s ≡ some (headed at h)
   unfolding met-at
   met-block h e = rw e
 
   -- so what is met starts there
-  pub met-known : (m : Met) → met-at at s ≡ Found m → MetAt at s m
+  pub met-known : (m : Met) → met-at at s ≡ some m → MetAt at s m
   unfolding met-at
   met-known m = go (start-at at s) refl
     where
-      go : (x : Start) → start-at at s ≡ x → met-start at x ≡ Found m → MetAt at s m
+      go : (x : Start) → start-at at s ≡ x → met-start at x ≡ some m → MetAt at s m
       go Nothing e t = let z : _≡_ {A = ℕ} 0 1 = cc in absurd (omega arith)
       go (Starts h) e t =
           let q : headed at h ≡ m = cc in
@@ -63,30 +59,16 @@ module _ (at : ℕ) (s : List ℕ) where
           rw q at known
 
   -- where no block can be met, none is
-  met-not : ((m : Met) → met-at at s ≡ Found m → ⊥) → met-at at s ≡ Missing
+  met-not : ((m : Met) → met-at at s ≡ some m → ⊥) → met-at at s ≡ none
   met-not f = go (met-at at s) refl
     where
-      go : (x : Lookup) → met-at at s ≡ x → met-at at s ≡ Missing
-      go Missing e = e
-      go (Found m) e = absurd (f m e)
+      go : (x : Option Met) → met-at at s ≡ x → met-at at s ≡ none
+      go none e = e
+      go (some m) e = absurd (f m e)
 
   -- where no header fits, none is met
-  pub met-short : length s < at + 8 → met-at at s ≡ Missing
+  pub met-short : length s < at + 8 → met-at at s ≡ none
   met-short l = met-not (λ m e. let k = met-known m e in omega arith)
-
-  -- where it is not 0 and none is met, the block would end behind s
-  met-past : met-at at s ≡ Missing → 0 < read-number 2 at s → length s < at + 8 * read-number 2 at s
-  unfolding read-header
-  met-past e p = go (leb (at + 8 * read-number 2 at s) (length s)) refl
-    where
-      go : (x : Bool) → leb (at + 8 * read-number 2 at s) (length s) ≡ x → length s < at + 8 * read-number 2 at s
-      go false f = leb-false (at + 8 * read-number 2 at s) (length s) f
-      go true t =
-          let l = leb-true (at + 8 * read-number 2 at s) (length s) t in
-          let r : read-number 2 at s ≡ read-header (drop at s) .size = read-fits 2 at s (omega arith) in
-          let b = met-block (read-header (drop at s)) (start-yes at s (omega arith) (omega arith)) in
-          let z : _≡_ {A = ℕ} 0 1 = cc in
-          absurd (omega arith)
 
 -- a search that came to a place: it goes on there as the whole search does, with fuel enough for the rest of s
 pub record Searching (p : Met → Bool) (s : List ℕ) (at : ℕ) : Type 0 where
@@ -101,21 +83,21 @@ module _ (p : Met → Bool) (s : List ℕ) where
   search-start = record { fuel = length s; enough = omega arith; same = refl }
 
   -- what it finds is met where it stands
-  pub search-met : (m : Met) → first p (met s) ≡ some m → met-at (m .at) s ≡ Found m
+  pub search-met : (m : Met) → first p (met s) ≡ some m → met-at (m .at) s ≡ some m
   unfolding met met-from first
   search-met m = go (length s) 0
     where
       Ends : ℕ → Type 0
-      Ends k = (x : ℕ) → first p (met-from k x s) ≡ some m → met-at (m .at) s ≡ Found m
+      Ends k = (x : ℕ) → first p (met-from k x s) ≡ some m → met-at (m .at) s ≡ some m
 
-      by-test : (k x : ℕ) → Ends k → (b : Met) → met-at x s ≡ Found b → (t : Bool)
-          → cond t (some b) (first p (met-from k (b .at + b .size) s)) ≡ some m → met-at (m .at) s ≡ Found m
+      by-test : (k x : ℕ) → Ends k → (b : Met) → met-at x s ≡ some b → (t : Bool)
+          → cond t (some b) (first p (met-from k (b .at + b .size) s)) ≡ some m → met-at (m .at) s ≡ some m
       by-test k x ih b e true f = let q : b ≡ m = cc in rw q at (ap (λ (n : ℕ). met-at n s) (met-known x s b e .place) ∙ e)
       by-test k x ih b e false f = ih (b .at + b .size) f
 
-      step : (k x : ℕ) → Ends k → (o : Lookup) → met-at x s ≡ o → first p (met-from (suc k) x s) ≡ some m → met-at (m .at) s ≡ Found m
-      step k x ih Missing e f = let n = rw e at f in let z : _≡_ {A = ℕ} 0 1 = cc in absurd (omega arith)
-      step k x ih (Found b) e f = by-test k x ih b e (p b) (rw e at f)
+      step : (k x : ℕ) → Ends k → (o : Option Met) → met-at x s ≡ o → first p (met-from (suc k) x s) ≡ some m → met-at (m .at) s ≡ some m
+      step k x ih none e f = let n = rw e at f in let z : _≡_ {A = ℕ} 0 1 = cc in absurd (omega arith)
+      step k x ih (some b) e f = by-test k x ih b e (p b) (rw e at f)
 
       go : (k : ℕ) → Ends k
       go zero x f = let z : _≡_ {A = ℕ} 0 1 = cc in absurd (omega arith)
@@ -123,7 +105,7 @@ module _ (p : Met → Bool) (s : List ℕ) where
 
   module _ (at : ℕ) (w : Searching p s at) where
     -- where it meets no block, it finds none
-    pub search-ended : met-at at s ≡ Missing → first p (met s) ≡ none
+    pub search-ended : met-at at s ≡ none → first p (met s) ≡ none
     unfolding met-from first
     search-ended e = w .same ∙ go (w .fuel)
       where
@@ -132,19 +114,19 @@ module _ (p : Met → Bool) (s : List ℕ) where
         go (suc k) = rw e
 
     -- where the test holds of no block from there on, it finds none
-    pub search-none : ((x : ℕ) (m : Met) → at ≤ x → met-at x s ≡ Found m → p m ≡ false) → first p (met s) ≡ none
+    pub search-none : ((x : ℕ) (m : Met) → at ≤ x → met-at x s ≡ some m → p m ≡ false) → first p (met s) ≡ none
     unfolding met-from first
     search-none f = w .same ∙ go (w .fuel) at (omega arith)
       where
-        step : (k x : ℕ) → at ≤ x → ((y : ℕ) → at ≤ y → first p (met-from k y s) ≡ none) → (o : Lookup) → met-at x s ≡ o → first p (met-from (suc k) x s) ≡ none
-        step k x l ih Missing e = rw e
-        step k x l ih (Found m) e = let n = met-known x s m e in rw (e, f x m l e) (ih (m .at + m .size) (omega arith))
+        step : (k x : ℕ) → at ≤ x → ((y : ℕ) → at ≤ y → first p (met-from k y s) ≡ none) → (o : Option Met) → met-at x s ≡ o → first p (met-from (suc k) x s) ≡ none
+        step k x l ih none e = rw e
+        step k x l ih (some m) e = let n = met-known x s m e in rw (e, f x m l e) (ih (m .at + m .size) (omega arith))
 
         go : (k x : ℕ) → at ≤ x → first p (met-from k x s) ≡ none
         go zero x l = refl
         go (suc k) x l = step k x l (go k) (met-at x s) refl
 
-    module _ (m : Met) (e : met-at at s ≡ Found m) where
+    module _ (m : Met) (e : met-at at s ≡ some m) where
       -- a block of which the test holds is found
       pub search-found : p m ≡ true → first p (met s) ≡ some m
       unfolding met-from first
@@ -164,15 +146,3 @@ module _ (p : Met → Bool) (s : List ℕ) where
           go (suc k) h q =
               let l = met-known at s m e in
               record { fuel = k; enough = omega arith; same = q ∙ rw (e, t, l .place) }
-
-    -- the size alone leads on: past a block of which the test does not hold, or behind s
-    pub search-stepped : (size : ℕ) → size ≡ 8 * read-number 2 at s → 0 < size → ((m : Met) → met-at at s ≡ Found m → p m ≡ false) → Searching p s (at + size)
-    unfolding met-from first
-    search-stepped size q n f = go (met-at at s) refl
-      where
-        go : (x : Lookup) → met-at at s ≡ x → Searching p s (at + size)
-        go Missing e = let l = met-past at s e (omega arith) in record { fuel = 0; enough = omega arith; same = search-ended e }
-        go (Found m) e =
-            let k = met-known at s m e in
-            let z : m .size ≡ size = omega arith in
-            rw z at (search-passed m e (f m e))

@@ -11,7 +11,7 @@ use Rattle.layout.specs.declared.Header.{Header}
 use Rattle.layout.specs.declared.Start.{Start}
 use Rattle.layout.specs.declared.Start.the-variants.{Block as Starts, Nothing}
 use Rattle.model.specs.Lists.{first}
-use Rattle.model.specs.Objects.{names, whole}
+use Rattle.model.specs.Objects.{names}
 use Rattle.model.specs.declared.Handle.{Handle}
 use Rattle.lookup.specs.declared.Met.{Met}
 use Rattle.lookup.specs.declared.Lookup.{Lookup}
@@ -24,12 +24,12 @@ abbrev pub headed : ℕ → Header → Met
 headed at h = record { at = at; size = 8 * h .size; back = h .back; serial = h .serial }
 
 -- the block by what starts there
-abbrev pub met-start : ℕ → Start → Lookup
-met-start at Nothing = Missing
-met-start at (Starts h) = Found (headed at h)
+abbrev pub met-start : ℕ → Start → Option Met
+met-start at Nothing = none
+met-start at (Starts h) = some (headed at h)
 
 -- the block that starts at a place of s
-unfoldable pub met-at : ℕ → List ℕ → Lookup
+unfoldable pub met-at : ℕ → List ℕ → Option Met
 met-at at s = met-start at (start-at at s)
 
 -- a block has its header, and its end is a place that fits 64 bits
@@ -38,9 +38,9 @@ pub record Bounded (m : Met) : Type 0 where
   pub end : m .at + m .size < 2 ^ 64
 
 -- a block that was met, and what the walk meets behind it; nothing where no block starts
-abbrev pub followed : Lookup → (ℕ → List Met) → List Met
-followed Missing later = []
-followed (Found m) later = m ∷ later (m .at + m .size)
+abbrev pub followed : Option Met → (ℕ → List Met) → List Met
+followed none later = []
+followed (some m) later = m ∷ later (m .at + m .size)
 
 -- the blocks that start one after the other from a place on, until no block starts; at most `fuel` blocks
 unfoldable pub met-from : ℕ → ℕ → List ℕ → List Met
@@ -66,27 +66,19 @@ object-met m = record { base = m .at + 8; length = m .size - 8; serial = m .seri
 unfoldable pub holds-named : Handle → Met → Bool
 holds-named h m = live-met m && names h (object-met m)
 
--- a search that found a block, or none
-abbrev pub looked-up : Option Met → Lookup
-looked-up none = Missing
-looked-up (some m) = Found m
-
 -- the first block that holds the object that a handle names
-unfoldable pub find-object : Handle → List ℕ → Lookup
-find-object h s = looked-up (first (holds-named h) (met s))
+unfoldable pub find-object : Handle → List ℕ → Option Met
+find-object h s = first (holds-named h) (met s)
 
 -- what was met, if it holds the object that the handle names
-abbrev pub named-met : Handle → Lookup → Lookup
-named-met h Missing = Missing
-named-met h (Found m) = cond (holds-named h m) (Found m) Missing
+abbrev pub named-met : Handle → Option Met → Option Met
+named-met h none = none
+named-met h (some m) = cond (holds-named h m) (some m) none
 
--- what was found, if the handle is the whole of its object
-abbrev pub whole-met : Handle → Lookup → Lookup
-whole-met h Missing = Missing
-whole-met h (Found m) = cond (whole h (object-met m)) (Found m) Missing
-
-unfoldable pub find-whole : Handle → List ℕ → Lookup
-find-whole h s = whole-met h (find-object h s)
+-- what the lookup gives, as the code's type
+abbrev pub looked-up : Option Handle → Lookup
+looked-up none = Missing
+looked-up (some o) = Found o
 
 -- the lowest multiple of a that is at least x
 unfoldable pub multiple-from : ℕ → ℕ → ℕ
@@ -100,20 +92,11 @@ base-in a m = multiple-from a (m .at + 8)
 unfoldable pub has-room : ℕ → ℕ → Met → Bool
 has-room a n m = not (occupied-met m) && leb (base-in a m + n) (m .at + m .size)
 
--- the block that was found, with its lowest base
+-- the place of the block that was found, with its lowest base
 abbrev pub fitted : ℕ → Option Met → Fit
 fitted a none = Nowhere
-fitted a (some m) = At m (base-in a m)
+fitted a (some m) = At (m .at) (base-in a m)
 
--- the lowest base in one block, if the block has room
-unfoldable pub fit-in : ℕ → ℕ → Met → Fit
-fit-in a n m = cond (has-room a n m) (At m (base-in a m)) Nowhere
-
--- the same of what the walk meets at a place
-abbrev pub fit-met : ℕ → ℕ → Lookup → Fit
-fit-met a n Missing = Nowhere
-fit-met a n (Found m) = fit-in a n m
-
--- the first block that has room, and its lowest base; alignment 0 has no multiples but 0, and fits nowhere
+-- the place of the first block that has room, and its lowest base; alignment 0 has no multiples but 0, and fits nowhere
 unfoldable pub find-fit : ℕ → ℕ → List ℕ → Fit
 find-fit a n s = cond (eqb a 0) Nowhere (fitted a (first (has-room a n) (met s)))

@@ -27,7 +27,8 @@ use Rattle.lookup.proofs.Walk.{met-nothing, met-block}
 use Rattle.audit.specs.Keys.{well-formed}
 use Rattle.audit.proofs.Records.{well-used}
 use Rattle.audit.proofs.Consistency.{tests-well}
-use Rattle.survey.specs.Survey.{place-of, shares}
+use Rattle.survey.specs.Survey.{shares}
+use Rattle.survey.specs.Contracts.{place-of}
 use Rattle.survey.specs.Contracts.{sought, Told}
 use Rattle.survey.specs.Holders.{counts-held, held-flags, put-flags, Indexed}
 use Rattle.survey.proofs.Surveys.{place-any}

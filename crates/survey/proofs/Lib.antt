@@ -20,6 +20,5 @@ pub mod Courses
 pub mod Naming
 pub mod Surveys
 pub mod Flags
-pub mod Told
 pub mod Counting
 pub mod Owning

@@ -1,22 +1,20 @@
 -- The lowest unused record, found from the first place up.
-use Prim.Native.Nat.{ℕ, suc, _+_, _%_, _/_, _<_, _≤_}
+use Prim.Native.Nat.{ℕ, _+_, _<_, _≤_}
 use mathlib.Core.Path.{_≡_, refl, sym, subst, ap, _∙_}
 use mathlib.Core.Bool.{Bool, true, false, not, cond}
 use mathlib.Core.List.{List}
 use native.Mathlib.Omega.{arith}
-use borrow.Author.Tests.{eq-eqb, ne-eqb, lt-ltb, le-ltb, ltb-true, ltb-false}
+use borrow.Author.Tests.{ne-eqb, lt-ltb, le-ltb, ltb-true, ltb-false}
 use lib.Dec.{ltb}
-use lib.ListN.{length, getD}
 use Rattle.accounts.specs.declared.Hold.{Hold}
-use Rattle.accounts.specs.declared.Place.the-variants.{At, Nothing}
-use Rattle.accounts.specs.Accounts.{HOLDS, zero-hold, used, unused, lowest-unused, first-from}
-use Rattle.accounts.proofs.Laws.{First, None, first-found, none-nothing}
+use Rattle.accounts.specs.Accounts.{HOLDS, used, unused, lowest-unused, first-from}
+use Rattle.accounts.proofs.Laws.{first-found, none-nothing}
 use Rattle.audit.specs.Keys.{well-formed}
 use Rattle.audit.proofs.Cases.{by-test, by-eq}
 use Rattle.audit.proofs.Records.{no-serial}
 use Rattle.words.specs.Words.{hold-in, holds-of, accounts-of}
 use Rattle.words.proofs.Words.{holds-long, holds-at}
-use Rattle.survey.specs.Survey.{place-of}
+use Rattle.survey.specs.Contracts.{place-of}
 use Rattle.survey.specs.Contracts.{Blank}
 
 pub serial-used : (h : Hold) → (h .serial ≡ 0 → ⊥) → used h ≡ true

@@ -1,29 +1,27 @@
 -- The object that a handle names is that of the block before the edge, or of none.
+use mathlib.Core.Option.{Option, none as nothing, some}
 use Prim.Native.Nat.{ℕ, _+_, _-_, _*_, _<_, _≤_}
 use mathlib.Core.Path.{_≡_, refl, ap, sym, _∙_}
 use mathlib.Core.List.{List}
-use mathlib.Core.Bool.{Bool, true, false, cond, false≢true}
-use mathlib.Core.Logic.{_⊎_, inl, inr}
+use mathlib.Core.Bool.{Bool, true, false, cond}
+use mathlib.Core.Logic.{inl, inr}
 use native.Mathlib.Omega.{arith}
 use borrow.Author.Tests.{eq-eqb, ne-eqb, ltb-true, ltb-false, leb-true, leb-false, le-leb, lt-leb}
 use lib.Dec.{eqb, ltb, leb}
 use lib.ListN.{length}
 use Rattle.layout.specs.Blocks.{QUARANTINED, greatest-heap}
-use Rattle.layout.specs.declared.Header.{Header}
 use Rattle.model.specs.Objects.{names}
 use Rattle.model.specs.declared.Handle.{Handle}
 use Rattle.model.proofs.Bools.{and-right, and-no, fails}
-use Rattle.model.proofs.Lookup.{Narrowed, names-exactly}
+use Rattle.model.proofs.Lookup.{names-exactly}
 use Rattle.lookup.specs.declared.Met.{Met}
-use Rattle.lookup.specs.declared.Lookup.{Lookup}
-use Rattle.lookup.specs.declared.Lookup.the-variants.{Found, Missing}
 use Rattle.lookup.specs.Walk.{headed, met-at, live-met, object-met, holds-named, named-met, looked-up, find-object}
+use Rattle.lookup.specs.declared.Lookup.the-variants.{Found, Missing}
+use Rattle.lookup.proofs.Named.{as-object}
 use Rattle.lookup.proofs.Walk.{met-known, search-start, search-none}
 use Rattle.lookup.proofs.Reached.{object-low, object-high, object-here}
 use Rattle.audit.proofs.Cases.{by-test}
-use Rattle.survey.specs.Survey.{block-at, block-of}
 use Rattle.survey.specs.Route.{Last, edge-of, Halved}
-use Rattle.survey.proofs.Blocks.{met-block-at}
 use Rattle.survey.proofs.Routes.{searching}
 
 -- a block that ends before the base
@@ -34,14 +32,14 @@ behind h m l =
     (λ e. let n = names-exactly h (object-met m) .0 (and-right (live-met m) (names h (object-met m)) e) in omega (arith, n .some-byte, n .low, n .high))
 
 module _ (h : Handle) (s : List ℕ) where
-  object-end : length s ≤ h .base → find-object h s ≡ Missing
+  object-end : length s ≤ h .base → find-object h s ≡ nothing
   unfolding find-object
   object-end l =
-      ap looked-up (search-none (holds-named h) s 0 (search-start (holds-named h) s)
-      (λ x m g e. (let k = met-known x s m e in behind h m (omega (arith, k .place, k .inside)))))
+      search-none (holds-named h) s 0 (search-start (holds-named h) s)
+      (λ x m g e. (let k = met-known x s m e in behind h m (omega (arith, k .place, k .inside))))
 
   -- no object has the base
-  edge-none : edge-of (h .base) (length s) ≡ 8 → find-object h s ≡ Missing
+  edge-none : edge-of (h .base) (length s) ≡ 8 → find-object h s ≡ nothing
   unfolding edge-of
   edge-none e =
       by-test (ltb (h .base) 8)
@@ -64,18 +62,20 @@ module _ (h : Handle) (s : List ℕ) where
       (λ u. let z : 8 < 8 = rw (t, u) at l in absurd (omega arith))
       (λ u. (rw (t, u), ltb-false (h .base) 8 t, ltb-false (length s) (h .base) u)))
 
-  module _ (edge at back before : ℕ) (is : edge ≡ edge-of (h .base) (length s)) {found : Bool}
-      (named : found ≡ holds-named h (record { at = at - 8 * back; size = 8 * back; back = 0; serial = before })) where
-    abbrev Answer : Type 0
-    Answer = (block-of found (at - 8 * back) s ≡ find-object h s) × (found ≡ true → 8 * back ≡ block-at (at - 8 * back) s .size)
+  module _ (edge at back before : ℕ) (is : edge ≡ edge-of (h .base) (length s)) where
+    -- the block before the place where the first part ended: its object, if the handle names it, is what the walk finds
+    abbrev half : Met
+    half = record { at = at - 8 * back; size = 8 * back; back = 0; serial = before }
 
-    none : found ≡ false → find-object h s ≡ Missing → Answer
-    unfolding block-of
-    none e m = (rw e (sym m), λ t. absurd (false≢true (sym e ∙ t)))
+    abbrev Answer : Type 0
+    Answer = cond (holds-named h half) (Found (object-met half)) Missing ≡ looked-up (as-object (find-object h s))
+
+    none : holds-named h half ≡ false → find-object h s ≡ nothing → Answer
+    none e m = rw (e, m)
 
     -- the block before the edge
     one : 8 < edge → length s < at + edge → Last s edge at back before → Answer
-    unfolding block-of block-at holds-named
+    unfolding holds-named
     one l far w =
         let b = edge-some (omega (arith, is)) in
         let m = headed (w .start) (w .header) in
@@ -84,16 +84,19 @@ module _ (h : Handle) (s : List ℕ) where
         let came = searching (w .reached (holds-named h) (λ n q. behind h n (omega (arith, is, b .0, b .1, b .2, w .far)))) in
         let here : find-object h s ≡ named-met h (met-at (w .start) s) =
         object-here h s (w .start) came (omega (arith, is, b .0, b .1, b .2, far, w .place, w .size, k .units)) in
-        let all : find-object h s ≡ cond (holds-named h m) (Found m) Missing = here ∙ ap (named-met h) (w .there) in
-        let same : found ≡ holds-named h m = named ∙ (λ i. holds-named h
-        (record { at = x i; size = 8 * sym (w .size) i; back = 0; serial = sym (w .serial) i })) in
-        let it : block-at (at - 8 * back) s ≡ m = ap (λ (y : ℕ). block-at y s) x ∙ met-block-at (w .start) s m (w .there) in (
-          (λ i. cond (same i) (Found (it i)) Missing) ∙ sym all,
-          λ t. ap (λ (y : ℕ). 8 * y) (sym (w .size)) ∙ ap (λ (y : Met). y .size) (sym it),
-        )
+        let all : find-object h s ≡ cond (holds-named h m) (some m) nothing = here ∙ ap (named-met h) (w .there) in
+        let same : half ≡ record { at = w .start; size = m .size; back = 0; serial = m .serial } =
+        λ i. record { at = x i; size = 8 * sym (w .size) i; back = 0; serial = sym (w .serial) i } in
+        ap (λ (y : Met). cond (holds-named h y) (Found (object-met y)) Missing) same
+        ∙ push m (holds-named h m)
+        ∙ ap (λ (y : Option Met). looked-up (as-object y)) (sym all)
+      where
+        push : (m : Met) (t : Bool) → cond t (Found (object-met m)) Missing ≡ looked-up (as-object (cond t (some m) nothing))
+        push m true = refl
+        push m false = refl
 
     pub named-half : 64 ≤ length s → Halved edge s at back before → Answer
-    named-half l (inl (e, z, b)) = none (named ∙ behind h _ (omega (arith, z, b))) (edge-none (sym is ∙ e))
+    named-half l (inl (e, z, b)) = none (behind h half (omega (arith, z, b))) (edge-none (sym is ∙ e))
     named-half l (inr (a, f, inl z)) = let b = edge-some (omega (arith, is)) in absurd (omega (arith, is, b .0, b .1, b .2))
     named-half l (inr (a, f, inr w)) = one a f w
 
@@ -118,6 +121,13 @@ pub half-bounds : (base edge at back before : ℕ) (s : List ℕ) → edge ≡ e
 half-bounds base edge at back before s e h n =
     let i = edge-inside base s e in
     (half-fits edge at back before s h (n .0) i, omega (arith, n .1, half-inside edge at back before s h (n .0) i))
+
+-- an object that is named has a byte
+pub named-size : (h : Handle) (m : Met) → holds-named h m ≡ true → 8 < m .size
+unfolding holds-named
+named-size h m e =
+    let n = names-exactly h (object-met m) .0 (and-right (live-met m) (names h (object-met m)) e) in
+    omega (arith, n .some-byte, n .low, n .high)
 
 -- whether a block holds the object that a handle names: its tests, one after the other
 module _ (h : Handle) (m : Met) where

@@ -1,23 +1,21 @@
 -- The pass over the records: on the way, those before place i are well-formed and in the index; behind `top` all are blank.
-use Prim.Native.Nat.{ℕ, suc, _+_, _-_, _*_, _/_, _%_, _<_, _≤_}
+use Prim.Native.Nat.{ℕ, suc, _+_, _-_, _<_, _≤_}
 use mathlib.Core.Path.{_≡_, refl, ap, sym, subst, _∙_}
-use mathlib.Core.Bool.{Bool, true, false, cond}
+use mathlib.Core.Bool.{true, cond}
 use mathlib.Core.List.{List}
-use mathlib.Core.Logic.{_⊎_, inl, inr}
+use mathlib.Core.Logic.{inl, inr}
 use native.Mathlib.Omega.{arith}
 use borrow.Author.Tests.{ltb-true, ltb-false}
 use lib.Dec.{ltb}
-use lib.ListN.{length, getD, List·getD-map}
-use Rattle.accounts.specs.Accounts.{HOLDS, zero-hold, used}
-use Rattle.model.specs.Lists.{all}
+use lib.ListN.{getD, List·getD-map}
+use Rattle.accounts.specs.Accounts.{HOLDS, zero-hold}
 use Rattle.audit.specs.Keys.{well-formed, key-of, keys-of}
 use Rattle.audit.proofs.Cases.{by-test, by-eq}
 use Rattle.audit.proofs.Tables.{all-places}
-use Rattle.audit.proofs.Records.{no-key, well-blank, well-possible, unused-zero, key-serial}
-use Rattle.words.specs.Words.{serial-in, rest-in, hold-in, holds-of, accounts-of}
+use Rattle.audit.proofs.Records.{no-key}
+use Rattle.words.specs.Words.{serial-in, hold-in, holds-of}
 use Rattle.words.proofs.Words.{holds-long, holds-at}
-use Rattle.survey.specs.Index.{SLOTS, LINKS, FORKED, slot, bits-of, Leads, head-of, Head, Reached, Growing, Built, waiting}
-use Rattle.survey.specs.Survey.{place-of}
+use Rattle.survey.specs.Index.{Head, Built, waiting}
 use Rattle.survey.specs.Contracts.{Blank, Zeros, Index}
 use Rattle.survey.proofs.Building.{built-skip}
 use Rattle.survey.proofs.Waiting.{waiting-zero, waiting-one, waiting-skip}

@@ -1,10 +1,10 @@
 -- The walk's way over the blocks: one block on, and what is known at the end.
 use Prim.Native.Nat.{ℕ, _+_, _-_, _*_, _%_, _<_, _≤_}
-use mathlib.Core.Path.{_≡_, refl, ap, sym, subst, _∙_}
+use mathlib.Core.Path.{_≡_, refl, ap, sym, _∙_}
 use mathlib.Core.List.{List}
-use mathlib.Core.Bool.{Bool, true, false, not, cond, _&&_}
-use mathlib.Core.Option.{none, some}
-use mathlib.Core.Logic.{_⊎_, inl, inr}
+use mathlib.Core.Bool.{Bool, true, false, not, cond}
+use mathlib.Core.Option.{some}
+use mathlib.Core.Logic.{inl, inr}
 use native.Mathlib.Omega.{arith}
 use borrow.Author.Tests.{eq-eqb, ne-eqb, ltb-true, ltb-false, leb-true, leb-false, le-leb, lt-leb}
 use lib.Dec.{ltb, leb}
@@ -16,13 +16,11 @@ use Rattle.layout.proofs.Starts.{start-header}
 use Rattle.model.specs.Lists.{first}
 use Rattle.model.proofs.Bools.{and-no}
 use Rattle.lookup.specs.declared.Met.{Met}
-use Rattle.lookup.specs.declared.Lookup.the-variants.{Found, Missing}
 use Rattle.lookup.specs.Walk.{headed, met-at, met, occupied-met, base-in, has-room}
 use Rattle.lookup.proofs.Multiple.{multiple-behind, multiple-gap}
 use Rattle.lookup.proofs.Walk.{met-block, met-short, Searching, search-start, search-found, search-ended, search-passed}
 use Rattle.audit.proofs.Cases.{by-test}
-use Rattle.survey.specs.Survey.{block-at, fit-place}
-use Rattle.survey.specs.Route.{TAKEN, Searched, Reaches, Last, Seeking, Passed}
+use Rattle.survey.specs.Route.{fit-place, TAKEN, Searched, Reaches, Seeking, Passed}
 use Rattle.survey.proofs.Blocks.{met-block-at}
 
 -- the search as `finder` has it
@@ -35,7 +33,7 @@ searched w = record { fuel = w .fuel; enough = w .enough; same = w .same }
 pub reaches-start : (s : List ℕ) → Reaches s 0
 reaches-start s p f = searched (search-start p s)
 
-pub reaches-on : {s : List ℕ} {at : ℕ} → Reaches s at → (h : Header) → met-at at s ≡ Found (headed at h) → Reaches s (at + 8 * h .size)
+pub reaches-on : {s : List ℕ} {at : ℕ} → Reaches s at → (h : Header) → met-at at s ≡ some (headed at h) → Reaches s (at + 8 * h .size)
 reaches-on {s} {at} r h e p f =
     searched (search-passed p s at (searching (r p (λ m l. f m (omega arith)))) (headed at h) e (f (headed at h) (omega arith)))
 
@@ -77,7 +75,7 @@ full a n at h e = rw (ne-eqb (h .serial) 0 e)
 pub seeking-start : (a n : ℕ) (s : List ℕ) → Seeking a n s 0 (length s) n
 seeking-start a n s = record { on = λ l. (refl, searched (search-start (has-room a n) s)); found = λ l. absurd (omega arith) }
 
-module _ {a n : ℕ} {s : List ℕ} {at fit need : ℕ} (positive : 0 < a) (g : Seeking a n s at fit need) (h : Header) (e : met-at at s ≡ Found (headed at h))
+module _ {a n : ℕ} {s : List ℕ} {at fit need : ℕ} (positive : 0 < a) (g : Seeking a n s at fit need) (h : Header) (e : met-at at s ≡ some (headed at h))
     (short : h .size < 65536) (inside : at < length s) where
   pub seeking-on : {r : Bool} → r ≡ has-room a need (headed at h) → Seeking a n s (at + 8 * h .size) (cond r at fit) (cond r TAKEN need)
   seeking-on {r} q = by-test (ltb fit (length s)) (λ t. had (ltb-true fit (length s) t)) (λ t. go (ltb-false fit (length s) t) r refl)
@@ -123,7 +121,7 @@ module _ (s rest : List ℕ) (inside : length rest ≤ length s) (suffix : rest 
   start-same = ap (λ (r : List ℕ). cond (starts-block r) (Starts (read-header r)) Nothing) suffix
 
   module _ {h : Header} (e : header-at 0 rest ≡ h) (one : 1 ≤ h .size) (fits : 8 * h .size ≤ length rest) where
-    pub met-front : met-at at s ≡ Found (headed at h)
+    pub met-front : met-at at s ≡ some (headed at h)
     met-front = met-block at s h (sym start-same ∙ start-header 0 rest e one (omega arith))
 
     -- one block on

@@ -1,13 +1,13 @@
 -- The first record that is a quota's own for a serial, or another quota's, searched along the serial's path.
-use Prim.Native.Nat.{ℕ, suc, _+_, _-_, _/_, _%_, _<_, _≤_}
+use Prim.Native.Nat.{ℕ, _-_, _/_, _%_, _<_, _≤_}
 use mathlib.Core.Path.{_≡_, refl, ap, sym, subst, _∙_}
 use mathlib.Core.Bool.{Bool, true, false, not, cond, _&&_, true≢false}
 use mathlib.Core.List.{List}
 use mathlib.Core.Logic.{_⊎_, inl, inr}
 use native.Mathlib.Omega.{arith}
-use borrow.Author.Tests.{eqb-true, eq-eqb}
+use borrow.Author.Tests.{eqb-true}
 use lib.Dec.{eqb}
-use lib.ListN.{length, getD}
+use lib.ListN.{getD}
 use Rattle.accounts.specs.declared.Hold.{Hold}
 use Rattle.accounts.specs.Accounts.{HOLDS, zero-hold, used, is-for, first-from}
 use Rattle.model.specs.Lists.{all}
@@ -21,7 +21,8 @@ use Rattle.audit.proofs.Records.{well-used}
 use Rattle.words.specs.Words.{hold-in, serial-in, quota-in, holds-of}
 use Rattle.words.proofs.Words.{holds-long, holds-at}
 use Rattle.survey.specs.Index.{FORKED, slot, bits-of, step, Leads, here, Head, head-of, Reached, Built}
-use Rattle.survey.specs.Survey.{place-of, shares}
+use Rattle.survey.specs.Survey.{shares}
+use Rattle.survey.specs.Contracts.{place-of}
 use Rattle.survey.specs.Contracts.{sought}
 use Rattle.survey.proofs.Paths.{slot-small, leads-up, leads-case, link-rises}
 use Rattle.survey.proofs.Lowest.{serial-used, place-first, place-none}

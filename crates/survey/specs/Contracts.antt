@@ -1,23 +1,37 @@
 -- What the crate's own functions ask and promise.
-use Prim.Native.Nat.{ℕ, _+_, _-_, _*_, _/_, _%_, _<_, _≤_}
+use Prim.Native.Nat.{ℕ, _+_, _-_, _%_, _<_, _≤_}
 use mathlib.Core.Path.{_≡_}
-use mathlib.Core.List.{List, map}
+use mathlib.Core.List.{List}
 use mathlib.Core.Bool.{Bool, true, false, cond, _&&_}
 use mathlib.Core.Option.{Option, none, some}
 use mathlib.Core.Logic.{_⊎_}
+use lib.Dec.{eqb, ltb}
 use lib.ListN.{length, getD, set, drop}
 use Rattle.accounts.specs.declared.Hold.{Hold}
+use Rattle.accounts.specs.declared.Place.{Place}
+use Rattle.accounts.specs.declared.Place.the-variants.{At, Nothing}
 use Rattle.accounts.specs.Accounts.{QUOTAS, HOLDS, is-for, lowest-unused}
 use Rattle.layout.specs.Blocks.{Block, cut}
 use Rattle.framing.specs.Frames.{padded, stream-of}
 use Rattle.model.specs.Lists.{all}
+use Rattle.lookup.specs.declared.Fit.{Fit}
+use Rattle.lookup.specs.declared.Fit.the-variants.{At as Fits, Nowhere}
+use Rattle.lookup.specs.Walk.{multiple-from}
 use Rattle.audit.specs.Keys.{well-formed, keys-of}
 use Rattle.audit.specs.Audit.{behind, visit, audit-parsed}
 use Rattle.audit.specs.Contracts.{Settled}
 use Rattle.audit.specs.Fitting.{fits-block, fitting}
 use Rattle.words.specs.Words.{serial-in, rest-in, holds-of, accounts-of}
-use Rattle.survey.specs.Index.{SLOTS, LINKS, FORKED, slot, bits-of, fork, plain, Leads, Ascends, head-of, keys-left, waiting, Linked, Built}
-use Rattle.survey.specs.Survey.{place-of, shares}
+use Rattle.survey.specs.Index.{SLOTS, LINKS, FORKED, fork, plain, Leads, Ascends, keys-left, waiting, Linked, Built}
+use Rattle.survey.specs.Survey.{shares}
+
+-- the place that a number of a record stands for
+unfoldable pub place-of : ℕ → Place
+place-of n = cond (ltb n HOLDS) (At n) Nothing
+
+-- the room that the number of a free block stands for: none where no room is sought, or the number is the heap's length or more
+unfoldable pub room-of : ℕ → ℕ → ℕ → Fit
+room-of unit fit len = cond (eqb unit 0) Nowhere (cond (ltb fit len) (Fits fit (multiple-from unit (fit + 8))) Nowhere)
 
 -- the records from a place on are all zero
 abbrev pub Blank : List ℕ → ℕ → Type 0

@@ -3,16 +3,23 @@ use Prim.Native.Nat.{ℕ, _+_, _-_, _*_, _<_, _≤_}
 use mathlib.Core.Path.{_≡_}
 use mathlib.Core.List.{List}
 use mathlib.Core.Bool.{Bool, false, cond}
-use mathlib.Core.Option.{some}
+use mathlib.Core.Option.{Option, none, some}
 use mathlib.Core.Logic.{_⊎_}
 use lib.Dec.{ltb}
 use lib.ListN.{length}
+use Rattle.layout.specs.Blocks.{header-at}
 use Rattle.layout.specs.declared.Header.{Header}
 use Rattle.model.specs.Lists.{first}
 use Rattle.lookup.specs.declared.Met.{Met}
-use Rattle.lookup.specs.declared.Lookup.the-variants.{Found}
 use Rattle.lookup.specs.Walk.{headed, met-at, met-from, met, has-room}
-use Rattle.survey.specs.Survey.{block-at}
+
+-- the block by the header at a place
+unfoldable pub block-at : ℕ → List ℕ → Met
+block-at at s = headed at (header-at at s)
+
+-- the block that a number stands for, none where it is the heap's length or more
+unfoldable pub fit-place : ℕ → List ℕ → Option Met
+fit-place fit s = cond (ltb fit (length s)) (some (block-at fit s)) none
 
 -- more bytes than a block has
 abbrev pub TAKEN : ℕ
@@ -37,7 +44,7 @@ pub record Last (s : List ℕ) (edge at back before : ℕ) : Type 0 where
   pub header : Header
   pub size : header .size ≡ back
   pub serial : header .serial ≡ before
-  pub there : met-at start s ≡ Found (headed start header)
+  pub there : met-at start s ≡ some (headed start header)
 
 -- the search for room for n bytes at a multiple of a: it goes on at a place, or has found a block, and then `need` is more than any block has
 pub record Seeking (a n : ℕ) (s : List ℕ) (at fit need : ℕ) : Type 0 where

@@ -17,8 +17,7 @@ ghost use Rattle.model.specs.Lists.{all};
 ghost use Rattle.audit.specs.Keys.{well-formed};
 ghost use Rattle.words.specs.Words.{holds-of};
 ghost use Rattle.survey.specs.Index.{Built};
-ghost use Rattle.survey.specs.Survey.{place-of};
-ghost use Rattle.survey.specs.Contracts.{sought};
+ghost use Rattle.survey.specs.Contracts.{place-of, sought};
 
 // Whether a record is the quota's own for a serial, or another quota's.
 fn is_sought(word: u32, holder: u32, serial: u32, quota: u32, own: bool) -> bool

@@ -1,7 +1,5 @@
 // The verdict on a heap that lies in the frames of an image: the survey's index, and a walk that reads the headers out of the stream.
 use crate::END;
-use crate::HEAP_LENGTH;
-use crate::INCONSISTENT;
 use crate::LINKS;
 use crate::SLOTS;
 use crate::indexing::index;
@@ -9,11 +7,10 @@ use crate::indexing::used_top;
 use crate::numbers_in;
 use crate::paying::is_settled;
 use crate::paying::owing;
-use crate::verdict;
 use crate::walking::visit;
-use accounts::HOLDS;
 use accounts::QUOTAS;
 use layout::Header;
+use model::Refusal;
 use model::Verdict;
 use words::WORDS;
 ghost use mathlib.Core.Path.{_≡_};
@@ -105,11 +102,11 @@ pub fn check_in_frames(image: &[u8], from: u16, size: usize, words: &[u32; WORDS
         (accounts-of (now (words .entry))) .values ⌝ }
 {
     if !model::is_allowed(size) {
-        return verdict(HEAP_LENGTH);
+        return Verdict::Refused(Refusal::HeapLength);
     }
     let numbers = numbers_in(words);
     if !numbers.fine {
-        return verdict(INCONSISTENT);
+        return Verdict::Refused(Refusal::Inconsistent);
     }
     let end = END as u16;
     let mut links = [end; LINKS];
@@ -118,10 +115,10 @@ pub fn check_in_frames(image: &[u8], from: u16, size: usize, words: &[u32; WORDS
     let top = used_top(words);
     let tally = index(words, &mut links, &mut heads, top);
     if !tally.fine {
-        return verdict(INCONSISTENT);
+        return Verdict::Refused(Refusal::Inconsistent);
     }
     if !owing(words, &mut owed) {
-        return verdict(INCONSISTENT);
+        return Verdict::Refused(Refusal::Inconsistent);
     }
     let mut left = tally.used;
     if !walk_frames(
@@ -137,7 +134,7 @@ pub fn check_in_frames(image: &[u8], from: u16, size: usize, words: &[u32; WORDS
         numbers.edition,
         numbers.last,
     ) {
-        return verdict(INCONSISTENT);
+        return Verdict::Refused(Refusal::Inconsistent);
     }
-    verdict(0)
+    Verdict::Accepted
 }

@@ -2,8 +2,10 @@
 // its serial. Each live block closes its serial's records, and their quotas pay for it. At the end no record is open and no quota owes anything.
 // A slot with several records has them in a tree. The bits of a serial lead through it, so a search passes few records of other serials, whatever they are.
 use accounts::HOLDS;
+use accounts::Place;
 use accounts::QUOTAS;
-use lookup::Met;
+use lookup::Fit;
+use lookup::Lookup;
 use model::GREATEST_SERIAL;
 use model::Refusal;
 use model::Verdict;
@@ -12,12 +14,15 @@ ghost use mathlib.Core.Path.{_≡_};
 ghost use mathlib.Core.Bool.{_&&_};
 ghost use lib.Dec.{leb, ltb};
 ghost use Rattle.model.specs.Consistent.{greatest-serial, in-range};
+ghost use Rattle.rounding.specs.Rounding.{table};
+ghost use Rattle.model.specs.Answers.{verdict-values};
+ghost use Rattle.model.specs.Calls.{check as check-of};
 ghost use Rattle.words.specs.Words.{last-of, kind-of, edition-of, accounts-of};
-ghost use Rattle.survey.specs.Survey.{verdict-of, block-at, Survey};
+ghost use Rattle.survey.specs.Survey.{Survey};
 
-mod by_value;
 mod finding;
 mod framed;
+mod giving;
 mod holders;
 mod indexing;
 mod parts;
@@ -28,15 +33,11 @@ mod sharing;
 mod walking;
 mod wanting;
 
-pub use by_value::asked;
-pub use by_value::check;
-pub use by_value::found;
-pub use by_value::place;
-pub use by_value::room;
-pub use by_value::survey_of;
-pub use by_value::unasked;
 use finding::on_path;
 pub use framed::check_in_frames;
+use giving::named;
+use giving::place;
+use giving::room;
 pub use holders::held_blocks;
 use indexing::index;
 use indexing::used_top;
@@ -46,10 +47,7 @@ use paying::owing;
 pub use sharing::Holdings;
 pub use sharing::held_by;
 use wanting::edge_of;
-use wanting::fit_of;
-use wanting::is_named;
 use wanting::need_of;
-use wanting::refused;
 use wanting::unit_of;
 
 // The number of slots and of links.
@@ -59,11 +57,6 @@ const LINKS: usize = 2 * HOLDS;
 
 // The number of an empty slot or link. It is no record's place, and both of its bytes are the same, so that the compiler fills a table by memset.
 const END: usize = HOLDS + HOLDS / 256;
-
-// The numbers of the two refusals that a survey gives (rule 7.1).
-const HEAP_LENGTH: u32 = 1;
-
-const INCONSISTENT: u32 = 2;
 
 // Added to a slot's number when the record has others below it.
 const FORKED: usize = 2 * HOLDS;
@@ -78,48 +71,23 @@ pub struct Wanted {
     pub serial: u32,
     pub quota: u32,
     pub unit: u32,
-    pub need: usize,
+    pub need: u32,
 }
 
-// What a survey gives: the refusal's number, and where that is not 0 nothing else (`refused`). Else the place of the
-// lowest unused record; the place of the first free block with room; whether the handle names an object, the place of
-// its block and the block's size; the places of the quota's record for it and of another quota's. A record's place is
-// HOLDS or more, and a block's the heap's length or more, where there is none.
-pub struct Surveyed {
-    pub refusal: u32,
-    pub low: usize,
-    pub fit: usize,
-    pub found: bool,
-    pub at: usize,
-    pub size: usize,
-    pub holder: usize,
-    pub other: usize,
+// What a survey knows of a consistent state: the object that the handle names, the place of the quota's record for it,
+// whether another quota has one, the place of the lowest unused record, and the room that was asked for.
+pub struct Known {
+    pub object: Lookup,
+    pub holder: Place,
+    pub shared: bool,
+    pub unused: Place,
+    pub room: Fit,
 }
 
-// The verdict by the refusal's number.
-pub fn verdict(refusal: u32) -> Verdict
-    ensures { λ r. ⌜ r ≡ verdict-of refusal ⌝ }
-{
-    if refusal == 0 {
-        return Verdict::Accepted;
-    }
-    if refusal == 1 {
-        return Verdict::Refused(Refusal::HeapLength);
-    }
-    Verdict::Refused(Refusal::Inconsistent)
-}
-
-// The block by the header at a place.
-pub fn block_at(heap: &[u8], at: usize) -> Met
-    ensures { λ r. ⌜ r ≡ block-at at (now (heap .entry)) ⌝ }
-{
-    let header = layout::header_at(heap, at);
-    Met {
-        at: at,
-        size: 8 * header.size,
-        back: header.back,
-        serial: header.serial,
-    }
+// What a survey gives: what it knows, or the refusal of rule 8.35.
+pub enum Surveyed {
+    Consistent(Known),
+    Refused(Refusal),
 }
 
 // The last serial, kind and edition, and whether they are in range.
@@ -165,11 +133,11 @@ pub fn survey(heap: &[u8], words: &[u32; WORDS], wanted: Wanted) -> Surveyed
     ensures { λ r. ⌜ Survey (now (heap .entry)) (accounts-of (now (words .entry))) wanted r ⌝ }
 {
     if !model::is_allowed(heap.len()) {
-        return refused(HEAP_LENGTH);
+        return Surveyed::Refused(Refusal::HeapLength);
     }
     let numbers = numbers_in(words);
     if !numbers.fine {
-        return refused(INCONSISTENT);
+        return Surveyed::Refused(Refusal::Inconsistent);
     }
     let end = END as u16;
     let mut links = [end; LINKS];
@@ -178,10 +146,10 @@ pub fn survey(heap: &[u8], words: &[u32; WORDS], wanted: Wanted) -> Surveyed
     let top = used_top(words);
     let tally = index(words, &mut links, &mut heads, top);
     if !tally.fine {
-        return refused(INCONSISTENT);
+        return Surveyed::Refused(Refusal::Inconsistent);
     }
     if !owing(words, &mut owed) {
-        return refused(INCONSISTENT);
+        return Surveyed::Refused(Refusal::Inconsistent);
     }
     let holder = on_path(words, &links, &heads, wanted.serial, wanted.quota, true);
     let other = on_path(words, &links, &heads, wanted.serial, wanted.quota, false);
@@ -204,30 +172,37 @@ pub fn survey(heap: &[u8], words: &[u32; WORDS], wanted: Wanted) -> Surveyed
         need,
     );
     if !course.fine {
-        return refused(INCONSISTENT);
+        return Surveyed::Refused(Refusal::Inconsistent);
     }
     if !is_settled(&owed, left) {
-        return refused(INCONSISTENT);
+        return Surveyed::Refused(Refusal::Inconsistent);
     }
     let size = 8 * course.half_back;
     let at = course.half_at - size;
-    let fit = fit_of(wanted.unit, course.fit, heap.len());
-    let found = is_named(
-        wanted.base,
-        wanted.length,
-        wanted.serial,
-        at,
-        size,
-        course.half_before,
-    );
-    Surveyed {
-        refusal: 0,
-        low: tally.low,
-        fit: fit,
-        found: found,
-        at: at,
-        size: size,
-        holder: holder,
-        other: other,
+    Surveyed::Consistent(Known {
+        object: named(wanted, at, size, course.half_before),
+        holder: place(holder),
+        shared: other < HOLDS,
+        unused: place(tally.low),
+        room: room(heap.len(), course.fit, wanted.unit),
+    })
+}
+
+// Rule 8.35's verdict on a heap and its accounts, and nothing else.
+pub fn verdict(heap: &[u8], words: &[u32; WORDS]) -> Verdict
+    ensures { λ r. ⌜ verdict-values r ≡ check-of (table (edition-of (now (words .entry)))) (now (heap .entry))
+        (accounts-of (now (words .entry))) .values ⌝ }
+{
+    let wanted = Wanted {
+        base: 0,
+        length: 0,
+        serial: 0,
+        quota: 0,
+        unit: 0,
+        need: 0,
+    };
+    match survey(heap, words, wanted) {
+        Surveyed::Consistent(_) => Verdict::Accepted,
+        Surveyed::Refused(refusal) => Verdict::Refused(refusal),
     }
 }

@@ -1,15 +1,10 @@
 // What the walk is asked for, and what its answers say of it.
-use crate::Surveyed;
 use crate::walking::TAKEN;
-use accounts::HOLDS;
 use layout::QUARANTINED;
 ghost use mathlib.Core.Path.{_≡_};
 ghost use Prim.Native.Nat.{_+_, _^_, _<_, _≤_};
-ghost use mathlib.Core.Bool.{cond};
-ghost use lib.Dec.{eqb};
 ghost use Rattle.lookup.specs.Walk.{holds-named};
 ghost use Rattle.survey.specs.Route.{edge-of};
-ghost use Rattle.survey.specs.Survey.{refused-survey};
 
 // The bytes that are left where a block may start whose object has a base; 8, which is the end, where no object has it.
 pub(crate) fn edge_of(base: u32, len: usize) -> usize
@@ -36,23 +31,13 @@ pub(crate) fn unit_of(unit: u32) -> usize
 }
 
 // The bytes that are sought, more than any block has where none are.
-pub(crate) fn need_of(unit: u32, need: usize) -> usize
+pub(crate) fn need_of(unit: u32, need: u32) -> usize
     ensures { λ r. ⌜ ((unit ≡ 0 → ⊥) → r ≡ need) ⌝ }
 {
     if unit == 0 {
         return TAKEN;
     }
-    need
-}
-
-// The place of the block with room, the heap's length where none is sought.
-pub(crate) fn fit_of(unit: u32, fit: usize, len: usize) -> usize
-    ensures { λ r. ⌜ r ≡ cond (eqb unit 0) len fit ⌝ }
-{
-    if unit == 0 {
-        return len;
-    }
-    fit
+    need as usize
 }
 
 // Rule 4.3: whether a block is live, and a handle names its object.
@@ -84,20 +69,4 @@ pub(crate) fn is_named(
         return false;
     }
     from + length as usize <= at + size
-}
-
-// A survey that refuses: whatever was asked for, nothing is found.
-pub(crate) fn refused(refusal: u32) -> Surveyed
-    ensures { λ r. ⌜ r ≡ refused-survey refusal ⌝ }
-{
-    Surveyed {
-        refusal: refusal,
-        low: HOLDS,
-        fit: 0,
-        found: false,
-        at: 0,
-        size: 0,
-        holder: HOLDS,
-        other: HOLDS,
-    }
 }

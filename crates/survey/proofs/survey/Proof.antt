@@ -10,19 +10,22 @@ use borrow.Author.Tests.{not-true, not-false}
 use mathlib.Core.Path.{_≡_, refl, ap, sym, subst, _∙_}
 use mathlib.Core.Bool.{Bool, true, false, cond, _&&_}
 use mathlib.Core.List.{List}
-use lib.Dec.{eqb}
+use lib.Dec.{eqb, ltb}
 use lib.ListN.{length, drop}
-use Rattle.accounts.specs.Accounts.{find-hold}
+use Rattle.accounts.specs.Accounts.{HOLDS, find-hold}
 use Rattle.rounding.specs.Rounding.{table}
 use Rattle.layout.specs.Blocks.{greatest-heap, cut}
-use Rattle.model.specs.declared.Refusal.the-variants.{Inconsistent}
+use Rattle.model.specs.declared.Refusal.the-variants.{HeapLength, Inconsistent}
 use Rattle.model.specs.declared.Verdict.the-variants.{Accepted, Refused}
 use Rattle.model.specs.Answers.{Values, verdict-values}
 use Rattle.model.specs.Consistent.{allowed, in-range}
 use Rattle.model.specs.Calls.{check as check-of}
+use Rattle.model.specs.Objects.{blocks-of}
+use Rattle.lookup.specs.Walk.{looked-up}
+use Rattle.lookup.proofs.Named.{lookup-met}
 use Rattle.audit.specs.Audit.{all-zero}
 use Rattle.audit.specs.Contracts.{Owing}
-use Rattle.words.specs.Words.{edition-of, quotas-of, holds-of, accounts-of}
+use Rattle.words.specs.Words.{edition-of, quotas-of, accounts-of}
 use Rattle.words.proofs.Words.{quotas-long}
 use Rattle.survey.specs.Index.{keys-left}
 use Rattle.survey.specs.Contracts.{sought, Told, Index, judged, Walked-to}
@@ -30,20 +33,20 @@ use Rattle.survey.proofs.Building.{built-none}
 use Rattle.survey.proofs.Judgement.{verdict-length, verdict-range, verdict-ill, verdict-insolvent, walked-end, last-given, walk-ready}
 use Rattle.survey.proofs.Judgement.{verdict-walked}
 use Rattle.survey.specs.declared.Wanted.{Wanted}
-use Rattle.survey.specs.Survey.{verdict-of, handle-of, shares, Known}
-use Rattle.survey.specs.Route.{Halved}
+use Rattle.survey.specs.declared.Known.{Known}
+use Rattle.survey.specs.Survey.{handle-of, shares, Knows}
+use Rattle.survey.specs.Route.{Seeking, Halved}
 use Rattle.survey.proofs.Naming.{named-half, half-bounds}
-use Rattle.survey.proofs.Surveys.{refused-length, refused-state, allowed-range, fit-known}
+use Rattle.survey.proofs.Surveys.{refused-told, known-told, accepted-cut, allowed-range, place-any, room-known, room-inside}
 use Rattle.survey.proofs.survey.Statement.{statement}
 use Rattle.survey.proofs.survey.Tie as tie
 
 returns : tie.Need-returns
 returns c =
-    let t = c .before in
-    let a = t .before .before .before .args in
-    refused-length (c .refused .result) (c .refused .ensures)
+    let a = c .before .before .before .args in
+    refused-told HeapLength
     (verdict-length (table (edition-of (a .words .now))) (a .heap .now) (accounts-of (a .words .now))
-    (sym (t .before .is-allowed .ensures) ∙ not-true _ (t .if1 .taken)))
+    (sym (c .before .is-allowed .ensures) ∙ not-true _ (c .if1 .taken)))
 
 -- what came in, and that its length is allowed
 abbrev start : tie.After-numbers-in → tie.Start
@@ -59,11 +62,10 @@ allows c =
 
 returns-2 : tie.Need-returns-2
 returns-2 c =
-    let t = c .before in
-    let r = t .before .before in
-    refused-state (c .refused2 .result) (c .refused2 .ensures)
+    let r = c .before .before in
+    refused-told Inconsistent
     (verdict-range (table (edition-of (words r))) (start r .args .heap .now) (accounts-of (words r)) (allows r)
-    (sym (r .numbers-in .ensures .0) ∙ not-true _ (t .if2 .taken)))
+    (sym (r .numbers-in .ensures .0) ∙ not-true _ (c .if2 .taken)))
 
 index-requires : tie.Need-index-requires
 index-requires c κs = let t = c .before .before in (t .used-top .ensures .0, t .used-top .ensures .1, built-none (words (t .before .before .before)))
@@ -83,12 +85,11 @@ told c t e =
 
 returns-3 : tie.Need-returns-3
 returns-3 c =
-    let t = c .before in
-    let i = t .before .before in
+    let i = c .before .before in
     let r = range i in
-    refused-state (c .refused3 .result) (c .refused3 .ensures)
+    refused-told Inconsistent
     (verdict-ill (table (edition-of (words r))) (start r .args .heap .now) (accounts-of (words r)) (allows r) (ranged (i .before .before .before .before))
-    (quotas-long (words r)) (told i false (not-true _ (t .if3 .taken))))
+    (quotas-long (words r)) (told i false (not-true _ (c .if3 .taken))))
 
 -- what the quotas owe, by the answer of `owing`
 abbrev indexed : tie.After-owing → tie.After-index
@@ -99,14 +100,13 @@ owes-all c t e = subst (λ (x : Bool). Owing (quotas-of (words (range (indexed c
 
 returns-4 : tie.Need-returns-4
 returns-4 c =
-    let t = c .before in
-    let o = t .before in
+    let o = c .before in
     let i = indexed o in
     let r = range i in
-    refused-state (c .refused4 .result) (c .refused4 .ensures)
+    refused-told Inconsistent
     (verdict-insolvent (table (edition-of (words r))) (start r .args .heap .now) (accounts-of (words r)) (allows r) (ranged (i .before .before .before .before))
     (quotas-long (words r))
-    (owes-all o false (not-true _ (t .if4 .taken))))
+    (owes-all o false (not-true _ (c .if4 .taken))))
 
 -- the index, where it is whole
 abbrev tally : tie.Else4 → tie.After-index
@@ -184,9 +184,8 @@ walked c t e = subst (Says c) e (c .walk-parts .ensures .0)
 
 returns-5 : tie.Need-returns-5
 returns-5 c =
-    let t = c .before in
-    let w = t .before .before in
-    refused-state (c .refused5 .result) (c .refused5 .ensures) (verdict w false (sym (walked w false (not-true _ (t .if5 .taken)))))
+    let w = c .before .before in
+    refused-told Inconsistent (verdict w false (sym (walked w false (not-true _ (c .if5 .taken)))))
 
 -- at the end, open records and debts decide
 ended : (c : tie.After-walk-parts) → c .walk-parts .result .fine ≡ true
@@ -210,10 +209,8 @@ decided c =
 
 returns-6 : tie.Need-returns-6
 returns-6 c =
-    let t = c .before in
-    let p = t .before in
-    refused-state (c .refused6 .result) (c .refused6 .ensures)
-    (verdict (p .before .before .before .before) false (sym (decided p ∙ not-true _ (t .if6 .taken))))
+    let p = c .before in
+    refused-told Inconsistent (verdict (p .before .before .before .before) false (sym (decided p ∙ not-true _ (c .if6 .taken))))
 
 -- the walk that has passed
 abbrev walk : tie.Else6 → tie.After-walk-parts
@@ -250,72 +247,85 @@ mul-size c = let h = half-whole (c .before) in omega (arith, h .0, h .1)
 sub-at : tie.Need-sub-at
 sub-at c = half-whole (c .before .before) .0
 
-is-named-requires : tie.Need-is-named-requires
-is-named-requires c κs = let h = half-whole (c .before .before .before) in omega (arith, h .0, h .1)
+named-requires : tie.Need-named-requires
+named-requires c κs = let h = half-whole (c .before .before) in omega (arith, h .0, h .1)
+
+-- the walk's search for room, to the heap's end
+seeks : (c : tie.Else6) → let r = walk c .walk-parts .result in let u = needs-of (at (walk c)) in
+    Seeking (u .before .unit-of .result) (u .need-of .result) (heap c) (r .at) (r .fit) (r .need)
+seeks c = walk c .walk-parts .ensures .1 (passes c) .0
+
+room-requires : tie.Need-room-requires
+room-requires c κs =
+    let e = c .before .before .before .before .before in
+    let u = needs-of (at (walk e)) .before in (
+      omega (arith, lengths e .1),
+      λ z l. omega (arith, lengths e .1, room-inside {unit = wanted e .unit} (heap e) (u .unit-of .ensures .2) (seeks e) z l),
+    )
+
+-- the verdict is that of a state that is accepted
+accepts : (c : tie.Else6) → verdict-values Accepted ≡ check-of (table (edition-of (words (ranging (walk c))))) (heap c)
+    (accounts-of (words (ranging (walk c)))) .values
+accepts c = verdict (walk c) true (sym (decided (c .before) ∙ not-false _ (c .if6 .left)))
+
+number : (c : tie.Else6) → 0 ≡ check-of (table (edition-of (words (ranging (walk c))))) (heap c)
+    (accounts-of (words (ranging (walk c)))) .values .refusal
+unfolding verdict-values
+number c = ap (λ (v : Values). v .refusal) (accepts c)
 
 -- what is known where all passes
-knows : (c : tie.After-is-named)
-    → let e = c .before .before .before .before in let w = walk e in let r = w .walk-parts .result in let p = paths (at w) in
-    Known (heap e) (accounts-of (words (ranging w))) (wanted e) (record {
-      refusal = 0;
-      low = tally (owed (at w)) .index .result .low;
-      fit = c .before .fit-of .result;
-      found = c .is-named .result;
-      at = r .«half_at» - 8 * r .«half_back»;
-      size = 8 * r .«half_back»;
-      holder = p .before .before .before .on-path .result;
-      other = p .on-path2 .result;
-    })
+abbrev knowledge : tie.After-room → Known
+knowledge c =
+    let p = paths (at (walk (c .before .before .before .before .before .before))) in
+    record {
+      object = c .before .before .before .named .result;
+      holder = c .before .before .place .result;
+      shared = ltb (p .on-path2 .result) HOLDS;
+      unused = c .before .place2 .result;
+      room = c .room .result;
+    }
+
+knows : (c : tie.After-room) → let e = c .before .before .before .before .before .before in
+    Knows (heap e) (accounts-of (words (ranging (walk e)))) (wanted e) (knowledge c)
 unfolding sought find-hold
 knows c =
-    let e = c .before .before .before .before in
+    let e = c .before .before .before .before .before .before in
     let w = walk e in
     let r = w .walk-parts .result in
     let p = paths (at w) in
     let u = needs-of (at w) in
     let q = wanted e in
-    let n = named-half (handle-of q) (heap e) (edges e .edge-of .result) (r .«half_at») (r .«half_back») (r .«half_before») (edges e .edge-of .ensures .0)
-    (c .is-named .ensures)
+    let k = accounts-of (words (ranging w)) in
+    let s = heap e in
+    let n = named-half (handle-of q) s (edges e .edge-of .result) (r .«half_at») (r .«half_back») (r .«half_before») (edges e .edge-of .ensures .0)
     (lengths e .0) (halves e) in
     record {
-      block = n .0;
-      size = n .1;
-      holder = p .before .before .before .on-path .ensures;
-      low = entered (owed (at w)) .lowest;
-      other = p .on-path2 .ensures;
-      fit = fit-known (q .unit) (q .need) (heap e) (u .before .unit-of .ensures .2) (u .need-of .ensures) (w .walk-parts .ensures .1 (passes e) .0)
-          (walked w true (passes e) .1)
-          (c .before .fit-of .ensures);
+      object = c .before .before .before .named .ensures ∙ n
+          ∙ ap looked-up (sym (lookup-met s (blocks-of s) (accepted-cut (table (k .edition)) s k (number e)) (handle-of q)));
+      holder = c .before .before .place .ensures ∙ p .before .before .before .on-path .ensures;
+      shared = place-any (shares (q .serial) (q .quota)) (k .holds) (p .on-path2 .result) (p .on-path2 .ensures);
+      unused = c .before .place2 .ensures ∙ entered (owed (at w)) .lowest;
+      room = c .room .ensures
+          ∙ room-known (q .unit) (q .need) s (u .before .unit-of .ensures .2) (u .need-of .ensures) (seeks e) (walked w true (passes e) .1);
     }
 
 returns-7 : tie.Need-returns-7
-unfolding verdict-of verdict-values
 returns-7 c =
-    let e = c .before .before .before .before in
-    let t = verdict (walk e) true (sym (decided (e .before) ∙ not-false _ (e .if6 .left))) in
-    record {
-      number = ap (λ (v : Values). v .refusal) t;
-      refused = λ z. absurd (z refl);
-      told = t;
-      known = λ f. knows c;
-    }
+    let e = c .before .before .before .before .before .before in
+    known-told (number e) (knows c)
 
 pub survey-spec : {M : Type 1} → statement M
 survey-spec =
     tie.close
     (tie.spec
     (λ c κs. search needs)
-    (λ c κs. search needs)
     returns
-    (λ c κs. search needs)
     (λ c κs. search needs)
     returns-2
     (λ c. search needs)
     (λ c κs. search needs)
     index-requires
-    (λ c κs. search needs)
     returns-3
-    (λ c κs. search needs)
     (λ c κs. search needs)
     returns-4
     on-path-requires
@@ -324,13 +334,13 @@ survey-spec =
     (λ c κs. search needs)
     (λ c κs. search needs)
     walk-parts-requires
-    (λ c κs. search needs)
     returns-5
     is-settled-requires
-    (λ c κs. search needs)
     returns-6
     mul-size
     sub-at
+    named-requires
     (λ c κs. search needs)
-    is-named-requires
+    (λ c κs. search needs)
+    room-requires
     returns-7)

@@ -19,7 +19,6 @@ use Rattle.audit.specs.Contracts.{Owing}
 use Rattle.words.specs.Words.{edition-of, quotas-of, accounts-of}
 use Rattle.words.proofs.Words.{quotas-long}
 use Rattle.survey.specs.Contracts.{Told, Index, heap-in}
-use Rattle.survey.specs.Survey.{verdict-of}
 use Rattle.survey.proofs.Building.{built-none}
 use Rattle.survey.proofs.Judgement.{verdict-length, verdict-range, verdict-ill, verdict-insolvent, last-given, walk-ready, verdict-walked}
 use Rattle.survey.proofs.framed.check_in_frames.Statement.{statement}
@@ -36,13 +35,10 @@ sized : (c : tie.Start) (t : Bool) → allowed (c .args .size) ≡ t → allowed
 sized c t e = ap allowed (length-padded (c .args .size) (drop (c .args .from) (stream-of (c .args .image .now)))) ∙ e
 
 returns : tie.Need-returns
-unfolding verdict-of
 returns c =
-    let t = c .before in
-    let s = t .before .before .before in
-    ap verdict-values (c .verdict .ensures)
-    ∙ verdict-length (table (edition-of (words s))) (heap s) (accounts-of (words s))
-    (sized s false (sym (t .before .is-allowed .ensures) ∙ not-true _ (t .if1 .taken)))
+    let s = c .before .before .before in
+    verdict-length (table (edition-of (words s))) (heap s) (accounts-of (words s))
+    (sized s false (sym (c .before .is-allowed .ensures) ∙ not-true _ (c .if1 .taken)))
 
 -- what came in, and that its length is allowed
 abbrev start : tie.After-numbers-in → tie.Start
@@ -54,14 +50,11 @@ allows c =
     sized (start c) true (sym (e .before .is-allowed .ensures) ∙ not-false _ (e .if1 .left))
 
 returns-2 : tie.Need-returns-2
-unfolding verdict-of
 returns-2 c =
-    let t = c .before in
-    let r = t .before .before in
+    let r = c .before .before in
     let s = start r in
-    ap verdict-values (c .verdict2 .ensures)
-    ∙ verdict-range (table (edition-of (words s))) (heap s) (accounts-of (words s)) (allows r)
-    (sym (r .numbers-in .ensures .0) ∙ not-true _ (t .if2 .taken))
+    verdict-range (table (edition-of (words s))) (heap s) (accounts-of (words s)) (allows r)
+    (sym (r .numbers-in .ensures .0) ∙ not-true _ (c .if2 .taken))
 
 index-requires : tie.Need-index-requires
 index-requires c κs = let t = c .before .before in (t .used-top .ensures .0, t .used-top .ensures .1, built-none (words (start (t .before .before .before))))
@@ -80,15 +73,12 @@ told c t e =
     (c .index .ensures)
 
 returns-3 : tie.Need-returns-3
-unfolding verdict-of
 returns-3 c =
-    let t = c .before in
-    let i = t .before .before in
+    let i = c .before .before in
     let r = range i in
     let s = start r in
-    ap verdict-values (c .verdict3 .ensures)
-    ∙ verdict-ill (table (edition-of (words s))) (heap s) (accounts-of (words s)) (allows r) (ranged i) (quotas-long (words s))
-    (told i false (not-true _ (t .if3 .taken)))
+    verdict-ill (table (edition-of (words s))) (heap s) (accounts-of (words s)) (allows r) (ranged i) (quotas-long (words s))
+    (told i false (not-true _ (c .if3 .taken)))
 
 -- what the quotas owe, by the answer of `owing`
 abbrev indexed : tie.After-owing → tie.After-index
@@ -98,16 +88,13 @@ owes-all : (c : tie.After-owing) (t : Bool) → c .owing .result ≡ t → Owing
 owes-all c t e = subst (λ (x : Bool). Owing (quotas-of (words (start (range (indexed c))))) x (c .owing .last .1 .0)) e (c .owing .ensures)
 
 returns-4 : tie.Need-returns-4
-unfolding verdict-of
 returns-4 c =
-    let t = c .before in
-    let o = t .before in
+    let o = c .before in
     let i = indexed o in
     let r = range i in
     let s = start r in
-    ap verdict-values (c .verdict4 .ensures)
-    ∙ verdict-insolvent (table (edition-of (words s))) (heap s) (accounts-of (words s)) (allows r) (ranged i) (quotas-long (words s))
-    (owes-all o false (not-true _ (t .if4 .taken)))
+    verdict-insolvent (table (edition-of (words s))) (heap s) (accounts-of (words s)) (allows r) (ranged i) (quotas-long (words s))
+    (owes-all o false (not-true _ (c .if4 .taken)))
 
 -- the walk: what is known before it
 abbrev owed : tie.After-left → tie.Else4
@@ -144,37 +131,27 @@ decided c t e =
     (n .ensures .3) (n .ensures .2) (n .ensures .1) t (sym e ∙ c .walk-frames .ensures)
 
 returns-5 : tie.Need-returns-5
-unfolding verdict-of
 returns-5 c =
-    let t = c .before in
-    ap verdict-values (c .verdict5 .ensures) ∙ decided (t .before) false (not-true _ (t .if5 .taken))
+    decided (c .before) false (not-true _ (c .if5 .taken))
 
 returns-6 : tie.Need-returns-6
-unfolding verdict-of
 returns-6 c =
-    let t = c .before in
-    ap verdict-values (c .verdict6 .ensures) ∙ decided (t .before) true (not-false _ (t .if5 .left))
+    decided (c .before) true (not-false _ (c .if5 .left))
 
 pub check-in-frames-spec : {M : Type 1} → statement M
 check-in-frames-spec =
     tie.close
     (tie.spec
     (λ c κs. search needs)
-    (λ c κs. search needs)
     returns
-    (λ c κs. search needs)
     (λ c κs. search needs)
     returns-2
     (λ c. search needs)
     (λ c κs. search needs)
     index-requires
-    (λ c κs. search needs)
     returns-3
-    (λ c κs. search needs)
     (λ c κs. search needs)
     returns-4
     walk-frames-requires
-    (λ c κs. search needs)
     returns-5
-    (λ c κs. search needs)
     returns-6)

@@ -1,9 +1,9 @@
 -- `survey::place` meets its contract.
 use mathlib.Core.Path.{sym}
 use native.Mathlib.Omega.{arith}
-use Rattle.survey.proofs.Told.{place-at, place-nothing}
-use Rattle.survey.proofs.by_value.place.Statement.{statement}
-use Rattle.survey.proofs.by_value.place.Tie as tie
+use Rattle.survey.proofs.Surveys.{place-at, place-nothing}
+use Rattle.survey.proofs.giving.place.Statement.{statement}
+use Rattle.survey.proofs.giving.place.Tie as tie
 
 returns : tie.Need-returns
 returns c = sym (place-nothing (c .before .args .number) (omega (arith, c .if1 .taken)))

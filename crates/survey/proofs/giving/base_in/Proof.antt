@@ -3,8 +3,8 @@ use native.Mathlib.Omega.{arith}
 use Prim.Native.Nat.{_+_}
 use Rattle.lookup.proofs.Multiple.{mod-below, multiple-gap}
 use borrow.Author.Needs.{needs}
-use Rattle.survey.proofs.by_value.base_in.Statement.{statement}
-use Rattle.survey.proofs.by_value.base_in.Tie as tie
+use Rattle.survey.proofs.giving.base_in.Statement.{statement}
+use Rattle.survey.proofs.giving.base_in.Tie as tie
 
 sub-result-3 : tie.Need-sub-result-3
 sub-result-3 c = mod-below _ (c .pre .0)
