@@ -5,6 +5,7 @@ pub mod Zeros
 pub mod Decoding
 pub mod Items
 pub mod Marked
+pub mod Headers
 pub mod Said
 pub mod Heads
 pub mod Puts

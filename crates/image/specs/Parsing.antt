@@ -10,7 +10,7 @@ use Rattle.accounts.specs.Accounts.{QUOTAS, HOLDS, zero-accounts}
 use Rattle.layout.specs.Bytes.{overwrite}
 use Rattle.model.specs.Consistent.{allowed}
 use Rattle.model.specs.Refusals.{_when_, first-refusal}
-use Rattle.framing.specs.Frames.{padded}
+use Rattle.framing.specs.Frames.{padded, stream-of}
 use Rattle.image_model.specs.declared.Form.{Form}
 use Rattle.image_model.specs.Answers.{image-refusal-number, Imaged, Restored-to}
 use Rattle.image_model.specs.Stream.{form-1, head-length, image-of, image-length}
@@ -77,3 +77,7 @@ restore f n t h k =
     let s = padded n (drop (head-length f) t) in
     let done : Restored-to = record { heap = s; accounts = k; refusal = 0 } in
     unless-read (first-refusal ((25 when not (eqb (length h) n)) ∷ (26 when not (own-sound s k)) ∷ [])) h done
+
+-- the heap that has n bytes of an image's stream from a place on
+abbrev pub heap-from : ℕ → ℕ → List ℕ → List ℕ
+heap-from from n image = padded n (drop from (stream-of image))

@@ -7,6 +7,7 @@ use image_model::ImageRefusal;
 mod asking;
 mod entries;
 mod forms;
+mod framed;
 mod head;
 pub mod in_place;
 mod marks;

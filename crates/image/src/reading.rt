@@ -1,8 +1,13 @@
 // The reader for accounts by value, and whether an image's heap and accounts are consistent.
 use crate::in_place;
+use crate::framed::walk_frames;
 use accounts::Accounts;
+use accounts::QUOTAS;
 use image_model::ReadResult;
-use model::Verdict;
+use survey::Begun;
+use survey::END;
+use survey::LINKS;
+use survey::SLOTS;
 use words::WORDS;
 ghost use mathlib.Core.Path.{_≡_};
 ghost use mathlib.Core.Bool.{true};
@@ -19,10 +24,14 @@ pub(crate) fn is_sound_in(image: &[u8], from: u16, size: usize, words: &[u32; WO
     requires { ⌜ allowed size ≡ true ⌝ }
     ensures { λ r. ⌜ r ≡ own-sound (padded size (drop from (stream-of (now (image .entry))))) (accounts-of (now (words .entry))) ⌝ }
 {
-    let Verdict::Accepted = survey::check_in_frames(image, from, size, words) else {
+    let end = END as u16;
+    let mut links = [end; LINKS];
+    let mut heads = [end; SLOTS];
+    let mut owed = [0usize; QUOTAS];
+    let Begun::Ready(terms) = survey::begin(size, words, &mut links, &mut heads, &mut owed) else {
         return false;
     };
-    true
+    walk_frames(image, from, size, words, &mut links, &mut heads, &mut owed, terms)
 }
 
 // The same with the accounts by value.

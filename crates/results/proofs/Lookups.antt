@@ -15,7 +15,6 @@ use Rattle.accounts.specs.Accounts.{QUOTAS, is-for, find-hold}
 use Rattle.layout.specs.Blocks.{size, total-size, parse}
 use Rattle.layout.proofs.Render.{size-append}
 use Rattle.lookup.specs.declared.Met.{Met}
-use Rattle.lookup.specs.declared.Lookup.the-variants.{Found, Missing}
 use Rattle.lookup.specs.Walk.{object-met, find-object}
 use Rattle.lookup.proofs.Parsed.{total-parsed}
 use Rattle.lookup.proofs.Named.{lookup-found, lookup-missing}
@@ -64,7 +63,7 @@ module _ (unit : ℕ → ℕ) (s : List ℕ) (k : Accounts) (v : Verdict) (told 
       leb-true (length s) 32768 (and-right (leb 64 (length s)) _ (and-right (eqb (length s % 8) 0) _ e))
 
   -- what the walk finds is the block of the object that the handle names, and where it finds none, the handle names none
-  pub located : (h : Handle) (m : Met) → find-object h s ≡ Found m → Located s h m
+  pub located : (h : Handle) (m : Met) → find-object h s ≡ some m → Located s h m
   unfolding found or-else total-size
   located h m e =
       let n = lookup-found s (blocks-of s) cut h m e in
@@ -77,18 +76,18 @@ module _ (unit : ℕ → ℕ) (s : List ℕ) (k : Accounts) (v : Verdict) (told 
       let sized = w .sized in
       record { named = n .named; object = rw (n .named); header = omega arith; end = omega arith }
 
-  pub unnamed : (h : Handle) → find-object h s ≡ Missing → lookup h s ≡ none
+  pub unnamed : (h : Handle) → find-object h s ≡ none → lookup h s ≡ none
   unnamed h e = lookup-missing s (blocks-of s) cut h e
 
   -- lines 1, 2, 3 and 5 do not hold
   pub quota-passes : (q : ℕ) (rest : List Line) → q < QUOTAS → first-refusal (line-1 s ∷ line-2 unit s k ∷ line-3 q ∷ rest) ≡ first-refusal rest
   quota-passes q rest l = check-accepts unit s k v told (line-3 q ∷ rest) accepts ∙ line-3-passes q rest l
 
-  pub quota-missing : (q : ℕ) (h : Handle) (rest : List Line) → q < QUOTAS → find-object h s ≡ Missing
+  pub quota-missing : (q : ℕ) (h : Handle) (rest : List Line) → q < QUOTAS → find-object h s ≡ none
       → first-refusal (line-1 s ∷ line-2 unit s k ∷ line-3 q ∷ line-5 (lookup h s) ∷ rest) ≡ 5
   quota-missing q h rest l e = quota-passes q (line-5 (lookup h s) ∷ rest) l ∙ line-5-refuses (lookup h s) rest (unnamed h e)
 
-  pub quota-found : (q : ℕ) (h : Handle) (m : Met) (rest : List Line) → q < QUOTAS → find-object h s ≡ Found m
+  pub quota-found : (q : ℕ) (h : Handle) (m : Met) (rest : List Line) → q < QUOTAS → find-object h s ≡ some m
       → first-refusal (line-1 s ∷ line-2 unit s k ∷ line-3 q ∷ line-5 (lookup h s) ∷ rest) ≡ first-refusal rest
   quota-found q h m rest l e =
       quota-passes q (line-5 (lookup h s) ∷ rest) l ∙ line-5-passes (lookup h s) (object-met m) rest (located h m e .named)
@@ -105,12 +104,12 @@ module _ (k : Accounts) (serial q : ℕ) (holds : q < QUOTAS) where
 
 -- what lend, release and can release are refused with
 module _ (unit : ℕ → ℕ) (s : List ℕ) (k : Accounts) (v : Verdict) (told : verdict-values v ≡ check unit s k .values) (accepts : v ≡ Accepted) (h : Handle) where
-  pub lend-missing : find-object h s ≡ Missing → first-refusal (lend-lines unit s k h) ≡ 5
+  pub lend-missing : find-object h s ≡ none → first-refusal (lend-lines unit s k h) ≡ 5
   unfolding lend-lines
   lend-missing e =
       check-accepts unit s k v told (line-5 (lookup h s) ∷ []) accepts ∙ line-5-refuses (lookup h s) [] (unnamed unit s k v told accepts h e)
 
-  module _ (m : Met) (e : find-object h s ≡ Found m) where
+  module _ (m : Met) (e : find-object h s ≡ some m) where
     pub lend-found : first-refusal (lend-lines unit s k h) ≡ 0
     unfolding lend-lines first-refusal
     lend-found =

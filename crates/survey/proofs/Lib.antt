@@ -12,7 +12,6 @@ pub mod Settlement
 pub mod Trees
 pub mod Visits
 pub mod Walks
-pub mod Headers
 pub mod Judgement
 pub mod Blocks
 pub mod Routes

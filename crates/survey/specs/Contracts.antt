@@ -12,8 +12,13 @@ use Rattle.accounts.specs.declared.Place.{Place}
 use Rattle.accounts.specs.declared.Place.the-variants.{At, Nothing}
 use Rattle.accounts.specs.Accounts.{QUOTAS, HOLDS, is-for, lowest-unused}
 use Rattle.layout.specs.Blocks.{Block, cut}
-use Rattle.framing.specs.Frames.{padded, stream-of}
+use Rattle.rounding.specs.Rounding.{table}
 use Rattle.model.specs.Lists.{all}
+use Rattle.model.specs.Answers.{verdict-values}
+use Rattle.model.specs.Consistent.{allowed, greatest-serial}
+use Rattle.model.specs.Calls.{check}
+use Rattle.model.specs.declared.Refusal.the-variants.{Inconsistent}
+use Rattle.model.specs.declared.Verdict.the-variants.{Accepted, Refused as NotAccepted}
 use Rattle.lookup.specs.declared.Fit.{Fit}
 use Rattle.lookup.specs.declared.Fit.the-variants.{At as Fits, Nowhere}
 use Rattle.lookup.specs.Walk.{multiple-from}
@@ -21,8 +26,11 @@ use Rattle.audit.specs.Keys.{well-formed, keys-of}
 use Rattle.audit.specs.Audit.{behind, visit, audit-parsed}
 use Rattle.audit.specs.Contracts.{Settled}
 use Rattle.audit.specs.Fitting.{fits-block, fitting}
-use Rattle.words.specs.Words.{serial-in, rest-in, holds-of, accounts-of}
+use Rattle.words.specs.Words.{serial-in, rest-in, edition-of, holds-of, accounts-of}
 use Rattle.survey.specs.Index.{SLOTS, LINKS, FORKED, fork, plain, Leads, Ascends, keys-left, waiting, Linked, Built}
+use Rattle.survey.specs.declared.beginning.Terms.{Terms}
+use Rattle.survey.specs.declared.beginning.Begun.{Begun}
+use Rattle.survey.specs.declared.beginning.Begun.the-variants.{Ready as Prepared, Refused}
 use Rattle.survey.specs.Survey.{shares}
 
 -- the place that a number of a record stands for
@@ -109,6 +117,18 @@ Walked-to unit kind last edge s words whole true at back before heads links owed
     × (whole ≡ judged unit kind last at (cut back (drop at s)) before (keys-left words heads links) owed)
 Walked-to unit kind last edge s words whole false at back before heads links owed left = whole ≡ false
 
--- the heap that has n bytes of an image's stream from a place on
-abbrev pub heap-in : ℕ → ℕ → List ℕ → List ℕ
-heap-in from n image = padded n (drop from (stream-of image))
+-- `begin` leaves the arrays ready for the walk over a heap of so many bytes, and what the walk judges is the verdict
+pub record Beginning (len : ℕ) (words heads links owed : List ℕ) (t : Terms) : Type 0 where
+  pub allows : allowed len ≡ true
+  pub given : t .last ≤ greatest-serial
+  pub index : Index words heads links (t .low) (t .open)
+  pub ready : Ready words heads links owed (t .open)
+  pub decides : (s : List ℕ) → length s ≡ len → (b : Bool)
+      → b ≡ judged (table (t .edition)) (t .kind) (t .last) 0 (cut 0 (drop 0 s)) 1 (keys-left words heads links) owed
+      → verdict-values (cond b Accepted (NotAccepted Inconsistent)) ≡ check (table (edition-of words)) s (accounts-of words) .values
+
+-- or refuses, as the check does whatever the heap has
+abbrev pub Begins : ℕ → List ℕ → List ℕ → List ℕ → List ℕ → Begun → Type 0
+Begins len words heads links owed (Prepared t) = Beginning len words heads links owed t
+Begins len words heads links owed (Refused r) =
+    (s : List ℕ) → length s ≡ len → verdict-values (NotAccepted r) ≡ check (table (edition-of words)) s (accounts-of words) .values

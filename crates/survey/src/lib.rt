@@ -6,22 +6,20 @@ use accounts::Place;
 use accounts::QUOTAS;
 use lookup::Fit;
 use lookup::Lookup;
-use model::GREATEST_SERIAL;
 use model::Refusal;
 use model::Verdict;
 use words::WORDS;
 ghost use mathlib.Core.Path.{_≡_};
-ghost use mathlib.Core.Bool.{_&&_};
-ghost use lib.Dec.{leb, ltb};
-ghost use Rattle.model.specs.Consistent.{greatest-serial, in-range};
 ghost use Rattle.rounding.specs.Rounding.{table};
 ghost use Rattle.model.specs.Answers.{verdict-values};
 ghost use Rattle.model.specs.Calls.{check as check-of};
-ghost use Rattle.words.specs.Words.{last-of, kind-of, edition-of, accounts-of};
+ghost use Rattle.words.specs.Words.{edition-of, accounts-of};
 ghost use Rattle.survey.specs.Survey.{Survey};
+ghost use Rattle.survey.specs.Contracts.{Beginning};
+ghost use lib.ListN.{length};
 
+mod beginning;
 mod finding;
-mod framed;
 mod giving;
 mod holders;
 mod indexing;
@@ -33,30 +31,30 @@ mod sharing;
 mod walking;
 mod wanting;
 
+pub use beginning::Begun;
+pub use beginning::Terms;
+pub use beginning::begin;
 use finding::on_path;
-pub use framed::check_in_frames;
 use giving::named;
 use giving::place;
 use giving::room;
 pub use holders::held_blocks;
-use indexing::index;
-use indexing::used_top;
 use parts::walk_parts;
-use paying::is_settled;
-use paying::owing;
+pub use paying::is_settled;
 pub use sharing::Holdings;
 pub use sharing::held_by;
+pub use walking::visit;
 use wanting::edge_of;
 use wanting::need_of;
 use wanting::unit_of;
 
 // The number of slots and of links.
-const SLOTS: usize = 2 * HOLDS;
+pub const SLOTS: usize = 2 * HOLDS;
 
-const LINKS: usize = 2 * HOLDS;
+pub const LINKS: usize = 2 * HOLDS;
 
 // The number of an empty slot or link. It is no record's place, and both of its bytes are the same, so that the compiler fills a table by memset.
-const END: usize = HOLDS + HOLDS / 256;
+pub const END: usize = HOLDS + HOLDS / 256;
 
 // Added to a slot's number when the record has others below it.
 const FORKED: usize = 2 * HOLDS;
@@ -90,83 +88,35 @@ pub enum Surveyed {
     Refused(Refusal),
 }
 
-// The last serial, kind and edition, and whether they are in range.
-struct Numbers {
-    fine: bool,
-    last: u32,
-    kind: u8,
-    edition: u8,
-}
-
-// Rules 22.2, 22.9 and 23.3: whether the last serial may have been given, the kind is one of two, and so is the edition.
-fn is_in_range(last: u32, kind: u8, edition: u8) -> bool
-    ensures { λ r. ⌜ r ≡ (leb last greatest-serial && (ltb kind 2 && ltb edition 2)) ⌝ }
-{
-    if GREATEST_SERIAL < last {
-        return false;
-    }
-    if 2 <= kind {
-        return false;
-    }
-    edition < 2
-}
-
-// The numbers of some words, last serial, kind and edition.
-fn numbers_in(words: &[u32; WORDS]) -> Numbers
-    ensures { λ r. ⌜ (r .fine ≡ in-range (accounts-of (now (words .entry)))) × (r .last ≡ last-of (now (words .entry)))
-        × (r .kind ≡ kind-of (now (words .entry))) × (r .edition ≡ edition-of (now (words .entry))) ⌝ }
-{
-    let last = words::last_serial(words);
-    let kind = words::kind(words);
-    let edition = words::edition(words);
-    let fine = is_in_range(last, kind, edition);
-    Numbers {
-        fine: fine,
-        last: last,
-        kind: kind,
-        edition: edition,
-    }
-}
-
-// The survey: rule 8.35's verdict on a heap and its accounts, and where that accepts, what was asked for.
-pub fn survey(heap: &[u8], words: &[u32; WORDS], wanted: Wanted) -> Surveyed
+// What was asked for, and what the walk says: the records' paths are searched before the walk closes any.
+fn seek(
+    heap: &[u8],
+    words: &[u32; WORDS],
+    links: &mut [u16; LINKS],
+    heads: &mut [u16; SLOTS],
+    owed: &mut [usize; QUOTAS],
+    terms: Terms,
+    wanted: Wanted,
+) -> Surveyed
+    requires { ⌜ Beginning (length (now heap)) (now words) (now heads) (now links) (now owed) terms ⌝ }
     ensures { λ r. ⌜ Survey (now (heap .entry)) (accounts-of (now (words .entry))) wanted r ⌝ }
 {
-    if !model::is_allowed(heap.len()) {
-        return Surveyed::Refused(Refusal::HeapLength);
-    }
-    let numbers = numbers_in(words);
-    if !numbers.fine {
-        return Surveyed::Refused(Refusal::Inconsistent);
-    }
-    let end = END as u16;
-    let mut links = [end; LINKS];
-    let mut heads = [end; SLOTS];
-    let mut owed = [0usize; QUOTAS];
-    let top = used_top(words);
-    let tally = index(words, &mut links, &mut heads, top);
-    if !tally.fine {
-        return Surveyed::Refused(Refusal::Inconsistent);
-    }
-    if !owing(words, &mut owed) {
-        return Surveyed::Refused(Refusal::Inconsistent);
-    }
-    let holder = on_path(words, &links, &heads, wanted.serial, wanted.quota, true);
-    let other = on_path(words, &links, &heads, wanted.serial, wanted.quota, false);
+    let holder = on_path(words, links, heads, wanted.serial, wanted.quota, true);
+    let other = on_path(words, links, heads, wanted.serial, wanted.quota, false);
     let edge = edge_of(wanted.base, heap.len());
     let unit = unit_of(wanted.unit);
     let need = need_of(wanted.unit, wanted.need);
-    let mut left = tally.used;
+    let mut left = terms.open;
     let course = walk_parts(
         heap,
         words,
-        &mut links,
-        &mut heads,
-        &mut owed,
+        links,
+        heads,
+        owed,
         &mut left,
-        numbers.kind,
-        numbers.edition,
-        numbers.last,
+        terms.kind,
+        terms.edition,
+        terms.last,
         edge,
         unit,
         need,
@@ -174,7 +124,7 @@ pub fn survey(heap: &[u8], words: &[u32; WORDS], wanted: Wanted) -> Surveyed
     if !course.fine {
         return Surveyed::Refused(Refusal::Inconsistent);
     }
-    if !is_settled(&owed, left) {
+    if !is_settled(owed, left) {
         return Surveyed::Refused(Refusal::Inconsistent);
     }
     let size = 8 * course.half_back;
@@ -183,9 +133,23 @@ pub fn survey(heap: &[u8], words: &[u32; WORDS], wanted: Wanted) -> Surveyed
         object: named(wanted, at, size, course.half_before),
         holder: place(holder),
         shared: other < HOLDS,
-        unused: place(tally.low),
+        unused: place(terms.low),
         room: room(heap.len(), course.fit, wanted.unit),
     })
+}
+
+// The survey: rule 8.35's verdict on a heap and its accounts, and where that accepts, what was asked for.
+pub fn survey(heap: &[u8], words: &[u32; WORDS], wanted: Wanted) -> Surveyed
+    ensures { λ r. ⌜ Survey (now (heap .entry)) (accounts-of (now (words .entry))) wanted r ⌝ }
+{
+    let end = END as u16;
+    let mut links = [end; LINKS];
+    let mut heads = [end; SLOTS];
+    let mut owed = [0usize; QUOTAS];
+    match begin(heap.len(), words, &mut links, &mut heads, &mut owed) {
+        Begun::Ready(terms) => seek(heap, words, &mut links, &mut heads, &mut owed, terms, wanted),
+        Begun::Refused(refusal) => Surveyed::Refused(refusal),
+    }
 }
 
 // Rule 8.35's verdict on a heap and its accounts, and nothing else.

@@ -76,7 +76,7 @@ fn is_paid(owed: &[usize; QUOTAS]) -> bool
 }
 
 // Whether no record is open and nothing is owed.
-pub(crate) fn is_settled(owed: &[usize; QUOTAS], left: usize) -> bool
+pub fn is_settled(owed: &[usize; QUOTAS], left: usize) -> bool
     requires { ⌜ length (now owed) ≡ QUOTAS ⌝ }
     ensures { λ r. ⌜ r ≡ (eqb left 0 && all-zero (now (owed .entry))) ⌝ }
 {

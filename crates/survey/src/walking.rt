@@ -88,7 +88,7 @@ fn failed() -> Walked
 // A block of the walk, behind one with the serial `before`: a live one closes its records and is paid for. False where
 // the block is not as it must be, not of the heap's kind, or its object does not fit its unit. The block ends where
 // `after` of `whole` bytes are left; that place is worked out for long objects only, which keeps a register free.
-pub(crate) fn visit(
+pub fn visit(
     words: &[u32; WORDS],
     links: &mut [u16; LINKS],
     heads: &mut [u16; SLOTS],

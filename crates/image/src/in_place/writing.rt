@@ -18,10 +18,7 @@ ghost use mathlib.Core.Path.{_≡_};
 ghost use mathlib.Core.Bool.{true};
 ghost use Prim.Native.Nat.{_≤_};
 ghost use lib.ListN.{length};
-ghost use Rattle.rounding.specs.Rounding.{table};
-ghost use Rattle.words.specs.Words.{edition-of, accounts-of};
-ghost use Rattle.model.specs.Answers.{verdict-values};
-ghost use Rattle.model.specs.Calls.{check};
+ghost use Rattle.words.specs.Words.{accounts-of};
 ghost use Rattle.image_model.specs.Stream.{form-1, form-2, carries, head-length};
 ghost use Rattle.image_model.specs.Answers.{imaged};
 ghost use Rattle.image_model.specs.Images.{write-image};
@@ -82,20 +79,12 @@ fn put_image(image: &mut [u8], form: Form, heap: &[u8], words: &[u32; WORDS]) ->
     put_with(image, &mut head[..end], form, heap, words)
 }
 
-// Rule 8.35's verdict on the heap and its accounts.
-fn verdict_on(heap: &[u8], words: &[u32; WORDS]) -> Verdict
-    ensures { λ r. ⌜ verdict-values r ≡ check (table (edition-of (now (words .entry)))) (now (heap .entry)) (accounts-of (now (words .entry))) .values ⌝ }
-{
-    let known = survey::survey(heap, words, survey::unasked());
-    survey::verdict(known.refusal)
-}
-
 // The image of a heap and its accounts in form 2, written at the front of a lent one; its other bytes stay. The frame with the head and that of the survey
 // are never on the stack together: `put_image` has two callers, so the compiler keeps it apart.
 pub fn write_image(image: &mut [u8], heap: &[u8], words: &[u32; WORDS]) -> WriteAnswer
     ensures { λ r. ⌜ imaged (now (image .exit)) r ≡ write-image form-2 (now (image .entry)) (now (heap .entry)) (accounts-of (now (words .entry))) ⌝ }
 {
-    match verdict_on(heap, words) {
+    match survey::verdict(heap, words) {
         Verdict::Accepted => put_image(image, form_2(), heap, words),
         Verdict::Refused(refusal) => WriteAnswer::Refused(ImageRefusal::Call(refusal)),
     }
@@ -105,7 +94,7 @@ pub fn write_image(image: &mut [u8], heap: &[u8], words: &[u32; WORDS]) -> Write
 pub fn write_form_1(image: &mut [u8], heap: &[u8], words: &[u32; WORDS]) -> WriteAnswer
     ensures { λ r. ⌜ imaged (now (image .exit)) r ≡ write-image form-1 (now (image .entry)) (now (heap .entry)) (accounts-of (now (words .entry))) ⌝ }
 {
-    match verdict_on(heap, words) {
+    match survey::verdict(heap, words) {
         Verdict::Accepted => put_image(image, form_1(), heap, words),
         Verdict::Refused(refusal) => WriteAnswer::Refused(ImageRefusal::Call(refusal)),
     }

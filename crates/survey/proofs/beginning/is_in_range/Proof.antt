@@ -1,10 +1,10 @@
--- `survey::is_in_range` meets its contract: its three tests are the definition's, in the same order.
+-- `survey::beginning::is_in_range` meets its contract: its three tests are the definition's, in the same order.
 use native.Mathlib.Omega.{arith}
 use borrow.Author.Tests.{lt-leb, le-leb, lt-ltb, le-ltb}
 use mathlib.Core.Path.{_≡_, refl}
 use Rattle.model.specs.Consistent.{greatest-serial}
-use Rattle.survey.proofs.is_in_range.Statement.{statement}
-use Rattle.survey.proofs.is_in_range.Tie as tie
+use Rattle.survey.proofs.beginning.is_in_range.Statement.{statement}
+use Rattle.survey.proofs.beginning.is_in_range.Tie as tie
 
 returns : tie.Need-returns
 returns c = rw (lt-leb (c .before .args .last) greatest-serial (omega (arith, c .if1 .taken)))

@@ -1,11 +1,11 @@
--- `survey::numbers_in` meets its contract: each number is read as the definition reads it, and the test of the three is its test.
+-- `survey::beginning::numbers_in` meets its contract: each number is read as the definition reads it, and the test of the three is its test.
 use borrow.Author.Needs.{needs}
 use mathlib.Core.Path.{_≡_, _∙_}
 use mathlib.Core.Bool.{_&&_}
 use lib.Dec.{leb, ltb}
 use Rattle.model.specs.Consistent.{in-range, greatest-serial}
-use Rattle.survey.proofs.numbers_in.Statement.{statement}
-use Rattle.survey.proofs.numbers_in.Tie as tie
+use Rattle.survey.proofs.beginning.numbers_in.Statement.{statement}
+use Rattle.survey.proofs.beginning.numbers_in.Tie as tie
 
 returns : tie.Need-returns
 unfolding in-range

@@ -1,4 +1,4 @@
--- `survey::framed::walk_frames` meets its contract. The loop's invariant is `Walking` over the heap's rest from the place on, as in the survey's own walk. The
+-- `image::framed::walk_frames` meets its contract. The loop's invariant is `Walking` over the heap's rest from the place on, as in the survey's own walk. The
 -- measure is what is left of the size: a block that was visited has a size.
 use Prim.Native.Nat.{ℕ, _+_, _*_, _-_, _%_, _≤_}
 use native.Mathlib.Omega.{arith}
@@ -17,41 +17,43 @@ use Rattle.framing.proofs.Padding.{length-padded}
 use Rattle.model.specs.Consistent.{allowed}
 use Rattle.audit.specs.Audit.{behind, audit-parsed}
 use Rattle.audit.specs.Fitting.{fitting}
 use Rattle.survey.specs.Index.{keys-left}
-use Rattle.survey.specs.Contracts.{Visited, judged, heap-in}
-use Rattle.survey.proofs.Headers.{header-framed, rest-place}
+use Rattle.survey.specs.Contracts.{Visited, judged}
+use Rattle.image.specs.Parsing.{heap-from}
+use Rattle.image.proofs.Headers.{header-framed, rest-place}
 use Rattle.survey.proofs.Walks.{Walking, walking-start, walking-long, walking-back, walking-fails, walking-on, walked-far, one-fails}
 use Rattle.survey.proofs.Judgement.{walked-end}
 use Rattle.survey.proofs.Surveys.{allowed-range}
-use Rattle.survey.proofs.framed.walk_frames.Statement.{statement}
-use Rattle.survey.proofs.framed.walk_frames.Tie as tie
+use Rattle.image.proofs.framed.walk_frames.Statement.{statement}
+use Rattle.image.proofs.framed.walk_frames.Tie as tie
 
 abbrev Inv-loop : tie.InvT-loop
-Inv-loop image from size words links₀ heads₀ owed₀ left₀ kind edition last start at₀ back₀ before₀ links heads owed left at back before =
-    let s = heap-in from size image in
+Inv-loop image from size words links₀ heads₀ owed₀ terms start left₀ at₀ back₀ before₀ links heads owed left at back before =
+    let s = heap-from from size image in
     (at ≤ size)
-    × Walking (table edition) kind last s words (audit-parsed last (cut 0 (drop 0 s)) (some (behind 1 (keys-left words heads₀ links₀) owed₀)))
-    (fitting (table edition) kind 0 (cut 0 (drop 0 s))) heads links owed left before back (drop at s)
+    × Walking (table (terms .edition)) (terms .kind) (terms .last) s words
+    (audit-parsed (terms .last) (cut 0 (drop 0 s)) (some (behind 1 (keys-left words heads₀ links₀) owed₀)))
+    (fitting (table (terms .edition)) (terms .kind) 0 (cut 0 (drop 0 s))) heads links owed left before back (drop at s)
 
 abbrev μ-loop : tie.MeasureT-loop
-μ-loop image from size words links₀ heads₀ owed₀ left₀ kind edition last start at₀ back₀ before₀ links heads owed left at back before = size - at
+μ-loop image from size words links₀ heads₀ owed₀ terms start left₀ at₀ back₀ before₀ links heads owed left at back before = size - at
 
 -- the heap that lies in the frames
 abbrev heap : tie.Start Inv-loop μ-loop → List ℕ
-heap c = heap-in (c .args .from) (c .args .size) (c .args .image .now)
+heap c = heap-from (c .args .from) (c .args .size) (c .args .image .now)
 
 long : (c : tie.Start Inv-loop μ-loop) → length (heap c) ≡ c .args .size
 long c = length-padded (c .args .size) (drop (c .args .from) (stream-of (c .args .image .now)))
 
 most : (c : tie.Start Inv-loop μ-loop) → c .args .size ≤ greatest-heap
-most c = allowed-range (c .args .size) (c .pre .1) .1
+most c = allowed-range (c .args .size) (c .pre .allows) .1
 
 loop-holds : tie.Need-loop-holds Inv-loop μ-loop
 loop-holds c =
     let s = c .before in
     let a = s .args in (
       omega arith,
-      walking-start (table (a .edition)) (a .kind) (a .last) (heap s) (record { inside = omega arith; even = refl; ready = s .pre .2 }) 0 1 refl,
+      walking-start (table (a .terms .edition)) (a .terms .kind) (a .terms .last) (heap s) (record { inside = omega arith; even = refl; ready = s .pre .ready }) 0 1 refl,
     )
 
 add-loop : tie.Need-add-loop Inv-loop μ-loop
@@ -123,7 +125,7 @@ visit-requires c κs =
     let f = c .before .before .before .before .before .before in
     let h = f .before .before in (
       turn h .before .loop .inv .1 .ready,
-      start h .pre .0,
+      start h .pre .given,
       omega arith,
       omega (arith, even h),
       omega arith,
@@ -164,7 +166,7 @@ Answers c n t =
     let l = turn (header c) .before .loop in
     let h = header c .header-in .result in
     let v = c .visit .last in
-    Visited (table (a .edition)) (a .kind) (a .last) (h .serial) (8 * h .size) n (l .before) (a .words .now) (l .heads) (l .links) (l .owed) t
+    Visited (table (a .terms .edition)) (a .terms .kind) (a .terms .last) (h .serial) (8 * h .size) n (l .before) (a .words .now) (l .heads) (l .links) (l .owed) t
     (v .1 .1 .0) (v .1 .0) (v .1 .1 .1 .0) (v .1 .1 .1 .1 .0)
 
 visited : (c : tie.After-visit Inv-loop μ-loop) (t : Bool) → c .visit .result ≡ t → Answers c (length (heap (start (header c))) - length (after c)) t
@@ -206,8 +208,8 @@ returns-4 c =
     let s = heap b in
     let place = sym (rest-place s (l .at) (omega (arith, l .inv .0, long b))) in
     c .is-settled .ensures
-    ∙ sym (walked-end (table (a .edition)) (a .kind) (a .last) s (a .words .now) _ (length s - length (drop (l .at) s)) (l .back) (l .before)
-    (l .heads) (l .links) (l .owed) (l .left) (ap allowed (long b) ∙ b .pre .1)
+    ∙ sym (walked-end (table (a .terms .edition)) (a .terms .kind) (a .terms .last) s (a .words .now) _ (length s - length (drop (l .at) s)) (l .back) (l .before)
+    (l .heads) (l .links) (l .owed) (l .left) (ap allowed (long b) ∙ b .pre .allows)
     (walked-far (l .inv .1) (ap (λ (n : ℕ). drop n s) place) (omega (arith, length-drop (l .at) s, long b, f .loop-test .left))))
 
 pub walk-frames-spec : {M : Type 1} → statement M
