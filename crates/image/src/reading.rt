@@ -1,6 +1,6 @@
 // The reader for accounts by value, and whether an image's heap and accounts are consistent.
-use crate::in_place;
 use crate::framed::walk_frames;
+use crate::in_place;
 use accounts::Accounts;
 use accounts::QUOTAS;
 use image_model::ReadResult;
@@ -31,7 +31,16 @@ pub(crate) fn is_sound_in(image: &[u8], from: u16, size: usize, words: &[u32; WO
     let Begun::Ready(terms) = survey::begin(size, words, &mut links, &mut heads, &mut owed) else {
         return false;
     };
-    walk_frames(image, from, size, words, &mut links, &mut heads, &mut owed, terms)
+    walk_frames(
+        image,
+        from,
+        size,
+        words,
+        &mut links,
+        &mut heads,
+        &mut owed,
+        terms,
+    )
 }
 
 // The same with the accounts by value.

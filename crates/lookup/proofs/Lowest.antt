@@ -62,7 +62,8 @@ module _ (a n : ℕ) where
   room-yes m e h = rw e (le-leb (base-in a m + n) (m .at + m .size) h)
 
 -- a fit is of a block
-fitted-met : (a p b : ℕ) (o : Option Met) → fitted a o ≡ At p b → (m : Met) × (o ≡ some m) × (m .at ≡ p) × (base-in a m ≡ b)
+fitted-met : (a p b : ℕ) (o : Option Met) → fitted a o ≡ At p b → (m : Met) × (o ≡ some m) × (m .at ≡ p)
+    × (base-in a m ≡ b)
 fitted-met a p b none q = let z : _≡_ {A = ℕ} 0 1 = cc in absurd (omega arith)
 fitted-met a p b (some m) q = (m, refl, cc, cc)
 

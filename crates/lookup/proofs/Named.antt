@@ -59,7 +59,12 @@ module _ (s : List ℕ) (bs : List Block) (e : parse s ≡ some bs) (h : Handle)
   lookup-found m q =
       let t = first-some (holds-named h) (met s) m q .1 in
       let w = search-stands s bs e (holds-named h) m q in
-      record { named = lookup-met ∙ ap as-object q; stands = w; living = rw (w .serial) at (and-left (live-met m) (names h (object-met m)) t) }
+      record {
+        named = lookup-met ∙ ap as-object q;
+        stands = w;
+        living = rw (w .serial) at
+            (and-left (live-met m) (names h (object-met m)) t);
+      }
 
   -- where none was found, the handle names none
   pub lookup-missing : find-object h s ≡ none → lookup h s ≡ none

@@ -33,13 +33,15 @@ module _ (h : Handle) (s : List ℕ) where
   -- no object has a base in the first header, or behind the heap
   pub object-low : h .base < 8 → find-object h s ≡ none
   unfolding find-object
-  object-low l = search-none (holds-named h) s 0 (search-start (holds-named h) s) (λ x m g e. before-block h m (omega arith))
+  object-low l = search-none (holds-named h) s 0 (search-start (holds-named h) s)
+      (λ x m g e. before-block h m (omega arith))
 
   pub object-high : length s < h .base → find-object h s ≡ none
   unfolding find-object
   object-high l =
       search-none (holds-named h) s 0 (search-start (holds-named h) s)
-      (λ x m g e. (let k = met-known x s m e in let p = k .place in let i = k .inside in behind-block h m (k .header) (omega arith)))
+      (λ x m g e. (let k = met-known x s m e in let p = k .place in let i = k .inside in behind-block h m (k .header)
+      (omega arith)))
 
   module _ (at : ℕ) (w : Searching (holds-named h) s at) where
     -- a search that ends on the way
@@ -52,7 +54,8 @@ module _ (h : Handle) (s : List ℕ) where
     unfolding find-object
     object-here l = go (met-at at s) refl
       where
-        by-test : (m : Met) → met-at at s ≡ some m → (t : Bool) → holds-named h m ≡ t → first (holds-named h) (met s) ≡ cond t (some m) none
+        by-test : (m : Met) → met-at at s ≡ some m → (t : Bool) → holds-named h m ≡ t
+            → first (holds-named h) (met s) ≡ cond t (some m) none
         by-test m e true t = search-found (holds-named h) s at w m e t
         by-test m e false t =
             let k = met-known at s m e in

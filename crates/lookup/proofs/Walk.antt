@@ -95,7 +95,8 @@ module _ (p : Met → Bool) (s : List ℕ) where
       by-test k x ih b e true f = let q : b ≡ m = cc in rw q at (ap (λ (n : ℕ). met-at n s) (met-known x s b e .place) ∙ e)
       by-test k x ih b e false f = ih (b .at + b .size) f
 
-      step : (k x : ℕ) → Ends k → (o : Option Met) → met-at x s ≡ o → first p (met-from (suc k) x s) ≡ some m → met-at (m .at) s ≡ some m
+      step : (k x : ℕ) → Ends k → (o : Option Met) → met-at x s ≡ o → first p (met-from (suc k) x s) ≡ some m
+          → met-at (m .at) s ≡ some m
       step k x ih none e f = let n = rw e at f in let z : _≡_ {A = ℕ} 0 1 = cc in absurd (omega arith)
       step k x ih (some b) e f = by-test k x ih b e (p b) (rw e at f)
 
@@ -118,7 +119,9 @@ module _ (p : Met → Bool) (s : List ℕ) where
     unfolding met-from first
     search-none f = w .same ∙ go (w .fuel) at (omega arith)
       where
-        step : (k x : ℕ) → at ≤ x → ((y : ℕ) → at ≤ y → first p (met-from k y s) ≡ none) → (o : Option Met) → met-at x s ≡ o → first p (met-from (suc k) x s) ≡ none
+        step : (k x : ℕ) → at ≤ x → ((y : ℕ) → at ≤ y → first p (met-from k y s) ≡ none) → (o : Option Met)
+            → met-at x s ≡ o
+            → first p (met-from (suc k) x s) ≡ none
         step k x l ih none e = rw e
         step k x l ih (some m) e = let n = met-known x s m e in rw (e, f x m l e) (ih (m .at + m .size) (omega arith))
 

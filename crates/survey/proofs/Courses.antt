@@ -11,7 +11,7 @@ use lib.ListN.{length, drop}
 use Rattle.layout.specs.Blocks.{cut}
 use Rattle.audit.proofs.Cases.{by-test}
 use Rattle.survey.specs.Index.{keys-left}
-use Rattle.survey.specs.Contracts.{Stage, judged, Walked-to}
+use Rattle.survey.specs.Contracts.{Stage, judged, Walked-to, rules, tables, stop}
 use Rattle.survey.specs.Route.{Reaches, Last, Seeking, Passed, Halved}
 use Rattle.survey.proofs.Routes.{reaches-start, seeking-start}
 
@@ -46,8 +46,9 @@ module _ {unit : ℕ → ℕ} {kind last : ℕ} {s words : List ℕ} {whole : Bo
     (g : Touring unit kind last s words whole first a n heads links owed left edge at back before fit need half-at half-back half-before going)
     (goes : going ≡ true) where
   module _ {heads′ links′ owed′ : List ℕ} {left′ at′ back′ before′ fit′ need′ : ℕ}
-      (w : Walked-to unit kind last edge s words (judged unit kind last at (cut back (drop at s)) before (keys-left words heads links) owed) true at′ back′
-      before′ heads′ links′ owed′ left′)
+      (w : Walked-to (rules unit kind last) edge s words
+      (judged unit kind last at (cut back (drop at s)) before (keys-left words heads links) owed) true
+      (stop at′ back′ before′ left′) (tables heads′ links′ owed′))
       (p : Passed s edge a at fit need at′ back′ before′ fit′ need′) where
     -- the first part ends, or the last
     pub touring-on : Touring unit kind last s words whole first a n heads′ links′ owed′ left′ 8 at′ back′ before′ fit′ need′ at back before (ltb 8 edge)

@@ -19,7 +19,7 @@ use Rattle.layout.proofs.Fuel.{cut-end}
 use Rattle.layout.specs.Blocks.{greatest-heap}
 use Rattle.model.specs.Objects.{objects-from}
 use Rattle.survey.specs.Index.{keys-left}
-use Rattle.survey.specs.Contracts.{Index, Ready, judged, Walked-to}
+use Rattle.survey.specs.Contracts.{Index, Ready, judged, Walked-to, rules, tables, stop}
 use Rattle.survey.proofs.Waiting.{waiting-all}
 use Rattle.survey.proofs.Closing.{left-long}
 use Rattle.survey.proofs.Opening.{keyed, ready}
@@ -127,7 +127,8 @@ at-end n at a l e h = let z = eqb-true (n % 8) 0 (and-left (eqb (n % 8) 0) (leb 
 
 -- a walk to the end of a heap of an allowed length: whether records are open and quotas owe something decides
 pub walked-end : (unit : ℕ → ℕ) (kind last : ℕ) (s words : List ℕ) (whole : Bool) (at back before : ℕ) (heads links owed : List ℕ) (left : ℕ)
-    → allowed (length s) ≡ true → Walked-to unit kind last 8 s words whole true at back before heads links owed left → whole ≡ (eqb left 0 && all-zero owed)
+    → allowed (length s) ≡ true → Walked-to (rules unit kind last) 8 s words whole true (stop at back before left)
+    (tables heads links owed) → whole ≡ (eqb left 0 && all-zero owed)
 walked-end unit kind last s words whole at back before heads links owed left ok w =
     let keys = keys-left words heads links in
     w .2

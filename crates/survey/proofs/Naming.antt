@@ -91,7 +91,8 @@ module _ (h : Handle) (s : List ℕ) where
         ∙ push m (holds-named h m)
         ∙ ap (λ (y : Option Met). looked-up (as-object y)) (sym all)
       where
-        push : (m : Met) (t : Bool) → cond t (Found (object-met m)) Missing ≡ looked-up (as-object (cond t (some m) nothing))
+        push : (m : Met) (t : Bool) → cond t (Found (object-met m)) Missing ≡ looked-up
+            (as-object (cond t (some m) nothing))
         push m true = refl
         push m false = refl
 

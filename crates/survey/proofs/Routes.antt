@@ -33,7 +33,8 @@ searched w = record { fuel = w .fuel; enough = w .enough; same = w .same }
 pub reaches-start : (s : List ℕ) → Reaches s 0
 reaches-start s p f = searched (search-start p s)
 
-pub reaches-on : {s : List ℕ} {at : ℕ} → Reaches s at → (h : Header) → met-at at s ≡ some (headed at h) → Reaches s (at + 8 * h .size)
+pub reaches-on : {s : List ℕ} {at : ℕ} → Reaches s at → (h : Header) → met-at at s ≡ some (headed at h)
+    → Reaches s (at + 8 * h .size)
 reaches-on {s} {at} r h e p f =
     searched (search-passed p s at (searching (r p (λ m l. f m (omega arith)))) (headed at h) e (f (headed at h) (omega arith)))
 
@@ -75,7 +76,8 @@ full a n at h e = rw (ne-eqb (h .serial) 0 e)
 pub seeking-start : (a n : ℕ) (s : List ℕ) → Seeking a n s 0 (length s) n
 seeking-start a n s = record { on = λ l. (refl, searched (search-start (has-room a n) s)); found = λ l. absurd (omega arith) }
 
-module _ {a n : ℕ} {s : List ℕ} {at fit need : ℕ} (positive : 0 < a) (g : Seeking a n s at fit need) (h : Header) (e : met-at at s ≡ some (headed at h))
+module _ {a n : ℕ} {s : List ℕ} {at fit need : ℕ} (positive : 0 < a) (g : Seeking a n s at fit need) (h : Header)
+    (e : met-at at s ≡ some (headed at h))
     (short : h .size < 65536) (inside : at < length s) where
   pub seeking-on : {r : Bool} → r ≡ has-room a need (headed at h) → Seeking a n s (at + 8 * h .size) (cond r at fit) (cond r TAKEN need)
   seeking-on {r} q = by-test (ltb fit (length s)) (λ t. had (ltb-true fit (length s) t)) (λ t. go (ltb-false fit (length s) t) r refl)

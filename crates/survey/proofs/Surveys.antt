@@ -40,16 +40,19 @@ use Rattle.survey.specs.Contracts.{place-of, room-of}
 use Rattle.survey.proofs.Routes.{seeking-end}
 
 -- the check gives its refusal's number and nothing else
-pub values-told : (unit : ℕ → ℕ) (s : List ℕ) (k : Accounts) → refused (check unit s k .values .refusal) ≡ check unit s k .values
+pub values-told : (unit : ℕ → ℕ) (s : List ℕ) (k : Accounts)
+    → refused (check unit s k .values .refusal) ≡ check unit s k .values
 unfolding check unless
 values-told unit s k = go (first-refusal (check-lines unit s k))
   where
-    go : (n : ℕ) → refused (unless n s k (unchanged s k accepted) .values .refusal) ≡ unless n s k (unchanged s k accepted) .values
+    go : (n : ℕ) → refused (unless n s k (unchanged s k accepted) .values .refusal) ≡ unless n s k
+        (unchanged s k accepted) .values
     go zero = refl
     go (suc n) = refl
 
 -- where it gives none, the heap is cut into blocks
-pub accepted-cut : (unit : ℕ → ℕ) (s : List ℕ) (k : Accounts) → 0 ≡ check unit s k .values .refusal → parse s ≡ some (blocks-of s)
+pub accepted-cut : (unit : ℕ → ℕ) (s : List ℕ) (k : Accounts) → 0 ≡ check unit s k .values .refusal
+    → parse s ≡ some (blocks-of s)
 unfolding check unless first-refusal check-lines line-1 line-2 sound
 accepted-cut unit s k e = consistent-cut s k (go (allowed (length s)) refl (consistent s k) refl) .0
   where
@@ -63,10 +66,15 @@ pub refused-told : {s : List ℕ} {k : Accounts} {w : Wanted} (r : Refusal)
     → verdict-values (Not-accepted r) ≡ check (table (k .edition)) s k .values → Survey s k w (Refused r)
 unfolding verdict-values
 refused-told r t =
-    record { told = ap (λ (v : Values). v .refusal) t; known = λ x e. (let z : _≡_ {A = ℕ} 0 1 = cc in absurd (omega arith)) }
+    record {
+      told = ap (λ (v : Values). v .refusal) t;
+      known = λ x e.
+          (let z : _≡_ {A = ℕ} 0 1 = cc in absurd (omega arith));
+    }
 
 -- and one that accepts
-pub known-told : {s : List ℕ} {k : Accounts} {w : Wanted} {x : Known} → 0 ≡ check (table (k .edition)) s k .values .refusal
+pub known-told : {s : List ℕ} {k : Accounts} {w : Wanted} {x : Known}
+    → 0 ≡ check (table (k .edition)) s k .values .refusal
     → Knows s k w x → Survey s k w (Consistent x)
 known-told {s} {k} {w} {x} e g = record { told = e; known = λ y q. (let z : x ≡ y = cc in subst (Knows s k w) z g) }
 
@@ -112,7 +120,8 @@ place-any p hs n e =
     (λ t. t ∙ sym (any-none p hs (nothing-none p hs (sym e ∙ rw t))))
 
 -- the block with room, none where the alignment is 0
-pub room-known : (unit need : ℕ) (s : List ℕ) {a n at fit left : ℕ} → ((unit ≡ 0 → ⊥) → a ≡ unit) → ((unit ≡ 0 → ⊥) → n ≡ need)
+pub room-known : (unit need : ℕ) (s : List ℕ) {a n at fit left : ℕ} → ((unit ≡ 0 → ⊥) → a ≡ unit)
+    → ((unit ≡ 0 → ⊥) → n ≡ need)
     → Seeking a n s at fit left → length s < at + 8 → room-of unit fit (length s) ≡ find-fit unit need s
 unfolding room-of fit-place block-at
 room-known unit need s {fit = fit} x y g l =
@@ -120,14 +129,17 @@ room-known unit need s {fit = fit} x y g l =
     (λ z. rw (eq-eqb unit 0 z) (sym (fit-zero unit need s z)))
     (λ z.
     let k : first (has-room unit need) (met s) ≡ fit-place fit s = rw (x z, y z) at (seeking-end g l) in
-    rw (ne-eqb unit 0 z) (push (ltb fit (length s)) ∙ ap (fitted unit) (sym k) ∙ sym (fit-first unit need s (omega (arith, z)))))
+    rw (ne-eqb unit 0 z) (push (ltb fit (length s)) ∙ ap (fitted unit) (sym k)
+    ∙ sym (fit-first unit need s (omega (arith, z)))))
   where
-    push : (t : Bool) → cond t (Fits fit (multiple-from unit (fit + 8))) Nowhere ≡ fitted unit (cond t (some (headed fit (header-at fit s))) none)
+    push : (t : Bool) → cond t (Fits fit (multiple-from unit (fit + 8))) Nowhere ≡ fitted unit
+        (cond t (some (headed fit (header-at fit s))) none)
     push true = refl
     push false = refl
 
 -- and its base lies in the heap
-pub room-inside : {unit : ℕ} (s : List ℕ) {a n at fit left : ℕ} → ((unit ≡ 0 → ⊥) → a ≡ unit) → Seeking a n s at fit left
+pub room-inside : {unit : ℕ} (s : List ℕ) {a n at fit left : ℕ} → ((unit ≡ 0 → ⊥) → a ≡ unit)
+    → Seeking a n s at fit left
     → (unit ≡ 0 → ⊥) → fit < length s → multiple-from unit (fit + 8) ≤ length s
 unfolding has-room block-at
 room-inside {unit} s {a} {n} {fit = fit} x g z l =

@@ -17,7 +17,7 @@ use Rattle.audit.proofs.Cases.{by-test, by-eq}
 use Rattle.audit.proofs.Striking.{zero-not}
 use Rattle.words.specs.Words.{serial-in, quota-in}
 use Rattle.survey.specs.Index.{SLOTS, LINKS, END, FORKED, CLOSED, slot, bits-of, inner, plain, step, Leads, Findable, head-of, open-in, keys-left}
-use Rattle.survey.specs.Contracts.{Ready, Done}
+use Rattle.survey.specs.Contracts.{Ready, Done, tables}
 use Rattle.survey.proofs.Paths.{slot-small}
 use Rattle.survey.proofs.Plain.{inner-place, inner-end, plain-closed}
 use Rattle.survey.proofs.Closing.{left-long, open-nowhere, open-alone, open-for, alone-for, alone-keys, alone-closed, key-open, tree-for, open-quota}
@@ -116,7 +116,7 @@ module _ {words heads links owed : List ℕ} {left s c bits : ℕ} (g : Ready wo
 module _ {words heads links₀ owed₀ : List ℕ} {s c : ℕ} {links owed : List ℕ} {left : ℕ} {seen : List ℕ} {found : Bool} {at bits : ℕ}
     (g : Going words heads links₀ owed₀ s c links owed left seen found at bits) (live : s ≡ 0 → ⊥) where
   -- at the end of the path
-  pub going-end : HOLDS ≤ at → Done s c words heads links₀ owed₀ found heads links owed left
+  pub going-end : HOLDS ≤ at → Done s c words (tables heads links₀ owed₀) found (tables heads links owed) left
   going-end h = (by found refl, λ e. g .ready)
     where
       by : (t : Bool) → found ≡ t → Settled s c (keys-left words heads links₀) owed₀ found (keys-left words heads links) owed
@@ -167,11 +167,11 @@ module _ {words heads links₀ owed₀ : List ℕ} {s c : ℕ} {links owed : Lis
           z ∙ sym (open-quota words heads links (g .ready .well) at l (o .0))
 
       pub going-paid : (links′ owed′ : List ℕ) (left′ : ℕ) {q : ℕ} → q ≡ quota-in words at → (getD seen q 0 ≡ 0 → ⊥)
-          → Done s c words heads links₀ owed₀ false heads links′ owed′ left′
+          → Done s c words (tables heads links₀ owed₀) false (tables heads links′ owed′) left′
       going-paid links′ owed′ left′ z n = (inr (settling-paid live (g .settling) l (is-for ∙ e) (its-quota z) n), λ x. absurd (false≢true x))
 
       pub going-short : (links′ owed′ : List ℕ) (left′ : ℕ) {q : ℕ} → q ≡ quota-in words at → getD owed q 0 < c
-          → Done s c words heads links₀ owed₀ false heads links′ owed′ left′
+          → Done s c words (tables heads links₀ owed₀) false (tables heads links′ owed′) left′
       going-short links′ owed′ left′ z n = (inr (settling-short live (g .settling) l (is-for ∙ e) (its-quota z) n), λ x. absurd (false≢true x))
 
       pub going-more : {q : ℕ} → q ≡ quota-in words at → getD seen q 0 ≡ 0 → c ≤ getD owed q 0 → {owed′ : List ℕ} → owed′ ≡ set owed q (getD owed q 0 - c)
@@ -209,7 +209,7 @@ module _ {words heads links owed : List ℕ} {left s : ℕ} (g : Ready words hea
 
   -- of another serial
   pub alone-other : (c : ℕ) (heads′ links′ owed′ : List ℕ) (left′ : ℕ) → (serial-in words h ≡ s → ⊥)
-      → Done s c words heads links owed false heads′ links′ owed′ left′
+      → Done s c words (tables heads links owed) false (tables heads′ links′ owed′) left′
   alone-other c heads′ links′ owed′ left′ n =
       (settled-none s c keys owed live (left-long words heads links) (keys-left words heads′ links′) owed′ none, λ e. absurd (false≢true e))
     where
@@ -241,7 +241,7 @@ module _ {words heads links owed : List ℕ} {left s : ℕ} (g : Ready words hea
     quota-is z = z ∙ sym (open-quota words heads links (g .well) h l opens)
 
     pub alone-short : (c : ℕ) (heads′ links′ owed′ : List ℕ) (left′ : ℕ) {q : ℕ} → q ≡ quota-in words h → getD owed q 0 < c
-        → Done s c words heads links owed false heads′ links′ owed′ left′
+        → Done s c words (tables heads links owed) false (tables heads′ links′ owed′) left′
     alone-short c heads′ links′ owed′ left′ {q} z b = (
       one-short s c keys owed live (left-long words heads links) h l hit others (keys-left words heads′ links′) owed′ q (quota-is z) b,
       λ e.
@@ -249,7 +249,7 @@ module _ {words heads links owed : List ℕ} {left s : ℕ} (g : Ready words hea
     )
 
     pub alone-paid : (c : ℕ) {q : ℕ} → q ≡ quota-in words h → q < QUOTAS → c ≤ getD owed q 0 → {owed′ : List ℕ} → owed′ ≡ set owed q (getD owed q 0 - c)
-        → Done s c words heads links owed true (set heads k END) links owed′ (left - 1)
+        → Done s c words (tables heads links owed) true (tables (set heads k END) links owed′) (left - 1)
     alone-paid c {q} z few enough {owed′} o =
         let mine : slot (serial-in words h) ≡ k = ap slot own ∙ sym slots in (
           one-paid s c keys owed live (left-long words heads links) h l hit others (keys-left words (set heads k END) links) owed′ q (quota-is z) few enough

@@ -25,7 +25,7 @@ use Rattle.audit.specs.Fitting.{fits-block, fitting}
 use Rattle.audit.proofs.Cases.{by-eq}
 use Rattle.audit.proofs.Fitting.{fitting-front}
 use Rattle.survey.specs.Index.{keys-left}
-use Rattle.survey.specs.Contracts.{Ready, Visited, Stage, judged, Walked-to}
+use Rattle.survey.specs.Contracts.{Ready, Visited, Stage, judged, Walked-to, rules, tables, visiting, stop}
 
 -- the block in front, and a walk that has failed
 parsed-front : (last : ℕ) (b : Block) (t : State) (rest : Option (List Block))
@@ -144,7 +144,8 @@ module _ {unit : ℕ → ℕ} {kind last : ℕ} {s words : List ℕ} {whole fits
             (w (omega (arith, n))))
 
         pub walking-on : {heads′ links′ owed′ : List ℕ} {left′ : ℕ}
-            → Visited unit kind last (h .serial) (8 * h .size) end before words heads links owed true heads′ links′ owed′ left′
+            → Visited (rules unit kind last) (visiting (h .serial) (8 * h .size) end before) words
+            (tables heads links owed) true (tables heads′ links′ owed′) left′
             → h .back ≡ back → Walking unit kind last s words whole fits heads′ links′ owed′ left′ (h .serial) (h .size) rest′
         walking-on w q =
             record {
@@ -196,7 +197,8 @@ suffix-on s {rest} i e {n} h {rest′} p =
 -- where the walk stops, from there on as much is judged
 pub walked-far : {unit : ℕ → ℕ} {kind last edge : ℕ} {s words : List ℕ} {whole fits : Bool} {heads links owed : List ℕ} {left before back : ℕ} {rest : List ℕ}
     → Walking unit kind last s words whole fits heads links owed left before back rest → rest ≡ drop (length s - length rest) s → length rest < edge
-    → Walked-to unit kind last edge s words (whole && fits) true (length s - length rest) back before heads links owed left
+    → Walked-to (rules unit kind last) edge s words (whole && fits) true
+    (stop (length s - length rest) back before left) (tables heads links owed)
 walked-far {unit} {kind} {last} {edge} {s} {words} {heads = heads} {links} {owed} {before = before} {back} {rest} g e l =
     let i = g .inside in (
       record { inside = omega arith; even = g .even; ready = g .ready },

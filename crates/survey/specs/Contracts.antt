@@ -84,21 +84,60 @@ pub record Ready (words heads links owed : List ℕ) (left : ℕ) : Type 0 where
   pub heads-inside : (x : ℕ) → x < SLOTS → getD heads x 0 < FORKED + HOLDS
   pub waits : left ≡ waiting HOLDS (keys-left words heads links)
 
+-- the arrays that a walk changes
+pub record Tables : Type 0 where
+  pub heads : List ℕ
+  pub links : List ℕ
+  pub owed : List ℕ
+
+abbrev pub tables : List ℕ → List ℕ → List ℕ → Tables
+tables heads links owed = record { heads = heads; links = links; owed = owed }
+
+-- the keys of the records that are open
+abbrev pub left-in : List ℕ → Tables → List ℕ
+left-in words t = keys-left words (t .heads) (t .links)
+
+abbrev pub Ready-in : List ℕ → Tables → ℕ → Type 0
+Ready-in words t left = Ready words (t .heads) (t .links) (t .owed) left
+
 -- `settle`: the open records of a serial are closed, and the quota of each pays, once; or there is none, or a quota cannot pay
-abbrev pub Done : ℕ → ℕ → List ℕ → List ℕ → List ℕ → List ℕ → Bool → List ℕ → List ℕ → List ℕ → ℕ → Type 0
-Done serial charge words heads links owed r heads′ links′ owed′ left′ =
-    Settled serial charge (keys-left words heads links) owed r (keys-left words heads′ links′) owed′ × (r ≡ true → Ready words heads′ links′ owed′ left′)
+abbrev pub Done : ℕ → ℕ → List ℕ → Tables → Bool → Tables → ℕ → Type 0
+Done serial charge words t r t′ left′ =
+    Settled serial charge (left-in words t) (t .owed) r (left-in words t′) (t′ .owed)
+    × (r ≡ true → Ready-in words t′ left′)
+
+-- what blocks are judged by: the unit of each length, the heap's kind, the last serial
+pub record Rules : Type 0 where
+  pub unit : ℕ → ℕ
+  pub kind : ℕ
+  pub last : ℕ
+
+abbrev pub rules : (ℕ → ℕ) → ℕ → ℕ → Rules
+rules unit kind last = record { unit = unit; kind = kind; last = last }
+
+-- a block that is visited: its serial, its size, where it ends, and the serial of the block before it
+pub record Visiting : Type 0 where
+  pub serial : ℕ
+  pub size : ℕ
+  pub end : ℕ
+  pub before : ℕ
+
+abbrev pub visiting : ℕ → ℕ → ℕ → ℕ → Visiting
+visiting serial size end before = record { serial = serial; size = size; end = end; before = before }
 
 -- `visit` takes a block of 8 bytes or more that is as it must be and fits, and leaves what the definition leaves, and the arrays ready for the next block;
 -- or says that the block is shorter, not as it must be, or does not fit
-abbrev pub Visited : (ℕ → ℕ) → ℕ → ℕ → ℕ → ℕ → ℕ → ℕ → List ℕ → List ℕ → List ℕ → List ℕ → Bool → List ℕ → List ℕ → List ℕ → ℕ → Type 0
-Visited unit kind last serial size end before words heads links owed true heads′ links′ owed′ left′ =
-    (8 ≤ size)
-    × Ready words heads′ links′ owed′ left′
-    × (visit last serial size (behind before (keys-left words heads links) owed) ≡ some (behind serial (keys-left words heads′ links′) owed′))
-    × (fits-block unit kind serial size end ≡ true)
-Visited unit kind last serial size end before words heads links owed false heads′ links′ owed′ left′ =
-    8 ≤ size → (visit last serial size (behind before (keys-left words heads links) owed) ≡ none) ⊎ (fits-block unit kind serial size end ≡ false)
+abbrev pub Visited : Rules → Visiting → List ℕ → Tables → Bool → Tables → ℕ → Type 0
+Visited u b words t true t′ left′ =
+    (8 ≤ b .size)
+    × Ready-in words t′ left′
+    × (visit (u .last) (b .serial) (b .size) (behind (b .before) (left-in words t) (t .owed)) ≡ some
+    (behind (b .serial) (left-in words t′) (t′ .owed)))
+    × (fits-block (u .unit) (u .kind) (b .serial) (b .size) (b .end) ≡ true)
+Visited u b words t false t′ left′ =
+    8 ≤ b .size
+    → (visit (u .last) (b .serial) (b .size) (behind (b .before) (left-in words t) (t .owed)) ≡ none)
+    ⊎ (fits-block (u .unit) (u .kind) (b .serial) (b .size) (b .end) ≡ false)
 
 -- the blocks from a place on, behind a block with a serial: whether the audit passes them, with these keys and debts, and their objects fit
 unfoldable pub judged : (ℕ → ℕ) → ℕ → ℕ → ℕ → Option (List Block) → ℕ → List ℕ → List ℕ → Bool
@@ -110,12 +149,23 @@ pub record Stage (s words heads links owed : List ℕ) (left at : ℕ) : Type 0 
   pub even : at % 8 ≡ 0
   pub ready : Ready words heads links owed left
 
--- and comes to a place from which on as much is judged; or says that the blocks fail
-abbrev pub Walked-to : (ℕ → ℕ) → ℕ → ℕ → ℕ → List ℕ → List ℕ → Bool → Bool → ℕ → ℕ → ℕ → List ℕ → List ℕ → List ℕ → ℕ → Type 0
-Walked-to unit kind last edge s words whole true at back before heads links owed left =
-    Stage s words heads links owed left at × (length s < at + edge)
-    × (whole ≡ judged unit kind last at (cut back (drop at s)) before (keys-left words heads links) owed)
-Walked-to unit kind last edge s words whole false at back before heads links owed left = whole ≡ false
+-- where a walk stops: the place, units and serial of the block before it, and how many records are open
+pub record Stop : Type 0 where
+  pub at : ℕ
+  pub back : ℕ
+  pub before : ℕ
+  pub left : ℕ
+
+abbrev pub stop : ℕ → ℕ → ℕ → ℕ → Stop
+stop at back before left = record { at = at; back = back; before = before; left = left }
+
+-- it comes to a place from which on as much is judged; or says that the blocks fail
+abbrev pub Walked-to : Rules → ℕ → List ℕ → List ℕ → Bool → Bool → Stop → Tables → Type 0
+Walked-to u edge s words whole true p t =
+    Stage s words (t .heads) (t .links) (t .owed) (p .left) (p .at) × (length s < p .at + edge)
+    × (whole ≡ judged (u .unit) (u .kind) (u .last) (p .at) (cut (p .back) (drop (p .at) s)) (p .before)
+    (left-in words t) (t .owed))
+Walked-to u edge s words whole false p t = whole ≡ false
 
 -- `begin` leaves the arrays ready for the walk over a heap of so many bytes, and what the walk judges is the verdict
 pub record Beginning (len : ℕ) (words heads links owed : List ℕ) (t : Terms) : Type 0 where
@@ -125,10 +175,12 @@ pub record Beginning (len : ℕ) (words heads links owed : List ℕ) (t : Terms)
   pub ready : Ready words heads links owed (t .open)
   pub decides : (s : List ℕ) → length s ≡ len → (b : Bool)
       → b ≡ judged (table (t .edition)) (t .kind) (t .last) 0 (cut 0 (drop 0 s)) 1 (keys-left words heads links) owed
-      → verdict-values (cond b Accepted (NotAccepted Inconsistent)) ≡ check (table (edition-of words)) s (accounts-of words) .values
+      → verdict-values (cond b Accepted (NotAccepted Inconsistent)) ≡ check (table (edition-of words)) s
+      (accounts-of words) .values
 
 -- or refuses, as the check does whatever the heap has
 abbrev pub Begins : ℕ → List ℕ → List ℕ → List ℕ → List ℕ → Begun → Type 0
 Begins len words heads links owed (Prepared t) = Beginning len words heads links owed t
 Begins len words heads links owed (Refused r) =
-    (s : List ℕ) → length s ≡ len → verdict-values (NotAccepted r) ≡ check (table (edition-of words)) s (accounts-of words) .values
+    (s : List ℕ) → length s ≡ len → verdict-values (NotAccepted r) ≡ check (table (edition-of words)) s
+    (accounts-of words) .values

@@ -17,7 +17,8 @@ ghost use Rattle.survey.specs.Contracts.{place-of, room-of};
 // The object of the block at a place with this size and serial, where the handle names it.
 pub(crate) fn named(wanted: Wanted, at: usize, size: usize, serial: u32) -> Lookup
     requires { ⌜ at + size ≤ 2 ^ 32 ⌝ }
-    ensures { λ r. ⌜ r ≡ cond (holds-named (handle-of wanted) (record { at = at; size = size; back = 0; serial = serial }))
+    ensures { λ r. ⌜ r ≡ cond (holds-named (handle-of wanted)
+        (record { at = at; size = size; back = 0; serial = serial }))
         (Found (object-met (record { at = at; size = size; back = 0; serial = serial }))) Missing ⌝ }
 {
     if !is_named(wanted.base, wanted.length, wanted.serial, at, size, serial) {

@@ -147,7 +147,15 @@ pub fn survey(heap: &[u8], words: &[u32; WORDS], wanted: Wanted) -> Surveyed
     let mut heads = [end; SLOTS];
     let mut owed = [0usize; QUOTAS];
     match begin(heap.len(), words, &mut links, &mut heads, &mut owed) {
-        Begun::Ready(terms) => seek(heap, words, &mut links, &mut heads, &mut owed, terms, wanted),
+        Begun::Ready(terms) => seek(
+            heap,
+            words,
+            &mut links,
+            &mut heads,
+            &mut owed,
+            terms,
+            wanted,
+        ),
         Begun::Refused(refusal) => Surveyed::Refused(refusal),
     }
 }

@@ -12,7 +12,7 @@ ghost use Rattle.rounding.specs.Rounding.{table};
 ghost use Rattle.layout.specs.Blocks.{cut};
 ghost use Rattle.model.specs.Consistent.{greatest-serial};
 ghost use Rattle.survey.specs.Index.{keys-left};
-ghost use Rattle.survey.specs.Contracts.{Stage, judged, Walked-to};
+ghost use Rattle.survey.specs.Contracts.{Stage, judged, Walked-to, rules, tables, stop};
 ghost use Rattle.survey.specs.Route.{Seeking, Halved};
 
 // What both parts give: whether all is as it must be; the place where the walk ends, and units and serial of the block before it; the place of the first free
@@ -63,10 +63,11 @@ pub(crate) fn walk_parts(
 ) -> Course
     requires { ⌜ (last ≤ greatest-serial) × (8 ≤ first) × (0 < unit) × (unit < 2 ^ 32)
         × Stage (now heap) (now words) (now heads) (now links) (now owed) (now left) 0 ⌝ }
-    ensures { λ r. ⌜ Walked-to (table edition) kind last 8 (now (heap .entry)) (now (words .entry))
+    ensures { λ r. ⌜ Walked-to (rules (table edition) kind last) 8 (now (heap .entry)) (now (words .entry))
         (judged (table edition) kind last 0 (cut 0 (drop 0 (now (heap .entry)))) 1
-        (keys-left (now (words .entry)) (now (heads .entry)) (now (links .entry))) (now (owed .entry)))
-        (r .fine) (r .at) (r .back) (r .before) (now (heads .exit)) (now (links .exit)) (now (owed .exit)) (now (left .exit))
+        (keys-left (now (words .entry)) (now (heads .entry)) (now (links .entry))) (now (owed .entry))) (r .fine)
+        (stop (r .at) (r .back) (r .before) (now (left .exit)))
+        (tables (now (heads .exit)) (now (links .exit)) (now (owed .exit)))
         × (r .fine ≡ true → Seeking unit sought (now (heap .entry)) (r .at) (r .fit) (r .need)
         × Halved first (now (heap .entry)) (r .«half_at») (r .«half_back») (r .«half_before»)) ⌝ }
 {

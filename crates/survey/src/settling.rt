@@ -20,7 +20,7 @@ ghost use lib.ListN.{length, getD, set};
 ghost use Rattle.accounts.specs.Accounts.{QUOTAS, HOLDS};
 ghost use Rattle.audit.specs.Contracts.{Charged};
 ghost use Rattle.survey.specs.Index.{LINKS, CLOSED, FORKED, slot, inner, plain, step};
-ghost use Rattle.survey.specs.Contracts.{Ready, Done};
+ghost use Rattle.survey.specs.Contracts.{Ready, Done, tables};
 
 // The charge is taken off what a quota owes; false where it owes less.
 fn pay(owed: &mut [usize; QUOTAS], quota: usize, charge: usize) -> bool
@@ -64,8 +64,9 @@ fn settle_path(
     charge: usize,
 ) -> bool
     requires { ⌜ (serial ≡ 0 → ⊥) × (HOLDS ≤ getD (now heads) (slot serial) 0) × Ready (now words) (now heads) (now links) (now owed) (now left) ⌝ }
-    ensures { λ r. ⌜ Done serial charge (now (words .entry)) (now (heads .entry)) (now (links .entry)) (now (owed .entry))
-        r (now (heads .entry)) (now (links .exit)) (now (owed .exit)) (now (left .exit)) ⌝ }
+    ensures { λ r. ⌜ Done serial charge (now (words .entry))
+        (tables (now (heads .entry)) (now (links .entry)) (now (owed .entry))) r
+        (tables (now (heads .entry)) (now (links .exit)) (now (owed .exit))) (now (left .exit)) ⌝ }
 {
     let mut seen = [0u8; QUOTAS];
     let mut found = false;
@@ -109,8 +110,9 @@ pub(crate) fn settle(
     charge: usize,
 ) -> bool
     requires { ⌜ (serial ≡ 0 → ⊥) × Ready (now words) (now heads) (now links) (now owed) (now left) ⌝ }
-    ensures { λ r. ⌜ Done serial charge (now (words .entry)) (now (heads .entry)) (now (links .entry)) (now (owed .entry))
-        r (now (heads .exit)) (now (links .exit)) (now (owed .exit)) (now (left .exit)) ⌝ }
+    ensures { λ r. ⌜ Done serial charge (now (words .entry))
+        (tables (now (heads .entry)) (now (links .entry)) (now (owed .entry))) r
+        (tables (now (heads .exit)) (now (links .exit)) (now (owed .exit))) (now (left .exit)) ⌝ }
 {
     let slot = slot_of(serial);
     let head = head_in(heads, slot);

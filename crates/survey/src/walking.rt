@@ -13,7 +13,7 @@ ghost use lib.Dec.{eqb, leb};
 ghost use Rattle.rounding.specs.Rounding.{table};
 ghost use Rattle.layout.specs.Blocks.{QUARANTINED};
 ghost use Rattle.model.specs.Consistent.{fits-unit, greatest-serial};
-ghost use Rattle.survey.specs.Contracts.{Ready, Visited, Stage, judged, Walked-to};
+ghost use Rattle.survey.specs.Contracts.{Ready, Visited, Stage, judged, Walked-to, rules, tables, visiting, stop};
 ghost use Rattle.survey.specs.Index.{keys-left};
 ghost use Rattle.survey.specs.Route.{Reaches, Passed};
 ghost use Rattle.lookup.specs.Walk.{has-room};
@@ -105,9 +105,9 @@ pub fn visit(
 ) -> bool
     requires { ⌜ Ready (now words) (now heads) (now links) (now owed) (now left) × (last ≤ greatest-serial)
         × (size % 8 ≡ 0) × ((whole - after) % 8 ≡ 0) × (size ≤ whole - after) × (size < 2 ^ 32) × (after ≤ whole) ⌝ }
-    ensures { λ r. ⌜ Visited (table edition) kind last serial size (whole - after) before
-        (now (words .entry)) (now (heads .entry)) (now (links .entry)) (now (owed .entry))
-        r (now (heads .exit)) (now (links .exit)) (now (owed .exit)) (now (left .exit)) ⌝ }
+    ensures { λ r. ⌜ Visited (rules (table edition) kind last) (visiting serial size (whole - after) before)
+        (now (words .entry)) (tables (now (heads .entry)) (now (links .entry)) (now (owed .entry))) r
+        (tables (now (heads .exit)) (now (links .exit)) (now (owed .exit))) (now (left .exit)) ⌝ }
 {
     if serial == 0 {
         if before == 0 {
@@ -173,10 +173,11 @@ pub(crate) fn walk(
 ) -> Walked
     requires { ⌜ (last ≤ greatest-serial) × (8 ≤ edge) × (0 < unit) × (unit < 2 ^ 32)
         × Stage (now heap) (now words) (now heads) (now links) (now owed) (now left) at ⌝ }
-    ensures { λ r. ⌜ Walked-to (table edition) kind last edge (now (heap .entry)) (now (words .entry))
+    ensures { λ r. ⌜ Walked-to (rules (table edition) kind last) edge (now (heap .entry)) (now (words .entry))
         (judged (table edition) kind last at (cut units (drop at (now (heap .entry)))) «serial_before»
-        (keys-left (now (words .entry)) (now (heads .entry)) (now (links .entry))) (now (owed .entry)))
-        (r .fine) (r .at) (r .back) (r .before) (now (heads .exit)) (now (links .exit)) (now (owed .exit)) (now (left .exit))
+        (keys-left (now (words .entry)) (now (heads .entry)) (now (links .entry))) (now (owed .entry))) (r .fine)
+        (stop (r .at) (r .back) (r .before) (now (left .exit)))
+        (tables (now (heads .exit)) (now (links .exit)) (now (owed .exit)))
         × (r .fine ≡ true → Reaches (now (heap .entry)) at → Passed (now (heap .entry)) edge unit at «fit_before» «need_before»
         (r .at) (r .back) (r .before) (r .fit) (r .need)) ⌝ }
 {

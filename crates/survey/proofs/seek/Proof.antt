@@ -22,7 +22,7 @@ use Rattle.lookup.proofs.Named.{lookup-met}
 use Rattle.audit.specs.Audit.{all-zero}
 use Rattle.words.specs.Words.{edition-of, accounts-of}
 use Rattle.survey.specs.Index.{keys-left}
-use Rattle.survey.specs.Contracts.{sought, judged, Walked-to}
+use Rattle.survey.specs.Contracts.{sought, judged, Walked-to, rules, tables, stop}
 use Rattle.survey.proofs.Judgement.{walked-end}
 use Rattle.survey.specs.declared.Wanted.{Wanted}
 use Rattle.survey.specs.declared.Known.{Known}
@@ -52,8 +52,14 @@ start c = paths c .before .before .before .before .before .before .before
 walk-parts-requires : tie.Need-walk-parts-requires
 walk-parts-requires c κs =
     let u = needs-of c .before in
-    let b = start c .pre in
-    (b .given, u .before .edge-of .ensures .1, u .unit-of .ensures .0, u .unit-of .ensures .1, record { inside = omega arith; even = refl; ready = b .ready })
+    let b = start c .pre in (
+      b .given,
+      u .before .edge-of .ensures .1,
+      u .unit-of .ensures .0,
+      u .unit-of .ensures .1,
+      record
+          { inside = omega arith; even = refl; ready = b .ready },
+    )
 
 -- and what it says
 abbrev begun : tie.After-walk-parts → tie.Start
@@ -67,7 +73,8 @@ Whole c =
 
 verdict : (c : tie.After-walk-parts) (t : Bool) → t ≡ Whole c
     → let a = begun c .args in
-    verdict-values (cond t Accepted (Refused Inconsistent)) ≡ check-of (table (edition-of (a .words .now))) (a .heap .now) (accounts-of (a .words .now)) .values
+    verdict-values (cond t Accepted (Refused Inconsistent)) ≡ check-of (table (edition-of (a .words .now)))
+    (a .heap .now) (accounts-of (a .words .now)) .values
 verdict c t e = begun c .pre .decides (begun c .args .heap .now) refl t e
 
 abbrev Says : tie.After-walk-parts → Bool → Type 0
@@ -75,8 +82,9 @@ Says c t =
     let a = begun c .args in
     let w = c .walk-parts .last in
     let r = c .walk-parts .result in
-    Walked-to (table (a .terms .edition)) (a .terms .kind) (a .terms .last) 8 (a .heap .now) (a .words .now) (Whole c)
-    t (r .at) (r .back) (r .before) (w .1 .1 .1 .0) (w .1 .1 .0) (w .1 .1 .1 .1 .0) (w .1 .1 .1 .1 .1 .0)
+    Walked-to (rules (table (a .terms .edition)) (a .terms .kind) (a .terms .last)) 8 (a .heap .now) (a .words .now)
+    (Whole c) t (stop (r .at) (r .back) (r .before) (w .1 .1 .1 .1 .1 .0))
+    (tables (w .1 .1 .1 .0) (w .1 .1 .0) (w .1 .1 .1 .1 .0))
 
 walked : (c : tie.After-walk-parts) (t : Bool) → c .walk-parts .result .fine ≡ t → Says c t
 walked c t e = subst (Says c) e (c .walk-parts .ensures .0)
@@ -93,7 +101,8 @@ ended c e =
     let l = c .walk-parts .last in
     let r = c .walk-parts .result in
     let a = begun c .args in
-    walked-end (table (a .terms .edition)) (a .terms .kind) (a .terms .last) (a .heap .now) (a .words .now) (Whole c) (r .at) (r .back) (r .before)
+    walked-end (table (a .terms .edition)) (a .terms .kind) (a .terms .last) (a .heap .now) (a .words .now) (Whole c)
+    (r .at) (r .back) (r .before)
     (l .1 .1 .1 .0) (l .1 .1 .0) (l .1 .1 .1 .1 .0) (l .1 .1 .1 .1 .1 .0) (begun c .pre .allows) (walked c true e)
 
 is-settled-requires : tie.Need-is-settled-requires
@@ -109,7 +118,8 @@ decided c =
 returns-2 : tie.Need-returns-2
 returns-2 c =
     let p = c .before in
-    refused-told Inconsistent (verdict (p .before .before .before .before) false (sym (decided p ∙ not-true _ (c .if2 .taken))))
+    refused-told Inconsistent (verdict (p .before .before .before .before) false
+    (sym (decided p ∙ not-true _ (c .if2 .taken))))
 
 -- the walk that has passed
 abbrev walk : tie.Else2 → tie.After-walk-parts
@@ -131,14 +141,17 @@ lengths : (c : tie.Else2) → (64 ≤ length (heap c)) × (length (heap c) ≤ g
 lengths c = allowed-range (length (heap c)) (begun (walk c) .pre .allows)
 
 halves : (c : tie.Else2)
-    → let r = walk c .walk-parts .result in Halved (edges c .edge-of .result) (heap c) (r .«half_at») (r .«half_back») (r .«half_before»)
+    → let r = walk c .walk-parts .result in Halved (edges c .edge-of .result) (heap c) (r .«half_at») (r .«half_back»)
+    (r .«half_before»)
 halves c = walk c .walk-parts .ensures .1 (passes c) .1
 
-half-whole : (c : tie.Else2) → let r = walk c .walk-parts .result in (8 * r .«half_back» ≤ r .«half_at») × (r .«half_at» ≤ greatest-heap)
+half-whole : (c : tie.Else2) → let r = walk c .walk-parts .result in (8 * r .«half_back» ≤ r .«half_at»)
+    × (r .«half_at» ≤ greatest-heap)
 half-whole c =
     let r = walk c .walk-parts .result in
     let e = edges c .edge-of in
-    half-bounds (wanted c .base) (e .result) (r .«half_at») (r .«half_back») (r .«half_before») (heap c) (e .ensures .0) (halves c) (lengths c)
+    half-bounds (wanted c .base) (e .result) (r .«half_at») (r .«half_back») (r .«half_before») (heap c) (e .ensures .0)
+    (halves c) (lengths c)
 
 mul-size : tie.Need-mul-size
 mul-size c = let h = half-whole (c .before) in omega (arith, h .0, h .1)
@@ -159,11 +172,17 @@ room-requires c κs =
     let e = c .before .before .before .before .before in
     let u = needs-of (walk e .before) .before in (
       omega (arith, lengths e .1),
-      λ z l. omega (arith, lengths e .1, room-inside {unit = wanted e .unit} (heap e) (u .unit-of .ensures .2) (seeks e) z l),
+      λ z l. omega (
+        arith,
+        lengths e .1,
+        room-inside {unit = wanted e .unit} (heap e) (u .unit-of .ensures .2) (seeks e)
+            z l,
+      ),
     )
 
 -- the verdict is that of a state that is accepted
-accepts : (c : tie.Else2) → verdict-values Accepted ≡ check-of (table (edition-of (begun (walk c) .args .words .now))) (heap c)
+accepts : (c : tie.Else2) → verdict-values Accepted ≡ check-of (table (edition-of (begun (walk c) .args .words .now)))
+    (heap c)
     (accounts-of (begun (walk c) .args .words .now)) .values
 accepts c = verdict (walk c) true (sym (decided (c .before) ∙ not-false _ (c .if2 .left)))
 
@@ -196,16 +215,19 @@ knows c =
     let q = wanted e in
     let k = accounts-of (begun w .args .words .now) in
     let s = heap e in
-    let n = named-half (handle-of q) s (edges e .edge-of .result) (r .«half_at») (r .«half_back») (r .«half_before») (edges e .edge-of .ensures .0)
+    let n = named-half (handle-of q) s (edges e .edge-of .result) (r .«half_at») (r .«half_back») (r .«half_before»)
+    (edges e .edge-of .ensures .0)
     (lengths e .0) (halves e) in
     record {
       object = c .before .before .before .named .ensures ∙ n
-          ∙ ap looked-up (sym (lookup-met s (blocks-of s) (accepted-cut (table (k .edition)) s k (number e)) (handle-of q)));
+          ∙ ap looked-up (sym (lookup-met s (blocks-of s) (accepted-cut (table (k .edition)) s k (number e))
+          (handle-of q)));
       holder = c .before .before .place .ensures ∙ p .before .before .before .on-path .ensures;
       shared = place-any (shares (q .serial) (q .quota)) (k .holds) (p .on-path2 .result) (p .on-path2 .ensures);
       unused = c .before .place2 .ensures ∙ begun w .pre .index .lowest;
       room = c .room .ensures
-          ∙ room-known (q .unit) (q .need) s (u .before .unit-of .ensures .2) (u .need-of .ensures) (seeks e) (walked w true (passes e) .1);
+          ∙ room-known (q .unit) (q .need) s (u .before .unit-of .ensures .2) (u .need-of .ensures) (seeks e)
+          (walked w true (passes e) .1);
     }
 
 returns-3 : tie.Need-returns-3

@@ -16,7 +16,8 @@ begin-requires c κs = let s = c .before .before .before .before in (built-none 
 abbrev Says : tie.After-begin → Begun → Type 0
 Says c b =
     let a = c .before .before .before .before .before .args in
-    Begins (length (a .heap .now)) (a .words .now) (c .begin .last .1 .1 .1 .0) (c .begin .last .1 .1 .0) (c .begin .last .1 .1 .1 .1 .0) b
+    Begins (length (a .heap .now)) (a .words .now) (c .begin .last .1 .1 .1 .0) (c .begin .last .1 .1 .0)
+    (c .begin .last .1 .1 .1 .1 .0) b
 
 seek-requires : tie.Need-seek-requires
 seek-requires c κs =
@@ -32,7 +33,8 @@ returns-2 c =
     let t = c .before in
     let b = t .before .before in
     let a = b .before .before .before .before .before .args in
-    refused-told (t .refusal .given .0 .0) (subst (Says b) (t .refusal .given .1) (b .begin .ensures) (a .heap .now) refl)
+    refused-told (t .refusal .given .0 .0) (subst (Says b) (t .refusal .given .1) (b .begin .ensures) (a .heap .now)
+    refl)
 
 pub survey-spec : {M : Type 1} → statement M
 survey-spec =

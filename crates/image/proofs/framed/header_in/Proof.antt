@@ -6,7 +6,11 @@ use Rattle.image.proofs.framed.header_in.Statement.{statement}
 use Rattle.image.proofs.framed.header_in.Tie as tie
 
 returns : tie.Need-returns
-returns c = (c .header-at .ensures .0 ∙ ap (header-at 0) (c .before .before .before .copy-stream .ensures), c .header-at .ensures .1)
+returns c = (
+  c .header-at .ensures .0 ∙ ap (header-at 0) (c .before .before .before .copy-stream .ensures),
+  c .header-at .ensures .1,
+)
 
 pub header-in-spec : {M : Type 1} → statement M
-header-in-spec = tie.close (tie.spec (λ c. search needs) (λ c κs. search needs) (λ c. search needs) (λ c κs. search needs) returns)
+header-in-spec = tie.close (tie.spec (λ c. search needs) (λ c κs. search needs) (λ c. search needs)
+    (λ c κs. search needs) returns)

@@ -33,21 +33,23 @@ long c = length-padded (c .args .size) (drop (c .args .from) (stream-of (c .args
 
 -- what the check says is whether the state is consistent
 says : (s : List ℕ) (k : Accounts) → allowed (length s) ≡ true → (t : Bool)
-    → verdict-values (cond t Accepted (Refused Inconsistent)) ≡ check (table (k .edition)) s k .values → t ≡ own-sound s k
+    → verdict-values (cond t Accepted (Refused Inconsistent)) ≡ check (table (k .edition)) s k .values
+    → t ≡ own-sound s k
 says s k a true told = check-sound s s k Accepted told refl refl
 says s k a false told = check-unsound s s k (Refused Inconsistent) told refl a Inconsistent refl
 
 begin-requires : tie.Need-begin-requires
-begin-requires c κs = let s = c .before .before .before in (built-none (s .args .words .now), search needs)
+begin-requires c κs = let s = c .before .before .before .before in (built-none (s .args .words .now), search needs)
 
 -- what the beginning says, by its answer
 abbrev start : tie.After-begin → tie.Start
-start c = c .before .before .before .before
+start c = c .before .before .before .before .before
 
 abbrev Says : tie.After-begin → Begun → Type 0
 Says c b =
     let a = start c .args in
-    Begins (a .size) (a .words .now) (c .begin .last .1 .1 .1 .0) (c .begin .last .1 .1 .0) (c .begin .last .1 .1 .1 .1 .0) b
+    Begins (a .size) (a .words .now) (c .begin .last .1 .1 .1 .0) (c .begin .last .1 .1 .0)
+    (c .begin .last .1 .1 .1 .1 .0) b
 
 returns : tie.Need-returns
 returns c =
@@ -70,7 +72,8 @@ returns-2 c =
     let b = t .before .before in
     let s = start b in
     says (heap s) (accounts-of (s .args .words .now)) (ap allowed (long s) ∙ s .pre) (c .walk-frames .result)
-    (subst (Says b) (t .terms .given .1) (b .begin .ensures) .decides (heap s) (long s) (c .walk-frames .result) (c .walk-frames .ensures))
+    (subst (Says b) (t .terms .given .1) (b .begin .ensures) .decides (heap s) (long s) (c .walk-frames .result)
+    (c .walk-frames .ensures))
 
 pub is-sound-in-spec : {M : Type 1} → statement M
 is-sound-in-spec =

@@ -52,16 +52,19 @@ index-requires c κs =
     (t .used-top .ensures .0, t .used-top .ensures .1, start (t .before .before .before) .pre .0)
 
 told : (c : tie.After-index) (t : Bool) → c .index .result .fine ≡ t
-    → Told (words (range c)) t (c .index .last .1 .1 .0) (c .index .last .1 .0) (c .index .result .low) (c .index .result .used)
+    → Told (words (range c)) t (c .index .last .1 .1 .0) (c .index .last .1 .0) (c .index .result .low)
+    (c .index .result .used)
 told c t e =
-    subst (λ (x : Bool). Told (words (range c)) x (c .index .last .1 .1 .0) (c .index .last .1 .0) (c .index .result .low) (c .index .result .used)) e
+    subst (λ (x : Bool). Told (words (range c)) x (c .index .last .1 .1 .0) (c .index .last .1 .0)
+    (c .index .result .low) (c .index .result .used)) e
     (c .index .ensures)
 
 returns-3 : tie.Need-returns-3
 returns-3 c = λ s l.
     let i = c .before .before in
     let r = range i in
-    verdict-ill (table (edition-of (words r))) s (accounts-of (words r)) (ap allowed l ∙ allows r) (ranged i) (quotas-long (words r))
+    verdict-ill (table (edition-of (words r))) s (accounts-of (words r)) (ap allowed l ∙ allows r) (ranged i)
+    (quotas-long (words r))
     (told i false (not-true _ (c .if3 .taken)))
 
 owing-requires : tie.Need-owing-requires
@@ -71,19 +74,23 @@ owing-requires c κs = start (range (c .before .before .before)) .pre .1
 abbrev indexed : tie.After-owing → tie.After-index
 indexed c = c .before .before .before .before
 
-owes-all : (c : tie.After-owing) (t : Bool) → c .owing .result ≡ t → Owing (quotas-of (words (range (indexed c)))) t (c .owing .last .1 .0)
-owes-all c t e = subst (λ (x : Bool). Owing (quotas-of (words (range (indexed c)))) x (c .owing .last .1 .0)) e (c .owing .ensures)
+owes-all : (c : tie.After-owing) (t : Bool) → c .owing .result ≡ t
+    → Owing (quotas-of (words (range (indexed c)))) t (c .owing .last .1 .0)
+owes-all c t e = subst (λ (x : Bool). Owing (quotas-of (words (range (indexed c)))) x (c .owing .last .1 .0)) e
+    (c .owing .ensures)
 
 returns-4 : tie.Need-returns-4
 returns-4 c = λ s l.
     let o = c .before in
     let i = indexed o in
     let r = range i in
-    verdict-insolvent (table (edition-of (words r))) s (accounts-of (words r)) (ap allowed l ∙ allows r) (ranged i) (quotas-long (words r))
+    verdict-insolvent (table (edition-of (words r))) s (accounts-of (words r)) (ap allowed l ∙ allows r) (ranged i)
+    (quotas-long (words r))
     (owes-all o false (not-true _ (c .if4 .taken)))
 
 entered : (c : tie.Else4)
-    → let i = indexed (c .before) in Index (words (range i)) (i .index .last .1 .1 .0) (i .index .last .1 .0) (i .index .result .low) (i .index .result .used)
+    → let i = indexed (c .before) in Index (words (range i)) (i .index .last .1 .1 .0) (i .index .last .1 .0)
+    (i .index .result .low) (i .index .result .used)
 entered c = told (indexed (c .before)) true (not-false _ (c .before .before .before .if3 .left))
 
 debts : (c : tie.Else4) → Owing (quotas-of (words (range (indexed (c .before))))) true (c .before .owing .last .1 .0)
@@ -99,7 +106,8 @@ returns-5 c =
       given = omega (arith, last-given (words r) (ranged i), n .ensures .1);
       index = entered c;
       ready = walk-ready (entered c) (debts c);
-      decides = λ s l t j. verdict-walked (entered c) (debts c) s (ap allowed l ∙ allows r) (ranged i) (n .result .edition) (n .result .kind) (n .result .last)
+      decides = λ s l t j. verdict-walked (entered c) (debts c) s (ap allowed l ∙ allows r) (ranged i)
+          (n .result .edition) (n .result .kind) (n .result .last)
           (n .ensures .3) (n .ensures .2) (n .ensures .1) t j;
     }
 

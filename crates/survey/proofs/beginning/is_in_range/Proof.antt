@@ -12,12 +12,20 @@ returns c = rw (lt-leb (c .before .args .last) greatest-serial (omega (arith, c 
 returns-2 : tie.Need-returns-2
 returns-2 c =
     let a = c .before .before .args in
-    rw (le-leb (a .last) greatest-serial (omega (arith, c .before .if1 .left)), le-ltb (a .kind) 2 (omega (arith, c .if2 .taken)))
+    rw (
+      le-leb (a .last) greatest-serial (omega (arith, c .before .if1 .left)),
+      le-ltb (a .kind) 2
+          (omega (arith, c .if2 .taken)),
+    )
 
 returns-3 : tie.Need-returns-3
 returns-3 c =
     let a = c .before .before .args in
-    rw (le-leb (a .last) greatest-serial (omega (arith, c .before .if1 .left)), lt-ltb (a .kind) 2 (omega (arith, c .if2 .left))) refl
+    rw (
+      le-leb (a .last) greatest-serial (omega (arith, c .before .if1 .left)),
+      lt-ltb (a .kind) 2
+          (omega (arith, c .if2 .left)),
+    ) refl
 
 pub is-in-range-spec : {M : Type 1} → statement M
 is-in-range-spec = tie.close (tie.spec returns returns-2 returns-3)

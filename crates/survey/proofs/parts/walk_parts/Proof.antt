@@ -11,7 +11,7 @@ use lib.ListN.{drop}
 use Rattle.rounding.specs.Rounding.{table}
 use Rattle.layout.specs.Blocks.{cut}
 use Rattle.survey.specs.Index.{keys-left}
-use Rattle.survey.specs.Contracts.{judged, Walked-to}
+use Rattle.survey.specs.Contracts.{judged, Walked-to, rules, tables, stop}
 use Rattle.survey.proofs.Courses.{Touring, touring-start, touring-on, touring-less}
 use Rattle.survey.proofs.parts.walk_parts.Statement.{statement}
 use Rattle.survey.proofs.parts.walk_parts.Tie as tie
@@ -54,10 +54,10 @@ Says c t =
     let l = turn c .before .loop in
     let r = c .walk .result in
     let w = c .walk .last in
-    Walked-to (table (a .edition)) (a .kind) (a .last) (l .edge) (a .heap .now) (a .words .now)
+    Walked-to (rules (table (a .edition)) (a .kind) (a .last)) (l .edge) (a .heap .now) (a .words .now)
     (judged (table (a .edition)) (a .kind) (a .last) (l .at) (cut (l .back) (drop (l .at) (a .heap .now))) (l .before)
-    (keys-left (a .words .now) (l .heads) (l .links)) (l .owed))
-    t (r .at) (r .back) (r .before) (w .1 .1 .1 .0) (w .1 .1 .0) (w .1 .1 .1 .1 .0) (w .1 .1 .1 .1 .1 .0)
+    (keys-left (a .words .now) (l .heads) (l .links)) (l .owed)) t
+    (stop (r .at) (r .back) (r .before) (w .1 .1 .1 .1 .1 .0)) (tables (w .1 .1 .1 .0) (w .1 .1 .0) (w .1 .1 .1 .1 .0))
 
 says : (c : tie.After-walk Inv-loop μ-loop) (t : Bool) → c .walk .result .fine ≡ t → Says c t
 says c t e = subst (Says c) e (c .walk .ensures .0)
@@ -66,9 +66,10 @@ abbrev Ends : tie.After-walk Inv-loop μ-loop → ℕ → ℕ → ℕ → Bool �
 Ends c at back before t =
     let a = start c .args in
     let w = c .walk .last in
-    Walked-to (table (a .edition)) (a .kind) (a .last) 8 (a .heap .now) (a .words .now)
-    (Whole (a .heap .now) (a .words .now) (a .kind) (a .edition) (a .last) (a .heads .now) (a .links .now) (a .owed .now))
-    t at back before (w .1 .1 .1 .0) (w .1 .1 .0) (w .1 .1 .1 .1 .0) (w .1 .1 .1 .1 .1 .0)
+    Walked-to (rules (table (a .edition)) (a .kind) (a .last)) 8 (a .heap .now) (a .words .now)
+    (Whole (a .heap .now) (a .words .now) (a .kind) (a .edition) (a .last) (a .heads .now) (a .links .now)
+    (a .owed .now)) t (stop at back before (w .1 .1 .1 .1 .1 .0))
+    (tables (w .1 .1 .1 .0) (w .1 .1 .0) (w .1 .1 .1 .1 .0))
 
 returns : tie.Need-returns Inv-loop μ-loop
 returns c =

@@ -17,7 +17,7 @@ use Rattle.audit.specs.Audit.{behind, audit-parsed}
 use Rattle.audit.specs.Fitting.{fitting}
 use Rattle.lookup.specs.Walk.{headed, has-room}
 use Rattle.survey.specs.Index.{keys-left}
-use Rattle.survey.specs.Contracts.{Visited, Stage, judged, Walked-to}
+use Rattle.survey.specs.Contracts.{Visited, Stage, judged, Walked-to, rules, tables, visiting, stop}
 use Rattle.survey.proofs.Walks.{Walking, walking-start, walking-long, walking-back, walking-fails, walking-on, walking-judged, suffix-start, suffix-on}
 use Rattle.survey.proofs.Walks.{walked-far, one-fails}
 use Rattle.survey.specs.Route.{TAKEN, Reaches, Passed}
@@ -88,10 +88,11 @@ mul-size c = omega (arith, c .before .header-at .ensures .1)
 abbrev Says : tie.After-header-at Inv-loop μ-loop → ℕ → ℕ → ℕ → List ℕ → List ℕ → List ℕ → ℕ → Bool → Type 0
 Says c at back before heads links owed left t =
     let a = start c .args in
-    Walked-to (table (a .edition)) (a .kind) (a .last) (a .edge) (a .heap .now) (a .words .now)
-    (judged (table (a .edition)) (a .kind) (a .last) (a .at) (cut (a .units) (drop (a .at) (a .heap .now))) (a .serial-before)
-    (keys-left (a .words .now) (a .heads .now) (a .links .now)) (a .owed .now))
-    t at back before heads links owed left
+    Walked-to (rules (table (a .edition)) (a .kind) (a .last)) (a .edge) (a .heap .now) (a .words .now)
+    (judged (table (a .edition)) (a .kind) (a .last) (a .at) (cut (a .units) (drop (a .at) (a .heap .now)))
+    (a .serial-before)
+    (keys-left (a .words .now) (a .heads .now) (a .links .now)) (a .owed .now)) t (stop at back before left)
+    (tables heads links owed)
 
 returns : tie.Need-returns Inv-loop μ-loop
 unfolding judged
@@ -153,8 +154,9 @@ Answers c t =
     let l = turn (header c) .before .loop in
     let h = header c .header-at .result in
     let v = c .visit .last in
-    Visited (table (a .edition)) (a .kind) (a .last) (h .serial) (8 * h .size) (length (a .heap .now) - length (after c)) (l .before)
-    (a .words .now) (l .heads) (l .links) (l .owed) t (v .1 .1 .0) (v .1 .0) (v .1 .1 .1 .0) (v .1 .1 .1 .1 .0)
+    Visited (rules (table (a .edition)) (a .kind) (a .last))
+    (visiting (h .serial) (8 * h .size) (length (a .heap .now) - length (after c)) (l .before)) (a .words .now)
+    (tables (l .heads) (l .links) (l .owed)) t (tables (v .1 .1 .0) (v .1 .0) (v .1 .1 .1 .0)) (v .1 .1 .1 .1 .0)
 
 visited : (c : tie.After-visit Inv-loop μ-loop) (t : Bool) → c .visit .result ≡ t → Answers c t
 visited c t e = subst (Answers c) e (c .visit .ensures)
