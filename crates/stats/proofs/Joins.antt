@@ -1,5 +1,6 @@
 -- The tally of the blocks that a walk meets, joined from the tally of each block: from where a walk stands, the tally so far and that of the blocks to come
 -- make the whole.
+use mathlib.Core.Option.{none, some}
 use Prim.Native.Nat.{ℕ, zero, suc, _+_, _≤_, _<_}
 use native.Mathlib.Nat.{zero-add, add-zero, add-assoc}
 use native.Mathlib.Omega.{arith}
@@ -11,7 +12,6 @@ use lib.Dec.{leb}
 use lib.ListN.{length}
 use Rattle.model.specs.Lists.{total}
 use Rattle.lookup.specs.declared.Met.{Met}
-use Rattle.lookup.specs.declared.Lookup.the-variants.{Found, Missing}
 use Rattle.lookup.specs.Walk.{met-at, met-from, met, live-met}
 use Rattle.lookup.proofs.Walk.{met-known}
 use Rattle.survey.specs.Shares.{one-if, how-many}
@@ -165,7 +165,7 @@ module _ (s : List ℕ) where
   tallied-start = record { fuel = length s; enough = omega arith; same = sym (none-joined (tally-of (met-from (length s) 0 s))); small = within-none }
 
   module _ (at : ℕ) (t : Tally) (w : Tallied s at t) where
-    pub tallied-end : met-at at s ≡ Missing → t ≡ tally-of (met s)
+    pub tallied-end : met-at at s ≡ none → t ≡ tally-of (met s)
     unfolding met-from
     tallied-end e = sym (w .same ∙ ap (joined t) (nothing (w .fuel)) ∙ joined-none t)
       where
@@ -173,7 +173,7 @@ module _ (s : List ℕ) where
         nothing zero = refl
         nothing (suc k) = rw e
 
-    pub tallied-next : (m : Met) → met-at at s ≡ Found m → Tallied s (at + m .size) (joined t (single m))
+    pub tallied-next : (m : Met) → met-at at s ≡ some m → Tallied s (at + m .size) (joined t (single m))
     unfolding met-from
     tallied-next m e = go (w .fuel) (w .enough) (w .same)
       where

@@ -91,7 +91,7 @@ module _ (s : List ℕ) (bs : List Block) (e : parse s ≡ some bs) where
       where
         go : (o : Option Met) → first (has-room a n) (met s) ≡ o → is-none (lowest-base (length s) (blocks-of s) a n) ≡ is-none o
         go none q = rw (base-nowhere a n positive s bs e apart (fit-first a n s positive ∙ rw q))
-        go (some m) q = rw (base-found a n positive s bs e apart m (base-in a m) (fit-first a n s positive ∙ rw q) .lowest)
+        go (some m) q = rw (base-found a n positive s bs e apart (m .at) (base-in a m) (fit-first a n s positive ∙ rw q) .lowest)
 
     -- so exactly if the greatest room is long enough
     pub room-exactly : is-none (lowest-base (length s) (blocks-of s) a n) ≡ ltb (most (room-in a) (met s)) n
