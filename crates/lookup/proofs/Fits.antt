@@ -1,5 +1,4 @@
--- What the fit of one block and of a heap says: a block fits exactly if it has room, at its lowest base, and the heap's fit is the first block
--- that has room. Each is by the definition's test.
+-- What the fit of a heap says: nothing at alignment 0, else the first block that has room.
 use mathlib.Core.Path.{_≡_}
 use mathlib.Core.List.{List}
 use Prim.Native.Nat.{ℕ, _<_}

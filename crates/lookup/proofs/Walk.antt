@@ -1,6 +1,6 @@
--- The walk: what is known of a block that it meets, and how a search among the blocks that are met goes on from a place. A walk that meets no
--- block finds nothing there, one that meets a block of which the test holds has found it, and any other goes on behind the block. The size that is
--- read at a place is enough to go on: where no block is met, it leads behind the heap.
+-- The walk: what is known of a block that it meets, and how a search among the blocks that are met goes on from a place.
+-- A walk that meets no block finds nothing there, one that meets a block of which the test holds has found it, and any
+-- other goes on behind the block.
 use mathlib.Core.Path.{_≡_, refl, ap, sym, _∙_}
 use mathlib.Core.List.{List}
 use mathlib.Core.Bool.{Bool, true, false, cond}

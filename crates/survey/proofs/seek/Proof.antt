@@ -1,5 +1,6 @@
--- `survey::seek` meets its contract. A walk that fails, a record that is still open or a debt is refused as inconsistent, as the beginning decides it. Where they
--- pass, the paths give the serial's records, the walk's first part the object, and the walk the room.
+-- `survey::seek` meets its contract. A walk that fails, a record that is still open or a debt is refused as
+-- inconsistent, as the beginning decides it. Where they pass, the paths give the serial's records, the walk's first part
+-- the object, and the walk the room.
 use Prim.Native.Nat.{ℕ, _-_, _*_, _≤_}
 use native.Mathlib.Omega.{arith}
 use borrow.Author.Needs.{needs}
