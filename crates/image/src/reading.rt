@@ -28,7 +28,9 @@ pub(crate) fn is_sound_in(image: &[u8], from: u16, size: usize, words: &[u32; WO
     let mut links = [end; LINKS];
     let mut heads = [end; SLOTS];
     let mut owed = [0usize; QUOTAS];
-    let Begun::Ready(terms) = survey::begin(size, words, &mut links, &mut heads, &mut owed) else {
+    let top = survey::used_top(words);
+    let Begun::Ready(terms) = survey::begin(size, words, top, &mut links, &mut heads, &mut owed)
+    else {
         return false;
     };
     walk_frames(

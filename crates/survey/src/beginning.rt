@@ -3,7 +3,6 @@
 use crate::LINKS;
 use crate::SLOTS;
 use crate::indexing::index;
-use crate::indexing::used_top;
 use crate::paying::owing;
 use accounts::QUOTAS;
 use model::GREATEST_SERIAL;
@@ -13,11 +12,12 @@ ghost use mathlib.Core.Path.{_≡_};
 ghost use mathlib.Core.Bool.{_&&_};
 ghost use lib.Dec.{leb, ltb};
 ghost use lib.ListN.{length};
-ghost use Rattle.accounts.specs.Accounts.{QUOTAS};
+ghost use Prim.Native.Nat.{_≤_};
+ghost use Rattle.accounts.specs.Accounts.{QUOTAS, HOLDS};
 ghost use Rattle.model.specs.Consistent.{greatest-serial, in-range};
 ghost use Rattle.words.specs.Words.{last-of, kind-of, edition-of, accounts-of};
 ghost use Rattle.survey.specs.Index.{Built};
-ghost use Rattle.survey.specs.Contracts.{Begins};
+ghost use Rattle.survey.specs.Contracts.{Blank, Begins};
 
 // What the walk goes by: kind, edition and last serial, how many records are open, and the place of the lowest unused
 // one, HOLDS where none is.
@@ -73,15 +73,18 @@ fn numbers_in(words: &[u32; WORDS]) -> Numbers
     }
 }
 
-// The survey of a heap of so many bytes begins: no slot and no link is taken yet.
+// The survey of a heap of so many bytes begins: no slot and no link is taken yet, and from `top` on all records are blank.
+// The callers ask `used_top` themselves, so that this is short enough to be compiled well beside both walks.
 pub fn begin(
     len: usize,
     words: &[u32; WORDS],
+    top: usize,
     links: &mut [u16; LINKS],
     heads: &mut [u16; SLOTS],
     owed: &mut [usize; QUOTAS],
 ) -> Begun
-    requires { ⌜ Built (now words) 0 (now heads) (now links) × (length (now owed) ≡ QUOTAS) ⌝ }
+    requires { ⌜ (top ≤ HOLDS) × Blank (now words) top × Built (now words) 0 (now heads) (now links)
+        × (length (now owed) ≡ QUOTAS) ⌝ }
     ensures { λ r. ⌜ Begins len (now (words .entry)) (now (heads .exit)) (now (links .exit)) (now (owed .exit)) r ⌝ }
 {
     if !model::is_allowed(len) {
@@ -91,7 +94,6 @@ pub fn begin(
     if !numbers.fine {
         return Begun::Refused(Refusal::Inconsistent);
     }
-    let top = used_top(words);
     let tally = index(words, links, heads, top);
     if !tally.fine {
         return Begun::Refused(Refusal::Inconsistent);

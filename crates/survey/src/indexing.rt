@@ -155,9 +155,9 @@ fn enter(words: &[u32; WORDS], links: &mut [u16; LINKS], heads: &mut [u16; SLOTS
     }
 }
 
-// A place from which on all records are blank, by steps of 128 and then by halves of these. It is no part of the index, which is then short enough to be
-// compiled into both of its callers.
-pub(crate) fn used_top(words: &[u32; WORDS]) -> usize
+// A place from which on all records are blank, by steps of 128 and then by halves of these. It is no part of the index,
+// which is then short enough to be compiled into its callers.
+pub fn used_top(words: &[u32; WORDS]) -> usize
     ensures { λ r. ⌜ (r ≤ HOLDS) × Blank (now (words .entry)) r ⌝ }
 {
     let by_128 = used_end(words, HOLDS, 128);

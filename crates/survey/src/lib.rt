@@ -39,6 +39,7 @@ use giving::named;
 use giving::place;
 use giving::room;
 pub use holders::held_blocks;
+pub use indexing::used_top;
 use parts::walk_parts;
 pub use paying::is_settled;
 pub use sharing::Holdings;
@@ -146,7 +147,8 @@ pub fn survey(heap: &[u8], words: &[u32; WORDS], wanted: Wanted) -> Surveyed
     let mut links = [end; LINKS];
     let mut heads = [end; SLOTS];
     let mut owed = [0usize; QUOTAS];
-    match begin(heap.len(), words, &mut links, &mut heads, &mut owed) {
+    let top = used_top(words);
+    match begin(heap.len(), words, top, &mut links, &mut heads, &mut owed) {
         Begun::Ready(terms) => seek(
             heap,
             words,

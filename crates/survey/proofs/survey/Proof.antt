@@ -10,14 +10,17 @@ use Rattle.survey.proofs.survey.Statement.{statement}
 use Rattle.survey.proofs.survey.Tie as tie
 
 begin-requires : tie.Need-begin-requires
-begin-requires c κs = let s = c .before .before .before .before in (built-none (s .args .words .now), search needs)
+begin-requires c κs =
+    let t = c .before .before .before in
+    let s = t .before .before in
+    (t .used-top .ensures .0, t .used-top .ensures .1, built-none (s .args .words .now), search needs)
 
 -- what the beginning says, by its answer
 abbrev Says : tie.After-begin → Begun → Type 0
 Says c b =
-    let a = c .before .before .before .before .before .args in
-    Begins (length (a .heap .now)) (a .words .now) (c .begin .last .1 .1 .1 .0) (c .begin .last .1 .1 .0)
-    (c .begin .last .1 .1 .1 .1 .0) b
+    let a = c .before .before .before .before .before .before .args in
+    Begins (length (a .heap .now)) (a .words .now) (c .begin .last .1 .1 .1 .1 .0) (c .begin .last .1 .1 .1 .0)
+    (c .begin .last .1 .1 .1 .1 .1 .0) b
 
 seek-requires : tie.Need-seek-requires
 seek-requires c κs =
@@ -32,7 +35,7 @@ returns-2 : tie.Need-returns-2
 returns-2 c =
     let t = c .before in
     let b = t .before .before in
-    let a = b .before .before .before .before .before .args in
+    let a = b .before .before .before .before .before .before .args in
     refused-told (t .refusal .given .0 .0) (subst (Says b) (t .refusal .given .1) (b .begin .ensures) (a .heap .now)
     refl)
 
@@ -41,6 +44,7 @@ survey-spec =
     tie.close
     (tie.spec
     (λ c. search needs)
+    (λ c κs. search needs)
     begin-requires
     (λ c. search needs)
     seek-requires

@@ -39,17 +39,20 @@ says s k a true told = check-sound s s k Accepted told refl refl
 says s k a false told = check-unsound s s k (Refused Inconsistent) told refl a Inconsistent refl
 
 begin-requires : tie.Need-begin-requires
-begin-requires c κs = let s = c .before .before .before .before in (built-none (s .args .words .now), search needs)
+begin-requires c κs =
+    let t = c .before .before .before in
+    let s = t .before .before in
+    (t .used-top .ensures .0, t .used-top .ensures .1, built-none (s .args .words .now), search needs)
 
 -- what the beginning says, by its answer
 abbrev start : tie.After-begin → tie.Start
-start c = c .before .before .before .before .before
+start c = c .before .before .before .before .before .before
 
 abbrev Says : tie.After-begin → Begun → Type 0
 Says c b =
     let a = start c .args in
-    Begins (a .size) (a .words .now) (c .begin .last .1 .1 .1 .0) (c .begin .last .1 .1 .0)
-    (c .begin .last .1 .1 .1 .1 .0) b
+    Begins (a .size) (a .words .now) (c .begin .last .1 .1 .1 .1 .0) (c .begin .last .1 .1 .1 .0)
+    (c .begin .last .1 .1 .1 .1 .1 .0) b
 
 returns : tie.Need-returns
 returns c =
@@ -80,6 +83,7 @@ is-sound-in-spec =
     tie.close
     (tie.spec
     (λ c. search needs)
+    (λ c κs. search needs)
     begin-requires
     (λ c. search needs)
     (λ c. search needs)

@@ -41,15 +41,13 @@ returns-2 c = λ s l.
 
 -- the index, by its answer
 abbrev range : tie.After-index → tie.After-numbers-in
-range c = c .before .before .before .before .before .before
+range c = c .before .before .before .before .before
 
 ranged : (c : tie.After-index) → in-range (accounts-of (words (range c))) ≡ true
-ranged c = sym (range c .numbers-in .ensures .0) ∙ not-false _ (c .before .before .before .before .if2 .left)
+ranged c = sym (range c .numbers-in .ensures .0) ∙ not-false _ (c .before .before .before .if2 .left)
 
 index-requires : tie.Need-index-requires
-index-requires c κs =
-    let t = c .before .before in
-    (t .used-top .ensures .0, t .used-top .ensures .1, start (t .before .before .before) .pre .0)
+index-requires c κs = let p = start (c .before .before .before .before) .pre in (p .0, p .1, p .2)
 
 told : (c : tie.After-index) (t : Bool) → c .index .result .fine ≡ t
     → Told (words (range c)) t (c .index .last .1 .1 .0) (c .index .last .1 .0) (c .index .result .low)
@@ -68,7 +66,7 @@ returns-3 c = λ s l.
     (told i false (not-true _ (c .if3 .taken)))
 
 owing-requires : tie.Need-owing-requires
-owing-requires c κs = start (range (c .before .before .before)) .pre .1
+owing-requires c κs = start (range (c .before .before .before)) .pre .3
 
 -- what the quotas owe, by the answer of `owing`
 abbrev indexed : tie.After-owing → tie.After-index
@@ -119,7 +117,6 @@ begin-spec =
     returns
     (λ c κs. search needs)
     returns-2
-    (λ c κs. search needs)
     index-requires
     returns-3
     owing-requires
