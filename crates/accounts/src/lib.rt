@@ -1,4 +1,5 @@
 // The accounts of a shared heap: quotas, the last serial and hold records, taken by value and given back by value (rules, section 3).
+#![tactic(auto)]
 ghost use Rattle.std.specs.Prelude.{◌<◌, ◌≡◌};
 ghost use Rattle.accounts.specs.Accounts.{zero_hold, zero_accounts, begun, charged, refunded, used, dropped, opened};
 ghost use Rattle.accounts.specs.Accounts.{remaining, spent, charge, refund};
@@ -29,7 +30,7 @@ pub const ALL_PERMISSIONS: u8 = 7;
 
 // What a quota was granted at the opening, what remains of it, and its permissions by their bits (rules, section 15).
 #[repr(C)]
-#[derive(Drop)]
+#[derive(Clone, Copy)]
 pub struct Quota {
     pub grant: u32,
     pub remainder: u32,
@@ -38,7 +39,7 @@ pub struct Quota {
 
 // A hold record: how often a quota holds the object with a serial (rule 3.4). An unused record is all zero.
 #[repr(C)]
-#[derive(Drop)]
+#[derive(Clone, Copy)]
 pub struct Hold {
     pub serial: u32,
     pub quota: u8,
@@ -47,7 +48,7 @@ pub struct Hold {
 
 // The accounting state. The kind is 0 for a plain heap and 1 for one with quarantine; the edition is 0 for edition 1 of the table of units and 1 for 2.
 #[repr(C)]
-#[derive(Drop)]
+#[derive(Clone, Copy)]
 pub struct Accounts {
     pub quotas: [Quota; QUOTAS],
     pub last_serial: u32,
@@ -57,7 +58,7 @@ pub struct Accounts {
 }
 
 // The place of a hold record, if there is one.
-#[derive(Drop)]
+#[derive(Clone, Copy)]
 pub enum Place {
     At(usize),
     Nothing,

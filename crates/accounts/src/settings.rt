@@ -3,21 +3,21 @@ ghost use Rattle.std.specs.Prelude.{◌≡◌};
 ghost use Rattle.accounts.specs.Accounts.{kind_number, edition_number};
 
 // What becomes of a block that nobody holds: it is free at once, or waits for a sweep.
-#[derive(Drop)]
+#[derive(Clone, Copy)]
 pub enum Kind {
     Plain,
     Quarantine,
 }
 
 // Which table of units lengths are rounded by.
-#[derive(Drop)]
+#[derive(Clone, Copy)]
 pub enum Edition {
     First,
     Second,
 }
 
 // What an opening chooses beside the grants.
-#[derive(Drop)]
+#[derive(Clone, Copy)]
 pub struct Settings {
     pub kind: Kind,
     pub edition: Edition,

@@ -1,4 +1,5 @@
 // Two images side by side: what differs in the states that they say, one difference after the other. What an image says stands in `image_model`.
+#![tactic(auto)]
 use image_model::ImageRefusal;
 
 mod comparing;
@@ -10,7 +11,7 @@ pub use comparing::{compare, next_difference};
 
 // One difference, named without its values: the last serial, the heap's kind, its edition, a quota by its number, a hold record by its place, a run of heap
 // bytes by its offset and length.
-#[derive(Drop)]
+#[derive(Clone, Copy)]
 pub enum Difference {
     LastSerial,
     Kind,
@@ -21,7 +22,7 @@ pub enum Difference {
 }
 
 // Which of the two images a refusal is about.
-#[derive(Drop)]
+#[derive(Clone, Copy)]
 pub enum Which {
     First,
     Second,
@@ -29,7 +30,7 @@ pub enum Which {
 }
 
 // The difference that was asked for, or that there are not so many, or why the images are not compared.
-#[derive(Drop)]
+#[derive(Clone, Copy)]
 pub enum CompareAnswer {
     Differs(Difference),
     Nothing,
@@ -37,7 +38,7 @@ pub enum CompareAnswer {
 }
 
 // From where on differences are looked for: from the last serial, from the kind, from the edition, from a quota, a hold record or a heap byte.
-#[derive(Drop)]
+#[derive(Clone, Copy)]
 pub enum Position {
     Start,
     Kind,
@@ -48,14 +49,14 @@ pub enum Position {
 }
 
 // The first difference from a position on, and the position behind it; or that there is none.
-#[derive(Drop)]
+#[derive(Clone, Copy)]
 pub enum Step {
     Differs(Difference, Position),
     Nothing,
 }
 
 // The same of two images; or why they are not compared.
-#[derive(Drop)]
+#[derive(Clone, Copy)]
 pub enum NextAnswer {
     Differs(Difference, Position),
     Nothing,
@@ -63,7 +64,7 @@ pub enum NextAnswer {
 }
 
 // Whether two images are compared; or why not, and which of them it is about.
-#[derive(Drop)]
+#[derive(Clone, Copy)]
 pub(crate) enum Pair {
     Comparable,
     Refused(ImageRefusal, Which),

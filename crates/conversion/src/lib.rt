@@ -1,5 +1,6 @@
 // Images moved from one form to the other: form 1 up to form 2, form 2 down to form 1. What an image is stands in `image_model`, how it is read and
 // written in `image`.
+#![tactic(auto)]
 
 mod moving;
 

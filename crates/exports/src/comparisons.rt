@@ -11,7 +11,7 @@ use comparison::{CompareAnswer, Difference, NextAnswer, Position, Which};
 // bytes, 5 for the heap's kind and 6 for its edition; its place is the quota's number, the record's place or the run's
 // offset; its length is the run's. What has no meaning is 0.
 #[repr(C)]
-#[derive(Drop)]
+#[derive(Clone, Copy)]
 pub struct CompareReply {
     pub refusal: u32,
     pub which: u32,
@@ -24,7 +24,7 @@ pub struct CompareReply {
 // is 0 for the start, 1 for a quota, 2 for a hold record and 3 for a heap byte, and at is which; it is 4 for the
 // heap's kind and 5 for its edition. What has no meaning is 0.
 #[repr(C)]
-#[derive(Drop)]
+#[derive(Clone, Copy)]
 pub struct NextReply {
     pub refusal: u32,
     pub which: u32,

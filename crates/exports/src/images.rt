@@ -16,7 +16,7 @@ use words::WORDS;
 
 // What the writer and a move give: how many bytes they wrote.
 #[repr(C)]
-#[derive(Drop)]
+#[derive(Clone, Copy)]
 pub struct ImageReply {
     pub refusal: u32,
     pub length: usize,
@@ -24,7 +24,7 @@ pub struct ImageReply {
 
 // What an image is by its own bytes: its form's number and its heap's length.
 #[repr(C)]
-#[derive(Drop)]
+#[derive(Clone, Copy)]
 pub struct ExamineReply {
     pub refusal: u32,
     pub form: u32,

@@ -1,6 +1,7 @@
 // Everything that programs in C and Rust call, in one library: a module for each topic. A reply holds numbers alone:
 // the refusal's number, 0 where the call is accepted, and what is answered, else zeros. Every call works in place. No
 // call asks anything of its caller but that each pointer and length are those of memory that is its own.
+#![tactic(auto)]
 mod comparisons;
 mod counts;
 mod heaps;

@@ -7,7 +7,7 @@ use replay_text::Replayed;
 
 // What the replay gives: done is 1 and length the bytes that are written, or both are 0 where the output is too short.
 #[repr(C)]
-#[derive(Drop)]
+#[derive(Clone, Copy)]
 pub struct ReplayReply {
     pub done: u32,
     pub length: usize,

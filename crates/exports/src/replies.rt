@@ -9,14 +9,14 @@ use model::{AmountAnswer, BlockAnswer, Handle, HandleAnswer, RangeAnswer, Verdic
 
 // What each quota is granted: an array goes by value only inside a struct.
 #[repr(C)]
-#[derive(Drop)]
+#[derive(Clone, Copy)]
 pub struct Grants {
     pub values: [u32; QUOTAS],
 }
 
 // What allocate, allocate array and reallocate give, and a queue's receive.
 #[repr(C)]
-#[derive(Drop)]
+#[derive(Clone, Copy)]
 pub struct HandleReply {
     pub refusal: u32,
     pub handle: Handle,
@@ -24,7 +24,7 @@ pub struct HandleReply {
 
 // What claim, release, free-all, clear permissions, sweep and remaining give.
 #[repr(C)]
-#[derive(Drop)]
+#[derive(Clone, Copy)]
 pub struct AmountReply {
     pub refusal: u32,
     pub amount: u32,
@@ -32,7 +32,7 @@ pub struct AmountReply {
 
 // What lend gives: where in the heap the object's bytes lie.
 #[repr(C)]
-#[derive(Drop)]
+#[derive(Clone, Copy)]
 pub struct RangeReply {
     pub refusal: u32,
     pub start: usize,
@@ -41,7 +41,7 @@ pub struct RangeReply {
 
 // What a step of the listing gives: found is 1 where a block is given, else 0.
 #[repr(C)]
-#[derive(Drop)]
+#[derive(Clone, Copy)]
 pub struct BlockReply {
     pub refusal: u32,
     pub found: u32,

@@ -10,7 +10,7 @@ use report::{ExportAnswer, ImportAnswer, Imported};
 // What import gives: the grants, all zero where the text is refused; the refusal's number, 0 where there is none; and the
 // number of the first bad line, from 1, 0 where there is none.
 #[repr(C)]
-#[derive(Drop)]
+#[derive(Clone, Copy)]
 pub struct ImportReply {
     pub grants: Grants,
     pub refusal: u32,
@@ -19,7 +19,7 @@ pub struct ImportReply {
 
 // What export gives: the refusal's number, 0 where there is none, and how many bytes it wrote.
 #[repr(C)]
-#[derive(Drop)]
+#[derive(Clone, Copy)]
 pub struct ExportReply {
     pub refusal: u32,
     pub length: usize,

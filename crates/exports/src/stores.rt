@@ -10,7 +10,7 @@ use settings::{AddAnswer, NthEntry, Place};
 // What find gives: the store in which the value lies, 1 for the board's and 2 for the defaults, and the value's start and
 // end in it.
 #[repr(C)]
-#[derive(Drop)]
+#[derive(Clone, Copy)]
 pub struct FindReply {
     pub refusal: u32,
     pub store: u32,
@@ -20,7 +20,7 @@ pub struct FindReply {
 
 // What add gives: the new used length.
 #[repr(C)]
-#[derive(Drop)]
+#[derive(Clone, Copy)]
 pub struct AddReply {
     pub refusal: u32,
     pub used: usize,
@@ -28,7 +28,7 @@ pub struct AddReply {
 
 // What an entry gives: whether there is one, 1 or 0, its version and name, and its value's start and end.
 #[repr(C)]
-#[derive(Drop)]
+#[derive(Clone, Copy)]
 pub struct EntryReply {
     pub refusal: u32,
     pub there: u32,

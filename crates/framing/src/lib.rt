@@ -1,4 +1,5 @@
 // A stream cut into frames of 512 bytes, each with its number, the number of frames and a check. Nothing here knows what the stream says.
+#![tactic(auto)]
 ghost use Rattle.std.specs.Prelude.{◌≡◌, ◌+◌, ◌*◌, ◌/◌, ◌^◌, ◌<◌, ◌≤◌, ◌++◌, length, drop, slice_index};
 ghost use Rattle.layout.specs.Bytes.{overwrite};
 ghost use Rattle.framing.specs.Frames.{padded, check_of, frame_of, cut_from, stream_of, frame_right, frames_right, write_frames};
@@ -9,7 +10,7 @@ use std::num::wrapping_add_u32;
 const LONGEST: usize = 33029640;
 
 // How many bytes of an image were written; or there was no room in it, or the stream is longer than the longest.
-#[derive(Drop)]
+#[derive(Clone, Copy)]
 pub enum FrameAnswer {
     Written(usize),
     NoRoom,

@@ -8,7 +8,7 @@ use model::{Answer, Call};
 use results::{AmountResult, HandleResult};
 
 // What a call of a history gives: the accounts after it, and its answer.
-#[derive(Drop)]
+#[derive(Clone, Copy)]
 pub struct Performed {
     pub accounts: Accounts,
     pub answer: Answer,

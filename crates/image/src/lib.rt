@@ -1,5 +1,6 @@
 // Images of a stopped heap: written from a heap and its accounts, and read back. What an image is stands in `image_model`, how it is cut into frames
 // in `framing`.
+#![tactic(auto)]
 use accounts::Accounts;
 use image_model::{Form, ImageRefusal};
 
@@ -21,28 +22,28 @@ pub use reading::read_image;
 pub use writing::{form_1_length, image_length, write_form_1, write_image};
 
 // The form with a number, if there is one.
-#[derive(Drop)]
+#[derive(Clone, Copy)]
 pub(crate) enum FormAnswer {
     Known(Form),
     Unknown,
 }
 
 // What an image is by its own bytes: its form and the heap's length, or why it is refused.
-#[derive(Drop)]
+#[derive(Clone, Copy)]
 pub enum Shape {
     Image(Form, usize),
     Refused(ImageRefusal),
 }
 
 // An image's shape and its accounts, all zero where it is refused.
-#[derive(Drop)]
+#[derive(Clone, Copy)]
 pub struct Parsed {
     pub accounts: Accounts,
     pub shape: Shape,
 }
 
 // Where the heap of an image begins in its stream, and how many bytes it has.
-#[derive(Drop)]
+#[derive(Clone, Copy)]
 pub struct HeapPlace {
     pub start: u32,
     pub size: u32,

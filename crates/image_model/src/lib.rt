@@ -1,5 +1,6 @@
 // Images of a stopped heap: the forms and the answers, as types. The definitions in specs/ say what an image is, how it is written and how
 // it is read; no code of a call is here.
+#![tactic(auto)]
 ghost use Rattle.std.specs.Prelude.{◌≡◌};
 ghost use Rattle.image_model.specs.Answers.{image_refusal_number};
 
@@ -7,7 +8,7 @@ use accounts::Accounts;
 use model::Refusal;
 
 // What tells one form of image from another: its number, how many quotas and hold records it carries, and whether it says all that accounts have.
-#[derive(Drop)]
+#[derive(Clone, Copy)]
 pub struct Form {
     pub number: u32,
     pub quotas: usize,
@@ -16,7 +17,7 @@ pub struct Form {
 }
 
 // Why an image is not written, not read or not compared: a refusal that every call has, or one of the images' own, in the order of their numbers.
-#[derive(Drop)]
+#[derive(Clone, Copy)]
 pub enum ImageRefusal {
     Call(Refusal),
     ImageLength,
@@ -31,21 +32,21 @@ pub enum ImageRefusal {
 }
 
 // The answer of the writer: how many bytes it wrote.
-#[derive(Drop)]
+#[derive(Clone, Copy)]
 pub enum WriteAnswer {
     Written(usize),
     Refused(ImageRefusal),
 }
 
 // The answer of the reader.
-#[derive(Drop)]
+#[derive(Clone, Copy)]
 pub enum ReadAnswer {
     Restored,
     Refused(ImageRefusal),
 }
 
 // What the reader hands back beside the heap.
-#[derive(Drop)]
+#[derive(Clone, Copy)]
 pub struct ReadResult {
     pub accounts: Accounts,
     pub answer: ReadAnswer,

@@ -1,5 +1,6 @@
 // The calls of the shared heap and their answers, as types, and which lengths a heap may have. The definitions in specs/ say what each call does; no code of a
 // call is here.
+#![tactic(auto)]
 ghost use Rattle.std.specs.Prelude.{◌≡◌};
 ghost use Rattle.model.specs.Answers.{refusal_number};
 ghost use Rattle.model.specs.Consistent.{allowed};
@@ -31,7 +32,7 @@ pub fn is_allowed(len: usize) -> bool
 
 // A range and a serial. They name the object that has the serial and the whole range in it (rule 4.3). A handle that a call answers has the whole object.
 #[repr(C)]
-#[derive(Drop)]
+#[derive(Clone, Copy)]
 pub struct Handle {
     pub base: u32,
     pub length: u32,
@@ -40,7 +41,7 @@ pub struct Handle {
 
 // A part of the heap, from start up to end.
 #[repr(C)]
-#[derive(Drop)]
+#[derive(Clone, Copy)]
 pub struct Range {
     pub start: usize,
     pub end: usize,
@@ -48,7 +49,7 @@ pub struct Range {
 
 // A block as the listing gives it: its offset, its size with the header, and its serial, 0 for a free block.
 #[repr(C)]
-#[derive(Drop)]
+#[derive(Clone, Copy)]
 pub struct ListedBlock {
     pub offset: usize,
     pub size: usize,
@@ -56,7 +57,7 @@ pub struct ListedBlock {
 }
 
 // The twelve refusals, in the order of their numbers. They are checked in this order (rule 7.1), but for the last: it comes right after the third (rule 15.6).
-#[derive(Drop)]
+#[derive(Clone, Copy)]
 pub enum Refusal {
     HeapLength,
     Inconsistent,
@@ -74,7 +75,7 @@ pub enum Refusal {
 
 // The rows of the table of section 8 that differ in their lines: check, sweep and the listing; remaining and clear permissions; free-all; lend and the write of
 // a byte; release and can release; claim and can claim; allocate and allocate array; reallocate.
-#[derive(Drop)]
+#[derive(Clone, Copy)]
 pub enum Row {
     Check,
     Quota,
@@ -87,35 +88,35 @@ pub enum Row {
 }
 
 // The answer of a call that gives nothing but its verdict: open, can release, check.
-#[derive(Drop)]
+#[derive(Clone, Copy)]
 pub enum Verdict {
     Accepted,
     Refused(Refusal),
 }
 
 // The answer of allocate, allocate array and reallocate.
-#[derive(Drop)]
+#[derive(Clone, Copy)]
 pub enum HandleAnswer {
     Given(Handle),
     Refused(Refusal),
 }
 
 // The answer of claim (the object's length), release and free-all (quota given back), sweep (bytes of blocks) and remaining.
-#[derive(Drop)]
+#[derive(Clone, Copy)]
 pub enum AmountAnswer {
     Amount(u32),
     Refused(Refusal),
 }
 
 // The answer of lend.
-#[derive(Drop)]
+#[derive(Clone, Copy)]
 pub enum RangeAnswer {
     Lent(Range),
     Refused(Refusal),
 }
 
 // The answer of a step of the listing.
-#[derive(Drop)]
+#[derive(Clone, Copy)]
 pub enum BlockAnswer {
     Listed(ListedBlock),
     NoBlock,
@@ -123,7 +124,7 @@ pub enum BlockAnswer {
 }
 
 // The answer of any call of a history.
-#[derive(Drop)]
+#[derive(Clone, Copy)]
 pub enum Answer {
     Verdict(Verdict),
     Handle(HandleAnswer),
@@ -133,7 +134,7 @@ pub enum Answer {
 }
 
 // A call of a history, with its arguments.
-#[derive(Drop)]
+#[derive(Clone, Copy)]
 pub enum Call {
     Allocate {
         quota: u32,

@@ -10,7 +10,7 @@ use model::{Handle, Refusal, Verdict};
 use words::WORDS;
 
 // Where the lent bytes lie, and the refusal's number, 0 where there is none.
-#[derive(Drop)]
+#[derive(Clone, Copy)]
 pub(crate) struct Span {
     pub refusal: u32,
     pub start: usize,

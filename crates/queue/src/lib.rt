@@ -1,5 +1,6 @@
 // Packet queues over the heap's promises alone (rules, section 21): up to sixteen handles on their way from a sending quota to a receiving one, first in, first
 // out.
+#![tactic(auto)]
 ghost use Rattle.std.specs.Prelude.{◌≡◌, ◌<◌};
 ghost use Rattle.rounding.specs.Rounding.{table};
 ghost use Rattle.queue.specs.Queue.{PLACES, empty_queue, with_handle, without_oldest, send as send_of, receive as receive_of};
@@ -19,7 +20,7 @@ pub const PLACES: usize = 16;
 
 // A queue between two quotas (rule 21.1): the handles on their way are the first `count`, the oldest first.
 #[repr(C)]
-#[derive(Drop)]
+#[derive(Clone, Copy)]
 pub struct Queue {
     pub sender: u32,
     pub receiver: u32,
@@ -28,7 +29,7 @@ pub struct Queue {
 }
 
 // Why a queue refuses a call: its count is above sixteen, it is full, it is empty, or the heap refuses.
-#[derive(Drop)]
+#[derive(Clone, Copy)]
 pub enum QueueRefusal {
     Damaged,
     Full,
@@ -37,21 +38,21 @@ pub enum QueueRefusal {
 }
 
 // The answer of a send.
-#[derive(Drop)]
+#[derive(Clone, Copy)]
 pub enum SendAnswer {
     Sent,
     Refused(QueueRefusal),
 }
 
 // The answer of a receive.
-#[derive(Drop)]
+#[derive(Clone, Copy)]
 pub enum ReceiveAnswer {
     Given(Handle),
     Refused(QueueRefusal),
 }
 
 // What a send gives: the accounts and the queue after it, and its answer.
-#[derive(Drop)]
+#[derive(Clone, Copy)]
 pub struct SendResult {
     pub accounts: Accounts,
     pub queue: Queue,
@@ -59,7 +60,7 @@ pub struct SendResult {
 }
 
 // What a receive gives: the queue after it, and its answer.
-#[derive(Drop)]
+#[derive(Clone, Copy)]
 pub struct ReceiveResult {
     pub queue: Queue,
     pub answer: ReceiveAnswer,

@@ -1,7 +1,8 @@
 // The replay program as a definition: which lines are read, what each prints, and the list of blocks at the end. No code of the replay is here.
+#![tactic(auto)]
 
 // The name that a line begins with.
-#[derive(Drop)]
+#[derive(Clone, Copy)]
 pub enum Word {
     Open,
     Alloc,

@@ -1,4 +1,5 @@
 // The replay's text: the lines of an input are read as calls, the calls are performed on a heap, and the answers are written as lines.
+#![tactic(auto)]
 use accounts::QUOTAS;
 use model::Call;
 use replay_model::Word;
@@ -23,21 +24,21 @@ pub const OUTPUT: usize = 589824;
 pub(crate) const MOST: usize = QUOTAS + 1;
 
 // What a word is as a number.
-#[derive(Drop)]
+#[derive(Clone, Copy)]
 pub(crate) enum Number {
     Value(u32),
     Nothing,
 }
 
 // How many numbers the words behind a name are.
-#[derive(Drop)]
+#[derive(Clone, Copy)]
 pub(crate) enum Count {
     Read(usize),
     Nothing,
 }
 
 // A line as a name and numbers, the first `count` of `values`; not ok where what stands behind the name is no numbers, or more than any line has.
-#[derive(Drop)]
+#[derive(Clone, Copy)]
 pub(crate) struct Line {
     ok: bool,
     name: Word,
@@ -46,14 +47,14 @@ pub(crate) struct Line {
 }
 
 // The call that a line asks for.
-#[derive(Drop)]
+#[derive(Clone, Copy)]
 pub(crate) enum Asked {
     Call(Call),
     Nothing,
 }
 
 // The opening that a line asks for: the heap's length and the grants, where the line is ok.
-#[derive(Drop)]
+#[derive(Clone, Copy)]
 pub(crate) struct OpenLine {
     ok: bool,
     heap: u32,
@@ -61,7 +62,7 @@ pub(crate) struct OpenLine {
 }
 
 // The answer of a replay: how many bytes of the output are written, or that the output is shorter than OUTPUT.
-#[derive(Drop)]
+#[derive(Clone, Copy)]
 pub enum Replayed {
     Written(usize),
     TooShort,

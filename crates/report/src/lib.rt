@@ -1,4 +1,5 @@
 // Quotas from the linker's audit report (rules, section 18): lines of six words as grants, and grants as lines.
+#![tactic(auto)]
 ghost use Rattle.std.specs.Prelude.{◌≡◌};
 ghost use Rattle.report.specs.Import.{report_refusal_number};
 
@@ -19,7 +20,7 @@ pub const REPORT_LENGTH: usize = 1728;
 
 // Why a text is not imported, or grants are not exported, in the order of their numbers: a wrong character or place; a word after the first that is
 // not zero; more lines than quotas; too little room.
-#[derive(Drop)]
+#[derive(Clone, Copy)]
 pub enum ReportRefusal {
     Character,
     Reserved,
@@ -28,28 +29,28 @@ pub enum ReportRefusal {
 }
 
 // What a line says: the grant, or why it is a bad line.
-#[derive(Drop)]
+#[derive(Clone, Copy)]
 pub enum Line {
     Grant(u32),
     Bad(ReportRefusal),
 }
 
 // The answer of import: a refusal comes with the first bad line's number, from 1.
-#[derive(Drop)]
+#[derive(Clone, Copy)]
 pub enum ImportAnswer {
     Accepted,
     Refused(ReportRefusal, u32),
 }
 
 // What import gives: the grants as open takes them, all zero where the text is refused.
-#[derive(Drop)]
+#[derive(Clone, Copy)]
 pub struct Imported {
     pub grants: [u32; QUOTAS],
     pub answer: ImportAnswer,
 }
 
 // The answer of export: how many bytes it wrote.
-#[derive(Drop)]
+#[derive(Clone, Copy)]
 pub enum ExportAnswer {
     Exported(usize),
     Refused(ReportRefusal),

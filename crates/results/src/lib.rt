@@ -1,25 +1,26 @@
 // What calls with the accounts by value give, and the laws on lines of refusals and on lookups that all calls share.
+#![tactic(auto)]
 ghost use Rattle.std.specs.Prelude.{◌≡◌};
 
 use accounts::Accounts;
 use model::{AmountAnswer, HandleAnswer, Refusal, Verdict};
 
 // What open gives: the accounts, all zero where it is refused, and the verdict.
-#[derive(Drop)]
+#[derive(Clone, Copy)]
 pub struct Opened {
     pub accounts: Accounts,
     pub verdict: Verdict,
 }
 
 // What claim, release, free-all, clear permissions and sweep give.
-#[derive(Drop)]
+#[derive(Clone, Copy)]
 pub struct AmountResult {
     pub accounts: Accounts,
     pub answer: AmountAnswer,
 }
 
 // What allocate, allocate array and reallocate give.
-#[derive(Drop)]
+#[derive(Clone, Copy)]
 pub struct HandleResult {
     pub accounts: Accounts,
     pub answer: HandleAnswer,

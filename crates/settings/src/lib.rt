@@ -1,5 +1,6 @@
 // Settings with versions (rules, section 20): stores of entries, the value of a name at a version as the bytes where they lie, and a new entry behind
 // the others.
+#![tactic(auto)]
 ghost use Rattle.std.specs.Prelude.{◌≡◌};
 ghost use Rattle.settings.specs.Find.{settings_refusal_number};
 
@@ -17,14 +18,14 @@ pub const GREATEST_VALUE: usize = 64;
 pub const ENTRY_FRONT: usize = 4;
 
 // Where a value lies in its store: from the byte at start to before the one at end.
-#[derive(Drop)]
+#[derive(Clone, Copy)]
 pub struct Span {
     pub start: usize,
     pub end: usize,
 }
 
 // An entry of a store: its version, its name's number, and where its value lies.
-#[derive(Drop)]
+#[derive(Clone, Copy)]
 pub struct Entry {
     pub version: u16,
     pub name: u8,
@@ -33,7 +34,7 @@ pub struct Entry {
 }
 
 // Why a value is not found or an entry is not added, in the order of their numbers.
-#[derive(Drop)]
+#[derive(Clone, Copy)]
 pub enum SettingsRefusal {
     Malformed,
     Missing,
@@ -43,35 +44,35 @@ pub enum SettingsRefusal {
 }
 
 // The entry at a place, if it is whole.
-#[derive(Drop)]
+#[derive(Clone, Copy)]
 pub(crate) enum Read {
     Whole(Entry),
     Bad,
 }
 
 // Where a value lies, if there is one.
-#[derive(Drop)]
+#[derive(Clone, Copy)]
 pub enum Found {
     At(Span),
     Nothing,
 }
 
 // What a store has for a name at a version.
-#[derive(Drop)]
+#[derive(Clone, Copy)]
 pub enum Scan {
     Done(Found),
     Malformed,
 }
 
 // The version of a store's last entry, 0 where it has none.
-#[derive(Drop)]
+#[derive(Clone, Copy)]
 pub(crate) enum Last {
     Version(u16),
     Malformed,
 }
 
 // The store in which a value lies, and where; or why there is none.
-#[derive(Drop)]
+#[derive(Clone, Copy)]
 pub enum Place {
     Board(Span),
     Default(Span),
@@ -79,7 +80,7 @@ pub enum Place {
 }
 
 // An entry of a store by its number; or that there are not so many, or that the store is malformed.
-#[derive(Drop)]
+#[derive(Clone, Copy)]
 pub enum NthEntry {
     There(Entry),
     End,
@@ -87,7 +88,7 @@ pub enum NthEntry {
 }
 
 // The new used length, or why no entry is added.
-#[derive(Drop)]
+#[derive(Clone, Copy)]
 pub enum AddAnswer {
     Added(usize),
     Refused(SettingsRefusal),

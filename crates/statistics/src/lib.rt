@@ -1,5 +1,6 @@
 // The statistics of a heap (rules, section 25): what is free, live and quarantined, the greatest lengths that could be
 // allocated now, and what a quota has. Each function checks heap and accounts for itself and changes nothing.
+#![tactic(auto)]
 ghost use Rattle.std.specs.Prelude.{◌≡◌, ◌<◌};
 ghost use Rattle.accounts.specs.Accounts.{QUOTAS};
 ghost use Rattle.rounding.specs.Rounding.{table};
@@ -20,7 +21,7 @@ use tallying::walk;
 
 // Some blocks: how many, and their bytes with the headers, 8 for each block.
 #[repr(C)]
-#[derive(Drop)]
+#[derive(Clone, Copy)]
 pub struct BlockCount {
     pub blocks: usize,
     pub bytes: usize,
@@ -30,7 +31,7 @@ pub struct BlockCount {
 // used; the free, live and quarantined blocks; the bytes of the largest free block, and those of all other free blocks;
 // and the greatest length in each unit that an allocation could get now if quota, records and serials allowed it.
 #[repr(C)]
-#[derive(Drop)]
+#[derive(Clone, Copy)]
 pub struct Statistics {
     pub refusal: u32,
     pub last_serial: u32,
@@ -49,7 +50,7 @@ pub struct Statistics {
 // The statistics of a quota: the refusal's number, what was granted and what remains, the objects that it holds, and
 // those of them that another quota holds too.
 #[repr(C)]
-#[derive(Drop)]
+#[derive(Clone, Copy)]
 pub struct QuotaStatistics {
     pub refusal: u32,
     pub grant: u32,

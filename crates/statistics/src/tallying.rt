@@ -9,7 +9,7 @@ use crate::BlockCount;
 use layout::{QUARANTINED, Start};
 
 // The free, live and quarantined blocks, the bytes of the largest free block, and the greatest room from a multiple of each unit on.
-#[derive(Drop)]
+#[derive(Clone, Copy)]
 pub(crate) struct Tally {
     pub free: BlockCount,
     pub live: BlockCount,

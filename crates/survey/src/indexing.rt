@@ -11,7 +11,7 @@ use accounts::{HOLDS, QUOTAS};
 use words::{FIRST, WORDS};
 
 // What the pass gives: whether the records are well-formed; the place of the lowest that is unused, HOLDS where none is; and how many are used.
-#[derive(Drop)]
+#[derive(Clone, Copy)]
 pub(crate) struct Tally {
     pub fine: bool,
     pub low: usize,

@@ -1,6 +1,7 @@
 // The survey of a heap and its accounts where they lie: one pass over the hold records and one walk over the blocks. Each used record is open, in the slot of
 // its serial. Each live block closes its serial's records, and their quotas pay for it. At the end no record is open and no quota owes anything.
 // A slot with several records has them in a tree. The bits of a serial lead through it, so a search passes few records of other serials, whatever they are.
+#![tactic(auto)]
 ghost use Rattle.std.specs.Prelude.{◌≡◌, ◌&&◌, nat_le, nat_lt};
 ghost use Rattle.model.specs.Consistent.{greatest_serial, in_range};
 ghost use Rattle.words.specs.Words.{last_of, kind_of, edition_of, accounts_of};
@@ -54,7 +55,7 @@ const FORKED: usize = 2 * HOLDS;
 const CLOSED: usize = 2 * HOLDS;
 
 // What a survey is asked for: the object that a handle names, a quota's record for it, and room for `need` bytes at a multiple of `unit`; 0 asks for no room.
-#[derive(Drop)]
+#[derive(Clone, Copy)]
 pub struct Wanted {
     pub base: u32,
     pub length: u32,
@@ -68,7 +69,7 @@ pub struct Wanted {
 // lowest unused record; the place of the first free block with room; whether the handle names an object, the place of
 // its block and the block's size; the places of the quota's record for it and of another quota's. A record's place is
 // HOLDS or more, and a block's the heap's length or more, where there is none.
-#[derive(Drop)]
+#[derive(Clone, Copy)]
 pub struct Surveyed {
     pub refusal: u32,
     pub low: usize,
@@ -107,7 +108,7 @@ pub fn block_at(heap: &[u8], at: usize) -> Met
 }
 
 // The last serial, kind and edition, and whether they are in range.
-#[derive(Drop)]
+#[derive(Clone, Copy)]
 struct Numbers {
     fine: bool,
     last: u32,

@@ -14,7 +14,7 @@ use words::WORDS;
 
 // What both parts give: whether all is as it must be; the place where the walk ends, and units and serial of the block before it; the place of the first free
 // block with room, the heap's length where none has; the place where the first part ends, and units and serial of the block before that.
-#[derive(Drop)]
+#[derive(Clone, Copy)]
 pub(crate) struct Course {
     pub fine: bool,
     pub at: usize,

@@ -16,7 +16,7 @@ use words::WORDS;
 
 // How many objects a quota holds, and how many of them another quota holds too.
 #[repr(C)]
-#[derive(Drop)]
+#[derive(Clone, Copy)]
 pub struct Holdings {
     pub objects: usize,
     pub shared: usize,

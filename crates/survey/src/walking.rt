@@ -58,7 +58,7 @@ pub(crate) const TAKEN: usize = 8 * 65536;
 
 // Where the walk has come to: whether all is as it must be so far, the place, units and serial of the block before it, the place of the first free block with
 // room, the heap's length where none has, and the bytes that are still sought, TAKEN where a block was found.
-#[derive(Drop)]
+#[derive(Clone, Copy)]
 pub(crate) struct Walked {
     pub fine: bool,
     pub at: usize,

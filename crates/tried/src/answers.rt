@@ -4,7 +4,7 @@ use crate::starting::handle;
 use model::{AmountAnswer, Answer, BlockAnswer, Handle, HandleAnswer, RangeAnswer, Verdict};
 
 // What any call gives; what it does not give is zero.
-#[derive(Drop)]
+#[derive(Clone, Copy)]
 pub(crate) struct Told {
     pub refusal: u32,
     pub handle: Handle,

@@ -1,6 +1,7 @@
 // Calls every function that no other Rattle code calls, the exported ones and a few beside, accepted and refused, and
 // compares what each leaves with what is expected: every byte of a heap and of a buffer, every word of accounts. It
 // prints a line for each function.
+#![tactic(auto)]
 mod answers;
 mod calls;
 mod comparing;

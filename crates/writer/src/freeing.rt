@@ -9,7 +9,7 @@ use layout::{GREATEST_HEAP, Header, QUARANTINED, Start};
 use lookup::Met;
 
 // What a header says of a block: its bytes if it is free, else 0, and the units of the block before it.
-#[derive(Drop)]
+#[derive(Clone, Copy)]
 struct Room {
     free: usize,
     back: usize,

@@ -11,14 +11,14 @@ use accounts::Accounts;
 use model::BlockAnswer;
 
 // The heap, and the place of the block that comes next.
-#[derive(Drop)]
+#[derive(Clone, Copy)]
 pub struct Walker<'a> {
     pub heap: &'a [u8],
     pub at: usize,
 }
 
 // A step: what it answers, and the walker behind it.
-#[derive(Drop)]
+#[derive(Clone, Copy)]
 pub struct Step<'a> {
     pub heap: &'a [u8],
     pub at: usize,
@@ -26,7 +26,7 @@ pub struct Step<'a> {
 }
 
 // What a step from a place answers, and the place behind it.
-#[derive(Drop)]
+#[derive(Clone, Copy)]
 struct Given {
     answer: BlockAnswer,
     at: usize,

@@ -1,0 +1,27 @@
+-- A block starts where the size that is read is not 0, and so many units are left: the two tests, each of which decides the definition where it
+-- fails (`start_no`), and which together make it (`start_header`).
+use native.Mathlib.Omega.{arith}
+use mathlib.Core.Path.{sym}
+use borrow.Author.Tests.{not-true, not-false}
+use Rattle.layout.proofs.Starts.{start_header, start_no}
+use Rattle.layout.proofs.start_at.Goals as goal
+
+pub returns-then-size-lt1 : goal.returns-then-size-lt1
+returns-then-size-lt1 c =
+    let r = c in
+    let a = r.args in
+    sym (start_no a.at a.heap.now (sym r.header_at-header.ensures.0) (λ p. absurd (omega arith)))
+
+pub returns-then-not-ends_by : goal.returns-then-not-ends_by
+returns-then-not-ends_by c =
+    let r = c in
+    let a = r.args in
+    let l = c.ends_by.ensures.no (not-true _ c.if-not-ends_by.true-raw) in
+    sym (start_no a.at a.heap.now (sym r.header_at-header.ensures.0) (λ p. omega arith))
+
+pub returns : goal.returns
+returns c =
+    let r = c in
+    let a = r.args in
+    let l = c.ends_by.ensures.yes (not-false _ c.if-not-ends_by.false-raw) in
+    sym (start_header a.at a.heap.now (sym r.header_at-header.ensures.0) (omega arith) (omega arith))

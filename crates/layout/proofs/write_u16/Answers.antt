@@ -1,0 +1,19 @@
+-- Where two bytes fit, `write_pair` writes them; where they do not, nothing is written.
+use native.Mathlib.Omega.{arith}
+use mathlib.Core.Path.{sym}
+use borrow.Author.Tests.{not-true, not-false}
+use Rattle.layout.proofs.Fields.{write_not}
+use borrow.Author.Rules.{rules}
+use Rattle.layout.proofs.write_u16.Goals as goal
+
+pub returns-then-not-ends_by : goal.returns-then-not-ends_by
+returns-then-not-ends_by c =
+    let a = c.args in
+    let l = c.ends_by.ensures.no (not-true _ c.if-not-ends_by.true-raw) in
+    sym (write_not 2 a.at a.bytes.now a.value (omega arith))
+
+pub write_pair-requires : goal.write_pair-requires
+write_pair-requires c = let l = c.ends_by.ensures.yes (not-false _ c.if-not-ends_by.false-raw) in omega arith
+
+pub returns : goal.returns
+returns c = search rules

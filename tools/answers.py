@@ -1,0 +1,467 @@
+#!/usr/bin/env python3
+"""Turns proofs that walk by `tie.spec` into Invariants.antt and Answers.antt.
+
+usage: tools/answers.py CRATE NAMES
+
+CRATE is a crate's folder, NAMES the names.json that `rt check --generated DIR --old-names` writes for it. Each Proof.antt below
+proofs/ whose names the list has becomes an Answers.antt and, where the function has a loop, an Invariants.antt: the goals, the steps
+and the fields get the names that Rattle gives them now, and what was `search rules` is left to Rattle. It prints a line for each
+file, and one for each that it leaves.
+"""
+import json
+import os
+import re
+import sys
+
+NAME = r'[^\s(){}.;,@"«»\[\]]+'
+PATH = re.compile(rf"(?<![^\s(){{}},;\[\]])({NAME})((?:\.{NAME})+)")
+OWN = {"args", "requires", "ranges", "well_formed", "lifetimes", "auto", "type_inv"}
+
+
+def plain(name):
+    return re.sub(r"[-_]+", "-", name)
+
+
+def chunks(text):
+    """The parts of a file: each a list of lines, a comment with what follows it."""
+    out, now, comment = [], [], []
+    for line in text.split("\n"):
+        if line.startswith("--"):
+            if now and now[-1] and not now[-1].startswith(" "):
+                pass
+            comment.append(line)
+            continue
+        if line and not line.startswith(" "):
+            head = re.match(rf"(?:(?:pub|abbrev|unfoldable|data|record|module) +)*({NAME})", line)[1]
+            starts = bool(re.match(rf"(?:(?:pub|abbrev|unfoldable) +)*{NAME}(?: [({{].*?[)}}])* *:(?: |$)", line)) or line.startswith(("use ", "module ", "data ", "record ", "pub data", "pub record", "ruleset"))
+            if starts or not out:
+                out.append({"head": head, "comment": comment, "lines": [line]})
+                comment = []
+                continue
+        if out:
+            out[-1]["lines"] += comment + [line] if comment else [line]
+            comment = []
+        elif line or comment:
+            out.append({"head": "", "comment": comment, "lines": [line]})
+            comment = []
+    if comment and out:
+        out[-1]["lines"] += comment
+    for it in out:
+        while it["lines"] and not it["lines"][-1].strip():
+            it["lines"].pop()
+    return out
+
+
+def arguments(text):
+    """The arguments of a call, each with its parentheses or alone."""
+    out, depth, now = [], 0, ""
+    for ch in text:
+        if ch in "([{":
+            depth += 1
+        if ch in ")]}":
+            depth -= 1
+        if ch.isspace() and depth == 0:
+            if now:
+                out.append(now)
+            now = ""
+        else:
+            now += ch
+    if now:
+        out.append(now)
+    return out
+
+
+def parameters(crate, inner):
+    """The parameters of a function of a crate, by the folder of its proof."""
+    steps = inner.split(".")
+    texts = []
+    for folder, _, files in os.walk(os.path.join(crate, "src")):
+        for file in files:
+            stem = os.path.relpath(os.path.join(folder, file), os.path.join(crate, "src"))[:-3].split(os.sep)
+            stem = [] if stem in (["lib"], ["main"]) else stem
+            if steps[: len(stem)] == stem:
+                texts.append((-len(stem), os.path.join(folder, file)))
+            elif len(steps) > 1 and steps[-2][:1].isupper():
+                texts.append((1, os.path.join(folder, file)))
+    for _, file in sorted(texts):
+        with open(file, encoding="utf-8") as it:
+            text = it.read()
+        within = text
+        if len(steps) > 1:
+            within = "\n".join(re.findall(rf"(?ms)^impl(?:<[^>]*>)? {steps[-2]}\b.*?^}}", text)) or ("" if steps[-2][:1].isupper() else text)
+        m = re.search(rf"(?s)\bfn {steps[-1]}(?:<[^>]*>)?\((.*?)\)(?: ->|\n| \{{)", within)
+        if m:
+            return [re.sub(r"^(mut|&mut|&'a mut|&'a|&)\s*", "", re.sub(r"^mut ", "", part.strip())).split(":")[0].strip() for part in re.split(r",(?![^\[<(]*[\]>)])", m[1]) if part.strip()]
+    return []
+
+
+def lent(crate, callee):
+    """The parameters that a function takes by `&mut`, by its path from its crate."""
+    steps = callee.split("::")
+    top = os.path.join(os.path.dirname(os.path.normpath(crate)), steps[0], "src")
+    for folder, _, files in sorted(os.walk(top)):
+        for file in sorted(files):
+            stem = os.path.relpath(os.path.join(folder, file), top)[:-3].split(os.sep)
+            stem = [] if stem in (["lib"], ["main"]) else stem
+            if steps[1:-1][: len(stem)] != stem and not steps[-2][:1].isupper():
+                continue
+            if len(stem) != len(steps) - 2 and not steps[-2][:1].isupper():
+                continue
+            with open(os.path.join(folder, file), encoding="utf-8") as it:
+                m = re.search(rf"(?s)\bfn {steps[-1]}(?:<[^>]*>)?\((.*?)\)(?: ->|\n| \{{)", it.read())
+            if m:
+                each = [part.strip() for part in re.split(r",(?![^\[<(]*[\]>)])", m[1]) if part.strip()]
+                return [re.sub(r"^mut ", "", part).split(":")[0].replace("&mut ", "").strip() for part in each if "&mut" in part or re.search(r"&'\w+ mut", part)]
+    return []
+
+
+class Walk:
+    def __init__(self, entry, parameters, crate=""):
+        self.crate = crate
+        self.entry, self.parameters = entry, parameters
+        self.places = {}
+        for place, new in zip(entry["places"], entry["places_by_name"]):
+            old, parent, (was, now), callee, sub = place[0], place[1], place[2], place[3], place[4]
+            self.places[plain(old)] = dict(old=old, callee=callee, parent=plain(parent) if parent else None, was=plain(was), now=now, new=new, sub=dict(sub))
+
+    def step(self, place, field):
+        """The place at or above this one whose step has this old name."""
+        while place:
+            it = self.places[place]
+            if it["was"] and it["was"] == plain(field):
+                return place
+            place = it["parent"]
+        return None
+
+    def walk(self, start, fields):
+        """The new fields of a path, and the place at which it ends, if at one."""
+        place, out, fields = start, [], list(fields)
+        while fields:
+            field = fields.pop(0)
+            if field == "before" and place:
+                place = self.places[place]["parent"] or place
+                continue
+            if field in OWN:
+                fields = self.renamed(fields) if field in ("args", "ranges") else fields
+                return out + [field] + fields, ("args",) if field == "args" and not fields else None, True
+            found = self.step(place, field) if place else None
+            if not found:
+                return out + [field] + fields, None, False
+            out.append(self.places[found]["now"])
+            if len(fields) > 1 and fields[0] == "new" and re.fullmatch(r"\d+", fields[1]) and self.places[found]["callee"]:
+                of = lent(self.crate, self.places[found]["callee"])
+                if int(fields[1]) < len(of):
+                    return out + ["new", of[int(fields[1])]] + fields[2:], None, True
+            if fields:
+                sub = self.places[found]["sub"]
+                out.append(sub.get(fields[0], fields[0]))
+                return out + fields[1:], None, True
+            return out, ("step", found), True
+        return out, place, True
+
+    def renamed(self, fields):
+        """Fields below the arguments: a local of the machine is the parameter with its number."""
+        m = re.fullmatch(r"t([1-9])", fields[0]) if fields else None
+        if m and int(m[1]) <= len(self.parameters):
+            return [self.parameters[int(m[1]) - 1]] + fields[1:]
+        return fields
+
+
+class Turner:
+    def __init__(self, path, entry, parameters, crate, said):
+        self.path, self.entry, self.said = path, entry, said
+        self.helpers = []
+        self.w = Walk(entry, parameters, crate)
+
+    def paths(self, body, env, goal=None):
+        """A body with the paths of its variables in the new names. Follows `let x = PATH in`."""
+        env = dict(env)
+        self.root, start = next(iter(env.items()), (None, None))
+        self.now = (goal, start)
+        out, at = "", 0
+        called = "|".join(map(re.escape, self.helpers)) or r"(?!)"
+        token = re.compile(rf"let ({NAME}) = ({NAME}(?:\.{NAME})*) in|" + PATH.pattern + rf"|(?<![^\s(){{}},;])({called}) ({NAME})(?![^\s(){{}},;])")
+        for m in token.finditer(body):
+            out += body[at : m.start()]
+            at = m.end()
+            if m[5]:
+                place = env.get(m[6])
+                known = isinstance(place, str)
+                out += f"{m[5]} {self.view(m[6], place) if known else m[6]}"
+            elif m[1] and "." not in m[2]:
+                env[m[1]] = env.get(m[2])
+                out += m[0]
+            elif m[1]:
+                var, fields = m[2].split(".")[0], m[2].split(".")[1:]
+                new, place = self.one(var, fields, env, True)
+                env[m[1]] = place
+                out += f"let {m[1]} = {new} in"
+            else:
+                out += self.one(m[3], m[4][1:].split("."), env)[0]
+        return out + body[at:]
+
+    def one(self, var, fields, env, bound=False):
+        place = env.get(var)
+        if place is None:
+            return ".".join([var] + fields), None
+        if place == ("args",):
+            return ".".join([var] + self.w.renamed(fields)), None
+        if isinstance(place, tuple):
+            at = self.w.places[place[1]]
+            if len(fields) > 1 and fields[0] == "new" and re.fullmatch(r"\d+", fields[1]) and at["callee"]:
+                of = lent(self.w.crate, at["callee"])
+                if int(fields[1]) < len(of):
+                    return ".".join([var, "new", of[int(fields[1])]] + fields[2:]), None
+            return ".".join([var, at["sub"].get(fields[0], fields[0])] + fields[1:]), None
+        new, end, known = self.w.walk(place, fields)
+        if not known:
+            self.said.append(f"look: {self.path}: {var}.{'.'.join(fields)} at {place}")
+        if not new and not bound:
+            return self.view(var, end), end
+        return ".".join([var] + new), end
+
+    def view(self, var, place):
+        """A term for the record of an outer place, as a helper takes it."""
+        goal, start = self.now
+        name = self.w.places[place]["new"]
+        if place == start:
+            return self.root
+        if not goal:
+            goal = next((new for (_, new), at in zip(self.entry["needs"], self.entry["asked_at"]) if plain(at[0]) == start), None)
+        if not goal:
+            self.said.append(f"look: {self.path}: {name} from a helper at {start}")
+            return var
+        return f"(goal.at.{goal} {self.root}).{name}"
+
+
+def uses(chunk_list):
+    return [it for it in chunk_list if it["lines"][0].startswith("use ")]
+
+
+def used(name, text):
+    core = name.split(" as ")[-1].strip()
+    parts = [p for p in core.split("◌") if p]
+    if "◌" in core:
+        return all(p in text for p in parts)
+    return re.search(rf"(?<![^\s(){{}}.;,@\[\]]){re.escape(core)}(?![^\s(){{}}.;,@\[\]])", text) is not None
+
+
+def imports(lines, text):
+    out = []
+    for line in lines:
+        m = re.match(r"(use [^{]+\.)\{([^}]*)\}$", line)
+        if m:
+            keep = [n.strip() for n in m[2].split(",") if used(n.strip(), text)]
+            if keep:
+                out.append(m[1] + "{" + ", ".join(keep) + "}")
+        else:
+            alias = line.split(" as ")[-1] if " as " in line else line.split(".")[-1]
+            if used(alias.strip(), text):
+                out.append(line)
+    return out
+
+
+def turn(path, module, entry, parameters, crate, said):
+    with open(path, encoding="utf-8") as it:
+        text = it.read()
+    # an array of a parameter has its length as it stands
+    text = re.sub(rf"simp length-map at ({NAME}(?:\.{NAME})+)", r"\1", text)
+    parts = chunks(text)
+    if "Tie as tie" not in text:
+        said.append(f"left: {path}: no tie")
+        return None
+    intro = parts[0]["comment"] if parts else []
+    parts[0]["comment"] = []
+    lines = [" ".join(l.strip() for l in it["lines"]) for it in uses(parts)]
+    lines = [l for l in lines if not re.search(r"\.Statement\.\{statement\}$|\.Tie as tie$", l)]
+    lines = [re.sub(r"\.Lts as lts$", ".Lts as lts", l) for l in lines]
+    decls = [it for it in parts if not it["lines"][0].startswith("use ")]
+    spec = [it for it in decls if re.search(r"tie\.spec\b", "\n".join(it["lines"]))]
+    if len(spec) != 1:
+        said.append(f"left: {path}: {len(spec)} calls of tie.spec")
+        return None
+    whole = " ".join(l.strip() for l in spec[0]["lines"])
+    call = re.search(r"tie\.close \(tie\.spec(.*)\)$", whole)
+    alone = re.search(r"tie\.close tie\.spec$", whole)
+    if not call and not alone:
+        said.append(f"left: {path}: the call of tie.spec has another form")
+        return None
+    args = arguments(call[1]) if call else []
+    decls = [it for it in decls if it is not spec[0]]
+    loops, needs = entry["loops"], entry["needs"]
+    if len(args) != 2 * len(loops) + len(needs):
+        said.append(f"left: {path}: {len(args)} arguments, {len(loops)} loops and {len(needs)} goals: {[n[0] for n in needs]} {args}")
+        return None
+    by_head = {it["head"]: it for it in decls}
+    t = Turner(path, entry, parameters, crate, said)
+    rename, invariants, answers, extra = {}, [], [], []
+    drop = []
+    for i, ((was, vars_), changed) in enumerate(zip(loops, entry["changed"])):
+        new = was[1]
+        for kind, arg in (("invariant", args[2 * i]), ("decreases", args[2 * i + 1])):
+            if arg not in by_head:
+                said.append(f"left: {path}: the {kind} {arg} is no name")
+                return None
+            rename[arg] = f"{kind}-{new}"
+            drop.append(arg)
+            invariants.append((arg, kind, new, vars_, changed))
+    goals = []
+    for (was, new), at, arg in zip(needs, entry["asked_at"], args[2 * len(loops) :]):
+        place = plain(at[0])
+        if re.fullmatch(r"\(λ c( κs)?\. search rules\)", arg):
+            continue
+        if arg in by_head and re.search(r"\btie\.Need-", by_head[arg]["lines"][0]):
+            if arg in [g[0] for g in goals]:
+                extra.append((new, arg))
+            else:
+                goals.append((arg, new, place))
+                if arg != new:
+                    rename[arg] = new
+        else:
+            m = re.fullmatch(r"\(λ c(?: κs)?\. (.*)\)", arg)
+            if m:
+                answers.append((new, place, m[1]))
+            else:
+                answers.append((new, place, arg + " c"))
+    wrapped = set(rename.values())
+    kinds = {}
+    t.helpers = [it["head"] for it in decls if re.search(r"\([^()\s]+ : tie\.", "\n".join(it["lines"])) and it["head"] not in [g[0] for g in goals]]
+
+    def types(line):
+        def one(m):
+            it = t.w.places.get(plain(m[1]))
+            if not it:
+                said.append(f"look: {path}: the type tie.{m[1]}")
+                return m[0]
+            kinds[it["new"]] = True
+            return it["new"]
+
+        tail = "".join(rf"(?: {re.escape(a)})?" for a in args[: 2 * len(loops)])
+        return re.sub(r"tie\.((?:After|Else|Start|At|In|Then|Join|Or|Way|Out|From|Behind)[^\s(){}.;,]*)" + tail, one, line)
+
+    def names(body):
+        def one(m):
+            return rename.get(m[0], m[0])
+
+        return re.sub(rf"(?<![^\s(){{}};,\[\]@])(?:{NAME})(?![^\s(){{}};,.\[\]@])", one, body)
+
+    def turned(it, place):
+        head = it["head"]
+        body = "\n".join(it["lines"])
+        if place is not None:
+            goal = rename.get(head, head)
+            sig = re.match(rf"(?:pub )?{re.escape(head)} : tie\.Need-\S+(?: [^\n]*)?\n", body)
+            rest = body[sig.end() :] if sig else body.split("\n", 1)[1]
+            unf = ""
+            while rest.startswith("unfolding "):
+                l, rest = rest.split("\n", 1)
+                unf += l + "\n"
+            m = re.match(rf"{re.escape(head)}((?: [^\s=]+)*) =", rest)
+            if not m:
+                said.append(f"look: {path}: {head} has another form")
+                return "\n".join(it["comment"] + [f"pub {goal} : goal.{goal}", unf + rest])
+            params = m[1].split()
+            env = {params[0]: place} if params else {}
+            if len(params) > 1 and params[1] in ("κs", "_"):
+                params = params[:1]
+            elif len(params) > 1:
+                said.append(f"look: {path}: {head} takes {params}")
+            rest = rest[m.end() :]
+            rest = t.paths(names(types(rest)), env, goal)
+            return "\n".join(it["comment"] + [f"pub {goal} : goal.{goal}", f"{unf}{goal}{''.join(' ' + p for p in params)} ={rest}"])
+        env = {}
+        for var, place_ in re.findall(rf"[({{]({NAME}) : tie\.([^\s(){{}}.;,]+)", body):
+            if plain(place_) in t.w.places:
+                env[var] = plain(place_)
+        return "\n".join(it["comment"] + [t.paths(names(types(body)), env)])
+
+    inv_text, moved = [], []
+    if invariants:
+        for arg, kind, new, vars_, changed in invariants:
+            it = by_head[arg]
+            body = "\n".join(it["lines"])
+            m = re.search(rf"(?m)^{re.escape(arg)}((?: [^\s=]+)*) =", body)
+            params = m[1].split()
+            want = [f"l.initial.{v}" if c else f"l.{v}" for v, c in zip(vars_, changed)] + [f"l.{v}" for v, c in zip(vars_, changed) if c]
+            unf = [l for l in body[: m.start()].split("\n")[1:] if l.strip()]
+            if len(params) != len(want):
+                said.append(f"look: {path}: {arg} takes {params}, for {want}")
+            table = {p: w for p, w in zip(params, want) if p != "_"}
+            rest = body[m.end() :]
+            rest = re.sub(rf"(?<![^\s(){{}};,\[\]@])(?:{NAME})(?![^\s(){{}};,.\[\]@])", lambda k: table.get(k[0], k[0]), rest)
+            inv_text.append("\n".join(it["comment"] + [f"abbrev pub {kind}-{new} : goal.{kind}-{new}"] + unf + [f"{kind}-{new} l ={names(rest)}"]))
+        # what the invariants name of this file goes with them
+        others = [it for it in decls if it["head"] not in drop and it["head"] not in [g[0] for g in goals]]
+        again = True
+        while again:
+            again = False
+            reached = "\n".join(inv_text + ["\n".join(it["lines"][1:]) for it in moved])
+            for it in others:
+                if it not in moved and used(it["head"], reached):
+                    moved.append(it)
+                    again = True
+    moved = [it for it in decls if it in moved]
+    shared = []
+    for it in moved:
+        first = it["lines"][0]
+        if not re.match(r"(abbrev |unfoldable )?pub ", first):
+            it["lines"][0] = re.sub(r"^(abbrev |unfoldable |data |record )?", lambda m: ("pub " + m[1] if m[1] in ("data ", "record ") else (m[1] or "") + "pub "), first, count=1)
+        shared.append(it["head"])
+    goal_of = {g[0]: (g[1], g[2]) for g in goals}
+    body = []
+    for it in decls:
+        if it["head"] in drop or it in moved:
+            continue
+        body.append(turned(it, goal_of[it["head"]][1] if it["head"] in goal_of else None))
+    for new, place, term in answers:
+        body.append(f"pub {new} : goal.{new}\n{new} c = {t.paths(names(types(term)), {'c': place}, new)}")
+    for new, arg in extra:
+        body.append(f"pub {new} : goal.{new}\n{new} c = {rename.get(arg, arg)} c")
+    folder = os.path.dirname(path)
+    if inv_text:
+        whole = "\n\n".join(["\n".join(it["comment"] + it["lines"]) for it in moved] + inv_text)
+        head = imports(lines, whole)
+        out = intro + head + [f"use {module}.Given as goal", "", whole, ""]
+        with open(os.path.join(folder, "Invariants.antt"), "w", encoding="utf-8") as f:
+            f.write("\n".join(out))
+    if body:
+        whole = "\n\n".join(body)
+        head = imports(lines, whole)
+        goal_lines = [f"use {module}.Goals as goal"] if re.search(r"\bgoal\.", whole) else []
+        if kinds:
+            goal_lines.append(f"use {module}.Goals.{{{', '.join(sorted(kinds))}}}")
+        inv_used = [n for n in shared + [v for v in wrapped if v.startswith(("invariant-", "decreases-"))] if used(n, whole)]
+        if inv_used:
+            goal_lines.append(f"use {module}.Invariants.{{{', '.join(inv_used)}}}")
+        note = intro if not inv_text else []
+        out = note + head + goal_lines + ["", whole, ""]
+        with open(os.path.join(folder, "Answers.antt"), "w", encoding="utf-8") as f:
+            f.write("\n".join(out))
+    os.remove(path)
+    return len(goals) + len(answers)
+
+
+def main(argv):
+    crate, names = argv
+    with open(names, encoding="utf-8") as it:
+        entries = json.load(it)
+    by_path = {key.split(".", 1)[1].rsplit(".Lts", 1)[0]: entry for key, entry in entries.items() if ".Lts" in key}
+    name = os.path.basename(os.path.normpath(crate))
+    said, done = [], 0
+    top = os.path.join(crate, "proofs")
+    for folder, dirs, files in sorted(os.walk(top)):
+        dirs.sort()
+        if "Proof.antt" in files:
+            path = os.path.join(folder, "Proof.antt")
+            inner = os.path.relpath(folder, top).replace(os.sep, ".")
+            if inner not in by_path:
+                said.append(f"left: {path}: no names for {inner}")
+                continue
+            n = turn(path, f"Rattle.{name}.proofs.{inner}", by_path[inner], parameters(crate, inner), crate, said)
+            done += n is not None
+    print("\n".join(said))
+    print(f"answers: {done} functions turned in {name}")
+
+
+if __name__ == "__main__":
+    main(sys.argv[1:])
