@@ -1,0 +1,17 @@
+-- `words::put_quota` meets its contract: three words are written, or none.
+use native.Mathlib.Omega.{arith}
+use Rattle.words.proofs.Openings.{put_quota_is, put_quota_out}
+use Rattle.words.proofs.opening.put_quota.Goals as goal
+
+pub returns-then-q-ge-QUOTAS : goal.returns-then-q-ge-QUOTAS
+returns-then-q-ge-QUOTAS c = let a = c.args in put_quota_out a.words.now a.q a.quota c.if-q-ge-QUOTAS.true
+
+pub returns : goal.returns
+returns c =
+    let w = c in
+    let e = w in
+    let k = e in
+    let a = k.args in
+    rw c.word_at-spare.ensures
+    (put_quota_is a.words.now k.count.ensures.0 a.q a.quota (omega (arith, e.if-q-ge-QUOTAS.false)) w.wide-permissions.result w.wide-permissions.ensures.0
+    w.wide-permissions.ensures.1)

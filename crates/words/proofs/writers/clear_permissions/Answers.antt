@@ -1,0 +1,21 @@
+-- `words::clear_permissions` meets its contract: the lowest byte of one word changes, or none.
+use native.Mathlib.Omega.{arith}
+use mathlib.Core.Path.{◌∙◌}
+use Rattle.words.proofs.Changes.{clears_none, clears}
+use Rattle.words.proofs.writers.clear_permissions.Goals as goal
+
+pub returns-then-q-ge-QUOTAS : goal.returns-then-q-ge-QUOTAS
+returns-then-q-ge-QUOTAS c =
+    let a = c.args in
+    clears_none a.words.now a.quota a.bits c.if-q-ge-QUOTAS.true
+
+pub returns : goal.returns
+returns c =
+    let w = c in
+    let l = w in
+    let e = l in
+    let k = e in
+    let a = k.args in
+    rw c.word_at-spare.ensures
+    (clears a.words.now a.quota a.bits (omega (arith, e.if1.false)) k.count.ensures.0 w.wide-left.result w.wide-left.ensures.1
+    (w.wide-left.ensures.0 ∙ l.left_permissions.ensures))

@@ -1,0 +1,25 @@
+-- `words::put_hold` meets its contract: two words change, or none.
+use native.Mathlib.Omega.{arith}
+use mathlib.Core.Path.{sym}
+use Rattle.accounts.proofs.Laws.{put_out}
+use Rattle.words.specs.Words.{accounts_of}
+use Rattle.words.proofs.Words.{holds_long}
+use Rattle.words.proofs.Padding.{padded_same}
+use Rattle.words.proofs.Changes.{puts}
+use Rattle.words.proofs.writers.put_hold.Goals as goal
+
+pub returns-then-at-ge-HOLDS : goal.returns-then-at-ge-HOLDS
+returns-then-at-ge-HOLDS c =
+    let a = c.args in
+    (sym (put_out a.at a.hold (accounts_of a.words.now) (omega (arith, c.if-at-ge-HOLDS.true, holds_long a.words.now))), padded_same a.words.now)
+
+pub returns : goal.returns
+returns c =
+    let t = c in
+    let w = t in
+    let e = w in
+    let k = e in
+    let a = k.args in
+    rw c.word_at-rest.ensures
+    (puts a.words.now k.count.ensures.0 a.at (omega (arith, e.if-at-ge-HOLDS.false)) a.hold t.wide-times.result w.wide-quota.result
+    t.wide-times.ensures.0 w.wide-quota.ensures.0 t.wide-times.ensures.1 w.wide-quota.ensures.1)

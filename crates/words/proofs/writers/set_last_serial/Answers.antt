@@ -1,0 +1,9 @@
+-- `words::set_last_serial` meets its contract.
+use Rattle.words.proofs.Writing.{put_last}
+use Rattle.words.proofs.Padding.{padded_last}
+use Rattle.words.proofs.writers.set_last_serial.Goals as goal
+
+pub returns : goal.returns
+returns c =
+    let a = c.args in
+    (put_last a.words.now c.count.ensures.0 a.serial, padded_last a.words.now a.serial)
