@@ -12,12 +12,13 @@ use mathlib.Core.Option.{Option, none, some}
 use lib.Dec.{eqb}
 use borrow.Author.Tests.{ne_eqb, eqb-true}
 use Rattle.accounts.specs.declared.Accounts.{Accounts}
+use Rattle.accounts.specs.Accounts.{clear_permissions, left_permissions}
 use Rattle.lists.specs.Lists.{all}
 use Rattle.model.specs.Refusals.{Line, ◌when◌, line_number, first_refusal}
-use Rattle.model.specs.Calls.{Outcome, unless}
+use Rattle.model.specs.Calls.{Outcome, unchanged, unless}
 use Rattle.model.specs.Calls.{allocate, allocate_array, claim, release, free_all, sweep, reallocate, lend, remaining_of, can_release, list_block, clear}
 use Rattle.model.specs.Step.{Answered, step, performed}
-use Rattle.model.specs.Answers.{Values, refusal_number, zero_handle, zero_range, refused, accepted, listed}
+use Rattle.model.specs.Answers.{Values, refusal_number, zero_handle, zero_range, refused, accepted, listed, amount_of}
 use Rattle.model.specs.Answers.{verdict_values, handle_values, amount_values, range_values, block_values, answer_values}
 use Rattle.model.specs.Answers.{refusals, refusal_at, answer_from, verdict_from, handle_from, amount_from, range_from, listed_from, block_from, answer_of}
 use Rattle.model.proofs.Rows
@@ -30,6 +31,7 @@ use Rattle.model.specs.declared.Refusal.TheVariants.{HeapLength, Inconsistent, Q
 use Rattle.model.specs.declared.Refusal.TheVariants.{QuotaExceeded, HoldsExhausted, SerialsExhausted, NoSpace, NotPermitted}
 use Rattle.model.specs.declared.Verdict.{Verdict}
 use Rattle.model.specs.declared.Verdict.TheVariants.{Accepted, Refused as NotAccepted}
+use Rattle.model.specs.declared.Handle.{Handle as Object}
 use Rattle.model.specs.declared.HandleAnswer.{HandleAnswer}
 use Rattle.model.specs.declared.HandleAnswer.TheVariants.{Given, Refused as NotGiven}
 use Rattle.model.specs.declared.AmountAnswer.{AmountAnswer}
@@ -207,27 +209,78 @@ unfolding answer_values block_values
 block_lists none = refl
 block_lists (some b) = refl
 
--- the answer to what `step` gives has step's values
-pub answer_of_values : (unit : ℕ → ℕ) (c : Call) (s : List ℕ) (k : Accounts) → Faithful (answer_of c) (step unit c s k).values
-unfolding answer_of answer_values verdict_values handle_values amount_values range_values
-    step allocate allocate_array claim release free_all sweep reallocate lend remaining_of can_release list_block clear
-answer_of_values unit (Allocate q n) s k = faithful (λ v. OfHandle (handle_from v)) handle_refuses s k _ refl _ (lines_are_refusals unit (Allocate q n) s k)
-answer_of_values unit (AllocateArray q count size) s k =
+-- the answer to what `step` gives has step's values: call by call, and of any call
+allocate_answer : (unit : ℕ → ℕ) (q : ℕ) (n : ℕ) (s : List ℕ) (k : Accounts) → Faithful (answer_of (Allocate q n)) (step unit (Allocate q n) s k).values
+unfolding answer_of answer_values handle_values step allocate
+allocate_answer unit q n s k = faithful (λ v. OfHandle (handle_from v)) handle_refuses s k _ refl _ (lines_are_refusals unit (Allocate q n) s k)
+
+allocate_array_answer : (unit : ℕ → ℕ) (q : ℕ) (count : ℕ) (size : ℕ) (s : List ℕ) (k : Accounts) → Faithful (answer_of (AllocateArray q count size)) (step unit (AllocateArray q count size) s k).values
+unfolding answer_of answer_values handle_values step allocate_array allocate
+allocate_array_answer unit q count size s k =
     faithful (λ v. OfHandle (handle_from v)) handle_refuses s k _ refl _ (lines_are_refusals unit (AllocateArray q count size) s k)
-answer_of_values unit (Claim q h) s k = faithful (λ v. OfAmount (amount_from v)) amount_refuses s k _ refl _ (lines_are_refusals unit (Claim q h) s k)
-answer_of_values unit (Release q h) s k = faithful (λ v. OfAmount (amount_from v)) amount_refuses s k _ refl _ (lines_are_refusals unit (Release q h) s k)
-answer_of_values unit (FreeAll q) s k = faithful (λ v. OfAmount (amount_from v)) amount_refuses s k _ refl _ (lines_are_refusals unit (FreeAll q) s k)
-answer_of_values unit Sweep s k = faithful (λ v. OfAmount (amount_from v)) amount_refuses s k _ refl _ (lines_are_refusals unit Sweep s k)
-answer_of_values unit (Reallocate q h n) s k =
+
+claim_answer : (unit : ℕ → ℕ) (q : ℕ) (h : Object) (s : List ℕ) (k : Accounts) → Faithful (answer_of (Claim q h)) (step unit (Claim q h) s k).values
+unfolding answer_of answer_values amount_values step claim
+claim_answer unit q h s k = faithful (λ v. OfAmount (amount_from v)) amount_refuses s k _ refl _ (lines_are_refusals unit (Claim q h) s k)
+
+release_answer : (unit : ℕ → ℕ) (q : ℕ) (h : Object) (s : List ℕ) (k : Accounts) → Faithful (answer_of (Release q h)) (step unit (Release q h) s k).values
+unfolding answer_of answer_values amount_values step release
+release_answer unit q h s k = faithful (λ v. OfAmount (amount_from v)) amount_refuses s k _ refl _ (lines_are_refusals unit (Release q h) s k)
+
+free_all_answer : (unit : ℕ → ℕ) (q : ℕ) (s : List ℕ) (k : Accounts) → Faithful (answer_of (FreeAll q)) (step unit (FreeAll q) s k).values
+unfolding answer_of answer_values amount_values step free_all
+free_all_answer unit q s k = faithful (λ v. OfAmount (amount_from v)) amount_refuses s k _ refl _ (lines_are_refusals unit (FreeAll q) s k)
+
+sweep_answer : (unit : ℕ → ℕ) (s : List ℕ) (k : Accounts) → Faithful (answer_of Sweep) (step unit Sweep s k).values
+unfolding answer_of answer_values amount_values step sweep
+sweep_answer unit s k = faithful (λ v. OfAmount (amount_from v)) amount_refuses s k _ refl _ (lines_are_refusals unit Sweep s k)
+
+reallocate_answer : (unit : ℕ → ℕ) (q : ℕ) (h : Object) (n : ℕ) (s : List ℕ) (k : Accounts) → Faithful (answer_of (Reallocate q h n)) (step unit (Reallocate q h n) s k).values
+unfolding answer_of answer_values handle_values step reallocate
+reallocate_answer unit q h n s k =
     faithful (λ v. OfHandle (handle_from v)) handle_refuses s k _ refl _ (lines_are_refusals unit (Reallocate q h n) s k)
-answer_of_values unit (Lend h) s k = faithful (λ v. OfRange (range_from v)) range_refuses s k _ refl _ (lines_are_refusals unit (Lend h) s k)
-answer_of_values unit (Remaining q) s k = faithful (λ v. OfAmount (amount_from v)) amount_refuses s k _ refl _ (lines_are_refusals unit (Remaining q) s k)
-answer_of_values unit (CanRelease q h) s k =
+
+lend_answer : (unit : ℕ → ℕ) (h : Object) (s : List ℕ) (k : Accounts) → Faithful (answer_of (Lend h)) (step unit (Lend h) s k).values
+unfolding answer_of answer_values range_values step lend
+lend_answer unit h s k = faithful (λ v. OfRange (range_from v)) range_refuses s k _ refl _ (lines_are_refusals unit (Lend h) s k)
+
+remaining_of_answer : (unit : ℕ → ℕ) (q : ℕ) (s : List ℕ) (k : Accounts) → Faithful (answer_of (Remaining q)) (step unit (Remaining q) s k).values
+unfolding answer_of answer_values amount_values step remaining_of
+remaining_of_answer unit q s k = faithful (λ v. OfAmount (amount_from v)) amount_refuses s k _ refl _ (lines_are_refusals unit (Remaining q) s k)
+
+can_release_answer : (unit : ℕ → ℕ) (q : ℕ) (h : Object) (s : List ℕ) (k : Accounts) → Faithful (answer_of (CanRelease q h)) (step unit (CanRelease q h) s k).values
+unfolding answer_of answer_values verdict_values step can_release
+can_release_answer unit q h s k =
     faithful (λ v. OfVerdict (verdict_from v)) verdict_refuses s k _ refl _ (lines_are_refusals unit (CanRelease q h) s k)
-answer_of_values unit (ListBlock at) s k =
+
+list_block_answer : (unit : ℕ → ℕ) (at : ℕ) (s : List ℕ) (k : Accounts) → Faithful (answer_of (ListBlock at)) (step unit (ListBlock at) s k).values
+unfolding answer_of answer_values block_values step list_block
+list_block_answer unit at s k =
     faithful (λ v. OfBlock (block_from v)) block_refuses s k _ (block_lists _) _ (lines_are_refusals unit (ListBlock at) s k)
-answer_of_values unit (ClearPermissions q n) s k =
-    faithful (λ v. OfAmount (amount_from v)) amount_refuses s k _ refl _ (lines_are_refusals unit (ClearPermissions q n) s k)
+
+amount_accepts : (n : ℕ) → Faithful (λ v. OfAmount (amount_from v)) (amount_of n)
+unfolding answer_values amount_values
+amount_accepts n = refl
+
+clear_answer : (unit : ℕ → ℕ) (q : ℕ) (n : ℕ) (s : List ℕ) (k : Accounts) → Faithful (answer_of (ClearPermissions q n)) (step unit (ClearPermissions q n) s k).values
+unfolding answer_of step clear
+clear_answer unit q n s k =
+    faithful (λ v. OfAmount (amount_from v)) amount_refuses s k (unchanged s (clear_permissions q n k) (amount_of (left_permissions q n k)))
+    (amount_accepts (left_permissions q n k)) (call_lines unit (ClearPermissions q n) s k) (lines_are_refusals unit (ClearPermissions q n) s k)
+
+pub answer_of_values : (unit : ℕ → ℕ) (c : Call) (s : List ℕ) (k : Accounts) → Faithful (answer_of c) (step unit c s k).values
+answer_of_values unit (Allocate q n) s k = allocate_answer unit q n s k
+answer_of_values unit (AllocateArray q count size) s k = allocate_array_answer unit q count size s k
+answer_of_values unit (Claim q h) s k = claim_answer unit q h s k
+answer_of_values unit (Release q h) s k = release_answer unit q h s k
+answer_of_values unit (FreeAll q) s k = free_all_answer unit q s k
+answer_of_values unit Sweep s k = sweep_answer unit s k
+answer_of_values unit (Reallocate q h n) s k = reallocate_answer unit q h n s k
+answer_of_values unit (Lend h) s k = lend_answer unit h s k
+answer_of_values unit (Remaining q) s k = remaining_of_answer unit q s k
+answer_of_values unit (CanRelease q h) s k = can_release_answer unit q h s k
+answer_of_values unit (ListBlock at) s k = list_block_answer unit at s k
+answer_of_values unit (ClearPermissions q n) s k = clear_answer unit q n s k
 
 -- so answers to a call tell apart what `step` gives to it, here and there
 pub answer_of_injective : (unit : ℕ → ℕ) (c : Call) (s s' : List ℕ) (k k' : Accounts)
