@@ -95,8 +95,8 @@ def parameters(crate, inner):
     return []
 
 
-def lent(crate, callee):
-    """The parameters that a function takes by `&mut`, by its path from its crate."""
+def signature(crate, callee):
+    """The text of a function up to its body, by its path from its crate."""
     steps = callee.split("::")
     top = os.path.join(os.path.dirname(os.path.normpath(crate)), steps[0], "src")
     for folder, _, files in sorted(os.walk(top)):
@@ -108,11 +108,89 @@ def lent(crate, callee):
             if len(stem) != len(steps) - 2 and not steps[-2][:1].isupper():
                 continue
             with open(os.path.join(folder, file), encoding="utf-8") as it:
-                m = re.search(rf"(?s)\bfn {steps[-1]}(?:<[^>]*>)?\((.*?)\)(?: ->|\n| \{{)", it.read())
+                text = it.read()
+            if steps[-2][:1].isupper():
+                text = "\n".join(re.findall(rf"(?ms)^impl(?:<[^>]*>)? {steps[-2]}\b.*?^}}", text))
+            m = re.search(rf"(?ms)\bfn {steps[-1]}(?:<[^>]*>)?\(.*?(?:^ *\{{$| \{{$)", text)
             if m:
-                each = [part.strip() for part in re.split(r",(?![^\[<(]*[\]>)])", m[1]) if part.strip()]
-                return [re.sub(r"^mut ", "", part).split(":")[0].replace("&mut ", "").strip() for part in each if "&mut" in part or re.search(r"&'\w+ mut", part)]
-    return []
+                return m[0]
+    return ""
+
+
+def lent(crate, callee):
+    """The parameters that a function takes by `&mut`."""
+    m = re.search(r"(?s)\((.*?)\)(?: ->|\n| \{)", signature(crate, callee))
+    each = [part.strip() for part in re.split(r",(?![^\[<(]*[\]>)])", m[1]) if part.strip()] if m else []
+    return [re.sub(r"^mut ", "", part).split(":")[0].replace("&mut ", "").strip() for part in each if "&mut" in part or re.search(r"&'\w+ mut", part)]
+
+
+def clauses(crate, callee, kind="ensures"):
+    """The names of a function's clauses, where it has several."""
+    return re.findall(rf"(?m)^ *{kind} (\w+) \{{", signature(crate, callee))
+
+
+def split_tuple(text):
+    """The parts of a term in parentheses, cut at its own commas."""
+    if not (text.startswith("(") and text.endswith(")")):
+        return [text]
+    depth, out, now = 0, [], ""
+    for i, ch in enumerate(text):
+        if ch in "([{":
+            depth += 1
+        if ch in ")]}":
+            depth -= 1
+            if depth == 0 and i < len(text) - 1:
+                return [text]
+        if (ch == "," and depth == 1) or i == 0 or i == len(text) - 1:
+            if i:
+                out.append(now.strip())
+            now = ""
+        else:
+            now += ch
+    return [it for it in out if it]
+
+
+def last_term(text):
+    """The place where the term behind the outer `let .. in` begins."""
+    at, depth, end = 0, 0, 0
+    for m in re.finditer(rf"[(\[{{]|[)\]}}]|(?<![^\s(){{}},;])(?:let|in)(?![^\s(){{}},;])", text):
+        if m[0] in "([{":
+            depth += 1
+        elif m[0] in ")]}":
+            depth -= 1
+        elif depth == 0 and m[0] == "let":
+            at += 1
+        elif depth == 0:
+            at -= 1
+            end = m.end() if at == 0 else end
+    return end
+
+
+def by_clause(rest, clauses):
+    """A term of a goal with several clauses: a record of them by name."""
+    if len(clauses) < 2:
+        return rest
+    at = last_term(rest)
+    head, term = rest[:at], rest[at:].strip()
+    if term.startswith("record {"):
+        return rest
+    parts = split_tuple(term)
+    if len(parts) == len(clauses):
+        each = parts
+        intro = ""
+    elif term.startswith("rw ") and len(arguments(term)) == 3:
+        _, by, inner = arguments(term)
+        inner = inner if inner.startswith("(") else inner
+        each = [f"rw {by} {inner}.{i}" for i in range(len(clauses))]
+        intro = ""
+    elif re.fullmatch(rf"{NAME}(\.{NAME})*\.ensures", term):
+        each = [f"{term}.{name}" for name in clauses]
+        intro = ""
+    else:
+        intro = f"let both = {term} in "
+        each = [f"both.{i}" for i in range(len(clauses))]
+    lines = "".join(f"\n      {name} = {it};" for name, it in zip(clauses, each))
+    return f"{head}{chr(10) + '    ' if head.strip() else ' '}{intro}record {{{lines}\n    }}"
 
 
 class Walk:
@@ -133,8 +211,8 @@ class Walk:
             place = it["parent"]
         return None
 
-    def walk(self, start, fields):
-        """The new fields of a path, and the place at which it ends, if at one."""
+    def walk(self, start, fields, root):
+        """The new fields of a path, and the place at which it ends, if at one. Each record has the steps of all before it."""
         place, out, fields = start, [], list(fields)
         while fields:
             field = fields.pop(0)
@@ -144,7 +222,7 @@ class Walk:
             if field in OWN:
                 fields = self.renamed(fields) if field in ("args", "ranges") else fields
                 return out + [field] + fields, ("args",) if field == "args" and not fields else None, True
-            found = self.step(place, field) if place else None
+            found = (self.step(place, field) or self.step(root, field)) if place else None
             if not found:
                 return out + [field] + fields, None, False
             out.append(self.places[found]["now"])
@@ -152,6 +230,12 @@ class Walk:
                 of = lent(self.crate, self.places[found]["callee"])
                 if int(fields[1]) < len(of):
                     return out + ["new", of[int(fields[1])]] + fields[2:], None, True
+            if fields and fields[0] == "ensures" and self.places[found]["callee"]:
+                of = clauses(self.crate, self.places[found]["callee"])
+                if len(of) > 1 and len(fields) == 1:
+                    return out + fields, ("clauses", of), True
+                if len(of) > 1 and re.fullmatch(r"\d+", fields[1]):
+                    return out + ["ensures", of[int(fields[1])]] + fields[2:], None, True
             if fields:
                 sub = self.places[found]["sub"]
                 out.append(sub.get(fields[0], fields[0]))
@@ -170,7 +254,7 @@ class Walk:
 class Turner:
     def __init__(self, path, entry, parameters, crate, said):
         self.path, self.entry, self.said = path, entry, said
-        self.helpers = []
+        self.helpers = {}
         self.w = Walk(entry, parameters, crate)
 
     def paths(self, body, env, goal=None):
@@ -187,7 +271,7 @@ class Turner:
             if m[5]:
                 place = env.get(m[6])
                 known = isinstance(place, str)
-                out += f"{m[5]} {self.view(m[6], place) if known else m[6]}"
+                out += f"{m[5]} {self.view(m[6], place, m[5]) if known else m[6]}"
             elif m[1] and "." not in m[2]:
                 env[m[1]] = env.get(m[2])
                 out += m[0]
@@ -197,32 +281,43 @@ class Turner:
                 env[m[1]] = place
                 out += f"let {m[1]} = {new} in"
             else:
-                out += self.one(m[3], m[4][1:].split("."), env)[0]
+                behind = re.search(rf"({NAME}) $", out)
+                out += self.one(m[3], m[4][1:].split("."), env, helper=behind and behind[1])[0]
         return out + body[at:]
 
-    def one(self, var, fields, env, bound=False):
+    def one(self, var, fields, env, bound=False, helper=None):
         place = env.get(var)
         if place is None:
             return ".".join([var] + fields), None
         if place == ("args",):
             return ".".join([var] + self.w.renamed(fields)), None
+        if isinstance(place, tuple) and place[0] == "clauses":
+            if re.fullmatch(r"\d+", fields[0]):
+                fields = [place[1][int(fields[0])]] + fields[1:]
+            return ".".join([var] + fields), None
         if isinstance(place, tuple):
             at = self.w.places[place[1]]
             if len(fields) > 1 and fields[0] == "new" and re.fullmatch(r"\d+", fields[1]) and at["callee"]:
                 of = lent(self.w.crate, at["callee"])
                 if int(fields[1]) < len(of):
                     return ".".join([var, "new", of[int(fields[1])]] + fields[2:]), None
+            of = clauses(self.w.crate, at["callee"]) if at["callee"] and fields[0] == "ensures" else []
+            if len(of) > 1 and len(fields) == 1:
+                return ".".join([var] + fields), ("clauses", of)
+            if len(of) > 1 and re.fullmatch(r"\d+", fields[1]):
+                return ".".join([var, "ensures", of[int(fields[1])]] + fields[2:]), None
             return ".".join([var, at["sub"].get(fields[0], fields[0])] + fields[1:]), None
-        new, end, known = self.w.walk(place, fields)
+        new, end, known = self.w.walk(place, fields, self.now[1])
         if not known:
             self.said.append(f"look: {self.path}: {var}.{'.'.join(fields)} at {place}")
         if not new and not bound:
-            return self.view(var, end), end
+            return self.view(var, end, helper), end
         return ".".join([var] + new), end
 
-    def view(self, var, place):
+    def view(self, var, place, helper=None):
         """A term for the record of an outer place, as a helper takes it."""
         goal, start = self.now
+        place = self.helpers.get(helper, place)
         name = self.w.places[place]["new"]
         if place == start:
             return self.root
@@ -325,7 +420,10 @@ def turn(path, module, entry, parameters, crate, said):
                 answers.append((new, place, arg + " c"))
     wrapped = set(rename.values())
     kinds = {}
-    t.helpers = [it["head"] for it in decls if re.search(r"\([^()\s]+ : tie\.", "\n".join(it["lines"])) and it["head"] not in [g[0] for g in goals]]
+    for it in decls:
+        takes = re.search(r"[({][^()\s]+ : tie\.([^\s(){}.;,]+)", "\n".join(it["lines"]))
+        if takes and it["head"] not in [g[0] for g in goals] and plain(takes[1]) in t.w.places:
+            t.helpers[it["head"]] = plain(takes[1])
 
     def types(line):
         def one(m):
@@ -368,6 +466,7 @@ def turn(path, module, entry, parameters, crate, said):
                 said.append(f"look: {path}: {head} takes {params}")
             rest = rest[m.end() :]
             rest = t.paths(names(types(rest)), env, goal)
+            rest = by_clause(rest, entry["asked"].get(old_of[goal], []))
             return "\n".join(it["comment"] + [f"pub {goal} : goal.{goal}", f"{unf}{goal}{''.join(' ' + p for p in params)} ={rest}"])
         env = {}
         for var, place_ in re.findall(rf"[({{]({NAME}) : tie\.([^\s(){{}}.;,]+)", body):
@@ -408,13 +507,15 @@ def turn(path, module, entry, parameters, crate, said):
             it["lines"][0] = re.sub(r"^(abbrev |unfoldable |data |record )?", lambda m: ("pub " + m[1] if m[1] in ("data ", "record ") else (m[1] or "") + "pub "), first, count=1)
         shared.append(it["head"])
     goal_of = {g[0]: (g[1], g[2]) for g in goals}
+    old_of = {new: was for was, new in needs}
     body = []
     for it in decls:
         if it["head"] in drop or it in moved:
             continue
         body.append(turned(it, goal_of[it["head"]][1] if it["head"] in goal_of else None))
     for new, place, term in answers:
-        body.append(f"pub {new} : goal.{new}\n{new} c = {t.paths(names(types(term)), {'c': place}, new)}")
+        term = by_clause(" " + t.paths(names(types(term)), {"c": place}, new), entry["asked"].get(old_of[new], []))
+        body.append(f"pub {new} : goal.{new}\n{new} c ={term}")
     for new, arg in extra:
         body.append(f"pub {new} : goal.{new}\n{new} c = {rename.get(arg, arg)} c")
     folder = os.path.dirname(path)

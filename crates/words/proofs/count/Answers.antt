@@ -11,7 +11,7 @@ use denote.Shadow.{shadow}
 use borrow.Kind.Array.{e_int}
 use Rattle.words.proofs.count.Goals as goal
 
-fits : (ws : List ℕ) (us : List Val) → shadow (each (e_int w32).ty.Denot (e_int w32).ty.own ws us) → (i : ℕ) → get_or ws i 0 < 2 ^ 32
+fits : (ws : List ℕ) (us : List Val) → shadow (each (e_int w32).ty.Denot (e_int w32).ty.own_val ws us) → (i : ℕ) → get_or ws i 0 < 2 ^ 32
 fits [] us s i = omega arith
 fits (w ∷ ws) [] s i = absurd s
 fits (w ∷ ws) (u ∷ us) s zero = omega (arith, s.0.1)

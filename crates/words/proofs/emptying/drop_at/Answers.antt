@@ -13,11 +13,12 @@ pub returns-then-hold-quota : goal.returns-then-hold-quota
 returns-then-hold-quota c =
     let h = c in
     let a = h.args in
-    let x = h.hold_at-hold.result in (
-      drops_not a.at a.quota (accounts_of a.words.now) x h.hold_at-hold.ensures
-          (rw (ne_eqb x.quota a.quota c.if-hold-quota.true) (and-false (used x))),
-      padded_same a.words.now,
-    )
+    let x = h.hold_at-hold.result in
+    record {
+      holds = drops_not a.at a.quota (accounts_of a.words.now) x h.hold_at-hold.ensures
+          (rw (ne_eqb x.quota a.quota c.if-hold-quota.true) (and-false (used x)));
+      pads = padded_same a.words.now;
+    }
 
 pub returns-then-not-is_used : goal.returns-then-not-is_used
 returns-then-not-is_used c =
@@ -26,7 +27,10 @@ returns-then-not-is_used c =
     let a = h.args in
     let x = h.hold_at-hold.result in
     let no : used x ≡ false = sym u.is_used.ensures ∙ not-true _ c.if-not-is_used.true-raw in
-    (drops_not a.at a.quota (accounts_of a.words.now) x h.hold_at-hold.ensures (rw no), padded_same a.words.now)
+    record {
+      holds = drops_not a.at a.quota (accounts_of a.words.now) x h.hold_at-hold.ensures (rw no);
+      pads = padded_same a.words.now;
+    }
 
 pub returns : goal.returns
 returns c =
@@ -37,4 +41,7 @@ returns c =
     let x = h.hold_at-hold.result in
     let yes : used x ≡ true = sym u.is_used.ensures ∙ not-false _ e.if-not-is_used.false-raw in
     let own : eqb x.quota a.quota ≡ true = eq-eqb x.quota a.quota u.if-hold-quota.false in
-    (c.drop_hold.ensures.0 ∙ drops_here a.at a.quota (accounts_of a.words.now) x h.hold_at-hold.ensures (rw (yes, own)), c.drop_hold.ensures.1)
+    record {
+      holds = c.drop_hold.ensures.holds ∙ drops_here a.at a.quota (accounts_of a.words.now) x h.hold_at-hold.ensures (rw (yes, own));
+      pads = c.drop_hold.ensures.pads;
+    }

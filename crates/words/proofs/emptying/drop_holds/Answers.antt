@@ -18,16 +18,17 @@ loop-i-preserved c =
     let l = at.loop-i in (
       search rules,
       drops_more a.quota (accounts_of a.words.now) l.i (accounts_of l.words) l.invariant.1
-          (omega (arith, n.loop-i-test.true, holds_long a.words.now)) _ c.drop_at.ensures.0,
-      padded_on l.invariant.2 c.drop_at.ensures.1,
+          (omega (arith, n.loop-i-test.true, holds_long a.words.now)) _ c.drop_at.ensures.holds,
+      padded_on l.invariant.2 c.drop_at.ensures.pads,
     )
 
 pub returns : goal.returns
 returns c =
     let at = c in
     let a = at.args in
-    let l = at.loop-i in (
-      drops_all a.quota (accounts_of a.words.now) l.i (accounts_of l.words) l.invariant.1
-          (omega (arith, c.loop-i-test.false, holds_long a.words.now)),
-      l.invariant.2,
-    )
+    let l = at.loop-i in
+    record {
+      holds = drops_all a.quota (accounts_of a.words.now) l.i (accounts_of l.words) l.invariant.1
+          (omega (arith, c.loop-i-test.false, holds_long a.words.now));
+      pads = l.invariant.2;
+    }

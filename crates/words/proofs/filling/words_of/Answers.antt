@@ -36,5 +36,8 @@ returns c =
     let t = packs (goal.at.returns c).Start in
     let rest = 256 * e.wide-high.result + w.wide-low.result in
     let is : rest ≡ 256 * k.edition + k.kind = (λ i. 256 * e.wide-high.ensures.0 i + w.wide-low.ensures.0 i) in
-    let f = finished_filled k q.put_quotas.new.words c.Put-Holds.new.0 rest is q.put_quotas.ensures c.Put-Holds.ensures in
-    (filled_same (words_filled k t.quotas t.holds) f, filled_accounts t f)
+    let f = finished_filled k q.put_quotas.new.words c.put_holds.new.words rest is q.put_quotas.ensures c.put_holds.ensures in
+    record {
+      is = filled_same (words_filled k t.quotas t.holds) f;
+      holds = filled_accounts t f;
+    }

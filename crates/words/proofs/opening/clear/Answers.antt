@@ -4,4 +4,7 @@ use Rattle.words.proofs.Openings.{blank_zero}
 use Rattle.words.proofs.opening.clear.Goals as goal
 
 pub returns : goal.returns
-returns c = (blank_zero _ c.wipe.ensures, blank_unpadded c.wipe.ensures)
+returns c = record {
+      holds = blank_zero _ c.wipe.ensures;
+      pads = blank_unpadded c.wipe.ensures;
+    }

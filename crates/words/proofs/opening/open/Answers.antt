@@ -18,8 +18,8 @@ loop-i-preserved c =
     let a = at.args in
     let l = at.loop-i in (
       search rules,
-      granting_more a.grants l.i (accounts_of l.words) _ l.invariant.1 n.loop-i-test.true c.put_grant.ensures.0,
-      unpadded_on l.invariant.2 c.put_grant.ensures.1,
+      granting_more a.grants l.i (accounts_of l.words) _ l.invariant.1 n.loop-i-test.true c.put_grant.ensures.holds,
+      unpadded_on l.invariant.2 c.put_grant.ensures.pads,
     )
 
 pub returns : goal.returns
@@ -30,9 +30,10 @@ returns c =
     let at = p in
     let s = at in
     let a = s.args in
-    let l = at.loop-i in (
-      c.put_kinds.ensures.0
+    let l = at.loop-i in
+    record {
+      holds = c.put_kinds.ensures.holds
           ∙ granting_all a.grants s.well_formed.1.0.1.0.1 l.i (accounts_of l.words) l.invariant.1 p.loop-i-test.false a.settings
-          k.number.result e.number-2.result k.number.ensures e.number-2.ensures,
-      unpadded_on l.invariant.2 c.put_kinds.ensures.1,
-    )
+          k.number.result e.number-2.result k.number.ensures e.number-2.ensures;
+      pads = unpadded_on l.invariant.2 c.put_kinds.ensures.pads;
+    }

@@ -4,7 +4,11 @@ use Rattle.words.proofs.Openings.{put_quota_is, put_quota_out}
 use Rattle.words.proofs.opening.put_quota.Goals as goal
 
 pub returns-then-q-ge-QUOTAS : goal.returns-then-q-ge-QUOTAS
-returns-then-q-ge-QUOTAS c = let a = c.args in put_quota_out a.words.now a.q a.quota c.if-q-ge-QUOTAS.true
+returns-then-q-ge-QUOTAS c = let a = c.args in
+    let both = put_quota_out a.words.now a.q a.quota c.if-q-ge-QUOTAS.true in record {
+      holds = both.0;
+      pads = both.1;
+    }
 
 pub returns : goal.returns
 returns c =
@@ -12,6 +16,9 @@ returns c =
     let e = w in
     let k = e in
     let a = k.args in
-    rw c.word_at-spare.ensures
-    (put_quota_is a.words.now k.count.ensures.0 a.q a.quota (omega (arith, e.if-q-ge-QUOTAS.false)) w.wide-permissions.result w.wide-permissions.ensures.0
-    w.wide-permissions.ensures.1)
+    record {
+      holds = rw c.word_at-spare.ensures (put_quota_is a.words.now k.count.ensures.0 a.q a.quota (omega (arith, e.if-q-ge-QUOTAS.false)) w.wide-permissions.result w.wide-permissions.ensures.0
+    w.wide-permissions.ensures.1).0;
+      pads = rw c.word_at-spare.ensures (put_quota_is a.words.now k.count.ensures.0 a.q a.quota (omega (arith, e.if-q-ge-QUOTAS.false)) w.wide-permissions.result w.wide-permissions.ensures.0
+    w.wide-permissions.ensures.1).1;
+    }

@@ -7,7 +7,10 @@ use Rattle.words.proofs.writers.clear_permissions.Goals as goal
 pub returns-then-q-ge-QUOTAS : goal.returns-then-q-ge-QUOTAS
 returns-then-q-ge-QUOTAS c =
     let a = c.args in
-    clears_none a.words.now a.quota a.bits c.if-q-ge-QUOTAS.true
+    let both = clears_none a.words.now a.quota a.bits c.if-q-ge-QUOTAS.true in record {
+      holds = both.0;
+      pads = both.1;
+    }
 
 pub returns : goal.returns
 returns c =
@@ -16,6 +19,9 @@ returns c =
     let e = l in
     let k = e in
     let a = k.args in
-    rw c.word_at-spare.ensures
-    (clears a.words.now a.quota a.bits (omega (arith, e.if1.false)) k.count.ensures.0 w.wide-left.result w.wide-left.ensures.1
-    (w.wide-left.ensures.0 ∙ l.left_permissions.ensures))
+    record {
+      holds = rw c.word_at-spare.ensures (clears a.words.now a.quota a.bits (omega (arith, e.if-q-ge-QUOTAS.false)) k.count.ensures.0 w.wide-left.result w.wide-left.ensures.1
+    (w.wide-left.ensures.0 ∙ l.left_permissions.ensures)).0;
+      pads = rw c.word_at-spare.ensures (clears a.words.now a.quota a.bits (omega (arith, e.if-q-ge-QUOTAS.false)) k.count.ensures.0 w.wide-left.result w.wide-left.ensures.1
+    (w.wide-left.ensures.0 ∙ l.left_permissions.ensures)).1;
+    }

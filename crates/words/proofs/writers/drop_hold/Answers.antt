@@ -10,4 +10,7 @@ unfolding drop_hold
 returns c =
     let z = c in
     let a = z.args in
-    (c.put_hold.ensures.0 ∙ ap (λ (h : Hold). put_hold a.at h (accounts_of a.words.now)) z.zero.ensures, c.put_hold.ensures.1)
+    record {
+      holds = c.put_hold.ensures.holds ∙ ap (λ (h : Hold). put_hold a.at h (accounts_of a.words.now)) z.zero.ensures;
+      pads = c.put_hold.ensures.pads;
+    }

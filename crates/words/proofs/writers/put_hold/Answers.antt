@@ -11,7 +11,10 @@ use Rattle.words.proofs.writers.put_hold.Goals as goal
 pub returns-then-at-ge-HOLDS : goal.returns-then-at-ge-HOLDS
 returns-then-at-ge-HOLDS c =
     let a = c.args in
-    (sym (put_out a.at a.hold (accounts_of a.words.now) (omega (arith, c.if-at-ge-HOLDS.true, holds_long a.words.now))), padded_same a.words.now)
+    record {
+      holds = sym (put_out a.at a.hold (accounts_of a.words.now) (omega (arith, c.if-at-ge-HOLDS.true, holds_long a.words.now)));
+      pads = padded_same a.words.now;
+    }
 
 pub returns : goal.returns
 returns c =
@@ -20,6 +23,9 @@ returns c =
     let e = w in
     let k = e in
     let a = k.args in
-    rw c.word_at-rest.ensures
-    (puts a.words.now k.count.ensures.0 a.at (omega (arith, e.if-at-ge-HOLDS.false)) a.hold t.wide-times.result w.wide-quota.result
-    t.wide-times.ensures.0 w.wide-quota.ensures.0 t.wide-times.ensures.1 w.wide-quota.ensures.1)
+    record {
+      holds = rw c.word_at-rest.ensures (puts a.words.now k.count.ensures.0 a.at (omega (arith, e.if-at-ge-HOLDS.false)) a.hold t.wide-times.result w.wide-quota.result
+    t.wide-times.ensures.0 w.wide-quota.ensures.0 t.wide-times.ensures.1 w.wide-quota.ensures.1).0;
+      pads = rw c.word_at-rest.ensures (puts a.words.now k.count.ensures.0 a.at (omega (arith, e.if-at-ge-HOLDS.false)) a.hold t.wide-times.result w.wide-quota.result
+    t.wide-times.ensures.0 w.wide-quota.ensures.0 t.wide-times.ensures.1 w.wide-quota.ensures.1).1;
+    }

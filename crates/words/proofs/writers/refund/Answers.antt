@@ -6,14 +6,20 @@ use Rattle.words.proofs.writers.refund.Goals as goal
 pub returns-then-q-ge-QUOTAS : goal.returns-then-q-ge-QUOTAS
 returns-then-q-ge-QUOTAS c =
     let a = c.args in
-    refunds_none a.words.now a.quota a.amount c.if-q-ge-QUOTAS.true
+    let both = refunds_none a.words.now a.quota a.amount c.if-q-ge-QUOTAS.true in record {
+      holds = both.0;
+      pads = both.1;
+    }
 
 pub returns-then-amount-remainder : goal.returns-then-amount-remainder
 returns-then-amount-remainder c =
     let w = c in
     let e = w in
     let a = e.args in
-    refunds_over a.words.now a.quota a.amount (omega (arith, e.if1.false)) (omega (arith, c.if-amount-remainder.true, w.word_at-remainder.ensures))
+    let both = refunds_over a.words.now a.quota a.amount (omega (arith, e.if-q-ge-QUOTAS.false)) (omega (arith, c.if-amount-remainder.true, w.word_at-remainder.ensures)) in record {
+      holds = both.0;
+      pads = both.1;
+    }
 
 pub returns : goal.returns
 returns c =
@@ -21,5 +27,7 @@ returns c =
     let e = w in
     let k = e in
     let a = k.args in
-    rw w.word_at-remainder.ensures
-    (refunds a.words.now a.quota a.amount (omega (arith, e.if-q-ge-QUOTAS.false)) k.count.ensures.0 (omega (arith, c.if-amount-remainder.false, w.word_at-remainder.ensures)))
+    record {
+      holds = rw w.word_at-remainder.ensures (refunds a.words.now a.quota a.amount (omega (arith, e.if-q-ge-QUOTAS.false)) k.count.ensures.0 (omega (arith, c.if-amount-remainder.false, w.word_at-remainder.ensures))).0;
+      pads = rw w.word_at-remainder.ensures (refunds a.words.now a.quota a.amount (omega (arith, e.if-q-ge-QUOTAS.false)) k.count.ensures.0 (omega (arith, c.if-amount-remainder.false, w.word_at-remainder.ensures))).1;
+    }

@@ -6,4 +6,7 @@ use Rattle.words.proofs.writers.set_last_serial.Goals as goal
 pub returns : goal.returns
 returns c =
     let a = c.args in
-    (put_last a.words.now c.count.ensures.0 a.serial, padded_last a.words.now a.serial)
+    record {
+      holds = put_last a.words.now c.count.ensures.0 a.serial;
+      pads = padded_last a.words.now a.serial;
+    }
