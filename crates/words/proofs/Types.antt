@@ -19,14 +19,14 @@ NarrowQuota x = (x.grant < 2 ^ 32) × (x.remainder < 2 ^ 32) × (x.permissions <
 abbrev pub NarrowHold : Hold → Type 0
 NarrowHold h = (h.serial < 2 ^ 32) × (h.quota < 2 ^ 8) × (h.count < 2 ^ 8)
 
-pub quotas_narrow : (qs : List Quota) (us : List Val) → shadow (each (Q.the_field).row.Denot (Q.the_field).row.own_val (map (Q.the_type).to qs) us)
+pub quotas_narrow : (qs : List Quota) (us : List Val) → shadow (each (Q.the_row).Denot (Q.the_row).own_val qs us)
     → (i : ℕ) → NarrowQuota (get_or qs i zero_quota)
 quotas_narrow [] us s i = (omega arith, omega arith, omega arith)
 quotas_narrow (x ∷ qs) [] s i = absurd s
 quotas_narrow (x ∷ qs) (u ∷ us) s zero = (omega (arith, s.0.1.1.0.1), omega (arith, s.0.1.1.1.0.1), omega (arith, s.0.1.1.1.1.0.1))
 quotas_narrow (x ∷ qs) (u ∷ us) s (suc i) = quotas_narrow qs us s.1 i
 
-pub holds_narrow : (hs : List Hold) (us : List Val) → shadow (each (H.the_field).row.Denot (H.the_field).row.own_val (map (H.the_type).to hs) us)
+pub holds_narrow : (hs : List Hold) (us : List Val) → shadow (each (H.the_row).Denot (H.the_row).own_val hs us)
     → (i : ℕ) → NarrowHold (get_or hs i zero_hold)
 holds_narrow [] us s i = (omega arith, omega arith, omega arith)
 holds_narrow (h ∷ hs) [] s i = absurd s
