@@ -1,4 +1,4 @@
 pub mod Keys
 pub mod Audit
 pub mod Fitting
-pub mod Contracts
+pub mod Clauses

@@ -15,7 +15,7 @@ use Rattle.model.specs.declared.Call.{Call}
 use Rattle.model.specs.declared.Call.TheVariants.{Allocate, AllocateArray, Claim, Release, FreeAll, Reallocate}
 use Rattle.replay_model.specs.Lines.{numbers}
 use Rattle.replay_model.specs.Commands.{handle_in, word_of, taking, call_of, opening_of, named, phrase_of, phrase_call, phrase_opening}
-use Rattle.replay_text.specs.Contracts.{MOST, few, few_phrase}
+use Rattle.replay_text.specs.Clauses.{MOST, few, few_phrase}
 use Rattle.replay_model.specs.declared.Word.{Word}
 use Rattle.replay_model.specs.declared.Word.TheVariants.{Open, Alloc, Array, Claim as ClaimWord, Free, All, Realloc, Unknown}
 

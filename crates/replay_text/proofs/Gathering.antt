@@ -11,7 +11,7 @@ use lib.ListN.{length, take, drop, get_or, set, length-append, length-set, lengt
 use lib.Seq.{length-take-le, take-suc, take-suc-set, take_all, get_or-drop}
 use Rattle.replay_model.specs.Text.{read_number}
 use Rattle.replay_model.specs.Lines.{join_number, numbers}
-use Rattle.replay_text.specs.Contracts.{MOST, few, Counted}
+use Rattle.replay_text.specs.Clauses.{MOST, few, Counted}
 use Rattle.replay_text.specs.declared.Count.TheVariants.{Read, Nothing}
 
 -- numbers in front of others, if the others are numbers

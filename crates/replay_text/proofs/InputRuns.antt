@@ -17,7 +17,7 @@ use Rattle.replay_model.specs.Lines.{lines}
 use Rattle.replay_model.specs.Commands.{Opening, line_opening}
 use Rattle.replay_model.specs.Replay.{LONGEST, OUTPUT, bad_line, run_opened, run_opening, run_input, replay}
 use Rattle.replay_text.specs.Answer.{Result, replayed}
-use Rattle.replay_text.specs.Contracts.{FirstMark, Room, Put}
+use Rattle.replay_text.specs.Clauses.{FirstMark, Room, Put}
 use Rattle.replay_text.specs.declared.Replayed.TheVariants.{Written, TooShort}
 use Rattle.replay_text.proofs.Marks.{split_last, split_more}
 use Rattle.replay_text.proofs.LineRuns.{split_some}

@@ -16,7 +16,7 @@ use Rattle.replay_model.specs.Text.{LINE_FEED}
 use Rattle.replay_model.specs.Lines.{onto, split, lines}
 use Rattle.replay_model.specs.Commands.{line_call}
 use Rattle.replay_model.specs.Replay.{bad_line, answer_line, heap_lines, ending, on_call, run_lines}
-use Rattle.replay_text.specs.Contracts.{FirstMark}
+use Rattle.replay_text.specs.Clauses.{FirstMark}
 use Rattle.replay_text.proofs.Reading.{part_cons, part_none}
 use Rattle.replay_text.proofs.Marks.{split_last, split_more}
 

@@ -9,7 +9,7 @@ use borrow.Author.Tests.{ltb-true, ltb-false, eq-eqb, ne_eqb}
 use lib.ListN.{length, get_or}
 use lib.Seq.{slice}
 use Rattle.replay_model.specs.Lines.{onto, split}
-use Rattle.replay_text.specs.Contracts.{FirstMark}
+use Rattle.replay_text.specs.Clauses.{FirstMark}
 use Rattle.replay_text.proofs.Reading.{part_cons, part_none}
 
 -- a mark is at no place from one up to another

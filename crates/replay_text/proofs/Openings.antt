@@ -23,7 +23,7 @@ use Rattle.ledger.specs.History.{Opening as Begun}
 use Rattle.results.specs.Results.{outcome}
 use Rattle.replay_model.specs.Replay.{ok_line, no_line, run_lines, run_opened}
 use Rattle.replay_model.specs.Events.{Reached, Granted}
-use Rattle.replay_text.specs.Contracts.{Zeros}
+use Rattle.replay_text.specs.Clauses.{Zeros}
 use Rattle.replay_text.specs.Answered.{verdict_refusal}
 
 -- a verdict's refusal is that of its values, and none where it is accepted

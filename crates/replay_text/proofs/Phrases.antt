@@ -12,7 +12,7 @@ use Rattle.accounts.specs.Accounts.{QUOTAS}
 use Rattle.replay_model.specs.Text.{SPACE}
 use Rattle.replay_model.specs.Lines.{words, numbers}
 use Rattle.replay_model.specs.Commands.{Opening, word_of, call_of, opening_of, named, phrase_call, phrase_opening, line_call, line_opening}
-use Rattle.replay_text.specs.Contracts.{FirstMark, MOST, few, few_phrase, Counted, LineRead, line_phrase, opening_line, is_open}
+use Rattle.replay_text.specs.Clauses.{FirstMark, MOST, few, few_phrase, Counted, LineRead, line_phrase, opening_line, is_open}
 use Rattle.replay_text.specs.declared.Count.TheVariants.{Read, Nothing}
 use Rattle.replay_model.specs.declared.Word.{Word}
 use Rattle.replay_model.specs.declared.Word.TheVariants.{Open, Alloc, Array, Claim, Free, All, Realloc, Unknown}

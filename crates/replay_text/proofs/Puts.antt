@@ -8,7 +8,7 @@ use lib.ListN.{length, take, drop, set, get_or, length-append}
 use lib.Seq.{length-take-le, set-append_left, take-set-lt, take-suc-set, take-suc, take_all}
 use Rattle.layout.specs.Bytes.{overwrite}
 use Rattle.layout.proofs.Overwrite.{overwrite_fits, overwrite_nil, overwrite_one, overwrite_two, overwrite_more, length_overwrite}
-use Rattle.replay_text.specs.Contracts.{Room, Put}
+use Rattle.replay_text.specs.Clauses.{Room, Put}
 
 -- the length stays
 pub put_length : (at : ℕ) (text before after : List ℕ) (r : ℕ) → Put at text before after r → length after ≡ length before

@@ -5,7 +5,7 @@ use Prim.Native.Nat.{ℕ, ◌+◌}
 use native.Mathlib.Omega.{arith}
 use lib.ListN.{length, length-append}
 use Rattle.layout.proofs.Overwrite.{overwrite_nil}
-use Rattle.replay_text.specs.Contracts.{Room, Put}
+use Rattle.replay_text.specs.Clauses.{Room, Put}
 use Rattle.replay_text.proofs.Puts.{put_length, put_two, room_first}
 
 -- of the text `whole`, which begins at a place of the output s, all but the rest is written

@@ -9,7 +9,7 @@ use lib.ListN.{length, set, length-append}
 use Rattle.layout.specs.Bytes.{overwrite}
 use Rattle.layout.proofs.Overwrite.{overwrite_nil, length_overwrite}
 use Rattle.replay_model.proofs.Decimals.{places_one, places_more, places_most, length_digits, length_decimal}
-use Rattle.replay_text.specs.Contracts.{Put}
+use Rattle.replay_text.specs.Clauses.{Put}
 use Rattle.replay_text.proofs.Puts.{overwrite_before}
 use Rattle.replay_model.specs.Text.{digits, places, decimal}
 

@@ -7,7 +7,7 @@ use Rattle.replay_text.specs.declared.Number.{Number}
 use Rattle.replay_text.specs.declared.Number.TheVariants.{Value, Nothing as NoNumber}
 use Rattle.replay_text.specs.declared.Asked.{Asked}
 use Rattle.replay_text.specs.declared.Asked.TheVariants.{Call as AskedCall, Nothing as NotAsked}
-use Rattle.replay_text.specs.Contracts.{number_value, asked_call}
+use Rattle.replay_text.specs.Clauses.{number_value, asked_call}
 
 abbrev number_from : Option ℕ → Number
 number_from none = NoNumber

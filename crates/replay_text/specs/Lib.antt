@@ -1,4 +1,4 @@
 -- What the contracts cite.
 pub mod Answer
-pub mod Contracts
+pub mod Clauses
 pub mod Answered

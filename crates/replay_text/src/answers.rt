@@ -5,7 +5,7 @@ ghost use Rattle.model.specs.Answers.{answer_values, zero_handle};
 ghost use Rattle.replay_text.specs.Answered.{verdict_refusal, handle_refusal, amount_refusal, range_refusal, block_refusal, answer_refusal};
 ghost use Rattle.replay_text.specs.Answered.{given_handle, answer_handle, given_amount, answer_amount};
 ghost use Rattle.replay_model.specs.Replay.{tail_of, ok_line, no_line, bad_line, handle_numbers, gives_handle, answer_line, block_line};
-ghost use Rattle.replay_text.specs.Contracts.{Put, Room};
+ghost use Rattle.replay_text.specs.Clauses.{Put, Room};
 
 use crate::{digits, output};
 use model::{

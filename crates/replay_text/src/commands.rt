@@ -4,8 +4,8 @@ ghost use Rattle.std.proofs.Math.Option.{none, some};
 ghost use Rattle.std.proofs.Math.Seq.{slice};
 ghost use Rattle.replay_model.specs.Lines.{words};
 ghost use Rattle.replay_model.specs.Commands.{call_of, line_call, line_opening};
-ghost use Rattle.replay_text.specs.Contracts.{Within, Counted, LineRead, asked_call, opening_line, is_open};
-ghost use Rattle.replay_text.specs.Contracts.{MOST as MostNumbers};
+ghost use Rattle.replay_text.specs.Clauses.{Within, Counted, LineRead, asked_call, opening_line, is_open};
+ghost use Rattle.replay_text.specs.Clauses.{MOST as MostNumbers};
 
 use crate::{Asked, Count, Line, MOST, Number, OpenLine, digits, tokens};
 use accounts::QUOTAS;

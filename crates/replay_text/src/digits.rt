@@ -3,7 +3,7 @@ ghost use Rattle.std.specs.Prelude.{◌≡◌, ◌+◌, ◌≤◌, length};
 ghost use Rattle.std.proofs.Math.Seq.{slice};
 ghost use Rattle.layout.specs.Bytes.{overwrite};
 ghost use Rattle.replay_model.specs.Text.{digits, places, decimal, read_on, read_number};
-ghost use Rattle.replay_text.specs.Contracts.{Put, Room, Within, number_value};
+ghost use Rattle.replay_text.specs.Clauses.{Put, Room, Within, number_value};
 
 use crate::Number;
 use accounts::GREATEST_NUMBER;

@@ -1,7 +1,7 @@
 // Bytes written behind each other: each function writes at a place and gives the place behind what it wrote.
 ghost use Rattle.std.specs.Prelude.{[], ◌∷◌};
 ghost use Rattle.replay_model.specs.Text.{SPACE, decimal};
-ghost use Rattle.replay_text.specs.Contracts.{Put, Room};
+ghost use Rattle.replay_text.specs.Clauses.{Put, Room};
 
 use crate::digits;
 

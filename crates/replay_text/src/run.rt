@@ -6,7 +6,7 @@ ghost use Rattle.layout.specs.Blocks.{greatest_heap};
 ghost use Rattle.model.specs.Calls.{open_heap};
 ghost use Rattle.replay_model.specs.Lines.{lines};
 ghost use Rattle.replay_model.specs.Replay.{heap_lines, ending, run_lines, run_opened, run_input};
-ghost use Rattle.replay_text.specs.Contracts.{Room, Put, Zeros};
+ghost use Rattle.replay_text.specs.Clauses.{Room, Put, Zeros};
 ghost use Rattle.replay_model.specs.Events.{Reached, Granted};
 
 use crate::{Asked, answers, commands, tokens};

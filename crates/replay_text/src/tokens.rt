@@ -3,7 +3,7 @@ ghost use Rattle.std.specs.Prelude.{◌≡◌};
 ghost use Rattle.std.proofs.Math.Seq.{slice};
 ghost use Rattle.replay_model.specs.Text.{same};
 ghost use Rattle.replay_model.specs.Commands.{word_of};
-ghost use Rattle.replay_text.specs.Contracts.{Within, FirstMark};
+ghost use Rattle.replay_text.specs.Clauses.{Within, FirstMark};
 
 use replay_model::Word;
 

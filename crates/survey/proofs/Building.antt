@@ -7,7 +7,7 @@ use Rattle.lists.proofs.Bools.{by_eq}
 use Rattle.accounts.specs.Accounts.{HOLDS}
 use Rattle.words.specs.Words.{serial_in}
 use Rattle.survey.specs.Index.{SLOTS, LINKS, END, FORKED, slot, bits_of, fork, Leads, here, head_of, Head, Reached, Growing, Built}
-use Rattle.survey.specs.Contracts.{Hung}
+use Rattle.survey.specs.Clauses.{Hung}
 use Rattle.survey.proofs.Paths.{slot_small, fork_inside, fork_place, leads_kept}
 
 pub built_none : (words : List ℕ) → Built words 0 (replicate SLOTS END) (replicate LINKS END)

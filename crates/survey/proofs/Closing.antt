@@ -12,7 +12,7 @@ use Rattle.words.specs.Words.{serial_in, quota_in, hold_in, holds_of}
 use Rattle.words.proofs.Words.{holds_long, holds_at, get_or_table, length_table}
 use Rattle.survey.specs.Index.{SLOTS, END, FORKED, CLOSED, slot, bits_of, plain, Leads, Ascends, head_of, open_in}
 use Rattle.survey.specs.Index.{key_left, keys_left, waiting}
-use Rattle.survey.specs.Contracts.{Ready}
+use Rattle.survey.specs.Clauses.{Ready}
 use Rattle.survey.proofs.Waiting.{waiting_struck}
 use Rattle.survey.proofs.Plain.{plain_closed}
 

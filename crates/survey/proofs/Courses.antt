@@ -4,7 +4,7 @@ use mathlib.Core.Bool.{false≢true}
 use Rattle.lists.proofs.Bools.{by_test}
 use Rattle.layout.specs.Blocks.{cut}
 use Rattle.survey.specs.Index.{keys_left}
-use Rattle.survey.specs.Contracts.{Stage, judged, WalkedTo}
+use Rattle.survey.specs.Clauses.{Stage, judged, WalkedTo}
 use Rattle.survey.specs.Route.{Reaches, Last, Seeking, Passed, Halved}
 use Rattle.survey.proofs.Routes.{reaches_start, seeking_start}
 

@@ -21,7 +21,7 @@ use Rattle.audit.specs.Keys.{well_formed}
 use Rattle.audit.proofs.Records.{well_used}
 use Rattle.audit.proofs.Consistency.{tests_well}
 use Rattle.survey.specs.Survey.{place_of, shares}
-use Rattle.survey.specs.Contracts.{sought, Told}
+use Rattle.survey.specs.Clauses.{sought, Told}
 use Rattle.survey.specs.Holders.{counts_held, held_flags, put_flags, Indexed}
 use Rattle.survey.proofs.Surveys.{place_any}
 

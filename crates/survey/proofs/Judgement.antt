@@ -14,7 +14,7 @@ use Rattle.layout.proofs.Fuel.{cut_end}
 use Rattle.layout.specs.Blocks.{greatest_heap}
 use Rattle.model.specs.Objects.{objects_from}
 use Rattle.survey.specs.Index.{keys_left}
-use Rattle.survey.specs.Contracts.{Index, Ready, judged, WalkedTo}
+use Rattle.survey.specs.Clauses.{Index, Ready, judged, WalkedTo}
 use Rattle.survey.proofs.Waiting.{waiting_all}
 use Rattle.survey.proofs.Closing.{left_long}
 use Rattle.survey.proofs.Opening.{keyed, ready}
@@ -28,7 +28,7 @@ use Rattle.model.specs.Calls.{unless, check}
 use Rattle.lists.proofs.Bools.{and_left, and_right, and_no, and_yes}
 use Rattle.audit.specs.Keys.{well_formed, keys_of}
 use Rattle.audit.specs.Audit.{owes, solvent, entry_valid, all_zero, begin, audit, audit_parsed, audited}
-use Rattle.audit.specs.Contracts.{Owing}
+use Rattle.audit.specs.Clauses.{Owing}
 use Rattle.audit.specs.Fitting.{fitting}
 use Rattle.audit.proofs.Fitting.{fitting_consistent, unranged}
 use Rattle.audit.proofs.Consistency.{audited_is_accounted}

@@ -10,7 +10,7 @@ use Rattle.audit.proofs.Records.{no_serial}
 use Rattle.words.specs.Words.{hold_in, holds_of, accounts_of}
 use Rattle.words.proofs.Words.{holds_long, holds_at}
 use Rattle.survey.specs.Survey.{place_of}
-use Rattle.survey.specs.Contracts.{Blank}
+use Rattle.survey.specs.Clauses.{Blank}
 
 pub serial_used : (h : Hold) → (h.serial ≡ 0 → ⊥) → used h ≡ true
 unfolding used

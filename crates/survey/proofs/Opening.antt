@@ -9,7 +9,7 @@ use Rattle.words.specs.Words.{serial_in, hold_in, holds_of}
 use Rattle.words.proofs.Words.{holds_long, holds_at}
 use Rattle.survey.specs.Index.{LINKS, FORKED, CLOSED, bits_of, fork, inner, plain, step, Leads, here, on, Ascends, head_of, open_in}
 use Rattle.survey.specs.Index.{keys_left, waiting, Head}
-use Rattle.survey.specs.Contracts.{Ready, Index}
+use Rattle.survey.specs.Clauses.{Ready, Index}
 use Rattle.survey.proofs.Paths.{fork_inside, fork_place, leads_end}
 use Rattle.survey.proofs.Plain.{inner_place, inner_end, plain_at}
 use Rattle.survey.proofs.Closing.{left_long, open_key, closed_key, open_alone, open_forked, well_at}

@@ -11,7 +11,7 @@ use Rattle.words.specs.Words.{serial_in, rest_in, hold_in, holds_of, accounts_of
 use Rattle.words.proofs.Words.{holds_long, holds_at}
 use Rattle.survey.specs.Index.{SLOTS, LINKS, FORKED, slot, bits_of, Leads, head_of, Head, Reached, Growing, Built, waiting}
 use Rattle.survey.specs.Survey.{place_of}
-use Rattle.survey.specs.Contracts.{Blank, Zeros, Index}
+use Rattle.survey.specs.Clauses.{Blank, Zeros, Index}
 use Rattle.survey.proofs.Building.{built_skip}
 use Rattle.survey.proofs.Waiting.{waiting_zero, waiting_one, waiting_skip}
 use Rattle.survey.proofs.Lowest.{Lowest, lowest_start, lowest_here, lowest_past, lowest_is, blank_unused}

@@ -5,7 +5,7 @@ use Rattle.lists.proofs.Bools.{by_test, by_eq}
 use Rattle.accounts.specs.Accounts.{HOLDS}
 use Rattle.audit.specs.Keys.{for_serial}
 use Rattle.survey.specs.Index.{SLOTS, LINKS, slot, fork, step, Leads, here, on, Findable, Growing}
-use Rattle.survey.specs.Contracts.{Hung}
+use Rattle.survey.specs.Clauses.{Hung}
 
 pub slot_small : (s : ℕ) → slot s < SLOTS
 unfolding slot

@@ -8,7 +8,7 @@ use Rattle.lists.proofs.Bools.{by_test, by_eq}
 use Rattle.accounts.specs.Accounts.{QUOTAS, HOLDS}
 use Rattle.audit.specs.Keys.{quota_of, for_serial, strike, struck, Payment, cannot_pay, pays, pay, unpaid}
 use Rattle.audit.specs.Audit.{settled}
-use Rattle.audit.specs.Contracts.{Paid, Settled}
+use Rattle.audit.specs.Clauses.{Paid, Settled}
 use Rattle.audit.proofs.Striking.{zero_not, paid_cannot, short_cannot, can_pay, pay_skip, pay_end, pay_fails, pay_hit, strike_set, struck_set, strike_none}
 use Rattle.survey.specs.Index.{step, Findable}
 use Rattle.survey.proofs.Paths.{before_path, find_on, find_struck}

@@ -13,7 +13,7 @@ use Rattle.words.specs.Words.{hold_in, serial_in, quota_in, holds_of}
 use Rattle.words.proofs.Words.{holds_long, holds_at}
 use Rattle.survey.specs.Index.{FORKED, slot, bits_of, step, Leads, here, Head, head_of, Reached, Built}
 use Rattle.survey.specs.Survey.{place_of, shares}
-use Rattle.survey.specs.Contracts.{sought}
+use Rattle.survey.specs.Clauses.{sought}
 use Rattle.survey.proofs.Paths.{slot_small, leads_up, leads_case, link_rises}
 use Rattle.survey.proofs.Lowest.{serial_used, place_first, place_none}
 

@@ -5,11 +5,11 @@ use mathlib.Core.Option.{none, some}
 use Rattle.accounts.specs.Accounts.{QUOTAS, HOLDS}
 use Rattle.lists.proofs.Bools.{and_left, and_right, by_test, by_eq}
 use Rattle.audit.specs.Keys.{quota_of, for_serial, struck, pay, unpaid}
-use Rattle.audit.specs.Contracts.{Settled, Charged}
+use Rattle.audit.specs.Clauses.{Settled, Charged}
 use Rattle.audit.proofs.Striking.{zero_not}
 use Rattle.words.specs.Words.{serial_in, quota_in}
 use Rattle.survey.specs.Index.{SLOTS, LINKS, END, FORKED, CLOSED, slot, bits_of, inner, plain, step, Leads, Findable, head_of, open_in, keys_left}
-use Rattle.survey.specs.Contracts.{Ready, Done}
+use Rattle.survey.specs.Clauses.{Ready, Done}
 use Rattle.survey.proofs.Paths.{slot_small}
 use Rattle.survey.proofs.Plain.{inner_place, inner_end, plain_closed}
 use Rattle.survey.proofs.Closing.{left_long, open_nowhere, open_alone, open_for, alone_for, alone_keys, alone_closed, key_open, tree_for, open_quota}

@@ -10,7 +10,7 @@ use Rattle.audit.specs.Keys.{strike, struck, pay, unpaid}
 use Rattle.audit.specs.Audit.{State, behind, visit, visit_free, visit_quarantined, visit_live, settled}
 use Rattle.audit.specs.Fitting.{fits_block}
 use Rattle.survey.specs.Index.{keys_left}
-use Rattle.survey.specs.Contracts.{Ready, Done, Visited}
+use Rattle.survey.specs.Clauses.{Ready, Done, Visited}
 
 module _ (unit : ℕ → ℕ) (kind last s n end before : ℕ) {words heads links owed : List ℕ} {left : ℕ} (g : Ready words heads links owed left) where
   abbrev keys : List ℕ

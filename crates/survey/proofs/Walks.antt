@@ -17,7 +17,7 @@ use Rattle.lists.proofs.Bools.{and_no, by_eq}
 use Rattle.audit.specs.Fitting.{fits_block, fitting}
 use Rattle.audit.proofs.Fitting.{fitting_front}
 use Rattle.survey.specs.Index.{keys_left}
-use Rattle.survey.specs.Contracts.{Ready, Visited, Stage, judged, WalkedTo}
+use Rattle.survey.specs.Clauses.{Ready, Visited, Stage, judged, WalkedTo}
 
 -- the block in front, and a walk that has failed
 parsed_front : (last : ℕ) (b : Block) (t : State) (rest : Option (List Block))

@@ -2,6 +2,6 @@
 pub mod Index
 pub mod Survey
 pub mod Route
-pub mod Contracts
+pub mod Clauses
 pub mod Holders
 pub mod Shares

@@ -6,7 +6,7 @@ ghost use Rattle.audit.specs.Keys.{well_formed};
 ghost use Rattle.words.specs.Words.{holds_of};
 ghost use Rattle.survey.specs.Index.{Built};
 ghost use Rattle.survey.specs.Survey.{place_of};
-ghost use Rattle.survey.specs.Contracts.{sought};
+ghost use Rattle.survey.specs.Clauses.{sought};
 
 use crate::reading::{head_in, link_in, quota_in, serial_in, slot_of};
 use crate::{FORKED, LINKS, SLOTS};

@@ -8,7 +8,7 @@ ghost use Rattle.model.specs.Consistent.{allowed, greatest_serial};
 ghost use Rattle.model.specs.Calls.{check as check_of};
 ghost use Rattle.words.specs.Words.{edition_of, accounts_of};
 ghost use Rattle.survey.specs.Index.{keys_left};
-ghost use Rattle.survey.specs.Contracts.{Ready, judged, heap_in};
+ghost use Rattle.survey.specs.Clauses.{Ready, judged, heap_in};
 
 use crate::indexing::{index, used_top};
 use crate::paying::{is_settled, owing};

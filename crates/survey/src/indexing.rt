@@ -3,7 +3,7 @@ ghost use Rattle.std.specs.Prelude.{◌≡◌, ◌+◌, ◌/◌, ◌<◌, ◌≤
 ghost use Rattle.accounts.specs.Accounts.{QUOTAS, HOLDS};
 ghost use Rattle.words.specs.Words.{serial_in, quota_in, count_in};
 ghost use Rattle.survey.specs.Index.{bits_of, Growing, Built};
-ghost use Rattle.survey.specs.Contracts.{Zeros, Blank, Hung, Told};
+ghost use Rattle.survey.specs.Clauses.{Zeros, Blank, Hung, Told};
 
 use crate::reading::{count_in, fork, head_in, number_in, quota_in, serial_in, slot_of};
 use crate::{END, FORKED, LINKS, SLOTS};

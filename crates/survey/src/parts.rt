@@ -4,7 +4,7 @@ ghost use Rattle.rounding.specs.Rounding.{table};
 ghost use Rattle.layout.specs.Blocks.{cut};
 ghost use Rattle.model.specs.Consistent.{greatest_serial};
 ghost use Rattle.survey.specs.Index.{keys_left};
-ghost use Rattle.survey.specs.Contracts.{Stage, judged, WalkedTo};
+ghost use Rattle.survey.specs.Clauses.{Stage, judged, WalkedTo};
 ghost use Rattle.survey.specs.Route.{Seeking, Halved};
 
 use crate::walking::walk;

@@ -2,7 +2,7 @@
 ghost use Rattle.std.specs.Prelude.{◌≡◌, ◌-◌, ◌&&◌, length, if◌then◌else◌, ◌==◌, nat_lt};
 ghost use Rattle.accounts.specs.Accounts.{QUOTAS};
 ghost use Rattle.audit.specs.Audit.{all_zero};
-ghost use Rattle.audit.specs.Contracts.{Owing};
+ghost use Rattle.audit.specs.Clauses.{Owing};
 ghost use Rattle.words.specs.Words.{quotas_of};
 
 use crate::reading::{grant_in, remainder_in, spare_in};

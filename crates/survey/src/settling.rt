@@ -1,9 +1,9 @@
 // The settlement of a live block: the open records of its serial are closed, and the quota of each pays for the block, once.
 ghost use Rattle.std.specs.Prelude.{◌≡◌, ◌+◌, ◌<◌, ◌≤◌, length, ◌≢◌, slice_index, slice_set};
 ghost use Rattle.accounts.specs.Accounts.{QUOTAS, HOLDS};
-ghost use Rattle.audit.specs.Contracts.{Charged};
+ghost use Rattle.audit.specs.Clauses.{Charged};
 ghost use Rattle.survey.specs.Index.{LINKS, CLOSED, FORKED, slot, inner, plain, step};
-ghost use Rattle.survey.specs.Contracts.{Ready, Done};
+ghost use Rattle.survey.specs.Clauses.{Ready, Done};
 
 use crate::reading::{flag_in, head_in, link_in, quota_in, serial_in, slot_of};
 use crate::{CLOSED, END, FORKED, LINKS, SLOTS};

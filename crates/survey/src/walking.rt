@@ -3,7 +3,7 @@ ghost use Rattle.std.specs.Prelude.{◌≡◌, ◌-◌, ◌%◌, ◌^◌, ◌<�
 ghost use Rattle.rounding.specs.Rounding.{table};
 ghost use Rattle.layout.specs.Blocks.{QUARANTINED};
 ghost use Rattle.model.specs.Consistent.{fits_unit, greatest_serial};
-ghost use Rattle.survey.specs.Contracts.{Ready, Visited, Stage, judged, WalkedTo};
+ghost use Rattle.survey.specs.Clauses.{Ready, Visited, Stage, judged, WalkedTo};
 ghost use Rattle.survey.specs.Index.{keys_left};
 ghost use Rattle.survey.specs.Route.{Reaches, Passed};
 ghost use Rattle.lookup.specs.Walk.{has_room};

@@ -4,7 +4,7 @@ use native.Mathlib.Omega.{arith}
 use Prim.Native.Nat.{ℕ}
 use mathlib.Core.Path.{sym, subst}
 use mathlib.Core.List.{List}
-use Rattle.replay_text.specs.Contracts.{Room, Put}
+use Rattle.replay_text.specs.Clauses.{Room, Put}
 use Rattle.replay_text.proofs.InputRuns.{replay_short, replay_too_long, replay_runs, replay_room, replay_written}
 use Rattle.replay_text.proofs.replay.Statement.{statement}
 use Rattle.replay_text.proofs.replay.Tie as tie

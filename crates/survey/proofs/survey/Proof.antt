@@ -14,11 +14,11 @@ use Rattle.model.specs.Answers.{Values, verdict_values}
 use Rattle.model.specs.Consistent.{allowed, in_range}
 use Rattle.model.specs.Calls.{check as check_of}
 use Rattle.audit.specs.Audit.{all_zero}
-use Rattle.audit.specs.Contracts.{Owing}
+use Rattle.audit.specs.Clauses.{Owing}
 use Rattle.words.specs.Words.{edition_of, quotas_of, holds_of, accounts_of}
 use Rattle.words.proofs.Words.{quotas_long}
 use Rattle.survey.specs.Index.{keys_left}
-use Rattle.survey.specs.Contracts.{sought, Told, Index, judged, WalkedTo}
+use Rattle.survey.specs.Clauses.{sought, Told, Index, judged, WalkedTo}
 use Rattle.survey.proofs.Building.{built_none}
 use Rattle.survey.proofs.Judgement.{verdict_length, verdict_range, verdict_ill, verdict_insolvent, walked_end, last_given, walk_ready}
 use Rattle.survey.proofs.Judgement.{verdict_walked}

@@ -3,7 +3,7 @@ use borrow.Author.Rules.{rules}
 use Prim.Native.Nat.{ℕ}
 use mathlib.Core.Path.{sym, subst, ◌∙◌}
 use mathlib.Core.List.{List}
-use Rattle.replay_text.specs.Contracts.{Room, Put}
+use Rattle.replay_text.specs.Clauses.{Room, Put}
 use Rattle.replay_text.proofs.Answering.{line_refused, line_handle, line_amount}
 use Rattle.replay_text.proofs.answers.put_answer.Statement.{statement}
 use Rattle.replay_text.proofs.answers.put_answer.Tie as tie

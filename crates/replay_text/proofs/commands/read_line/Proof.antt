@@ -6,7 +6,7 @@ use mathlib.Core.Path.{refl, subst}
 use lib.ListN.{replicate}
 use lib.Seq.{slice}
 use Rattle.replay_model.specs.Lines.{words}
-use Rattle.replay_text.specs.Contracts.{MOST, Counted}
+use Rattle.replay_text.specs.Clauses.{MOST, Counted}
 use Rattle.replay_text.proofs.Phrases.{line_alone, line_numbers, line_nothing}
 use Rattle.replay_text.proofs.commands.read_line.Statement.{statement}
 use Rattle.replay_text.proofs.commands.read_line.Tie as tie

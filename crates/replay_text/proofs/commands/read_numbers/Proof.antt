@@ -7,7 +7,7 @@ use mathlib.Core.Path.{ap, sym, subst, ◌∙◌}
 use mathlib.Core.List.{List, [], ◌∷◌}
 use lib.ListN.{set}
 use Rattle.replay_model.specs.Text.{SPACE}
-use Rattle.replay_text.specs.Contracts.{number_value}
+use Rattle.replay_text.specs.Clauses.{number_value}
 use Rattle.replay_text.proofs.Marks.{split_first, split_last, split_more}
 use lib.Seq.{slice}
 use Rattle.replay_model.specs.Lines.{words}

@@ -5,7 +5,7 @@ use borrow.Author.Tests.{not-true, not-false}
 use mathlib.Core.Path.{ap, sym, ◌∙◌}
 use lib.ListN.{take}
 use lib.Seq.{slice}
-use Rattle.replay_text.specs.Contracts.{opening_line}
+use Rattle.replay_text.specs.Clauses.{opening_line}
 use Rattle.replay_text.proofs.Asking.{opens_fewer}
 use Rattle.replay_text.proofs.Phrases.{opening_not, opening_is, opens_not, opens_is}
 use Rattle.replay_text.proofs.commands.read_opening.Statement.{statement}

@@ -4,7 +4,7 @@ use native.Mathlib.Omega.{arith}
 use Prim.Native.Nat.{ℕ}
 use mathlib.Core.Path.{sym, subst}
 use mathlib.Core.List.{List}
-use Rattle.replay_text.specs.Contracts.{Room, Put}
+use Rattle.replay_text.specs.Clauses.{Room, Put}
 use Rattle.replay_text.proofs.LineRuns.{ending_list, ending_bad}
 use Rattle.replay_text.proofs.run.put_ending.Statement.{statement}
 use Rattle.replay_text.proofs.run.put_ending.Tie as tie

@@ -6,7 +6,7 @@ use Prim.Native.Nat.{ℕ}
 use mathlib.Core.Path.{sym, subst, ◌∙◌}
 use mathlib.Core.List.{List}
 use lib.Seq.{slice}
-use Rattle.replay_text.specs.Contracts.{Room, Put}
+use Rattle.replay_text.specs.Clauses.{Room, Put}
 use Rattle.replay_text.proofs.Phrases.{no_opening, some_opening}
 use Rattle.replay_model.proofs.Openings.{opening_granted}
 use Rattle.replay_text.proofs.InputRuns.{input_unended, input_bad, input_opens}

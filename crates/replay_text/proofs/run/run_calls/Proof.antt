@@ -14,7 +14,7 @@ use Rattle.results.specs.Results.{outcome}
 use lib.Seq.{slice}
 use Rattle.replay_model.specs.Lines.{lines}
 use Rattle.replay_model.specs.Replay.{bad_line, answer_line, ending, run_lines}
-use Rattle.replay_text.specs.Contracts.{Room, Put, asked_call}
+use Rattle.replay_text.specs.Clauses.{Room, Put, asked_call}
 use Rattle.replay_model.specs.Events.{Reached}
 use Rattle.replay_text.proofs.Puts.{put_length, room_first}
 use Rattle.replay_text.proofs.Running.{Running, run_start, run_length, run_room, run_more, run_last}

@@ -7,7 +7,7 @@ use lib.ListN.{length}
 use lib.Seq.{slice}
 use Rattle.replay_model.specs.Lines.{lines}
 use Rattle.replay_model.specs.Replay.{ok_line, run_lines}
-use Rattle.replay_text.specs.Contracts.{Room, Put}
+use Rattle.replay_text.specs.Clauses.{Room, Put}
 use Rattle.replay_text.proofs.Puts.{room_first, room_next, put_two}
 use Rattle.replay_text.proofs.Openings.{opened_refused, opened_runs, opened_reached}
 use Rattle.replay_text.proofs.run.run_opened.Statement.{statement}

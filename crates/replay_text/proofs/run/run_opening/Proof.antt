@@ -9,7 +9,7 @@ use Rattle.replay_model.specs.Lines.{lines}
 use Rattle.accounts.specs.Accounts.{plain}
 use Rattle.model.specs.Calls.{open_heap}
 use Rattle.replay_model.specs.Replay.{run_opened}
-use Rattle.replay_text.specs.Contracts.{Room, Put}
+use Rattle.replay_text.specs.Clauses.{Room, Put}
 use Rattle.replay_text.proofs.Openings.{opening_too_long, zeros_front, zeros_length}
 use Rattle.replay_text.proofs.run.run_opening.Statement.{statement}
 use Rattle.replay_text.proofs.run.run_opening.Tie as tie

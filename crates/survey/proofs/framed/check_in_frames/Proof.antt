@@ -9,10 +9,10 @@ use Rattle.model.specs.declared.Verdict.TheVariants.{Accepted, Refused}
 use Rattle.model.specs.Answers.{verdict_values}
 use Rattle.model.specs.Calls.{check as check_of}
 use Rattle.model.specs.Consistent.{allowed, in_range}
-use Rattle.audit.specs.Contracts.{Owing}
+use Rattle.audit.specs.Clauses.{Owing}
 use Rattle.words.specs.Words.{edition_of, quotas_of, accounts_of}
 use Rattle.words.proofs.Words.{quotas_long}
-use Rattle.survey.specs.Contracts.{Told, Index, heap_in}
+use Rattle.survey.specs.Clauses.{Told, Index, heap_in}
 use Rattle.survey.specs.Survey.{verdict_of}
 use Rattle.survey.proofs.Building.{built_none}
 use Rattle.survey.proofs.Judgement.{verdict_length, verdict_range, verdict_ill, verdict_insolvent, last_given, walk_ready, verdict_walked}

@@ -11,7 +11,7 @@ use Rattle.model.specs.Consistent.{allowed}
 use Rattle.audit.specs.Audit.{behind, audit_parsed}
 use Rattle.audit.specs.Fitting.{fitting}
 use Rattle.survey.specs.Index.{keys_left}
-use Rattle.survey.specs.Contracts.{Visited, judged, heap_in}
+use Rattle.survey.specs.Clauses.{Visited, judged, heap_in}
 use Rattle.survey.proofs.Headers.{header_framed, rest_place}
 use Rattle.survey.proofs.Walks.{Walking, walking_start, walking_long, walking_back, walking_fails, walking_on, walked_far, one_fails}
 use Rattle.survey.proofs.Judgement.{walked_end}

@@ -3,7 +3,7 @@ use Rattle.std.proofs.Common.{◌≡◌, ℕ, ◌+◌, ◌-◌, ◌<◌, ◌≤�
 use Rattle.accounts.specs.Accounts.{HOLDS}
 use Rattle.words.specs.Words.{serial_in}
 use Rattle.survey.specs.Index.{SLOTS, END, FORKED, slot, bits_of, Built}
-use Rattle.survey.specs.Contracts.{Hung}
+use Rattle.survey.specs.Clauses.{Hung}
 use Rattle.survey.proofs.Building.{built_alone, built_fork, built_hung}
 use Rattle.survey.proofs.indexing.enter.Statement.{statement}
 use Rattle.survey.proofs.indexing.enter.Tie as tie

@@ -9,7 +9,7 @@ use Rattle.audit.proofs.Tables.{all_fails}
 use Rattle.audit.proofs.Records.{well_blank, well_possible}
 use Rattle.words.specs.Words.{serial_in, hold_in, holds_of}
 use Rattle.words.proofs.Words.{holds_long, holds_at}
-use Rattle.survey.specs.Contracts.{Told}
+use Rattle.survey.specs.Clauses.{Told}
 use Rattle.survey.proofs.Passes.{Passed, passed_start, passed_blank, passed_used, passed_all}
 use Rattle.survey.proofs.indexing.index.Statement.{statement}
 use Rattle.survey.proofs.indexing.index.Tie as tie

@@ -2,7 +2,7 @@
 use Rattle.std.proofs.Common.{ℕ, ◌-◌, ◌<◌, ◌≤◌, arith, rules}
 use borrow.Author.Tests.{not-true, not-false}
 use Rattle.accounts.specs.Accounts.{HOLDS}
-use Rattle.survey.specs.Contracts.{Blank}
+use Rattle.survey.specs.Clauses.{Blank}
 use Rattle.survey.proofs.Passes.{blank_more}
 use Rattle.survey.proofs.indexing.used_end.Statement.{statement}
 use Rattle.survey.proofs.indexing.used_end.Tie as tie

@@ -7,7 +7,7 @@ use mathlib.Core.Bool.{false≢true}
 use Rattle.rounding.specs.Rounding.{table}
 use Rattle.layout.specs.Blocks.{cut}
 use Rattle.survey.specs.Index.{keys_left}
-use Rattle.survey.specs.Contracts.{judged, WalkedTo}
+use Rattle.survey.specs.Clauses.{judged, WalkedTo}
 use Rattle.survey.proofs.Courses.{Touring, touring_start, touring_on, touring_less}
 use Rattle.survey.proofs.parts.walk_parts.Statement.{statement}
 use Rattle.survey.proofs.parts.walk_parts.Tie as tie

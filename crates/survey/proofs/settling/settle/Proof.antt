@@ -2,7 +2,7 @@
 use Rattle.std.proofs.Common.{◌≡◌, ℕ, ◌<◌, ◌≤◌, Bool, true, false, List, get_or, sym, ap, ◌∙◌, subst, arith, rules}
 use borrow.Author.Tests.{not-true, not-false}
 use Rattle.accounts.specs.Accounts.{QUOTAS, HOLDS}
-use Rattle.audit.specs.Contracts.{Charged}
+use Rattle.audit.specs.Clauses.{Charged}
 use Rattle.words.specs.Words.{serial_in}
 use Rattle.survey.specs.Index.{slot}
 use Rattle.survey.proofs.Closing.{quota_small}

@@ -4,7 +4,7 @@ use Rattle.std.proofs.Common.{◌≡◌, ℕ, ◌+◌, ◌-◌, ◌/◌, ◌%◌
 use borrow.Author.Tests.{not-true, not-false}
 use Rattle.accounts.specs.Accounts.{QUOTAS, HOLDS}
 use Rattle.lists.proofs.Bools.{and_no, and_both}
-use Rattle.audit.specs.Contracts.{Charged}
+use Rattle.audit.specs.Clauses.{Charged}
 use Rattle.words.specs.Words.{serial_in, quota_in}
 use Rattle.survey.specs.Index.{LINKS, FORKED, CLOSED, slot, bits_of, inner, plain, step}
 use Rattle.survey.proofs.Paths.{slot_small}

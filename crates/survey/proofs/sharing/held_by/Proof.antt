@@ -2,7 +2,7 @@
 use Rattle.std.proofs.Common.{◌≡◌, ℕ, Bool, true, false, cond, sym, refl, ap, ◌∙◌, subst, rules}
 use borrow.Author.Tests.{not-true, not-false}
 use Rattle.words.specs.Words.{holds_of}
-use Rattle.survey.specs.Contracts.{Told, Index}
+use Rattle.survey.specs.Clauses.{Told, Index}
 use Rattle.survey.specs.Shares.{holdings}
 use Rattle.survey.proofs.Building.{built_none}
 use Rattle.survey.proofs.sharing.held_by.Statement.{statement}

@@ -4,7 +4,7 @@ use Rattle.accounts.specs.Accounts.{HOLDS}
 use Rattle.lists.specs.Lists.{any}
 use Rattle.words.specs.Words.{hold_in, holds_of}
 use Rattle.survey.specs.Survey.{shares}
-use Rattle.survey.specs.Contracts.{sought}
+use Rattle.survey.specs.Clauses.{sought}
 use Rattle.survey.specs.Shares.{one_if, is_shared}
 use Rattle.survey.proofs.Owning.{shared_own, shared_by}
 use Rattle.survey.proofs.Surveys.{place_any}

@@ -12,7 +12,7 @@ use Rattle.audit.specs.Audit.{behind, audit_parsed}
 use Rattle.audit.specs.Fitting.{fitting}
 use Rattle.lookup.specs.Walk.{headed, has_room}
 use Rattle.survey.specs.Index.{keys_left}
-use Rattle.survey.specs.Contracts.{Visited, Stage, judged, WalkedTo}
+use Rattle.survey.specs.Clauses.{Visited, Stage, judged, WalkedTo}
 use Rattle.survey.proofs.Walks.{Walking, walking_start, walking_long, walking_back, walking_fails, walking_on, walking_judged, suffix_start, suffix_on}
 use Rattle.survey.proofs.Walks.{walked_far, one_fails}
 use Rattle.survey.specs.Route.{TAKEN, Reaches, Passed}

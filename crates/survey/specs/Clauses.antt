@@ -8,7 +8,7 @@ use Rattle.framing.specs.Frames.{padded, stream_of}
 use Rattle.lists.specs.Lists.{all}
 use Rattle.audit.specs.Keys.{well_formed, keys_of}
 use Rattle.audit.specs.Audit.{behind, visit, audit_parsed}
-use Rattle.audit.specs.Contracts.{Settled}
+use Rattle.audit.specs.Clauses.{Settled}
 use Rattle.audit.specs.Fitting.{fits_block, fitting}
 use Rattle.words.specs.Words.{serial_in, rest_in, holds_of, accounts_of}
 use Rattle.survey.specs.Index.{SLOTS, LINKS, FORKED, slot, bits_of, fork, plain, Leads, Ascends, head_of, keys_left, waiting, Linked, Built}
