@@ -7,12 +7,12 @@ use mathlib.Core.Path.{◌≡◌, refl, ap, sym, ◌∙◌}
 use Prim.Native.Nat.{ℕ, ◌+◌, ◌-◌, ◌/◌, ◌≤◌}
 use native.Mathlib.Omega.{arith}
 use mathlib.Core.List.{List, [], ◌∷◌, ◌++◌, append_assoc}
-use mathlib.Core.Bool.{Bool, true, false, cond, ◌&&◌, or-true, and-false}
+use mathlib.Core.Bool.{Bool, true, false, cond, or-true, and-false}
 use mathlib.Core.Logic.{◌⊎◌, inl, inr}
 use lib.ListN.{length, replicate, length-append, length-replicate}
 use lib.Dec.{ltb, eqb}
 use borrow.Author.Tests.{lt-ltb, le-ltb}
-use Rattle.layout.specs.Bytes.{overwrite, zero_part}
+use Rattle.layout.specs.Bytes.{overwrite}
 use Rattle.layout.specs.Blocks.{Block, size, units, occupied, QUARANTINED, live, back_after, header_of, header_bytes, write_header, render_from}
 use Rattle.layout.specs.Blocks.{render}
 use Rattle.layout.proofs.Overwrite.{overwrite_at}
