@@ -15,7 +15,7 @@ use borrow.Author.Tests.{eqb-true, eq-eqb, not-true}
 use Rattle.accounts.specs.declared.Hold.{Hold}
 use Rattle.accounts.specs.declared.Accounts.{Accounts}
 use Rattle.accounts.specs.Accounts.{QUOTAS, used, record_of}
-use Rattle.lists.specs.Lists.{all, any, total}
+use Rattle.lists.specs.Lists.{any, total}
 use Rattle.model.specs.Objects.{objects, objects_of}
 use Rattle.model.specs.Consistent.{has_serial, serials_differ}
 use Rattle.model.specs.Holds.{count_of}

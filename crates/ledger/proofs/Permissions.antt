@@ -7,7 +7,6 @@ use mathlib.Core.Bool.{true, false≢true}
 use Rattle.accounts.specs.declared.Accounts.{Accounts}
 use Rattle.accounts.specs.Accounts.{permits}
 use Rattle.model.specs.Calls.{Outcome}
-use Rattle.model.specs.Step.{step}
 use Rattle.model.proofs.Permissions.{IsBit, step_sets_none}
 use Rattle.ledger.specs.Ledger.{Ledger, Event, Called, Wrote, Saved, Restored, unrestored}
 use Rattle.ledger.specs.History.{by_own, History}

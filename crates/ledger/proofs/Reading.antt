@@ -16,7 +16,7 @@ use Rattle.accounts.specs.declared.Hold.{Hold}
 use Rattle.accounts.specs.declared.Accounts.{Accounts}
 use Rattle.accounts.specs.Accounts.{QUOTAS, zero_quota}
 use Rattle.layout.specs.Bytes.{Octets}
-use Rattle.model.specs.Objects.{blocks_of, objects_of, objects}
+use Rattle.model.specs.Objects.{blocks_of, objects_of}
 use Rattle.model.specs.Consistent.{allowed, accounted}
 use Rattle.model.specs.Holds.{count_of}
 use Rattle.model.specs.Calls.{state_of}

@@ -41,7 +41,6 @@ use Rattle.ledger.proofs.Fields.{balanced_of, answered_of}
 use Rattle.ledger.proofs.Space.{space_decided}
 use Rattle.ledger.proofs.Lasting.{step_lasts}
 use Rattle.ledger.proofs.Fitted.{Fitted, restored_fits, beginning_fits, step_fits, consistent_of}
-use Rattle.ledger.proofs.Wrong
 
 -- no two objects of the ledger, at two places, share a byte: their serials differ, and each is the object of a live block
 apart_places : (l : Ledger) (s : List ℕ) (k : Accounts) → Agrees l s k → (i j : ℕ) → i < j → j < length (objects_in l)
@@ -127,7 +126,7 @@ module _ (tables : ℕ → ℕ → ℕ) (units : (e : ℕ) → Units (tables e))
       ∙ history_edition begun es h.0 h.1 h.2 ∙ sym (recorded_kept (eqb v.refusal 0) c v (ledger_of begun es)).1
   history_edition begun (Wrote ∷ es) s k h = history_edition begun es h.0 k h.1
   history_edition begun (Saved s₀ k₀ ∷ es) s k h = history_edition begun es s k h.0
-  history_edition begun (Restored s₁ k₁ ∷ es) s k h = rw (← h.5, ← h.6) refl
+  history_edition begun (Restored s₁ k₁ ∷ es) s k h = ap (λ (x : Accounts). x.edition) h.6
 
   -- along a history every object of the ledger fits its unit
   pub history_fits : (begun : Ledger) (es : List Event) (s : List ℕ) (k : Accounts) → History tables (by_own tables) begun es s k

@@ -1,5 +1,5 @@
 -- Each change of a state that a call makes is one of its ledger: what the ledger has after it tracks the state after it.
-use Prim.Native.Nat.{ℕ, ◌-◌, ◌≤◌, ◌<◌}
+use Prim.Native.Nat.{ℕ, ◌≤◌, ◌<◌}
 use mathlib.Core.Path.{◌≡◌, refl, sym, ◌∙◌, subst}
 use mathlib.Core.List.{[], Memᴰ}
 use mathlib.Core.Bool.{Bool, true, false, cond}

@@ -4,7 +4,7 @@ use Prim.Native.Nat.{ℕ, zero, suc, ◌*◌}
 use native.Mathlib.Omega.{arith}
 use mathlib.Core.Path.{◌≡◌, refl, ap, sym, subst}
 use mathlib.Core.List.{List, [], ◌∷◌}
-use mathlib.Core.Bool.{Bool, true, false, ◌&&◌, false≢true}
+use mathlib.Core.Bool.{true, ◌&&◌}
 use lib.Dec.{ltb, leb}
 use borrow.Author.Tests.{lt-ltb, le-leb}
 use Rattle.accounts.specs.declared.Quota.{Quota}
@@ -25,14 +25,13 @@ use Rattle.model.specs.declared.Handle.{Handle}
 use Rattle.model.specs.declared.Call.{Call}
 use Rattle.model.specs.declared.Call.TheVariants.{Allocate, AllocateArray, Claim, Release, FreeAll, Reallocate, Lend, Remaining, CanRelease, ListBlock}
 use Rattle.model.specs.declared.Call.TheVariants.{ClearPermissions, Sweep}
-use Rattle.lists.proofs.Bools.{fails, implied, and_both, same_test}
+use Rattle.lists.proofs.Bools.{implied, and_both, same_test}
 use Rattle.lists.proofs.Lists.{member_all}
 use Rattle.model.proofs.Consistent.{tests_exactly, valid_exactly, accounted_cut, consistent_accounted}
 use Rattle.invariant.proofs.Good.{proper, Ordered}
 use Rattle.invariant.proofs.Counts.{record_counted}
 use Rattle.ledger.specs.History.{by_own}
 use Rattle.safety.specs.Isolated.{MadeFor, Alike, Isolated}
-use Rattle.safety.proofs.Wrong
 
 -- the records of a consistent state are in order
 pub accounted_ordered : (s : List ℕ) (k : Accounts) → accounted s k ≡ true → Ordered k.holds

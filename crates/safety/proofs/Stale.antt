@@ -1,12 +1,12 @@
 -- A stale handle stays stale. A new object gets the serial after the last one, and the last serial never falls while no image is read; so a serial that was
 -- given and that no object has is never that of an object again. Without an object both lookups find nothing, and line 5 holds.
-use Prim.Native.Nat.{ℕ, zero, suc, ◌+◌, ◌≤◌}
+use Prim.Native.Nat.{ℕ, zero, suc, ◌≤◌}
 use native.Mathlib.Omega.{arith}
 use mathlib.Core.Path.{◌≡◌, refl, ap, sym, subst, ◌∙◌}
 use mathlib.Core.List.{List, [], ◌∷◌, ◌++◌, Memᴰ}
 use mathlib.Core.Bool.{true, false, false≢true, true≢false}
 use mathlib.Core.Option.{Option, none, some}
-use mathlib.Core.Logic.{◌⊎◌, ⊎_elim}
+use mathlib.Core.Logic.{⊎_elim}
 use lib.ListN.{length}
 use lib.Dec.{leb}
 use Rattle.accounts.specs.declared.Accounts.{Accounts}
@@ -38,7 +38,6 @@ use Rattle.ledger.proofs.Lasting.{step_grown}
 use Rattle.ledger.proofs.Theorem.{history_agrees, demand_3_of}
 use Rattle.safety.specs.Arguments.{handle_of}
 use Rattle.safety.specs.Stale.{HasSerial, lines_before_5, stale_refusal, NamesNothing, StaleForever}
-use Rattle.safety.proofs.Wrong
 
 -- lines behind one that holds don't matter
 cut_off : (front back : List Line) → first_refusal (front ++ ((5 when true) ∷ back)) ≡ first_refusal (front ++ ((5 when true) ∷ []))

@@ -12,7 +12,7 @@ use borrow.Author.Tests.{ne_eqb}
 use Rattle.accounts.specs.declared.Accounts.{Accounts}
 use Rattle.rounding.specs.Rounding.{Units, table}
 use Rattle.rounding.proofs.Editions.{table_is}
-use Rattle.model.specs.Objects.{objects, objects_of, lookup, lookup_whole, found}
+use Rattle.model.specs.Objects.{objects_of, lookup, lookup_whole, found}
 use Rattle.model.specs.Consistent.{has_record, charges}
 use Rattle.model.specs.Holds.{count_of}
 use Rattle.model.specs.Refusals.{first_refusal, quota_lines, free_all_lines, lend_lines, release_lines, claim_lines, check_lines, allocate_lines}
