@@ -15,6 +15,7 @@ import sys
 
 NAME = r'[^\s(){}.;,@"«»\[\]]+'
 PATH = re.compile(rf"(?<![^\s(){{}},;\[\]])({NAME})((?:\.{NAME})+)")
+OLD = {"inv": "invariant", "last": "new", "pre": "requires", "good": "well_formed", "taken": "true", "left": "false", "fact": "true"}
 OWN = {"args", "requires", "ranges", "well_formed", "lifetimes", "auto", "type_inv"}
 
 
@@ -31,7 +32,7 @@ def chunks(text):
                 pass
             comment.append(line)
             continue
-        if line and not line.startswith(" "):
+        if line and not line.startswith((" ", ")")):
             head = re.match(rf"(?:(?:pub|abbrev|unfoldable|data|record|module) +)*({NAME})", line)[1]
             starts = bool(re.match(rf"(?:(?:pub|abbrev|unfoldable) +)*{NAME}(?: [({{].*?[)}}])* *:(?: |$)", line)) or line.startswith(("use ", "module ", "data ", "record ", "pub data", "pub record", "ruleset"))
             if starts or not out:
@@ -117,11 +118,17 @@ def signature(crate, callee):
     return ""
 
 
-def lent(crate, callee):
-    """The parameters that a function takes by `&mut`."""
+def left_in(crate, callee, fields):
+    """The fields below a call's `new`: a parameter's name in place of its number, which was written by `.1` and a last `.0`."""
     m = re.search(r"(?s)\((.*?)\)(?: ->|\n| \{)", signature(crate, callee))
     each = [part.strip() for part in re.split(r",(?![^\[<(]*[\]>)])", m[1]) if part.strip()] if m else []
-    return [re.sub(r"^mut ", "", part).split(":")[0].replace("&mut ", "").strip() for part in each if "&mut" in part or re.search(r"&'\w+ mut", part)]
+    n = 0
+    while n < len(fields) and fields[n] == "1":
+        n += 1
+    if n >= len(fields) or fields[n] != "0" or n >= len(each):
+        return fields
+    name = re.sub(r"^(mut |&mut |&'\w+ mut |&'\w+ |&)", "", each[n]).split(":")[0].strip()
+    return [name] + fields[n + 1 :]
 
 
 def clauses(crate, callee, kind="ensures"):
@@ -197,10 +204,11 @@ class Walk:
     def __init__(self, entry, parameters, crate=""):
         self.crate = crate
         self.entry, self.parameters = entry, parameters
+        self.variables = {v for _, each in entry["loops"] for v in each}
         self.places = {}
-        for place, new in zip(entry["places"], entry["places_by_name"]):
+        for place, new, kept, arm in zip(entry["places"], entry["places_by_name"], entry["typed"], entry["arms"]):
             old, parent, (was, now), callee, sub = place[0], place[1], place[2], place[3], place[4]
-            self.places[plain(old)] = dict(old=old, callee=callee, parent=plain(parent) if parent else None, was=plain(was), now=now, new=new, sub=dict(sub))
+            self.places[plain(old)] = dict(arm=arm, old=old, callee=callee, parent=plain(parent) if parent else None, was=plain(was), now=now, new=new, sub=dict(sub))
 
     def step(self, place, field):
         """The place at or above this one whose step has this old name."""
@@ -216,6 +224,8 @@ class Walk:
         place, out, fields = start, [], list(fields)
         while fields:
             field = fields.pop(0)
+            if field in ("pre", "good") and place and not self.step(place, field):
+                field = OLD[field]
             if field == "before" and place:
                 place = self.places[place]["parent"] or place
                 continue
@@ -225,11 +235,14 @@ class Walk:
             found = (self.step(place, field) or self.step(root, field)) if place else None
             if not found:
                 return out + [field] + fields, None, False
+            arm = self.arm(found, fields)
+            if arm:
+                return out + arm, None, True
             out.append(self.places[found]["now"])
-            if len(fields) > 1 and fields[0] == "new" and re.fullmatch(r"\d+", fields[1]) and self.places[found]["callee"]:
-                of = lent(self.crate, self.places[found]["callee"])
-                if int(fields[1]) < len(of):
-                    return out + ["new", of[int(fields[1])]] + fields[2:], None, True
+            if fields and fields[0] in ("new", "last") and self.places[found]["callee"]:
+                callee = self.places[found]["callee"]
+                rest = left_in(self.crate, callee, fields[1:])
+                return out + ["new"] + rest, None if rest else ("new", callee), True
             if fields and fields[0] == "ensures" and self.places[found]["callee"]:
                 of = clauses(self.crate, self.places[found]["callee"])
                 if len(of) > 1 and len(fields) == 1:
@@ -238,23 +251,55 @@ class Walk:
                     return out + ["ensures", of[int(fields[1])]] + fields[2:], None, True
             if fields:
                 sub = self.places[found]["sub"]
-                out.append(sub.get(fields[0], fields[0]))
+                first = self.word(found, fields[0])
+                out.append(sub.get(first, first))
                 return out + fields[1:], None, True
             return out, ("step", found), True
         return out, place, True
+
+    def arm(self, place, fields):
+        """The fields of a step of a pattern, where Rattle has one step for the whole arm now; or None."""
+        it = self.places[place]
+        for new, was, below in (it["arm"] or ("", 0, []))[2]:
+            if plain(was) == it["was"] and fields[: len(below)] == below and (below or not fields):
+                return [it["arm"][0], new] + fields[len(below) :]
+        return None
+
+    def outermost(self, place):
+        """The place at which an arm is whole, of one at or in it."""
+        arm = self.places[place]["arm"]
+        while arm:
+            below = [p for p, it in self.places.items() if it["parent"] == place and it["arm"] and it["arm"][0] == arm[0]]
+            if not below:
+                return place
+            place = below[0]
+        return place
+
+    def word(self, place, field):
+        """The new word of a field that Rattle names, at a test or a loop."""
+        was = self.places[place]["was"]
+        if re.match(r"if\d|.*-test", was) and field in ("taken", "left"):
+            return OLD[field]
+        if field in self.variables:
+            return field
+        if field.replace("-", "_") in self.variables:
+            return field.replace("-", "_")
+        return OLD[field] if field in ("inv", "last") else field
 
     def renamed(self, fields):
         """Fields below the arguments: a local of the machine is the parameter with its number."""
         m = re.fullmatch(r"t([1-9])", fields[0]) if fields else None
         if m and int(m[1]) <= len(self.parameters):
             return [self.parameters[int(m[1]) - 1]] + fields[1:]
+        if fields and fields[0].replace("-", "_") in self.parameters:
+            return [fields[0].replace("-", "_")] + fields[1:]
         return fields
 
 
 class Turner:
     def __init__(self, path, entry, parameters, crate, said):
         self.path, self.entry, self.said = path, entry, said
-        self.helpers = {}
+        self.helpers, self.copies, self.pending = {}, {}, []
         self.w = Walk(entry, parameters, crate)
 
     def paths(self, body, env, goal=None):
@@ -264,15 +309,13 @@ class Turner:
         self.now = (goal, start)
         out, at = "", 0
         called = "|".join(map(re.escape, self.helpers)) or r"(?!)"
-        token = re.compile(rf"let ({NAME}) = ({NAME}(?:\.{NAME})*) in|" + PATH.pattern + rf"|(?<![^\s(){{}},;])({called}) ({NAME})(?![^\s(){{}},;])")
+        token = re.compile(
+            rf"let ({NAME}) = ({NAME}(?:\.{NAME})*) in|(?<![^\s(){{}},;])({called}) ({NAME})((?:\.{NAME})*)(?![^\s(){{}},;])|" + PATH.pattern
+        )
         for m in token.finditer(body):
             out += body[at : m.start()]
             at = m.end()
-            if m[5]:
-                place = env.get(m[6])
-                known = isinstance(place, str)
-                out += f"{m[5]} {self.view(m[6], place, m[5]) if known else m[6]}"
-            elif m[1] and "." not in m[2]:
+            if m[1] and "." not in m[2]:
                 env[m[1]] = env.get(m[2])
                 out += m[0]
             elif m[1]:
@@ -280,53 +323,57 @@ class Turner:
                 new, place = self.one(var, fields, env, True)
                 env[m[1]] = place
                 out += f"let {m[1]} = {new} in"
+            elif m[3] and isinstance(env.get(m[4]), str) and not set(m[5].strip(".").split(".")) - {"", "before"}:
+                out += self.applied(m[3])
+            elif m[3] and m[5]:
+                out += f"{m[3]} {self.one(m[4], m[5][1:].split('.'), env)[0]}"
+            elif m[3]:
+                out += m[0]
             else:
-                behind = re.search(rf"({NAME}) $", out)
-                out += self.one(m[3], m[4][1:].split("."), env, helper=behind and behind[1])[0]
+                out += self.one(m[6], m[7][1:].split("."), env)[0]
         return out + body[at:]
 
-    def one(self, var, fields, env, bound=False, helper=None):
+    def one(self, var, fields, env, bound=False):
         place = env.get(var)
         if place is None:
             return ".".join([var] + fields), None
         if place == ("args",):
             return ".".join([var] + self.w.renamed(fields)), None
+        if isinstance(place, tuple) and place[0] == "new":
+            return ".".join([var] + left_in(self.w.crate, place[1], fields)), None
         if isinstance(place, tuple) and place[0] == "clauses":
             if re.fullmatch(r"\d+", fields[0]):
                 fields = [place[1][int(fields[0])]] + fields[1:]
             return ".".join([var] + fields), None
         if isinstance(place, tuple):
             at = self.w.places[place[1]]
-            if len(fields) > 1 and fields[0] == "new" and re.fullmatch(r"\d+", fields[1]) and at["callee"]:
-                of = lent(self.w.crate, at["callee"])
-                if int(fields[1]) < len(of):
-                    return ".".join([var, "new", of[int(fields[1])]] + fields[2:]), None
+            if fields[0] in ("new", "last") and at["callee"]:
+                rest = left_in(self.w.crate, at["callee"], fields[1:])
+                return ".".join([var, "new"] + rest), None if rest else ("new", at["callee"])
             of = clauses(self.w.crate, at["callee"]) if at["callee"] and fields[0] == "ensures" else []
             if len(of) > 1 and len(fields) == 1:
                 return ".".join([var] + fields), ("clauses", of)
             if len(of) > 1 and re.fullmatch(r"\d+", fields[1]):
                 return ".".join([var, "ensures", of[int(fields[1])]] + fields[2:]), None
-            return ".".join([var, at["sub"].get(fields[0], fields[0])] + fields[1:]), None
+            first = self.w.word(place[1], fields[0])
+            return ".".join([var, at["sub"].get(first, first)] + fields[1:]), None
         new, end, known = self.w.walk(place, fields, self.now[1])
         if not known:
             self.said.append(f"look: {self.path}: {var}.{'.'.join(fields)} at {place}")
-        if not new and not bound:
-            return self.view(var, end, helper), end
         return ".".join([var] + new), end
 
-    def view(self, var, place, helper=None):
-        """A term for the record of an outer place, as a helper takes it."""
+    def applied(self, helper):
+        """A helper's call, at the record that it takes. Within another helper at another place it is a copy of that helper for this place."""
         goal, start = self.now
-        place = self.helpers.get(helper, place)
-        name = self.w.places[place]["new"]
+        place = self.helpers[helper]
         if place == start:
-            return self.root
-        if not goal:
-            goal = next((new for (_, new), at in zip(self.entry["needs"], self.entry["asked_at"]) if plain(at[0]) == start), None)
-        if not goal:
-            self.said.append(f"look: {self.path}: {name} from a helper at {start}")
-            return var
-        return f"(goal.at.{goal} {self.root}).{name}"
+            return f"{helper} {self.root}"
+        if goal:
+            return f"{helper} (goal.at.{goal} {self.root}).{self.w.places[place]['new']}"
+        if (helper, start) not in self.copies:
+            self.copies[helper, start] = f"{helper}_{2 + sum(it[0] == helper for it in self.copies)}"
+            self.pending.append((helper, start))
+        return f"{self.copies[helper, start]} {self.root}"
 
 
 def uses(chunk_list):
@@ -338,7 +385,7 @@ def used(name, text):
     parts = [p for p in core.split("◌") if p]
     if "◌" in core:
         return all(p in text for p in parts)
-    return re.search(rf"(?<![^\s(){{}}.;,@\[\]]){re.escape(core)}(?![^\s(){{}}.;,@\[\]])", text) is not None
+    return re.search(rf"(?<![^\s(){{}};,@\[\]]){re.escape(core)}(?![^\s(){{}}.;,@\[\]]|\.[^\s.])", text) is not None or re.search(rf"(?<![^\s(){{}};,@\[\]]){re.escape(core)}\.(?=\S)", text) is not None
 
 
 def imports(lines, text):
@@ -354,6 +401,51 @@ def imports(lines, text):
             if used(alias.strip(), text):
                 out.append(line)
     return out
+
+
+def inlined(decls):
+    """The declarations without abbreviations of a record's simple values, which stand where they were named."""
+    table = {}
+    for it in decls:
+        m = re.match(rf"abbrev ({NAME}) : tie\.\S+[^→]* → [^→]*\n\1 ({NAME}) = ([^\n]*)$", "\n".join(it["lines"]))
+        if m and re.fullmatch(rf"{re.escape(m[2])}(?:\.{NAME})+", m[3]):
+            table[m[1]] = m[3][len(m[2]) :]
+    if not table:
+        return decls
+    some = "|".join(map(re.escape, table))
+    rest = [it for it in decls if it["head"] not in table]
+    for it in rest:
+        if re.search(r" : tie\.(InvT|MeasureT|invariant|decreases)", it["lines"][0]):
+            continue
+        text, before = "\n".join(it["lines"]), None
+        while text != before:
+            before = text
+            text = re.sub(rf"\(({some}) ({NAME}(?:\.{NAME})*)\)", lambda m: m[2] + table[m[1]], text)
+        text = re.sub(rf"(?<![^\s(){{}};,])({some}) (?![=:→])({NAME}(?:\.{NAME})*)", lambda m: m[2] + table[m[1]], text)
+        it["lines"] = text.split("\n")
+    return rest
+
+
+def without_projections(decls):
+    """The declarations without those that only go from a record to an outer one, since each record has the steps of all before it."""
+    names = []
+    for it in decls:
+        if re.match(rf"(?:abbrev |pub )*{NAME} : tie\.\S+(?: [^→\n]*)? → tie\.[^→\n]*$", it["lines"][0]):
+            names.append(it["head"])
+    if not names:
+        return decls
+    some = "|".join(map(re.escape, names))
+    for it in decls:
+        if it["head"] in names:
+            continue
+        text = "\n".join(it["lines"])
+        before = None
+        while text != before:
+            before = text
+            text = re.sub(rf"\((?:{some}) ({NAME}(?:\.{NAME})*)\)", r"\1", text)
+        text = re.sub(rf"(?<![^\s(){{}};,])(?:{some}) (?![=:→])({NAME}(?:\.{NAME})*)", r"\1", text)
+        it["lines"] = text.split("\n")
+    return [it for it in decls if it["head"] not in names]
 
 
 def turn(path, module, entry, parameters, crate, said):
@@ -387,6 +479,7 @@ def turn(path, module, entry, parameters, crate, said):
     if len(args) != 2 * len(loops) + len(needs):
         said.append(f"left: {path}: {len(args)} arguments, {len(loops)} loops and {len(needs)} goals: {[n[0] for n in needs]} {args}")
         return None
+    decls = inlined(without_projections(decls))
     by_head = {it["head"]: it for it in decls}
     t = Turner(path, entry, parameters, crate, said)
     rename, invariants, answers, extra = {}, [], [], []
@@ -421,13 +514,14 @@ def turn(path, module, entry, parameters, crate, said):
     wrapped = set(rename.values())
     kinds = {}
     for it in decls:
-        takes = re.search(r"[({][^()\s]+ : tie\.([^\s(){}.;,]+)", "\n".join(it["lines"]))
+        whole = "\n".join(it["lines"])
+        takes = re.search(r"[({][^()\s]+ : tie\.([^\s(){}.;,]+)", whole) or re.match(rf"(?:abbrev |pub |unfoldable )*{NAME} : tie\.([^\s(){{}}.;,]+)[^→\n]*→", whole)
         if takes and it["head"] not in [g[0] for g in goals] and plain(takes[1]) in t.w.places:
-            t.helpers[it["head"]] = plain(takes[1])
+            t.helpers[it["head"]] = t.w.outermost(plain(takes[1]))
 
     def types(line):
         def one(m):
-            it = t.w.places.get(plain(m[1]))
+            it = t.w.places.get(plain(m[1])) and t.w.places[t.w.outermost(plain(m[1]))]
             if not it:
                 said.append(f"look: {path}: the type tie.{m[1]}")
                 return m[0]
@@ -471,7 +565,14 @@ def turn(path, module, entry, parameters, crate, said):
         env = {}
         for var, place_ in re.findall(rf"[({{]({NAME}) : tie\.([^\s(){{}}.;,]+)", body):
             if plain(place_) in t.w.places:
-                env[var] = plain(place_)
+                env[var] = t.w.outermost(plain(place_))
+        m = re.search(rf"(?m)^{re.escape(head)} (?![:=({{])({NAME})", body)
+        if m and head in t.helpers and m[1] not in env:
+            if env:
+                # the signature names the record otherwise than the equation
+                body = re.sub(rf"(?s)^(.*?\n{re.escape(head)} )(.*)$", lambda k: t.paths(names(types(k[1])), env) + k[2], body)
+                env = {}
+            env[m[1]] = t.helpers[head]
         return "\n".join(it["comment"] + [t.paths(names(types(body)), env)])
 
     inv_text, moved = [], []
@@ -479,10 +580,16 @@ def turn(path, module, entry, parameters, crate, said):
         for arg, kind, new, vars_, changed in invariants:
             it = by_head[arg]
             body = "\n".join(it["lines"])
-            m = re.search(rf"(?m)^{re.escape(arg)}((?: [^\s=]+)*) =", body)
+            m = re.search(rf"(?m)^{re.escape(arg)}((?:\s+[^\s=]+)*) =", body)
+            if not m:
+                said.append(f"left: {path}: {arg} has another form")
+                return None
             params = m[1].split()
             want = [f"l.initial.{v}" if c else f"l.{v}" for v, c in zip(vars_, changed)] + [f"l.{v}" for v, c in zip(vars_, changed) if c]
             unf = [l for l in body[: m.start()].split("\n")[1:] if l.strip()]
+            known = {plain(v): v for v in vars_}
+            if all(p == "_" or plain(p.rstrip("₀")) in known for p in params):
+                want = [None if p == "_" else f"l.initial.{known[plain(p[:-1])]}" if p.endswith("₀") else f"l.{known[plain(p)]}" for p in params]
             if len(params) != len(want):
                 said.append(f"look: {path}: {arg} takes {params}, for {want}")
             table = {p: w for p, w in zip(params, want) if p != "_"}
@@ -509,10 +616,37 @@ def turn(path, module, entry, parameters, crate, said):
     goal_of = {g[0]: (g[1], g[2]) for g in goals}
     old_of = {new: was for was, new in needs}
     body = []
+    def with_copies(text):
+        """A declaration behind the copies of helpers that it needs, each behind those that it needs itself."""
+        made = {}
+        while t.pending:
+            helper, place = t.pending.pop(0)
+            name = t.copies[helper, place]
+            lines = "\n".join(by_head[helper]["lines"])
+            lines = re.sub(r"tie\.[^\s(){}.;,]+", lambda m: f"tie.{t.w.places[place]['old']}", lines, count=1)
+            lines = re.sub(rf"(?m)^((?:pub |abbrev |unfoldable )*){re.escape(helper)}(?=[ (])", rf"\g<1>{name}", lines)
+            t.helpers[name] = place
+            made[name] = turned({"head": name, "lines": lines.split("\n"), "comment": []}, None)
+        out = []
+
+        def put(name):
+            for other in made:
+                if other != name and other not in done and used(other, made[name]):
+                    done.add(other)
+                    put(other)
+            out.append(made[name])
+
+        done = set()
+        for name in made:
+            if name not in done:
+                done.add(name)
+                put(name)
+        return out + [text]
+
     for it in decls:
         if it["head"] in drop or it in moved:
             continue
-        body.append(turned(it, goal_of[it["head"]][1] if it["head"] in goal_of else None))
+        body += with_copies(turned(it, goal_of[it["head"]][1] if it["head"] in goal_of else None))
     for new, place, term in answers:
         term = by_clause(" " + t.paths(names(types(term)), {"c": place}, new), entry["asked"].get(old_of[new], []))
         body.append(f"pub {new} : goal.{new}\n{new} c ={term}")
