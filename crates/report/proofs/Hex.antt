@@ -1,7 +1,7 @@
 -- Digits and numbers: each is had back from the other.
 use mathlib.Core.Path.{◌≡◌, refl, ap, sym, ◌∙◌}
 use mathlib.Core.List.{List, [], ◌∷◌}
-use mathlib.Core.Bool.{Bool, true, false, cond, ◌&&◌, false≢true}
+use mathlib.Core.Bool.{Bool, true, false, cond, ◌&&◌}
 use Prim.Native.Nat.{ℕ, zero, suc, ◌+◌, ◌*◌, ◌-◌, ◌/◌, ◌%◌, ◌^◌, ◌≤◌, ◌<◌}
 use native.Mathlib.Omega.{arith}
 use native.Mathlib.Nat.{pow-zero, pow-succ', mod-one, mod-lt, mod-eq_of_lt, one-le-pow}
@@ -11,7 +11,6 @@ use lib.Dec.{leb, ltb, lit<}
 use borrow.Author.Tests.{le-leb, lt-leb, lt-ltb, le-ltb, ltb-true, ltb-false, leb-true, leb-false}
 use Rattle.lists.proofs.Bools.{and_parts}
 use Rattle.report.specs.Words.{digit, value, is_digit, all_digits, digits, number}
-use Rattle.report.proofs.Rows
 
 -- a digit's character has its value
 module _ (d : ℕ) (h : d < 16) where
