@@ -2,6 +2,7 @@
 use Rattle.std.proofs.Common.{◌≡◌, ℕ, zero, suc, ◌+◌, ◌-◌, ◌≤◌, List, [], ◌∷◌, ◌++◌, length, get_or, drop, replicate, refl, ap, suc-add, zero-add, arith}
 use native.Mathlib.Nat.{suc-sub-suc, sub-zero}
 use lib.Seq.{drop-nil}
+use Rattle.framing.proofs.Rows
 use Rattle.framing.specs.Frames.{padded}
 
 pub length_padded : (k : ℕ) (s : List ℕ) → length (padded k s) ≡ k

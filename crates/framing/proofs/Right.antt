@@ -2,6 +2,7 @@
 use Rattle.std.proofs.Common.{◌≡◌, ℕ, suc, ◌+◌, ◌-◌, ◌*◌, ◌<◌, ◌≤◌, Bool, true, false, ◌&&◌, eqb, List, length, take, drop, sym, ◌∙◌, add-one, arith, drop-drop, eq-eqb, ne_eqb, le-leb}
 use native.Mathlib.Nat.{sub-zero}
 use Rattle.layout.specs.Bytes.{number, read_number}
+use Rattle.framing.proofs.Rows
 use Rattle.framing.specs.Frames.{check_of, frame_right, frames_right}
 
 module _ (at : ℕ) (i : List ℕ) (h : at + 512 ≤ length i) where

@@ -2,6 +2,7 @@
 use Rattle.std.proofs.Common.{◌≡◌, ℕ, ◌+◌, ◌*◌, ◌/◌, ◌<◌, ◌≤◌, true, ltb, List, ◌++◌, length, sym, arith, length-append, le-ltb, lt-ltb, le-leb}
 use borrow.Author.Tests.{lt-leb}
 use Rattle.layout.specs.Bytes.{overwrite}
+use Rattle.framing.proofs.Rows
 use Rattle.framing.specs.declared.FrameAnswer.TheVariants.{Written, NoRoom}
 use Rattle.framing.specs.Frames.{cut, cut_from, frames_for, has_room, write_frames}
 

@@ -3,6 +3,7 @@ use Rattle.std.proofs.Common.{◌≡◌, ℕ, zero, suc, ◌+◌, ◌*◌, ◌%�
 use native.Mathlib.Nat.{mod-add-mod}
 use lib.Seq.{take-append-le, drop-append-le}
 use Rattle.layout.specs.Bytes.{number, read_number}
+use Rattle.framing.proofs.Rows
 use Rattle.framing.specs.Frames.{word_sum}
 
 pub word_sum_more : (n : ℕ) (s : List ℕ) → word_sum (suc n) s ≡ word_sum n s + number (take 4 (drop (4 * n) s))

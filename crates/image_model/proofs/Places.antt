@@ -23,6 +23,9 @@ use Rattle.image_model.specs.Stream.{form_1, form_2, form_numbered, entry_tail, 
 use Rattle.image_model.specs.Stream.{no_grant, all_permitted, carries, blank, head_length, Typed}
 use Rattle.image_model.specs.declared.Form.{Form}
 use Rattle.image_model.proofs.Rows.{head_rows}
+use Rattle.image_model.proofs.FullRows
+use Rattle.image_model.proofs.KindRows
+use Rattle.image_model.proofs.EditionRows
 use Rattle.image_model.proofs.Items.{All, all_drop, all_map, all_tested, tested_all, all_two, all_of, none_behind, filled_behind, zeros_are, are_zeros}
 use Rattle.image_model.proofs.Parts.{bytes_split_here, one_at}
 

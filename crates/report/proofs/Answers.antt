@@ -16,6 +16,7 @@ use Rattle.report.specs.declared.ExportAnswer.{ExportAnswer}
 use Rattle.report.specs.declared.ExportAnswer.TheVariants.{Exported, Refused as NotExported}
 use Rattle.report.specs.declared.ReportRefusal.{ReportRefusal}
 use Rattle.report.specs.declared.ReportRefusal.TheVariants.{Character, Reserved, TooMany, Room}
+use Rattle.report.proofs.Rows
 
 abbrev pub report_refusal_at : ℕ → ReportRefusal
 report_refusal_at n = get_or (Character ∷ Reserved ∷ TooMany ∷ Room ∷ []) (n - 31) Room

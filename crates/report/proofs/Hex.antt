@@ -11,6 +11,7 @@ use lib.Dec.{leb, ltb, lit<}
 use borrow.Author.Tests.{le-leb, lt-leb, lt-ltb, le-ltb, ltb-true, ltb-false, leb-true, leb-false}
 use Rattle.lists.proofs.Bools.{and_parts}
 use Rattle.report.specs.Words.{digit, value, is_digit, all_digits, digits, number}
+use Rattle.report.proofs.Rows
 
 -- a digit's character has its value
 module _ (d : ℕ) (h : d < 16) where

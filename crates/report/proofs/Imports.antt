@@ -11,6 +11,7 @@ use Rattle.report.specs.Import.{Lines, Good, Wrong, line_of, in_front, with_line
 use Rattle.report.specs.declared.ReportRefusal.{ReportRefusal}
 use Rattle.report.specs.declared.ReportRefusal.TheVariants.{TooMany}
 use Rattle.report.specs.declared.Line.TheVariants.{Grant, Bad}
+use Rattle.report.proofs.Rows
 
 -- the definition at a text that is not empty, and at its end
 pub lines_step : (left n : ℕ) (s : List ℕ) → 0 < length s → lines_from (suc left) n s ≡ with_line n (line_of s) (lines_from left (suc n) (drop 54 s))

@@ -11,6 +11,7 @@ use Rattle.settings.specs.declared.Entry.{Entry}
 use Rattle.settings.specs.declared.NthEntry.{NthEntry}
 use Rattle.settings.specs.declared.NthEntry.TheVariants.{There}
 use Rattle.settings.specs.Entries.{entry_told, nth_of, picked}
+use Rattle.settings.proofs.Rows
 
 nth_same : (es : List Entry) (e : Entry) → get_elem? (es ++ (e ∷ [])) (length es) ≡ some e
 nth_same [] e = refl

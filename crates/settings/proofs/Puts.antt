@@ -10,6 +10,7 @@ use lib.Seq.{take-suc, length-take-le}
 use borrow.Author.Tests.{lt-ltb, le-ltb}
 use Rattle.layout.specs.Bytes.{bytes, overwrite, write_number}
 use Rattle.layout.proofs.Overwrite.{length_overwrite, overwrite_two, overwrite_more}
+use Rattle.settings.proofs.Rows
 use Rattle.settings.specs.declared.Entry.{Entry}
 use Rattle.settings.specs.declared.Last.TheVariants.{Version, Malformed as LastMalformed}
 use Rattle.settings.specs.declared.SettingsRefusal.TheVariants.{Malformed, ValueLength, VersionFalls, Full}

@@ -8,6 +8,7 @@ use lib.ListN.{length}
 use lib.Dec.{leb}
 use borrow.Author.Tests.{le-leb, lt-leb, leb-true}
 use Rattle.lists.proofs.Bools.{and_parts}
+use Rattle.settings.proofs.Rows
 use Rattle.settings.specs.declared.Entry.{Entry}
 use Rattle.settings.specs.declared.Read.TheVariants.{Whole, Bad}
 use Rattle.settings.specs.Entries.{entry_at, entry_fits, read_entry}

@@ -17,6 +17,7 @@ use Rattle.settings.specs.declared.SettingsRefusal.TheVariants.{VersionFalls, Fu
 use Rattle.settings.specs.Entries.{EntryTold, entry_told}
 use Rattle.settings.specs.Find.{settings_refusal_number, Located, located}
 use Rattle.settings.specs.Add.{AddedTo, added_to}
+use Rattle.settings.proofs.Rows
 
 -- from a number, the refusal
 abbrev refusal_at : ℕ → SettingsRefusal
