@@ -1,5 +1,6 @@
 // A stream cut into frames of 512 bytes, each with its number, the number of frames and a check. Nothing here knows what the stream says.
 #![tactic(auto)]
+
 ghost use Rattle.std.specs.Prelude.{◌≡◌, ◌+◌, ◌*◌, ◌/◌, ◌^◌, ◌<◌, ◌≤◌, ◌++◌, length, drop, slice_index};
 ghost use Rattle.layout.specs.Bytes.{overwrite};
 ghost use Rattle.framing.specs.Frames.{padded, check_of, frame_of, cut_from, stream_of, frame_right, frames_right, write_frames};

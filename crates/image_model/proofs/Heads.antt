@@ -13,7 +13,7 @@ use Rattle.accounts.specs.declared.Accounts.{Accounts}
 use Rattle.accounts.specs.Accounts.{zero_quota, zero_hold}
 use Rattle.layout.specs.Bytes.{bytes, number}
 use Rattle.layout.proofs.Numbers.{bytes_length}
-use Rattle.image_model.specs.Items.{many, each, every}
+use Rattle.image_model.specs.Items.{many, each}
 use Rattle.image_model.specs.Stream.{all_permitted, marks_of, with_marks, carries, blank}
 use Rattle.image_model.specs.Stream.{entry_bytes, record_bytes, entry_width, record_width, entries_at, records_at}
 use Rattle.image_model.specs.Stream.{head_length, head_of, stream, Typed}

@@ -19,7 +19,7 @@ use Rattle.framing.specs.Frames.{padded, frames_for, cut_from, cut, stream_of, f
 use Rattle.framing.proofs.Padding.{length_padded, padded_whole}
 use Rattle.framing.proofs.Cut.{cut_uncut}
 use Rattle.image_model.specs.Items.{all_zero}
-use Rattle.image_model.specs.Stream.{form_1, marks_right, carries, head_length, stream, image_of}
+use Rattle.image_model.specs.Stream.{form_1, marks_right, head_length, stream, image_of}
 use Rattle.image_model.specs.Reading.{marks_in, length_in, form_in, form_of, size_in, accounts_in, heap_in, contents_right, heap_of, items_right}
 use Rattle.image_model.specs.Images.{own_consistent, line_21, line_22, line_23, line_24, line_25, line_26, shape_lines, read_lines, read_image, Accepts}
 use Rattle.image_model.specs.declared.Form.{Form}

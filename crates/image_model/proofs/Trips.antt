@@ -1,6 +1,6 @@
 -- Both round trips, in what the writer and the reader leave and answer: the reader accepts exactly what the writer writes, and gives back what
 -- was written; and what it accepted is written again, byte for byte.
-use mathlib.Core.Path.{◌≡◌, refl, ap, sym, ◌∙◌}
+use mathlib.Core.Path.{◌≡◌, ap, sym, ◌∙◌}
 use mathlib.Core.List.{List, ◌++◌, append-nil}
 use mathlib.Core.Bool.{true, false, not}
 use mathlib.Core.Logic.{◌↔◌}

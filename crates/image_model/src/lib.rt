@@ -1,6 +1,7 @@
 // Images of a stopped heap: the forms and the answers, as types. The definitions in specs/ say what an image is, how it is written and how
 // it is read; no code of a call is here.
 #![tactic(auto)]
+
 ghost use Rattle.std.specs.Prelude.{◌≡◌};
 ghost use Rattle.image_model.specs.Answers.{image_refusal_number};
 

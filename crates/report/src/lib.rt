@@ -1,5 +1,6 @@
 // Quotas from the linker's audit report (rules, section 18): lines of six words as grants, and grants as lines.
 #![tactic(auto)]
+
 ghost use Rattle.std.specs.Prelude.{◌≡◌};
 ghost use Rattle.report.specs.Import.{report_refusal_number};
 

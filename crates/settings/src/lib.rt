@@ -1,6 +1,7 @@
 // Settings with versions (rules, section 20): stores of entries, the value of a name at a version as the bytes where they lie, and a new entry behind
 // the others.
 #![tactic(auto)]
+
 ghost use Rattle.std.specs.Prelude.{◌≡◌};
 ghost use Rattle.settings.specs.Find.{settings_refusal_number};
 
