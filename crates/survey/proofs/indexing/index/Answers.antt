@@ -1,0 +1,125 @@
+use Rattle.std.proofs.Common.{◌≡◌, ℕ, ◌+◌, ◌-◌, ◌<◌, Bool, false, sym, ap, ◌∙◌, subst, arith}
+use borrow.Author.Tests.{not-true, not-false}
+use Rattle.accounts.specs.Accounts.{HOLDS, zero_hold}
+use Rattle.lists.specs.Lists.{all}
+use Rattle.audit.specs.Keys.{well_formed}
+use Rattle.audit.proofs.Tables.{all_fails}
+use Rattle.audit.proofs.Records.{well_blank, well_possible}
+use Rattle.words.specs.Words.{serial_in, hold_in, holds_of}
+use Rattle.words.proofs.Words.{holds_long, holds_at}
+use Rattle.survey.specs.Clauses.{Told}
+use Rattle.survey.proofs.Passes.{Passed, passed_start, passed_blank, passed_used, passed_all}
+use Rattle.survey.proofs.indexing.index.Goals as goal
+use Rattle.survey.proofs.indexing.index.Goals.{After-is_blank, After-is_possible, After-serial_in-serial, Else-serial-eq0, In-loop-i}
+
+pub loop-i-init : goal.loop-i-init
+loop-i-init c = passed_start c.requires.0 c.requires.1 c.requires.2
+
+-- the record at place i
+inside : (c : In-loop-i) → c.loop-i.i < HOLDS
+inside c = omega (arith, c.loop-i-test.true, c.loop-i.invariant.top_inside)
+
+pub serial_in-serial-requires : goal.serial_in-serial-requires
+serial_in-serial-requires c = inside c
+
+-- what its tests say of it, without a serial and with one
+blank-tests : (c : After-is_blank)
+    → well_formed (hold_in c.args.words.now c.loop-i.i) ≡ c.is_blank.result
+blank-tests c =
+    let k = c in
+    let z = sym k.serial_in-serial.ensures ∙ c.if-serial-eq0.true in
+    well_blank (hold_in k.args.words.now k.loop-i.i) z ∙ sym c.is_blank.ensures
+
+some-serial : (c : Else-serial-eq0) → serial_in c.args.words.now c.loop-i.i ≡ 0 → ⊥
+some-serial c e = c.if-serial-eq0.false (c.serial_in-serial.ensures ∙ e)
+
+some-serial_2 : (c : After-is_possible) → serial_in c.args.words.now c.loop-i.i ≡ 0 → ⊥
+some-serial_2 c e = c.if-serial-eq0.false (c.serial_in-serial.ensures ∙ e)
+
+possible-tests : (c : After-is_possible)
+    → well_formed (hold_in c.args.words.now c.loop-i.i) ≡ c.is_possible.result
+possible-tests c =
+    let k = c in
+    well_possible (hold_in k.args.words.now k.loop-i.i) (some-serial_2 c) ∙ sym c.is_possible.ensures
+
+inside_2 : (c : After-serial_in-serial) → c.loop-i.i < HOLDS
+inside_2 c = omega (arith, c.loop-i-test.true, c.loop-i.invariant.top_inside)
+
+ill : (c : After-serial_in-serial) → well_formed (hold_in c.args.words.now c.loop-i.i) ≡ false
+    → all well_formed (holds_of c.args.words.now) ≡ false
+ill c e =
+    all_fails well_formed zero_hold (holds_of c.args.words.now) c.loop-i.i (omega (arith, inside_2 c, holds_long c.args.words.now))
+    (ap well_formed (holds_at c.args.words.now c.loop-i.i (inside_2 c)) ∙ e)
+
+pub is_blank-requires : goal.is_blank-requires
+is_blank-requires c = inside (goal.at.is_blank-requires c).In-loop-i
+
+-- an answer that says no
+abbrev Says : After-serial_in-serial → ℕ → ℕ → Bool → Type 0
+Says c low used t = Told c.args.words.now t c.loop-i.heads c.loop-i.links low used
+
+pub returns-then-not-is_blank : goal.returns-then-not-is_blank
+returns-then-not-is_blank c =
+    let b = c in
+    let k = b in
+    let r = c.ill_formed.result in
+    subst (Says (goal.at.returns-then-not-is_blank c).After-serial_in-serial r.low r.used) (sym c.ill_formed.ensures) (ill (goal.at.returns-then-not-is_blank c).After-serial_in-serial (blank-tests (goal.at.returns-then-not-is_blank c).After-is_blank ∙ not-true _ c.if-not-is_blank.true-raw))
+
+pub overflow_add-blank : goal.overflow_add-blank
+overflow_add-blank c = let t = c in omega (arith, inside (goal.at.overflow_add-blank c).In-loop-i, t.loop-i.invariant.counted)
+
+pub overflow_add-i : goal.overflow_add-i
+overflow_add-i c = omega (arith, inside (goal.at.overflow_add-i c).In-loop-i)
+
+pub loop-i-smaller-then-serial-eq0 : goal.loop-i-smaller-then-serial-eq0
+loop-i-smaller-then-serial-eq0 c = omega (arith, c.loop-i-test.true)
+
+pub loop-i-preserved-then-serial-eq0 : goal.loop-i-preserved-then-serial-eq0
+loop-i-preserved-then-serial-eq0 c =
+    let k = c in
+    let b = c in
+    let t = k in
+    let l = t.loop-i in
+    let z = sym k.serial_in-serial.ensures ∙ b.if-serial-eq0.true in
+    subst (λ (x : ℕ). Passed k.args.words.now l.heads l.links t.args.top (l.i + 1) x (l.blank + 1)) (sym c.lower-low.ensures)
+    (passed_blank l.invariant t.loop-i-test.true (blank-tests (goal.at.loop-i-preserved-then-serial-eq0 c).After-is_blank ∙ not-false _ c.if-not-is_blank.false-raw) z)
+
+pub is_possible-requires : goal.is_possible-requires
+is_possible-requires c = inside (goal.at.is_possible-requires c).In-loop-i
+
+pub returns-then-not-is_possible : goal.returns-then-not-is_possible
+returns-then-not-is_possible c =
+    let b = c in
+    let k = b in
+    let r = c.ill_formed-then-not-is_possible.result in
+    subst (Says (goal.at.returns-then-not-is_possible c).After-serial_in-serial r.low r.used) (sym c.ill_formed-then-not-is_possible.ensures) (ill (goal.at.returns-then-not-is_possible c).After-serial_in-serial (possible-tests (goal.at.returns-then-not-is_possible c).After-is_possible ∙ not-true _ c.if-not-is_possible.true-raw))
+
+pub enter-requires : goal.enter-requires
+enter-requires c =
+    let e = c in
+    let t = e in
+    (inside (goal.at.enter-requires c).In-loop-i, some-serial (goal.at.enter-requires c).Else-serial-eq0, t.loop-i.invariant.built)
+
+pub overflow_add-i-else-serial-eq0 : goal.overflow_add-i-else-serial-eq0
+overflow_add-i-else-serial-eq0 c = omega (arith, inside (goal.at.overflow_add-i-else-serial-eq0 c).In-loop-i)
+
+pub loop-i-smaller : goal.loop-i-smaller
+loop-i-smaller c = omega (arith, c.loop-i-test.true)
+
+pub loop-i-preserved : goal.loop-i-preserved
+loop-i-preserved c =
+    let e = c in
+    let p = c in
+    let t = e in
+    passed_used t.loop-i.invariant t.loop-i-test.true (possible-tests (goal.at.loop-i-preserved c).After-is_possible ∙ not-false _ p.if-not-is_possible.false-raw) (some-serial (goal.at.loop-i-preserved c).Else-serial-eq0) c.enter.ensures
+
+pub overflow_sub-used : goal.overflow_sub-used
+overflow_sub-used c = let g = c.loop-i.invariant in omega (arith, g.counted, g.within)
+
+pub returns : goal.returns
+returns c =
+    let b = c in
+    let l = b.loop-i in
+    let top = b.args.top in
+    let z : l.i ≡ top = omega (arith, c.loop-i-test.false, l.invariant.within) in
+    passed_all (subst (λ (x : ℕ). Passed b.args.words.now l.heads l.links top x l.low l.blank) z l.invariant)

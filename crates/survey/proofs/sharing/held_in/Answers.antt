@@ -1,0 +1,68 @@
+use Rattle.std.proofs.Common.{◌+◌, ◌-◌, sym, ap, ◌∙◌, arith}
+use Rattle.accounts.specs.declared.Hold.{Hold}
+use Rattle.accounts.specs.Accounts.{zero_hold}
+use Rattle.words.specs.Words.{holds_of}
+use Rattle.words.proofs.Words.{holds_long, holds_at}
+use Rattle.survey.specs.Shares.{one_if, is_own, is_shared}
+use Rattle.survey.proofs.Counting.{Counted, counted_start, counted_next, counted_all}
+use Rattle.survey.proofs.sharing.held_in.Goals as goal
+use Rattle.survey.proofs.sharing.held_in.Goals.{After-own_at-objects, After-shared_at-shared}
+
+pub loop-i-init : goal.loop-i-init
+loop-i-init c =
+    let a = c.args in
+    let hs = holds_of a.words.now in
+    (counted_start (is_own a.quota) hs zero_hold, counted_start (is_shared hs a.quota) hs zero_hold)
+
+pub own_at-objects-requires : goal.own_at-objects-requires
+own_at-objects-requires c = (c.loop-i-test.true, c.requires.1)
+
+next-own : (c : After-own_at-objects)
+    → let l = c in let a = l.args in
+    Counted (is_own a.quota) (holds_of a.words.now) zero_hold (l.loop-i.i + 1) (l.loop-i.objects + c.own_at-objects.result)
+next-own c =
+    let l = c in
+    let a = l.args in
+    let w = a.words.now in
+    let t = c.loop-i-test.true in
+    counted_next (is_own a.quota) (holds_of w) zero_hold l.loop-i.invariant.0 (omega (arith, holds_long w, t)) c.own_at-objects.result
+    (c.own_at-objects.ensures ∙ ap (λ (h : Hold). one_if (is_own a.quota h)) (sym (holds_at w l.loop-i.i t)))
+
+next-shared : (c : After-shared_at-shared)
+    → let l = c in let a = l.args in
+    Counted (is_shared (holds_of a.words.now) a.quota) (holds_of a.words.now) zero_hold (l.loop-i.i + 1) (l.loop-i.shared + c.shared_at-shared.result)
+next-shared c =
+    let l = c in
+    let a = l.args in
+    let w = a.words.now in
+    let t = c.loop-i-test.true in
+    counted_next (is_shared (holds_of w) a.quota) (holds_of w) zero_hold l.loop-i.invariant.1 (omega (arith, holds_long w, t)) c.shared_at-shared.result
+    (c.shared_at-shared.ensures ∙ ap (λ (h : Hold). one_if (is_shared (holds_of w) a.quota h)) (sym (holds_at w l.loop-i.i t)))
+
+pub overflow_add-objects : goal.overflow_add-objects
+overflow_add-objects c = let n = next-own c in omega (arith, n.few, c.loop-i-test.true)
+
+pub shared_at-shared-requires : goal.shared_at-shared-requires
+shared_at-shared-requires c = let p = c.requires in (c.loop-i-test.true, p.0, p.1)
+
+pub overflow_add-shared : goal.overflow_add-shared
+overflow_add-shared c = let n = next-shared c in omega (arith, n.few, c.loop-i-test.true)
+
+pub overflow_add-i : goal.overflow_add-i
+overflow_add-i c = omega (arith, c.loop-i-test.true)
+
+pub loop-i-smaller : goal.loop-i-smaller
+loop-i-smaller c = omega (arith, c.loop-i-test.true)
+
+pub loop-i-preserved : goal.loop-i-preserved
+loop-i-preserved c = (next-own (goal.at.loop-i-preserved c).After-own_at-objects, next-shared c)
+
+pub returns : goal.returns
+returns c =
+    let l = c in
+    let a = l.args in
+    let w = a.words.now in
+    let long = holds_long w in
+    let e = counted_all (is_own a.quota) (holds_of w) zero_hold l.loop-i.invariant.0 (omega (arith, long, c.loop-i-test.false)) in
+    let f = counted_all (is_shared (holds_of w) a.quota) (holds_of w) zero_hold l.loop-i.invariant.1 (omega (arith, long, c.loop-i-test.false)) in
+    λ i. record { objects = e i; shared = f i }

@@ -1,0 +1,63 @@
+-- `survey::walking::visit` meets its contract: its tests are those of the definition, and that a free block has 8 bytes; each of them decides it where it
+-- fails.
+-- A serial above the last one can be that of a quarantined block; one that is not is no such serial, since the last is below it.
+use Rattle.std.proofs.Common.{◌-◌, sym, ◌∙◌, arith}
+use borrow.Author.Tests.{not-true, not-false}
+use Rattle.rounding.specs.Rounding.{table}
+use Rattle.survey.proofs.Visits.{visit_behind, visit_apart, visit_above, visit_unfit, visit_settled}
+use Rattle.survey.proofs.walking.visit.Goals as goal
+
+pub returns-then-before-eq0 : goal.returns-then-before-eq0
+returns-then-before-eq0 c =
+    let s = c in
+    let a = s.args in
+    visit_behind (table a.edition) a.kind a.last a.serial a.size (a.whole - a.after) a.before
+    s.requires.0 c.if-serial-eq0.true c.if-before-eq0.true
+
+pub returns-then-serial-eq0 : goal.returns-then-serial-eq0
+returns-then-serial-eq0 c =
+    let s = c in
+    let a = s.args in
+    visit_apart (table a.edition) a.kind a.last a.serial a.size (a.whole - a.after) a.before
+    s.requires.0 c.if-serial-eq0.true c.if-before-eq0.false
+
+pub returns-then-last-serial : goal.returns-then-last-serial
+returns-then-last-serial c =
+    let s = c in
+    let a = s.args in
+    visit_above (table a.edition) a.kind a.last a.serial a.size (a.whole - a.after) a.before
+    s.requires.0 c.if-last-serial.true c.is_waiting.result
+    c.is_waiting.ensures
+
+pub overflow_sub-whole : goal.overflow_sub-whole
+overflow_sub-whole c = c.requires.6
+
+pub is_fitting-requires : goal.is_fitting-requires
+is_fitting-requires c = let p = c.requires in (p.2, p.3, p.4, p.5)
+
+pub returns-then-not-is_fitting : goal.returns-then-not-is_fitting
+returns-then-not-is_fitting c =
+    let f = c in
+    let s = f in
+    let a = s.args in
+    visit_unfit (table a.edition) a.kind a.last a.serial a.size (a.whole - a.after) a.before
+    s.requires.0 f.if-serial-eq0.false
+    (λ e. omega (arith, f.if-last-serial.false, s.requires.1)) (sym f.is_fitting.ensures ∙ not-true _ c.if-not-is_fitting.true-raw)
+
+pub settle-requires : goal.settle-requires
+settle-requires c =
+    let e = c in
+    (e.if-serial-eq0.false, e.requires.0)
+
+pub returns : goal.returns
+returns c =
+    let u = c in
+    let f = u in
+    let e = f in
+    let s = e in
+    let a = s.args in
+    let r = c.settle in
+    visit_settled (table a.edition) a.kind a.last a.serial a.size (a.whole - a.after) a.before
+    s.requires.0 e.if-serial-eq0.false
+    (λ q. omega (arith, f.if-last-serial.false, s.requires.1)) (sym f.is_fitting.ensures ∙ not-false _ u.if-not-is_fitting.false-raw) (omega (arith, f.if-last-serial.false))
+    r.result r.new.heads r.new.links r.new.owed r.new.left r.ensures

@@ -1,0 +1,290 @@
+use Rattle.std.proofs.Common.{◌≡◌, ℕ, ◌-◌, ◌*◌, ◌<◌, ◌≤◌, Bool, true, false, cond, List, length, take, drop, sym, refl, ap, ◌∙◌, subst, arith, length-drop, rules}
+use borrow.Author.Tests.{not-true, not-false}
+use borrow.Author.Rules.{part_to_end}
+use mathlib.Core.Bool.{false≢true}
+use Rattle.rounding.specs.Rounding.{table}
+use Rattle.layout.specs.Blocks.{header_at, cut}
+use Rattle.audit.specs.Audit.{behind}
+use Rattle.audit.specs.Fitting.{fitting}
+use Rattle.lookup.specs.Walk.{headed, has_room}
+use Rattle.survey.specs.Index.{keys_left}
+use Rattle.survey.specs.Clauses.{Visited, judged, WalkedTo}
+use Rattle.survey.proofs.Walks.{Walking, walking_start, walking_long, walking_back, walking_fails, walking_on, suffix_start, suffix_on}
+use Rattle.survey.proofs.Walks.{walked_far, one_fails}
+use Rattle.survey.specs.Route.{TAKEN, Reaches, Passed}
+use Rattle.survey.proofs.Routes.{room_same, full, passed_start, passed_on}
+use Rattle.survey.proofs.walking.walk.Goals as goal
+use Rattle.survey.proofs.walking.walk.Goals.{After-header_at-header, After-visit, Else-not-visit}
+use Rattle.survey.proofs.walking.walk.Invariants.{Whole}
+
+pub slice_bounds-rest-count : goal.slice_bounds-rest-count
+slice_bounds-rest-count c = c.requires.4.inside
+
+pub slice_bounds-rest-start : goal.slice_bounds-rest-start
+slice_bounds-rest-start c = let i = c.requires.4.inside in search rules
+
+pub slice_bounds-rest-end : goal.slice_bounds-rest-end
+slice_bounds-rest-end c = let i = c.requires.4.inside in search rules
+
+pub loop-rest-init : goal.loop-rest-init
+loop-rest-init c =
+    let s = c in
+    let a = s.args in
+    let z = part_to_end a.heap.now a.at in
+    let i = s.requires.4.inside in
+    let same : a.at ≡ length a.heap.now - length (drop a.at a.heap.now) = omega (arith, i, length-drop a.at a.heap.now) in (
+      walking_start (table a.edition) a.kind a.last a.heap.now s.requires.4 a.units a.serial_before z,
+      suffix_start a.heap.now i z,
+      λ r.
+          subst (λ (x : ℕ). Passed a.heap.now a.edge a.unit a.at a.fit_before a.need_before x a.units a.serial_before a.fit_before
+          a.need_before)
+          (same ∙ ap (λ (t : List ℕ). length a.heap.now - length t) (sym z))
+          (passed_start a.edge a.unit a.units a.serial_before a.fit_before a.need_before r),
+    )
+
+read : (c : After-header_at-header) → header_at 0 c.loop-rest.rest.now ≡ c.header_at-header.result
+read c = sym c.header_at-header.ensures.0
+
+some-rest : (c : After-header_at-header) → 8 ≤ length c.loop-rest.rest.now
+some-rest c = omega (arith, c.loop-rest-test.true, c.requires.1)
+
+pub overflow_mul-size : goal.overflow_mul-size
+overflow_mul-size c = omega (arith, c.header_at-header.ensures.1)
+
+abbrev Says : After-header_at-header → ℕ → ℕ → ℕ → List ℕ → List ℕ → List ℕ → ℕ → Bool → Type 0
+Says c at back before heads links owed left t =
+    let a = c.args in
+    WalkedTo (table a.edition) a.kind a.last a.edge a.heap.now a.words.now
+    (judged (table a.edition) a.kind a.last a.at (cut a.units (drop a.at a.heap.now)) a.serial_before
+    (keys_left a.words.now a.heads.now a.links.now) a.owed.now)
+    t at back before heads links owed left
+
+pub returns-then-rest-size : goal.returns-then-rest-size
+unfolding judged
+returns-then-rest-size c =
+    let h = c in
+    let l = h.loop-rest in
+    let r = c.failed.result in (
+      subst (Says (goal.at.returns-then-rest-size c).After-header_at-header r.at r.back r.before l.heads l.links l.owed l.left) (sym c.failed.ensures)
+          (one_fails _ _ (walking_long l.invariant.0 (read (goal.at.returns-then-rest-size c).After-header_at-header) (some-rest (goal.at.returns-then-rest-size c).After-header_at-header) c.if-rest-size.true)),
+      λ e. absurd (false≢true (sym c.failed.ensures ∙ e)),
+    )
+
+pub returns-then-header-back : goal.returns-then-header-back
+unfolding judged
+returns-then-header-back c =
+    let f = c in
+    let h = f in
+    let l = h.loop-rest in
+    let r = c.failed-then-header-back.result in (
+      subst (Says (goal.at.returns-then-header-back c).After-header_at-header r.at r.back r.before l.heads l.links l.owed l.left) (sym c.failed-then-header-back.ensures)
+          (one_fails _ _ (walking_back l.invariant.0 (read (goal.at.returns-then-header-back c).After-header_at-header) (some-rest (goal.at.returns-then-header-back c).After-header_at-header) f.if-rest-size.false (λ e. omega (arith, c.if-header-back.true)))),
+      λ e. absurd (false≢true (sym c.failed-then-header-back.ensures ∙ e)),
+    )
+
+pub visit-requires : goal.visit-requires
+visit-requires c =
+    let f = c in
+    let h = f in
+    let l = h.loop-rest.invariant.0 in (
+      l.ready,
+      h.requires.0,
+      omega arith,
+      omega (arith, l.even, l.inside, f.if-rest-size.false),
+      omega (arith, l.inside, f.if-rest-size.false),
+      omega (arith, h.header_at-header.ensures.1),
+      omega (arith, l.inside),
+    )
+
+-- the rest behind the block
+abbrev after : After-visit → List ℕ
+after c = take (length c.loop-rest.rest.now - 8 * c.header_at-header.result.size) (drop (8 * c.header_at-header.result.size) c.loop-rest.rest.now)
+
+beyond : (c : After-visit) → after c ≡ drop (8 * c.header_at-header.result.size) c.loop-rest.rest.now
+beyond c = part_to_end c.loop-rest.rest.now (8 * c.header_at-header.result.size)
+
+same_back : (c : After-visit) → c.header_at-header.result.back ≡ c.loop-rest.back
+same_back c = omega (arith, c.if-header-back.false)
+
+abbrev Answers : After-visit → Bool → Type 0
+Answers c t =
+    let a = c.args in
+    let l = c.loop-rest in
+    let h = c.header_at-header.result in
+    let v = c.visit.new in
+    Visited (table a.edition) a.kind a.last h.serial (8 * h.size) (length a.heap.now - length (after c)) l.before
+    a.words.now l.heads l.links l.owed t v.heads v.links v.owed v.left
+
+visited : (c : After-visit) (t : Bool) → c.visit.result ≡ t → Answers c t
+visited c t e = subst (Answers c) e c.visit.ensures
+
+pub returns-then-not-visit : goal.returns-then-not-visit
+unfolding judged
+returns-then-not-visit c =
+    let v = c in
+    let h = v in
+    let l = h.loop-rest in
+    let r = c.failed-then-not-visit.result in
+    let w = v.visit.new in (
+      subst (Says (goal.at.returns-then-not-visit c).After-header_at-header r.at r.back r.before w.heads w.links w.owed w.left) (sym c.failed-then-not-visit.ensures)
+          (walking_fails l.invariant.0 (read (goal.at.returns-then-not-visit c).After-header_at-header) (some-rest (goal.at.returns-then-not-visit c).After-header_at-header) v.if-rest-size.false (beyond (goal.at.returns-then-not-visit c).After-visit) (same_back (goal.at.returns-then-not-visit c).After-visit)
+          (visited (goal.at.returns-then-not-visit c).After-visit false (not-true _ c.if-not-visit.true-raw))),
+      λ e. absurd (false≢true (sym c.failed-then-not-visit.ensures ∙ e)),
+    )
+
+abbrev after_2 : Else-not-visit → List ℕ
+after_2 c = take (length c.loop-rest.rest.now - 8 * c.header_at-header.result.size) (drop (8 * c.header_at-header.result.size) c.loop-rest.rest.now)
+
+abbrev Answers_2 : Else-not-visit → Bool → Type 0
+Answers_2 c t =
+    let a = c.args in
+    let l = c.loop-rest in
+    let h = c.header_at-header.result in
+    let v = c.visit.new in
+    Visited (table a.edition) a.kind a.last h.serial (8 * h.size) (length a.heap.now - length (after_2 c)) l.before
+    a.words.now l.heads l.links l.owed t v.heads v.links v.owed v.left
+
+visited_2 : (c : Else-not-visit) (t : Bool) → c.visit.result ≡ t → Answers_2 c t
+visited_2 c t e = subst (Answers_2 c) e c.visit.ensures
+
+answer : (c : Else-not-visit) → Answers_2 c true
+answer c = visited_2 c true (not-false _ c.if-not-visit.false-raw)
+
+beyond_2 : (c : Else-not-visit) → after_2 c ≡ drop (8 * c.header_at-header.result.size) c.loop-rest.rest.now
+beyond_2 c = part_to_end c.loop-rest.rest.now (8 * c.header_at-header.result.size)
+
+-- where it ends and starts
+ends : (c : Else-not-visit)
+    → let v = c in let h = v in
+    length h.args.heap.now - length (after_2 c) - 8 * h.header_at-header.result.size ≡ length h.args.heap.now - length h.loop-rest.rest.now
+ends c =
+    let v = c in
+    let h = v in
+    omega (arith, ap length (beyond_2 c) ∙ length-drop (8 * h.header_at-header.result.size) h.loop-rest.rest.now, h.loop-rest.invariant.0.inside, v.if-rest-size.false)
+
+-- the rest behind it is a part of the heap, and shorter than the rest before it
+part : (c : Else-not-visit) → length (after_2 c) ≤ length c.args.heap.now
+part c =
+    let v = c in
+    let h = v in
+    omega (
+      arith,
+      ap length (beyond_2 c) ∙ length-drop (8 * h.header_at-header.result.size) h.loop-rest.rest.now,
+      h.loop-rest.invariant.0.inside,
+    )
+
+some-rest_2 : (c : Else-not-visit) → 8 ≤ length c.loop-rest.rest.now
+some-rest_2 c = omega (arith, c.loop-rest-test.true, c.requires.1)
+
+shorter : (c : Else-not-visit) → length (after_2 c) < length c.loop-rest.rest.now
+shorter c =
+    let v = c in
+    let w = answer c in
+    omega (
+      arith,
+      ap length (beyond_2 c) ∙ length-drop (8 * v.header_at-header.result.size) v.loop-rest.rest.now,
+      w.0,
+      some-rest_2 c,
+      v.if-rest-size.false,
+    )
+
+-- the loop's invariant behind a block, by whether it has room
+abbrev Again : Else-not-visit → ℕ → ℕ → Type 0
+Again c fit need =
+    let v = c in
+    let h = v in
+    let a = h.args in
+    let l = v.visit.new in
+    let n = h.header_at-header.result in
+    Walking (table a.edition) a.kind a.last a.heap.now a.words.now
+    (Whole a.heap.now a.last a.at a.units a.serial_before
+    (keys_left a.words.now a.heads.now a.links.now) a.owed.now)
+    (fitting (table a.edition) a.kind a.at (cut a.units (drop a.at a.heap.now)))
+    l.heads l.links l.owed l.left
+    n.serial n.size (after_2 c)
+    × (after_2 c ≡ drop (length a.heap.now - length (after_2 c)) a.heap.now)
+    × (Reaches a.heap.now a.at
+    → Passed a.heap.now a.edge a.unit a.at a.fit_before a.need_before
+    (length a.heap.now - length (after_2 c)) n.size n.serial fit need)
+
+read_2 : (c : Else-not-visit) → header_at 0 c.loop-rest.rest.now ≡ c.header_at-header.result
+read_2 c = sym c.header_at-header.ensures.0
+
+same_back_2 : (c : Else-not-visit) → c.header_at-header.result.back ≡ c.loop-rest.back
+same_back_2 c = omega (arith, c.if-header-back.false)
+
+again : (c : Else-not-visit) (room : Bool) {fit need : ℕ}
+    → let h = c in let l = h.loop-rest in let n = h.header_at-header.result in
+    room ≡ has_room h.args.unit l.need
+    (headed (length h.args.heap.now - length h.loop-rest.rest.now) n)
+    → fit ≡ cond room (length h.args.heap.now - length h.loop-rest.rest.now) l.fit
+    → need ≡ cond room TAKEN l.need → Again c fit need
+again e room x y z =
+    let v = e in
+    let h = v in
+    let a = h.args in
+    let l = h.loop-rest in (
+      walking_on l.invariant.0 (read_2 e) (some-rest_2 e) v.if-rest-size.false (beyond_2 e) (answer e) (same_back_2 e),
+      suffix_on a.heap.now l.invariant.0.inside l.invariant.1 v.if-rest-size.false (beyond_2 e),
+      λ r.
+          passed_on a.heap.now h.loop-rest.rest.now l.invariant.0.inside l.invariant.1 (read_2 e) (omega (arith, (answer e).0))
+          v.if-rest-size.false
+          h.requires.2 (l.invariant.2 r) h.loop-rest-test.true h.header_at-header.ensures.1 (beyond_2 e)
+          x y z,
+    )
+
+-- a live block has no room
+pub loop-rest-smaller-then-serial-ne0 : goal.loop-rest-smaller-then-serial-ne0
+loop-rest-smaller-then-serial-ne0 c = shorter (goal.at.loop-rest-smaller-then-serial-ne0 c).Else-not-visit
+
+pub loop-rest-preserved-then-serial-ne0 : goal.loop-rest-preserved-then-serial-ne0
+loop-rest-preserved-then-serial-ne0 c =
+    let h = c in
+    again (goal.at.loop-rest-preserved-then-serial-ne0 c).Else-not-visit false
+    (sym (full h.args.unit h.loop-rest.need
+    (length h.args.heap.now - length h.loop-rest.rest.now) h.header_at-header.result c.if-serial-ne0.true))
+    refl refl
+
+-- a free one may have
+pub overflow_sub-end : goal.overflow_sub-end
+overflow_sub-end c = part (goal.at.overflow_sub-end c).Else-not-visit
+
+pub is_roomy-room-requires : goal.is_roomy-room-requires
+is_roomy-room-requires c =
+    let v = c in
+    let h = v in
+    let p = h.requires in (
+      p.2,
+      p.3,
+      (answer (goal.at.is_roomy-room-requires c).Else-not-visit).0,
+      omega (arith, ap length (beyond (goal.at.is_roomy-room-requires c).After-visit) ∙ length-drop (8 * h.header_at-header.result.size) h.loop-rest.rest.now, h.loop-rest.invariant.0.inside, v.if-rest-size.false),
+      omega (arith, h.header_at-header.ensures.1),
+    )
+
+pub overflow_sub-end-else-serial-ne0 : goal.overflow_sub-end-else-serial-ne0
+overflow_sub-end-else-serial-ne0 c =
+    let v = c in
+    let h = v in
+    omega (arith, ap length (beyond (goal.at.overflow_sub-end-else-serial-ne0 c).After-visit) ∙ length-drop (8 * h.header_at-header.result.size) h.loop-rest.rest.now, h.loop-rest.invariant.0.inside, v.if-rest-size.false)
+
+pub loop-rest-smaller : goal.loop-rest-smaller
+loop-rest-smaller c = shorter (goal.at.loop-rest-smaller c).Else-not-visit
+
+pub loop-rest-preserved : goal.loop-rest-preserved
+loop-rest-preserved c =
+    let i = c in
+    let e = i in
+    let h = e in
+    let l = h.loop-rest in
+    again (goal.at.loop-rest-preserved c).Else-not-visit i.is_roomy-room.result
+    (i.is_roomy-room.ensures ∙ room_same h.args.unit l.need h.header_at-header.result (ends (goal.at.loop-rest-preserved c).Else-not-visit))
+    (c.chosen-fit.ensures ∙ ap (λ (x : ℕ). cond i.is_roomy-room.result x l.fit) (ends (goal.at.loop-rest-preserved c).Else-not-visit)) c.chosen-need.ensures
+
+pub overflow_sub-result : goal.overflow_sub-result
+overflow_sub-result c = c.loop-rest.invariant.0.inside
+
+pub returns : goal.returns
+unfolding judged
+returns c =
+    let l = c.loop-rest in
+    (walked_far l.invariant.0 l.invariant.1 (search rules), λ e r. l.invariant.2 r)
