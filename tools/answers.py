@@ -115,6 +115,13 @@ def signature(crate, callee):
             m = re.search(rf"(?ms)\bfn {steps[-1]}(?:<[^>]*>)?\(.*?(?:^ *\{{$| \{{$)", text)
             if m:
                 return m[0]
+    # a name that its crate brings out of a module
+    for folder, _, files in sorted(os.walk(top)):
+        for file in sorted(files):
+            with open(os.path.join(folder, file), encoding="utf-8") as it:
+                m = re.search(rf"(?ms)^pub fn {steps[-1]}(?:<[^>]*>)?\(.*?(?:^ *\{{$| \{{$)", it.read())
+            if m:
+                return m[0]
     return ""
 
 
@@ -238,6 +245,8 @@ class Walk:
             arm = self.arm(found, fields)
             if arm:
                 return out + arm, None, True
+            if any(fields and below[: len(fields)] == fields for _, _, below in (self.places[found]["arm"] or ("", 0, []))[2]):
+                return out, ("part", found, fields), True
             out.append(self.places[found]["now"])
             if fields and fields[0] in ("new", "last") and self.places[found]["callee"]:
                 callee = self.places[found]["callee"]
@@ -337,6 +346,11 @@ class Turner:
         place = env.get(var)
         if place is None:
             return ".".join([var] + fields), None
+        if isinstance(place, tuple) and place[0] == "part":
+            arm = self.w.arm(place[1], place[2] + fields)
+            if not arm:
+                self.said.append(f"look: {self.path}: {var}.{'.'.join(fields)}")
+            return ".".join([var] + (arm or fields)), None
         if place == ("args",):
             return ".".join([var] + self.w.renamed(fields)), None
         if isinstance(place, tuple) and place[0] == "new":
@@ -498,7 +512,9 @@ def turn(path, module, entry, parameters, crate, said):
         place = plain(at[0])
         if re.fullmatch(r"\(λ c( κs)?\. search rules\)", arg):
             continue
-        if arg in by_head and re.search(r"\btie\.Need-", by_head[arg]["lines"][0]):
+        if arg in by_head and re.fullmatch(rf"{re.escape(arg)} c( κs)? = search rules", by_head[arg]["lines"][-1]) and len(by_head[arg]["lines"]) == 2:
+            drop.append(arg)
+        elif arg in by_head and re.search(r"\btie\.Need-", by_head[arg]["lines"][0]):
             if arg in [g[0] for g in goals]:
                 extra.append((new, arg))
             else:

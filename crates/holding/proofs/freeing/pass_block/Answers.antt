@@ -1,6 +1,5 @@
 -- `holding::pass_block` meets its contract: a free block and a kept one are left as they are, and another one is freed.
 use Prim.Native.Nat.{ℕ, ◌+◌}
-use borrow.Author.Rules.{rules}
 use mathlib.Core.Path.{◌≡◌, ◌∙◌}
 use mathlib.Core.List.{List}
 use mathlib.Core.Bool.{Bool, true, false}
@@ -9,8 +8,7 @@ use Rattle.layout.specs.Blocks.{QUARANTINED}
 use Rattle.lookup.specs.declared.Met.{Met}
 use Rattle.writer.specs.Freeing.{vacate_in, vacate_end_in}
 use Rattle.holding.specs.Emptying.{passed, passed_end}
-use Rattle.holding.proofs.freeing.pass_block.Statement.{statement}
-use Rattle.holding.proofs.freeing.pass_block.Tie as tie
+use Rattle.holding.proofs.freeing.pass_block.Goals as goal
 
 -- the three ways
 module _ (kind : ℕ) (kept : Bool) (m : Met) (s : List ℕ) where
@@ -31,26 +29,35 @@ module _ (kind : ℕ) (kept : Bool) (m : Met) (s : List ℕ) where
   unfolding passed passed_end
   by-freeing e q k = let t = ne_eqb m.serial 0 e in let u = ne_eqb m.serial QUARANTINED q in (rw (t, u, k), rw (t, u, k))
 
-returns : tie.Need-returns
-returns c = let a = c.before.before.before.before.args in by-serial a.kind a.kept a.block a.heap.now c.if1.true
+pub returns-then-block-eq0 : goal.returns-then-block-eq0
+returns-then-block-eq0 c = let a = c.args in
+    let both = by-serial a.kind a.kept a.block a.heap.now c.if-block-eq0.true in record {
+      leaves = both.0;
+      ends = both.1;
+    }
 
-returns-2 : tie.Need-returns-2
-returns-2 c =
-    let a = c.before.before.before.before.before.before.args in
-    by-quarantine a.kind a.kept a.block a.heap.now c.before.before.if1.false c.if2.true
+pub returns-then-block-eq-QUARANTINED : goal.returns-then-block-eq-QUARANTINED
+returns-then-block-eq-QUARANTINED c =
+    let a = c.args in
+    let both = by-quarantine a.kind a.kept a.block a.heap.now c.if-block-eq0.false c.if-block-eq-QUARANTINED.true in record {
+      leaves = both.0;
+      ends = both.1;
+    }
 
-returns-3 : tie.Need-returns-3
-returns-3 c =
-    let a = c.before.before.before.before.before.before.before.args in
-    by_flag a.kind a.kept a.block a.heap.now c.before.before.before.if1.false c.before.if2.false c.if3.true
+pub returns-then-kept : goal.returns-then-kept
+returns-then-kept c =
+    let a = c.args in
+    let both = by_flag a.kind a.kept a.block a.heap.now c.if-block-eq0.false c.if-block-eq-QUARANTINED.false c.if-kept.true in record {
+      leaves = both.0;
+      ends = both.1;
+    }
 
-returns-4 : tie.Need-returns-4
-returns-4 c =
-    let x = c.before.before.before.before in
-    let a = x.before.before.before.before.before.before.before.args in
-    let f = by-freeing a.kind a.kept a.block a.heap.now x.before.before.before.if1.false x.before.if2.false x.if3.false in
-    (c.before.before.vacate_block.ensures.0 ∙ f.0, c.before.before.vacate_block.ensures.1 ∙ f.1)
-
-pub pass-block-spec : {M : Type 1} → statement M
-pass-block-spec =
-    tie.close (tie.spec (λ c. search rules) returns returns-2 returns-3 (λ c κs. search rules) (λ c. search rules) returns-4)
+pub returns : goal.returns
+returns c =
+    let x = c in
+    let a = x.args in
+    let f = by-freeing a.kind a.kept a.block a.heap.now x.if-block-eq0.false x.if-block-eq-QUARANTINED.false x.if-kept.false in
+    record {
+      leaves = c.vacate_block.ensures.leaves ∙ f.0;
+      ends = c.vacate_block.ensures.ends ∙ f.1;
+    }

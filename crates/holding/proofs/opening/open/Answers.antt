@@ -1,0 +1,27 @@
+-- `holding::open` meets its contract: a length that is not allowed is refused, and else the cleared bytes are the definition's one block.
+use mathlib.Core.Path.{sym, ◌∙◌}
+use borrow.Author.Tests.{not-true, not-false}
+use Rattle.holding.proofs.Cleared.{open_refused, open_accepted}
+use Rattle.holding.proofs.opening.open.Goals as goal
+
+pub returns-then-not-is_allowed : goal.returns-then-not-is_allowed
+returns-then-not-is_allowed c =
+    let k = c.is_allowed in
+    let a = c.args in
+    let w = c.clear.ensures in
+    record {
+      holds = open_refused a.settings a.heap.now a.grants _ w.holds (sym k.ensures ∙ not-true k.result c.if-not-is_allowed.true-raw);
+      pads = w.pads;
+    }
+
+pub returns : goal.returns
+returns c =
+    let k = c.is_allowed in
+    let w = c.clear-2 in
+    let a = c.args in
+    let o = c.«open».ensures in
+    record {
+      holds = open_accepted a.settings a.heap.now a.grants _ w.new.heap o.0 w.ensures
+          (sym k.ensures ∙ not-false k.result c.if-not-is_allowed.false-raw);
+      pads = o.1;
+    }
