@@ -467,6 +467,7 @@ def turn(path, module, entry, parameters, crate, said):
         text = it.read()
     # an array of a parameter has its length as it stands
     text = re.sub(rf"simp length-map at ({NAME}(?:\.{NAME})+)", r"\1", text)
+    text = re.sub(r"\.«(\w+)»", r".\1", text)
     parts = chunks(text)
     if "Tie as tie" not in text:
         said.append(f"left: {path}: no tie")

@@ -19,9 +19,9 @@ returns c =
     let k = c.is_allowed in
     let w = c.clear-2 in
     let a = c.args in
-    let o = c.«open».ensures in
+    let o = c.open.ensures in
     record {
-      holds = open_accepted a.settings a.heap.now a.grants _ w.new.heap o.0 w.ensures
+      holds = open_accepted a.settings a.heap.now a.grants _ w.new.heap o.holds w.ensures
           (sym k.ensures ∙ not-false k.result c.if-not-is_allowed.false-raw);
-      pads = o.1;
+      pads = o.pads;
     }
