@@ -138,6 +138,18 @@ def left_in(crate, callee, fields):
     return [name] + fields[n + 1 :]
 
 
+def clause_at(of, fields):
+    """The fields below several clauses that were pairs: a clause's name in place of its numbers."""
+    n = 0
+    while n < len(fields) and fields[n] == "1" and n < len(of) - 1:
+        n += 1
+    if n == len(of) - 1:
+        return [of[n]] + fields[n:]
+    if n < len(fields) and fields[n] == "0":
+        return [of[n]] + fields[n + 1 :]
+    return fields
+
+
 def clauses(crate, callee, kind="ensures"):
     """The names of a function's clauses, where it has several."""
     return re.findall(rf"(?m)^ *{kind} (\w+) \{{", signature(crate, callee))
@@ -189,20 +201,24 @@ def by_clause(rest, clauses):
     if term.startswith("record {"):
         return rest
     parts = split_tuple(term)
+    while 1 < len(parts) < len(clauses) and len(split_tuple(parts[-1])) > 1:
+        parts = parts[:-1] + split_tuple(parts[-1])
     if len(parts) == len(clauses):
         each = parts
         intro = ""
     elif term.startswith("rw ") and len(arguments(term)) == 3:
         _, by, inner = arguments(term)
         inner = inner if inner.startswith("(") else inner
-        each = [f"rw {by} {inner}.{i}" for i in range(len(clauses))]
+        last = len(clauses) - 1
+        each = [f"rw {by} {inner}{'.1' * i}{'.0' if i < last else ''}" for i in range(len(clauses))]
         intro = ""
     elif re.fullmatch(rf"{NAME}(\.{NAME})*\.ensures", term):
         each = [f"{term}.{name}" for name in clauses]
         intro = ""
     else:
         intro = f"let both = {term} in "
-        each = [f"both.{i}" for i in range(len(clauses))]
+        last = len(clauses) - 1
+        each = [f"both{'.1' * i}{'.0' if i < last else ''}" for i in range(len(clauses))]
     lines = "".join(f"\n      {name} = {it};" for name, it in zip(clauses, each))
     return f"{head}{chr(10) + '    ' if head.strip() else ' '}{intro}record {{{lines}\n    }}"
 
@@ -257,7 +273,7 @@ class Walk:
                 if len(of) > 1 and len(fields) == 1:
                     return out + fields, ("clauses", of), True
                 if len(of) > 1 and re.fullmatch(r"\d+", fields[1]):
-                    return out + ["ensures", of[int(fields[1])]] + fields[2:], None, True
+                    return out + ["ensures"] + clause_at(of, fields[1:]), None, True
             if fields:
                 sub = self.places[found]["sub"]
                 first = self.word(found, fields[0])
@@ -357,7 +373,7 @@ class Turner:
             return ".".join([var] + left_in(self.w.crate, place[1], fields)), None
         if isinstance(place, tuple) and place[0] == "clauses":
             if re.fullmatch(r"\d+", fields[0]):
-                fields = [place[1][int(fields[0])]] + fields[1:]
+                fields = clause_at(place[1], fields)
             return ".".join([var] + fields), None
         if isinstance(place, tuple):
             at = self.w.places[place[1]]
@@ -368,7 +384,7 @@ class Turner:
             if len(of) > 1 and len(fields) == 1:
                 return ".".join([var] + fields), ("clauses", of)
             if len(of) > 1 and re.fullmatch(r"\d+", fields[1]):
-                return ".".join([var, "ensures", of[int(fields[1])]] + fields[2:]), None
+                return ".".join([var, "ensures"] + clause_at(of, fields[1:])), None
             first = self.w.word(place[1], fields[0])
             return ".".join([var, at["sub"].get(first, first)] + fields[1:]), None
         new, end, known = self.w.walk(place, fields, self.now[1])

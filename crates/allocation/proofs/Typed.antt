@@ -23,7 +23,7 @@ use Rattle.allocation.specs.Ready.{Checked}
 use Rattle.allocation.proofs.Ready.{checked_serial}
 
 -- the grants of an array of quotas fit 32 bits
-pub grants_narrow : (qs : List Quota) (us : List Val) → shadow (each (Q.the_field).row.Denot (Q.the_field).row.own_val (map (Q.the_type).to qs) us)
+pub grants_narrow : (qs : List Quota) (us : List Val) → shadow (each (Q.the_row).Denot (Q.the_row).own_val qs us)
     → (i : ℕ) → (get_or qs i zero_quota).grant < 2 ^ 32
 grants_narrow [] us s i = omega arith
 grants_narrow (q ∷ qs) [] s i = absurd s
