@@ -5,8 +5,7 @@ use native.Mathlib.Nat.{le_of_lt, lt_of_le_of_lt, mul-le-mul_left, mul-lt-mul_of
 use lib.Pow.{pow_pos, pow-add}
 use Rattle.model.specs.Calls.{allocate_array}
 use borrow.Author.Rules.{rules}
-use Rattle.allocation.proofs.allocating.allocate_array.Statement.{statement}
-use Rattle.allocation.proofs.allocating.allocate_array.Tie as tie
+use Rattle.allocation.proofs.allocating.allocate_array.Goals as goal
 
 -- the product of two numbers of 32 bits fits 64
 product-fits : (a b : ℕ) → a < 2 ^ 32 → b < 2 ^ 32 → a * b < 2 ^ 64
@@ -14,13 +13,12 @@ product-fits a b ha hb =
     subst⁻¹ (λ (n : ℕ). a * b < n) (pow-add 2 32 32)
     (lt_of_le_of_lt (mul-le-mul_left a (le_of_lt hb)) (mul-lt-mul_of_pos_right ha (pow_pos 32)))
 
-mul-allocate-wide : tie.Need-overflow-mul-allocate-wide
-mul-allocate-wide c = record { fits = product-fits _ _ (search rules) (search rules) }
+pub overflow_mul-count : goal.overflow_mul-count
+overflow_mul-count c = record { fits = product-fits _ _ (search rules) (search rules) }
 
-returns : tie.Need-returns
+pub returns : goal.returns
 unfolding allocate_array
-returns c = c.before.before.allocate-wide.ensures
-
-pub allocate-array-spec : {M : Type 1} → statement M
-allocate-array-spec =
-    tie.close (tie.spec mul-allocate-wide (λ c κs. search rules) (λ c. search rules) returns)
+returns c = record {
+      holds = c.allocate_wide.ensures.holds;
+      pads = c.allocate_wide.ensures.pads;
+    }

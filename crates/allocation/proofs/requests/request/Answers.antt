@@ -1,0 +1,59 @@
+-- `allocation::request` meets its contract: a length that is not allowed asks for no room.
+use native.Mathlib.Omega.{arith}
+use mathlib.Core.Path.{◌≡◌, refl, ap}
+use Rattle.rounding.specs.Rounding.{table, object_length}
+use Rattle.rounding.proofs.Editions.{within_heap}
+use Rattle.survey.specs.declared.Wanted.{Wanted}
+use Rattle.survey.specs.Survey.{handle_of}
+use Rattle.allocation.proofs.Grants.{unit_is}
+use Rattle.allocation.proofs.requests.request.Goals as goal
+use Rattle.allocation.proofs.requests.request.Goals.{After-object_length-size}
+
+-- the length is rounded by the edition; this stands first, so that a wrong length is refused here
+sized : (c : After-object_length-size) →
+    let start = c in
+    let a = start.args in
+    c.object_length-size.result ≡ object_length (table a.edition) a.length
+sized c = c.object_length-size.ensures
+
+pub returns-then-length-eq0 : goal.returns-then-length-eq0
+returns-then-length-eq0 c =
+    let then1 = c in
+    record {
+      handle = ap (λ (x : Wanted). handle_of x) c.asked.ensures;
+      quota = ap (λ (x : Wanted). x.quota) c.asked.ensures;
+      rounded = λ z l. absurd (omega (arith, z, then1.if-length-eq0.true));
+    }
+
+pub returns-then-length-gt-LONGEST : goal.returns-then-length-gt-LONGEST
+returns-then-length-gt-LONGEST c =
+    let then2 = c in
+    record {
+      handle = ap (λ (x : Wanted). handle_of x) c.asked-then-length-gt-LONGEST.ensures;
+      quota = ap (λ (x : Wanted). x.quota) c.asked-then-length-gt-LONGEST.ensures;
+      rounded = λ z l. absurd (omega (arith, l, then2.if-length-gt-LONGEST.true));
+    }
+
+pub overflow_cast-size : goal.overflow_cast-size
+overflow_cast-size c =
+    let else2 = c in
+    let start = else2 in
+    let a = start.args in
+    omega (arith, sized c, within_heap a.edition a.length (omega (arith, else2.if-length-gt-LONGEST.false)))
+
+pub returns : goal.returns
+returns c =
+    let at-object-length = c in
+    let start = at-object-length in
+    let a = start.args in
+    let z = at-object-length.object_length-size in
+    record {
+      handle = refl;
+      quota = refl;
+      rounded = λ x l. record {
+        some = x;
+        short = l;
+        size = sized (goal.at.returns c).After-object_length-size;
+        unit = unit_is a.edition a.length z.result c.object_unit-unit.result l (sized (goal.at.returns c).After-object_length-size) c.object_unit-unit.ensures;
+      };
+    }
