@@ -5,9 +5,9 @@ use mathlib.Core.Logic.{⊎_elim}
 use mathlib.Core.Option.{none}
 use Prim.Native.Nat.{◌+◌, ◌≤◌}
 use native.Mathlib.Omega.{arith}
-use borrow.Author.Rules.{rules}
 use lib.ListN.{length}
 use types.Run.{OneOf}
+use borrow.Enum.Refused.{opened}
 use denote.Enum.Declared.{tag_of}
 use Rattle.rounding.specs.Rounding.{table}
 use Rattle.model.specs.declared.BlockAnswer.{BlockAnswer}
@@ -16,8 +16,8 @@ use Rattle.model.specs.contracts.BlockAnswer as S
 use Rattle.model.specs.Answers.{block_values}
 use Rattle.queries.specs.Listing.{Stepped}
 use Rattle.queries.proofs.Listed.{after_some, after_none}
-use Rattle.queries.proofs.by_value.walker.step_from.Statement.{statement}
-use Rattle.queries.proofs.by_value.walker.step_from.Tie as tie
+use Rattle.queries.proofs.by_value.walker.step_from.Goals as goal
+use Rattle.queries.proofs.by_value.walker.step_from.Goals.{After-struct_known-1}
 
 -- an answer that is not the first variant lists no block
 unlisted : (r : BlockAnswer) → OneOf (1 ∷ 2 ∷ []) (tag_of S.the_type r) → (block_values r).block ≡ none
@@ -26,29 +26,25 @@ unlisted (Listed b) h = ⊎_elim (λ e. absurd (omega arith)) (λ e. absurd (ome
 unlisted NoBlock h = refl
 unlisted (Refused x) h = refl
 
-returns : tie.Need-returns
-returns c =
-    let a = c.before.before.before.args in
-    let g = c.before.list_block in
-    after_none (table a.accounts.edition) a.heap.now a.accounts a.at g.result g.ensures (unlisted g.result c.match.keys2)
+pub returns-in_default : goal.returns-in_default
+returns-in_default c =
+    let a = c.args in
+    let g = c.list_block-answer in
+    after_none (table a.accounts.edition) a.heap.now a.accounts a.at g.result g.ensures (unlisted g.result (opened c.in_default.in_default-own.keys2))
 
 -- the block that was given
-given : (c : tie.After-struct-known)
-    → let a = c.before.before.before.before.before.before.args in
-    let b = c.before.before.answer.given.0.0 in
+given : (c : After-struct_known-1)
+    → let a = c.args in
+    let b = c.in-Listed.block in
     (b.offset + b.size ≤ length a.heap.now) × Stepped (table a.accounts.edition) a.heap.now a.accounts a.at (Listed b) (b.offset + b.size)
 given c =
-    let a = c.before.before.before.before.before.before.args in
-    let g = c.before.before.before.before.list_block in
-    after_some (table a.accounts.edition) a.heap.now a.accounts a.at g.result g.ensures c.before.before.answer.given.0.0
-    c.before.before.answer.given.1
+    let a = c.args in
+    let g = c.list_block-answer in
+    after_some (table a.accounts.edition) a.heap.now a.accounts a.at g.result g.ensures c.in-Listed.block
+    c.in-Listed.is
 
-add-t6 : tie.Need-overflow-add-t6
-add-t6 c = let l = (given c).0 in omega arith
+pub overflow_add-result : goal.overflow_add-result
+overflow_add-result c = let l = (given c).0 in omega arith
 
-returns-2 : tie.Need-returns-2
-returns-2 c = (given c).1
-
-pub step-from-spec : {M : Type 1} → statement M
-step-from-spec =
-    tie.close (tie.spec (λ c κs. search rules) (λ c. search rules) returns add-t6 returns-2)
+pub returns : goal.returns
+returns c = (given c).1

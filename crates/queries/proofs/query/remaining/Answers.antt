@@ -1,0 +1,49 @@
+-- `queries::remaining` meets its contract: the check decides first, then the quota's number, and else the accounts' remainder is the definition's.
+use Prim.Native.Nat.{ℕ}
+use mathlib.Core.Path.{ap, ◌∙◌}
+use mathlib.Core.List.{[], ◌∷◌}
+use Rattle.rounding.specs.Rounding.{table}
+use Rattle.words.specs.Words.{edition_of, accounts_of}
+use Rattle.model.specs.Answers.{amount_of, amount_values}
+use Rattle.model.specs.Refusals.{first_refusal, line_3, row_lines}
+use Rattle.model.specs.Calls.{unchanged, remaining_of}
+use Rattle.model.specs.declared.Refusal.TheVariants.{QuotaNumber}
+use Rattle.results.proofs.Lines.{check_refuses, check_accepts, refused_is, accepted_is, line_3_refuses, line_3_passes}
+use Rattle.queries.proofs.query.remaining.Goals as goal
+
+pub returns-in-Refused : goal.returns-in-Refused
+unfolding remaining_of amount_values row_lines
+returns-in-Refused c =
+    let a = c.args in
+    let s = a.heap.now in
+    let w = a.words.now in
+    let k = accounts_of w in
+    let u = table (edition_of w) in
+    let e = c.check in
+    let x = c in
+    refused_is _ s k _ x.in-Refused.refusal (check_refuses u s k e.result e.ensures (line_3 a.quota ∷ []) x.in-Refused.refusal x.in-Refused.is)
+
+pub returns-then-quota-ge-QUOTAS : goal.returns-then-quota-ge-QUOTAS
+unfolding remaining_of amount_values row_lines
+returns-then-quota-ge-QUOTAS c =
+    let a = c.args in
+    let s = a.heap.now in
+    let w = a.words.now in
+    let k = accounts_of w in
+    let u = table (edition_of w) in
+    let e = c.check in
+    let t = c.in_default.is in
+    refused_is _ s k _ QuotaNumber (check_accepts u s k e.result e.ensures (line_3 a.quota ∷ []) t ∙ line_3_refuses a.quota [] c.if-quota-ge-QUOTAS.true)
+
+pub returns : goal.returns
+unfolding remaining_of amount_values row_lines first_refusal
+returns c =
+    let a = c.args in
+    let s = a.heap.now in
+    let w = a.words.now in
+    let k = accounts_of w in
+    let u = table (edition_of w) in
+    let e = c.check in
+    let t = c.in_default.is in
+    ap (λ (x : ℕ). unchanged s k (amount_of x)) c.remaining.ensures
+    ∙ accepted_is _ s k _ (check_accepts u s k e.result e.ensures (line_3 a.quota ∷ []) t ∙ line_3_passes a.quota [] c.if-quota-ge-QUOTAS.false)
