@@ -32,8 +32,9 @@ def chunks(text):
                 pass
             comment.append(line)
             continue
-        if line and not line.startswith((" ", ")")):
-            head = re.match(rf"(?:(?:pub|abbrev|unfoldable|data|record|module) +)*({NAME})", line)[1]
+        named = re.match(rf"(?:(?:pub|abbrev|unfoldable|data|record|module) +)*({NAME})", line)
+        if named:
+            head = named[1]
             starts = bool(re.match(rf"(?:(?:pub|abbrev|unfoldable) +)*{NAME}(?: [({{].*?[)}}])* *:(?: |$)", line)) or line.startswith(("use ", "module ", "data ", "record ", "pub data", "pub record", "ruleset"))
             if starts or not out:
                 out.append({"head": head, "comment": comment, "lines": [line]})
