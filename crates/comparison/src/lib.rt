@@ -1,5 +1,6 @@
 // Two images side by side: what differs in the states that they say, one difference after the other. What an image says stands in `image_model`.
 #![tactic(auto)]
+
 use image_model::ImageRefusal;
 
 mod comparing;

@@ -1,6 +1,7 @@
 // Images of a stopped heap: written from a heap and its accounts, and read back. What an image is stands in `image_model`, how it is cut into frames
 // in `framing`.
 #![tactic(auto)]
+
 use accounts::Accounts;
 use image_model::{Form, ImageRefusal};
 
