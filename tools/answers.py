@@ -508,6 +508,19 @@ def turn(path, module, entry, parameters, crate, said):
     args = arguments(call[1]) if call else []
     decls = [it for it in decls if it is not spec[0]]
     loops, needs = entry["loops"], entry["needs"]
+    by_head = {it["head"]: it for it in decls}
+    if len(args) != 2 * len(loops) + len(needs):
+        # goals that came or went: those with an answer of their own go by name
+        named = {}
+        for arg in args[2 * len(loops) :]:
+            m = re.search(r"\btie\.Need-(\S+)", by_head[arg]["lines"][0]) if arg in by_head else None
+            if m:
+                named[plain(m[1])] = arg
+            elif not re.fullmatch(r"\(λ c( κs)?\. search rules\)", arg):
+                named[arg] = None
+        found = [named.pop(plain(was), "(λ c. search rules)") for was, _ in needs]
+        if not named:
+            args = args[: 2 * len(loops)] + found
     if len(args) != 2 * len(loops) + len(needs):
         said.append(f"left: {path}: {len(args)} arguments, {len(loops)} loops and {len(needs)} goals: {[n[0] for n in needs]} {args}")
         return None
