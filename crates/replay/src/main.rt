@@ -4,8 +4,12 @@ ghost use Rattle.std.specs.Prelude.{◌≡◌, length};
 ghost use Rattle.io.specs.Counts.{IsPrefixLen};
 ghost use Rattle.replay_model.specs.Replay.{OUTPUT as OutputLength};
 
-use libc::{STDIN_FILENO, STDOUT_FILENO};
 use replay_text::{OUTPUT, Replayed};
+
+// The numbers of standard input and output.
+const STDIN_FILENO: i32 = 0;
+
+const STDOUT_FILENO: i32 = 1;
 
 // One byte more than is read of an input, so that too long an input is seen to be too long.
 const INPUT: usize = 65537;
