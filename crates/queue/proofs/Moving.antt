@@ -14,18 +14,17 @@ use Rattle.rounding.specs.Rounding.{Units}
 use Rattle.lists.specs.Lists.{or_else}
 use Rattle.model.specs.Answers.{amount_of}
 use Rattle.model.specs.Objects.{blocks_of, objects, objects_of, lookup, found}
-use Rattle.model.specs.Consistent.{accounted, consistent, has_record}
+use Rattle.model.specs.Consistent.{consistent, has_record}
 use Rattle.model.specs.Holds.{count_of, lower_count}
 use Rattle.model.specs.Refusals.{first_refusal, claim_lines}
 use Rattle.model.specs.Calls.{Outcome, State, leaves, unless, unchanged, state_of, claimed, given_back, released, claim, release, can_release}
 use Rattle.model.specs.Step.{step}
 use Rattle.model.specs.declared.Handle.{Handle}
 use Rattle.model.specs.declared.Call.TheVariants.{Claim, CanRelease}
-use Rattle.lists.proofs.Bools.{and_right}
 use Rattle.model.proofs.Refusals.{call_accepted_exactly}
 use Rattle.model.proofs.Lookup.{lookup_named}
 use Rattle.model.proofs.Settle.{object_held}
-use Rattle.model.proofs.Frame.{Kept, claimed_keeps}
+use Rattle.model.proofs.Frame.{claimed_keeps}
 use Rattle.invariant.proofs.Good.{Ordered, Good}
 use Rattle.invariant.proofs.Heaps.{good_heap, good_ordered}
 use Rattle.invariant.proofs.Members.{keep_exactly}

@@ -1,6 +1,6 @@
 -- First in, first out: over any list of sends and receives from an empty queue, what was accepted is what was given and then what waits.
 -- An accepted send puts its handle behind those that wait, an accepted receive takes the first of them away, and a refused call leaves the queue.
-use Prim.Native.Nat.{ℕ, zero, suc, ◌+◌, ◌-◌, ◌≤◌, ◌<◌}
+use Prim.Native.Nat.{ℕ, zero, suc, ◌-◌, ◌≤◌, ◌<◌}
 use native.Mathlib.Omega.{arith}
 use native.Mathlib.Numerals.{add-one}
 use mathlib.Core.Path.{◌≡◌, refl, ap, sym, ◌∙◌}

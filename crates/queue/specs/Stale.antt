@@ -1,5 +1,5 @@
 -- Sends with a handle that names nothing (rule 24.2).
-use Rattle.std.specs.Prelude.{ℕ, List, [], ◌∷◌, ◌++◌, true}
+use Rattle.std.specs.Prelude.{ℕ, [], ◌∷◌, ◌++◌, true}
 use Rattle.accounts.specs.declared.Accounts.{Accounts}
 use Rattle.model.specs.Refusals.{◌when◌, first_refusal}
 use Rattle.model.specs.declared.Handle.{Handle}

@@ -1,6 +1,7 @@
 // Packet queues over the heap's promises alone (rules, section 21): up to sixteen handles on their way from a sending quota to a receiving one, first in, first
 // out.
 #![tactic(auto)]
+
 ghost use Rattle.std.specs.Prelude.{◌≡◌, ◌<◌};
 ghost use Rattle.rounding.specs.Rounding.{table};
 ghost use Rattle.queue.specs.Queue.{PLACES, empty_queue, with_handle, without_oldest, send as send_of, receive as receive_of};
