@@ -1,0 +1,12 @@
+-- The numbers are those of the call's answer, over the heap and the words that it leaves.
+use mathlib.Core.Path.{ap, ◌∙◌}
+use Rattle.exports.specs.HeapReplies.{left}
+use Rattle.exports.proofs.heaps.lokhazim_raw_free_all.Goals as goal
+
+pub returns : goal.returns
+returns c =
+    let o = c.free_all in
+    record {
+      holds = ap (left o.new.heap o.new.words) c.reply_of_amount.ensures ∙ o.ensures.holds;
+      pads = o.ensures.pads;
+    }

@@ -1,0 +1,16 @@
+-- 0 and the handle, or the number of the refusal and a handle of zeros.
+use mathlib.Core.Path.{ap, sym, ◌∙◌}
+use Rattle.model.specs.Answers.{refused, handle_values}
+use Rattle.exports.specs.HeapReplies.{handle_numbers}
+use Rattle.exports.proofs.replies.reply_of_handle.Goals as goal
+
+pub returns-in-Given : goal.returns-in-Given
+unfolding handle_values
+returns-in-Given c = sym (ap handle_values c.in-Given.is)
+
+pub returns-in-Refused : goal.returns-in-Refused
+unfolding handle_values
+returns-in-Refused c =
+    let n = c in
+    ap handle_numbers c.no_handle.ensures ∙ ap refused n.number.ensures
+    ∙ sym (ap handle_values n.in-Refused.is)
