@@ -1,5 +1,6 @@
 // The accounts of a shared heap: quotas, the last serial and hold records, taken by value and given back by value (rules, section 3).
 #![tactic(auto)]
+
 ghost use Rattle.std.specs.Prelude.{◌<◌, ◌≡◌};
 ghost use Rattle.accounts.specs.Accounts.{zero_hold, zero_accounts, begun, charged, refunded, used, dropped, opened};
 ghost use Rattle.accounts.specs.Accounts.{remaining, spent, charge, refund};

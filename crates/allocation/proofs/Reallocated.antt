@@ -19,7 +19,7 @@ use Rattle.lists.specs.Lists.{all, or_else, change_first}
 use Rattle.model.specs.Holds.{take_record}
 use Rattle.model.specs.Objects.{blocks_of, objects, objects_of, lookup, lookup_whole, found}
 use mathlib.Core.Logic.{⊎_elim}
-use Rattle.model.specs.Consistent.{allowed, has_record, in_units, consistent as is_consistent}
+use Rattle.model.specs.Consistent.{has_record, in_units, consistent as is_consistent}
 use Rattle.lists.proofs.Lists.{member_all}
 use Rattle.model.specs.Refusals.{Line, first_refusal, line_5, line_6, release_lines, allocate_lines, reallocate_lines, row_lines}
 use Rattle.model.specs.Calls.{Outcome, State, unless, leaves, state_of, allocated, copied, released, new_object, allocate, release, reallocate}

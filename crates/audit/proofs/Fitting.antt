@@ -3,8 +3,8 @@ use Prim.Native.Nat.{ℕ, ◌+◌, ◌*◌, ◌-◌, ◌/◌, ◌%◌, ◌≤◌
 use native.Mathlib.Nat.{div-add-mod', add-mul-mod_self_right}
 use native.Mathlib.Omega.{arith}
 use mathlib.Core.Path.{◌≡◌, refl, ap, sym, ◌∙◌}
-use mathlib.Core.Bool.{Bool, true, false, cond, ◌&&◌, ◌||◌, and_assoc}
-use mathlib.Core.List.{List, [], ◌∷◌}
+use mathlib.Core.Bool.{Bool, true, false, ◌&&◌, and_assoc}
+use mathlib.Core.List.{List, []}
 use mathlib.Core.Option.{Option, none, some}
 use borrow.Author.Tests.{le-leb, eq-eqb, ne_eqb}
 use lib.Dec.{eqb, leb}
@@ -13,7 +13,7 @@ use Rattle.accounts.specs.declared.Accounts.{Accounts}
 use Rattle.accounts.specs.Accounts.{permissions, permissible}
 use Rattle.layout.specs.Blocks.{Block, size, QUARANTINED, in_front, parse}
 use Rattle.lists.specs.Lists.{all, or_else}
-use Rattle.model.specs.Objects.{object, objects_from, objects, blocks_of, objects_of}
+use Rattle.model.specs.Objects.{objects_from, objects, blocks_of, objects_of}
 use Rattle.model.specs.Consistent.{fits_unit, in_units, in_kind, in_range, accounted_blocks, accounted_parsed, accounted, consistent}
 use Rattle.lists.proofs.Bools.{and_no, by_eq}
 use Rattle.audit.specs.Fitting.{fits_block, fitting}

@@ -1,15 +1,15 @@
 -- The key of a well-formed record tells its serial and its quota: the quota is below QUOTAS, so the key divided by QUOTAS is the serial and the
 -- rest is the quota; an unused record is all zero, and so is its key.
-use Prim.Native.Nat.{ℕ, ◌+◌, ◌-◌, ◌*◌, ◌/◌, ◌%◌, ◌^◌, ◌<◌, ◌≤◌}
+use Prim.Native.Nat.{ℕ, ◌+◌, ◌*◌, ◌<◌, ◌≤◌}
 use mathlib.Core.Path.{◌≡◌, refl}
 use mathlib.Core.Bool.{Bool, true, false, not, ◌&&◌, ◌||◌}
 use native.Mathlib.Omega.{arith}
-use borrow.Author.Tests.{eq-eqb, ne_eqb, eqb-true, le-leb, lt-leb, lt-ltb, ltb-true, leb-true, not-false}
+use borrow.Author.Tests.{eq-eqb, ne_eqb, eqb-true, le-leb, lt-leb, ltb-true, leb-true, not-false}
 use lib.Dec.{eqb, leb, ltb}
 use Rattle.accounts.specs.declared.Hold.{Hold}
 use Rattle.accounts.specs.Accounts.{QUOTAS, used}
 use Rattle.model.specs.Consistent.{is_of}
-use Rattle.lists.proofs.Bools.{and_left, and_right, implies, by_test, same_test}
+use Rattle.lists.proofs.Bools.{and_left, and_right, implies, by_test}
 use Rattle.audit.specs.Keys.{well_formed, key_of, serial_of, quota_of, for_serial}
 
 -- what is left to test of a record without a serial, and of one with a serial

@@ -1,16 +1,16 @@
 -- Striking and paying, key by key: what one key does, what is leapt over, and what striking leaves.
 use Prim.Native.Nat.{ℕ, zero, suc, ◌+◌, ◌<◌, ◌≤◌}
-use mathlib.Core.Path.{◌≡◌, refl, ap, sym, subst, ◌∙◌}
+use mathlib.Core.Path.{◌≡◌, refl, ap, sym, ◌∙◌}
 use mathlib.Core.Bool.{Bool, true, false, not, cond}
 use mathlib.Core.List.{List, [], ◌∷◌}
 use mathlib.Core.Option.{Option, none, some}
 use native.Mathlib.Omega.{arith}
 use borrow.Author.Tests.{eq-eqb, ne_eqb, eqb-true, lt-ltb, le-ltb, ltb-false, not-false}
 use lib.Dec.{eqb, ltb}
-use lib.ListN.{length, get_or, drop, set, drop_of_length-le, length-map}
+use lib.ListN.{length, get_or, drop, set, drop_of_length-le}
 use lib.Seq.{drop-cons}
 use Rattle.lists.proofs.Bools.{or_right, or_neither}
-use Rattle.audit.specs.Keys.{serial_of, quota_of, for_serial, strike, struck, Payment, cannot_pay, pays, pay_one, pay}
+use Rattle.audit.specs.Keys.{quota_of, for_serial, strike, struck, Payment, cannot_pay, pays, pay_one, pay}
 
 -- a serial that is not 0 is no key 0's
 pub zero_not : (s : ℕ) → (s ≡ 0 → ⊥) → for_serial s 0 ≡ false

@@ -5,6 +5,7 @@ use mathlib.Core.List.{List, Permᴰ}
 use Rattle.lists.specs.Lists.{total}
 use Rattle.cleanup.specs.Releases.{Answered}
 use Rattle.cleanup.specs.FreeAll.{sum_of}
+use Rattle.cleanup.proofs.Rows
 
 pub permuted_sum : {xs ys : List Answered} → Permᴰ xs ys → sum_of xs ≡ sum_of ys
 unfolding sum_of total

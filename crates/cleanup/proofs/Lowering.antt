@@ -17,6 +17,8 @@ use Rattle.model.specs.Holds.{with_count, less_one, lower_count}
 use Rattle.lists.proofs.Bools.{and_both, or_cases, or_left, or_right, fails}
 use Rattle.model.proofs.Consistent.{is_of_exactly, is_for_exactly}
 use Rattle.invariant.proofs.Counts.{counted_used}
+use Rattle.cleanup.proofs.Rows
+use Rattle.cleanup.proofs.Wrong
 
 module _ {A : Type 0} (p : A → Bool) (f : A → A) where
   -- what passes a test after a change passed it before, if what the change makes does so only where its old one did

@@ -1,6 +1,7 @@
 // The calls that change what quotas hold or may do, or what waits in quarantine, and make no object, over the accounts where they lie: open, claim, free-all,
 // clear permissions and sweep. Each surveys heap and accounts for itself and answers, or gives one refusal and changes nothing.
 #![tactic(auto)]
+
 pub mod by_value;
 mod claiming;
 mod freeing;

@@ -1,7 +1,7 @@
 -- Allocating keeps a state good: a new object is carved out, its quota pays for it, and a record holds it once.
 -- The new serial is above every live one, so no record has it: no count for it was above 0. The new object alone pays more, and that is what
 -- the quota was charged.
-use Prim.Native.Nat.{ℕ, zero, suc, ◌+◌, ◌%◌, ◌≤◌, ◌<◌, ◌^◌}
+use Prim.Native.Nat.{ℕ, zero, suc, ◌+◌, ◌%◌, ◌≤◌, ◌<◌}
 use native.Mathlib.Omega.{arith}
 use mathlib.Core.Path.{◌≡◌, refl, ap, sym}
 use mathlib.Core.List.{List, Memᴰ}

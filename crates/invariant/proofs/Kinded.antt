@@ -1,6 +1,6 @@
 -- Quarantined blocks stand in heaps of the second kind only, and the last serial and the kind stay in range (rules 22.2, 22.4 and 22.9): no change of a state
 -- that a call makes breaks this.
-use Prim.Native.Nat.{ℕ, ◌<◌}
+use Prim.Native.Nat.{ℕ}
 use mathlib.Core.Path.{◌≡◌, refl, ◌∙◌}
 use mathlib.Core.Bool.{Bool, true, false, cond}
 use Rattle.accounts.specs.declared.Accounts.{Accounts}

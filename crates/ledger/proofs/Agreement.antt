@@ -19,6 +19,7 @@ use Rattle.invariant.proofs.Good.{Good}
 use Rattle.invariant.proofs.Kinded.{Kinded}
 use Rattle.ledger.specs.Ledger.{Entry, Span, Ledger, holds_of, spans_from, quarantined_of}
 use Rattle.ledger.specs.Demand3.{objects_in, spans_differ}
+use Rattle.ledger.proofs.Rows
 
 -- a ledger matches objects and records: the same objects, none twice, and each quota's holds are the count of its record
 pub record Matches (l : Ledger) (os : List Handle) (hs : List Hold) : Type 0 where

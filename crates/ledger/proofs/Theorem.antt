@@ -41,6 +41,7 @@ use Rattle.ledger.proofs.Fields.{balanced_of, answered_of}
 use Rattle.ledger.proofs.Space.{space_decided}
 use Rattle.ledger.proofs.Lasting.{step_lasts}
 use Rattle.ledger.proofs.Fitted.{Fitted, restored_fits, beginning_fits, step_fits, consistent_of}
+use Rattle.ledger.proofs.Wrong
 
 -- no two objects of the ledger, at two places, share a byte: their serials differ, and each is the object of a live block
 apart_places : (l : Ledger) (s : List ℕ) (k : Accounts) → Agrees l s k → (i j : ℕ) → i < j → j < length (objects_in l)

@@ -2,20 +2,14 @@
 -- that has room. Each is by the definition's test.
 use mathlib.Core.Path.{◌≡◌, refl}
 use mathlib.Core.List.{List}
-use mathlib.Core.Bool.{Bool, true, false, not, cond}
-use Prim.Native.Nat.{ℕ, ◌+◌, ◌≤◌, ◌<◌}
+use mathlib.Core.Bool.{Bool, true, false, cond}
+use Prim.Native.Nat.{ℕ, ◌<◌}
 use native.Mathlib.Omega.{arith}
-use lib.Dec.{eqb}
-use borrow.Author.Tests.{eq-eqb, ne_eqb, le-leb, lt-leb}
+use borrow.Author.Tests.{eq-eqb, ne_eqb}
 use Rattle.lists.specs.Lists.{first}
-use Rattle.lists.proofs.Bools.{and_no}
 use Rattle.lookup.specs.declared.Met.{Met}
-use Rattle.lookup.specs.declared.Lookup.{Lookup}
-use Rattle.lookup.specs.declared.Lookup.TheVariants.{Found, Missing}
 use Rattle.lookup.specs.declared.Fit.TheVariants.{At, Nowhere}
-use Rattle.lookup.specs.Walk.{met_at, met, occupied_met, has_room, base_in, fit_in, fit_met, fitted, find_fit}
-use Rattle.lookup.proofs.Walk.{Searching, search_ended}
-use Rattle.lookup.proofs.Multiple.{multiple_behind}
+use Rattle.lookup.specs.Walk.{met, has_room, base_in, fit_in, fitted, find_fit}
 
 module _ (a n : ℕ) where
   -- a block that fits has room, and the base is its lowest

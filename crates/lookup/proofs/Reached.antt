@@ -1,18 +1,17 @@
 -- The search for the block whose object a handle names: blocks that end at or before the handle's base are passed, the last one that starts a header or more
 -- in front of the base is compared, and no block behind that is named.
-use mathlib.Core.Path.{◌≡◌, refl, ap, sym, ◌∙◌}
-use mathlib.Core.List.{List, [], ◌∷◌}
-use mathlib.Core.Logic.{◌≢◌, ◌⊎◌, inl, inr, ⊎_elim}
-use mathlib.Core.Bool.{Bool, true, false, cond, false≢true}
+use mathlib.Core.Path.{◌≡◌, refl, ap, ◌∙◌}
+use mathlib.Core.List.{List}
+use mathlib.Core.Logic.{◌⊎◌, inl, ⊎_elim}
+use mathlib.Core.Bool.{Bool, true, false, cond}
 use mathlib.Core.Option.{Option, none, some}
 use Prim.Native.Nat.{ℕ, ◌+◌, ◌*◌, ◌-◌, ◌≤◌, ◌<◌}
 use native.Mathlib.Omega.{arith}
 use lib.ListN.{length}
-use borrow.Author.Tests.{eq-eqb}
 use Rattle.lists.specs.Lists.{first}
 use Rattle.model.specs.Objects.{names, whole}
 use Rattle.model.specs.declared.Handle.{Handle}
-use Rattle.lists.proofs.Bools.{and_left, and_right, fails}
+use Rattle.lists.proofs.Bools.{and_right, fails}
 use Rattle.model.proofs.Lookup.{Narrowed, names_exactly, whole_exactly}
 use Rattle.layout.specs.Bytes.{read_number}
 use Rattle.lists.proofs.Lists.{first_some}

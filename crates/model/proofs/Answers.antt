@@ -7,7 +7,7 @@ use mathlib.Core.Path.{◌≡◌, refl, ap, sym, ◌∙◌}
 use Prim.Native.Nat.{ℕ, zero, suc, ◌≤◌}
 use native.Mathlib.Omega.{arith}
 use mathlib.Core.List.{List, [], ◌∷◌, map}
-use mathlib.Core.Bool.{Bool, true, false, cond}
+use mathlib.Core.Bool.{Bool, true, false}
 use mathlib.Core.Option.{Option, none, some}
 use lib.Dec.{eqb}
 use borrow.Author.Tests.{ne_eqb, eqb-true}
@@ -20,8 +20,7 @@ use Rattle.model.specs.Calls.{allocate, allocate_array, claim, release, free_all
 use Rattle.model.specs.Step.{Answered, step, performed}
 use Rattle.model.specs.Answers.{Values, refusal_number, zero_handle, zero_range, refused, accepted, listed, amount_of}
 use Rattle.model.specs.Answers.{verdict_values, handle_values, amount_values, range_values, block_values, answer_values}
-use Rattle.model.specs.Answers.{refusals, refusal_at, answer_from, verdict_from, handle_from, amount_from, range_from, listed_from, block_from, answer_of}
-use Rattle.model.proofs.Rows
+use Rattle.model.specs.Answers.{refusals, refusal_at, answer_from, verdict_from, handle_from, amount_from, range_from, block_from, answer_of}
 use Rattle.lists.proofs.Bools.{and_left, and_right}
 use Rattle.model.specs.Rows.{call_lines}
 use Rattle.model.proofs.Refusals.{tables}

@@ -16,7 +16,7 @@ use Rattle.accounts.specs.declared.Hold.{Hold}
 use Rattle.accounts.specs.declared.Accounts.{Accounts}
 use Rattle.accounts.specs.Accounts.{QUOTAS, zero_quota, zero_hold, used, is_for, permissible, permissions}
 use Rattle.layout.specs.Bytes.{Octets}
-use Rattle.layout.specs.Blocks.{Block, size, QUARANTINED, live, occupied, render, parse, AllWritable}
+use Rattle.layout.specs.Blocks.{Block, size, QUARANTINED, occupied, render, parse, AllWritable}
 use Rattle.layout.proofs.Parse.{parse_is}
 use Rattle.lists.specs.Lists.{all, any, or_else}
 use Rattle.model.specs.Answers.{zero_handle}
@@ -25,7 +25,6 @@ use Rattle.model.specs.Consistent.{long_enough, starts_free, free_apart, well_cu
 use Rattle.model.specs.Consistent.{records_differ, is_of, held, charges, balanced_from, accounted_blocks, accounted_parsed, accounted, consistent}
 use Rattle.model.specs.Consistent.{in_units, in_kind, in_range, greatest_serial}
 use Rattle.model.specs.declared.Handle.{Handle}
-use Rattle.model.proofs.Rows
 use Rattle.lists.proofs.Bools.{and_left, and_right, and_both, or_cases, or_left, or_right, implies, implied, fails}
 use Rattle.lists.proofs.Lists.{all_member, member_all, none_member, all_exactly, any_exactly, any_and, unrelated, unrelated_places, places_unrelated}
 

@@ -1,11 +1,10 @@
 -- Section 5 of the rules as one law: line 2 passes a state exactly if each sentence of the section holds of it. What the
 -- test of rules 5.1 to 5.8 says is `Accounted`; the rest of the section is said here, of objects, quotas, blocks and
 -- the numbers of the accounts.
-use mathlib.Core.Path.{◌≡◌, refl, ap, sym, subst, ◌∙◌}
+use mathlib.Core.Path.{◌≡◌, refl, sym, subst, ◌∙◌}
 use Prim.Native.Nat.{ℕ, ◌%◌, ◌≤◌, ◌<◌}
 use mathlib.Core.List.{List, [], ◌∷◌, map, Memᴰ}
-use mathlib.Core.Bool.{Bool, true, ◌&&◌}
-use mathlib.Core.Option.{some}
+use mathlib.Core.Bool.{true}
 use mathlib.Core.Logic.{◌↔◌}
 use lib.Dec.{leb, ltb, eqb}
 use borrow.Author.Tests.{leb-true, le-leb, ltb-true, lt-ltb, eqb-true, eq-eqb}
@@ -13,13 +12,12 @@ use Rattle.accounts.specs.declared.Quota.{Quota}
 use Rattle.accounts.specs.declared.Accounts.{Accounts}
 use Rattle.accounts.specs.Accounts.{permissible, permissions}
 use Rattle.layout.specs.Bytes.{Octets}
-use Rattle.layout.specs.Blocks.{Block, quarantined, parse}
+use Rattle.layout.specs.Blocks.{Block, quarantined}
 use Rattle.layout.proofs.Parse.{parse_is}
 use Rattle.lists.specs.Lists.{all}
 use Rattle.model.specs.Objects.{objects, objects_of, blocks_of}
 use Rattle.model.specs.Consistent.{in_units, in_kind, in_range, greatest_serial, accounted, consistent}
 use Rattle.model.specs.declared.Handle.{Handle}
-use Rattle.model.proofs.Rows
 use Rattle.lists.proofs.Bools.{and_left, and_right, and_both, implies, implied}
 use Rattle.lists.proofs.Lists.{all_exactly}
 use Rattle.model.proofs.Consistent.{Accounted, accounted_is, blocks_parsed}

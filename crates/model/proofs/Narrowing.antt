@@ -1,6 +1,6 @@
 -- A handle that was made narrower (rules 4.7 and 4.8): it names the object that the wider one names, and claim, release and can release do through it what they
 -- do through the whole handle. Lines and changes of these calls read the handle through the lookup alone.
-use mathlib.Core.Path.{◌≡◌, refl, sym, ◌∙◌}
+use mathlib.Core.Path.{◌≡◌, sym, ◌∙◌}
 use Prim.Native.Nat.{ℕ}
 use native.Mathlib.Omega.{arith}
 use mathlib.Core.List.{List, Memᴰ}

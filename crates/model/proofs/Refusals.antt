@@ -3,7 +3,7 @@
 -- The search is by induction on the lines. Every call is `unless` over its lines, with an outcome that answers no refusal where none is due,
 -- so that what is shown of `unless` once holds of every call.
 use mathlib.Core.Path.{◌≡◌, refl, ap, sym, ◌∙◌}
-use Prim.Native.Nat.{ℕ, zero, suc, ◌*◌}
+use Prim.Native.Nat.{ℕ, zero, suc}
 use native.Mathlib.Omega.{arith}
 use mathlib.Core.List.{List, [], ◌∷◌, ◌++◌, map}
 use mathlib.Core.Bool.{true, false, true≢false}
@@ -29,7 +29,6 @@ use Rattle.model.specs.declared.Call.{Call}
 use Rattle.model.specs.declared.Call.TheVariants.{Allocate, AllocateArray, Claim, Release, FreeAll, Reallocate, Lend, Remaining, CanRelease}
 use Rattle.model.specs.declared.Call.TheVariants.{ListBlock}
 use Rattle.model.specs.declared.Call.TheVariants.{ClearPermissions, Sweep}
-use Rattle.model.proofs.Rows
 use Rattle.lists.proofs.Bools.{and_left, and_right}
 
 -- no line has the number 0, which stands for no refusal

@@ -5,7 +5,7 @@ use mathlib.Core.Path.{◌≡◌, refl, ap, sym, ◌∙◌}
 use Prim.Native.Nat.{ℕ, ◌+◌, ◌≤◌, ◌<◌, ◌^◌}
 use native.Mathlib.Omega.{arith}
 use mathlib.Core.List.{List, [], ◌∷◌, ◌++◌, map}
-use mathlib.Core.Bool.{Bool, true, false, not, cond, ◌&&◌, ◌||◌, true≢false, false≢true}
+use mathlib.Core.Bool.{Bool, true, false, not, cond, ◌&&◌, true≢false, false≢true}
 use lib.ListN.{length-replicate}
 use lib.Dec.{leb, eqb, lit<}
 use Rattle.accounts.specs.declared.Hold.{Hold}
@@ -17,7 +17,6 @@ use Rattle.model.specs.Consistent.{long_enough, free_apart, well_cut, held}
 use Rattle.model.specs.Space.{join_front, join_free, vacates, vacant, vacate, stays, changed, reclaim, settle}
 use Rattle.model.specs.Joining.{join_neighbours}
 use Rattle.model.specs.declared.Handle.{Handle}
-use Rattle.model.proofs.Rows
 use Rattle.lists.proofs.Bools.{and_left, and_right, and_both, or_left, or_right, or_neither, implies}
 use Rattle.lists.proofs.Lists.{total_append}
 use Rattle.model.proofs.Blocks.{whole_size, Whole, objects_live, objects_free, live_occupied}

@@ -3,7 +3,7 @@
 use mathlib.Core.Path.{◌≡◌, refl, ap, sym, ◌∙◌}
 use Prim.Native.Nat.{ℕ, ◌+◌, ◌≤◌}
 use mathlib.Core.List.{List, [], ◌∷◌, ◌++◌}
-use mathlib.Core.Bool.{Bool, true, false, not, cond, and-false, true≢false}
+use mathlib.Core.Bool.{Bool, true, false, cond, and-false, true≢false}
 use lib.Dec.{lit<}
 use borrow.Author.Tests.{eqb-true, not-true}
 use Rattle.layout.specs.Blocks.{Block, size, occupied, QUARANTINED, quarantined, live, AllWritable, render}
@@ -13,7 +13,6 @@ use Rattle.model.specs.Consistent.{long_enough, free_apart, well_cut}
 use Rattle.model.specs.Space.{join_front, join_free, changed, reclaim, unquarantine, not_quarantined, swept}
 use Rattle.model.specs.Joining.{join_neighbours}
 use Rattle.model.proofs.Touched.{sweep_touches}
-use Rattle.model.proofs.Rows
 use Rattle.lists.proofs.Bools.{and_left, and_right, and_both}
 use Rattle.lists.proofs.Lists.{total_append}
 use Rattle.model.proofs.Blocks.{whole_size, Whole, objects_free}

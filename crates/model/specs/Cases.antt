@@ -7,7 +7,6 @@ use Rattle.model.specs.Answers.{Values, refused, accepted, given, amount_of, len
 use Rattle.model.specs.Calls.{Outcome, open_heap}
 use Rattle.model.specs.Marked.{handle}
 use Rattle.model.specs.Tables.{Case, case, run, head, zeros, parts, quota_with, quota, hold, places, accounts_of, state, written}
-use Rattle.model.specs.declared.Call.{Call}
 use Rattle.model.specs.declared.Call.TheVariants.{Allocate, AllocateArray, Claim, Release, FreeAll, Reallocate, Lend, Remaining, CanRelease}
 use Rattle.model.specs.declared.Call.TheVariants.{ListBlock}
 use Rattle.model.specs.declared.Call.TheVariants.{ClearPermissions}

@@ -1,6 +1,7 @@
 // The calls of the shared heap and their answers, as types, and which lengths a heap may have. The definitions in specs/ say what each call does; no code of a
 // call is here.
 #![tactic(auto)]
+
 ghost use Rattle.std.specs.Prelude.{◌≡◌};
 ghost use Rattle.model.specs.Answers.{refusal_number};
 ghost use Rattle.model.specs.Consistent.{allowed};

@@ -30,6 +30,7 @@ use Rattle.replay_model.specs.Replay.{run_input, replay}
 use Rattle.replay_model.specs.Events.{Reached, Granted}
 use Rattle.replay_model.specs.declared.Word.{Word}
 use Rattle.replay_model.specs.declared.Word.TheVariants.{Open, Alloc, Array, Claim, Free, All, Realloc, Unknown}
+use Rattle.replay_model.proofs.Rows
 use Rattle.replay_model.proofs.Decimals.{decimal_most}
 use Rattle.replay_model.proofs.Names.{same_lengths}
 use Rattle.replay_model.proofs.Reaching.{reached_length, reached_next}

@@ -1,5 +1,6 @@
 // What calls with the accounts by value give, and the laws on lines of refusals and on lookups that all calls share.
 #![tactic(auto)]
+
 ghost use Rattle.std.specs.Prelude.{◌≡◌};
 
 use accounts::Accounts;

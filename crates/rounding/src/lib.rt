@@ -1,6 +1,7 @@
 // Rounding of requested lengths (rules, sections 6 and 23): the unit of a request, the object's length, and the unit of that length, by which the object is
 // aligned. The edition of the table is a number, 0 for edition 1; every other one is taken for edition 2.
 #![tactic(auto)]
+
 ghost use Rattle.std.specs.Prelude.{◌≡◌, ◌≤◌};
 ghost use Rattle.rounding.specs.Rounding.{unit as unit_1, unit_2, table, object_length, leading_zeros, power as power_of, by_zeros};
 

@@ -9,6 +9,7 @@ use Rattle.model.specs.Refusals.{line_holds, first_refusal}
 use Rattle.model.specs.declared.Call.{Call}
 use Rattle.model.specs.Rows.{call_lines}
 use Rattle.model.proofs.Refusals.{accepted_exactly, by_lines}
+use Rattle.safety.proofs.Wrong
 
 pub none_holds : (unit : ℕ → ℕ) (c : Call) (s : List ℕ) (k : Accounts) → first_refusal (call_lines unit c s k) ≡ 0
     → any line_holds (call_lines unit c s k) ≡ false

@@ -21,6 +21,7 @@ use Rattle.model.proofs.Join.{joined, join_elim}
 use Rattle.model.proofs.Settle.{vacate_unheld, vacated_all}
 use Rattle.model.proofs.Sweep.{quarantined_dead}
 use Rattle.safety.specs.Left.{clean_block, is_zero}
+use Rattle.safety.proofs.Wrong
 
 -- lists of zeros
 pub zeros_are : (xs : List ℕ) → all is_zero xs ≡ true → xs ≡ replicate (length xs) 0

@@ -32,6 +32,7 @@ use Rattle.invariant.proofs.Good.{proper, Ordered}
 use Rattle.invariant.proofs.Counts.{record_counted}
 use Rattle.ledger.specs.History.{by_own}
 use Rattle.safety.specs.Isolated.{MadeFor, Alike, Isolated}
+use Rattle.safety.proofs.Wrong
 
 -- the records of a consistent state are in order
 pub accounted_ordered : (s : List ℕ) (k : Accounts) → accounted s k ≡ true → Ordered k.holds

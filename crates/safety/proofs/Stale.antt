@@ -38,6 +38,7 @@ use Rattle.ledger.proofs.Lasting.{step_grown}
 use Rattle.ledger.proofs.Theorem.{history_agrees, demand_3_of}
 use Rattle.safety.specs.Arguments.{handle_of}
 use Rattle.safety.specs.Stale.{HasSerial, lines_before_5, stale_refusal, NamesNothing, StaleForever}
+use Rattle.safety.proofs.Wrong
 
 -- lines behind one that holds don't matter
 cut_off : (front back : List Line) → first_refusal (front ++ ((5 when true) ∷ back)) ≡ first_refusal (front ++ ((5 when true) ∷ []))

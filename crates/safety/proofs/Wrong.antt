@@ -34,6 +34,7 @@ use Rattle.safety.specs.Untouched.{Keeps, Untouched}
 use Rattle.safety.specs.Paid.{live_charges, paid_in, PaidFor}
 use Rattle.safety.specs.Wrong.{reuses_serials, leaves_the_bytes, keeps_eight, keeps_the_heap, asks_the_next}
 use Rattle.safety.specs.Wrong.{charges_the_next, frees_for_the_next, marks_the_heap, charges_nothing}
+use Rattle.safety.proofs.Rows
 
 -- quota 0 has 1000 bytes, quota 1 so many, and the others none
 grants_with : ℕ → List ℕ

@@ -1,5 +1,5 @@
 -- A block that a walk met or that a handle names is the one by the header at its place.
-use Rattle.std.proofs.Common.{◌≡◌, ℕ, ◌+◌, List, length, sym, refl, ap, ◌∙◌, arith, le-leb}
+use Rattle.std.proofs.Common.{◌≡◌, ℕ, ◌+◌, List, length, refl, ap, ◌∙◌, arith, le-leb}
 use mathlib.Core.Option.{Option, none, some}
 use Rattle.layout.specs.Blocks.{header_at, start_at}
 use Rattle.layout.specs.declared.Start.{Start}
@@ -8,7 +8,7 @@ use Rattle.layout.proofs.Starts.{start_found}
 use Rattle.lists.specs.Lists.{first}
 use Rattle.model.specs.declared.Handle.{Handle}
 use Rattle.lookup.specs.declared.Met.{Met}
-use Rattle.lookup.specs.declared.Lookup.TheVariants.{Found, Missing}
+use Rattle.lookup.specs.declared.Lookup.TheVariants.{Found}
 use Rattle.lookup.specs.Walk.{headed, met_start, met_at, met, holds_named, looked_up, find_object}
 use Rattle.lookup.proofs.Walk.{search_met}
 use Rattle.survey.specs.Survey.{block_at}

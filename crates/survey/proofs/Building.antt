@@ -1,14 +1,14 @@
 -- The index as it is built, from place 0 up: a record without a serial needs no place in it; a used one is alone in its slot, or hung into the tree of the
 -- record
 -- that was there.
-use Rattle.std.proofs.Common.{◌≡◌, ℕ, suc, ◌+◌, ◌-◌, ◌*◌, ◌/◌, ◌%◌, ◌<◌, ◌≤◌, ◌⊎◌, List, length, get_or, set, replicate, sym, refl, ap, ◌∙◌, subst, inl, inr, ⊎_elim, arith, length-set, get_or-set_other, get_or-set_same}
+use Rattle.std.proofs.Common.{◌≡◌, ℕ, ◌+◌, ◌-◌, ◌%◌, ◌<◌, ◌≤◌, List, length, get_or, set, replicate, sym, ap, ◌∙◌, subst, inl, inr, ⊎_elim, arith, length-set, get_or-set_other, get_or-set_same}
 use lib.ListN.{get_or-replicate, length-replicate}
 use Rattle.lists.proofs.Bools.{by_eq}
 use Rattle.accounts.specs.Accounts.{HOLDS}
 use Rattle.words.specs.Words.{serial_in}
 use Rattle.survey.specs.Index.{SLOTS, LINKS, END, FORKED, slot, bits_of, fork, Leads, here, head_of, Head, Reached, Growing, Built}
 use Rattle.survey.specs.Clauses.{Hung}
-use Rattle.survey.proofs.Paths.{slot_small, fork_inside, fork_place, leads_kept}
+use Rattle.survey.proofs.Paths.{fork_inside, fork_place, leads_kept}
 
 pub built_none : (words : List ℕ) → Built words 0 (replicate SLOTS END) (replicate LINKS END)
 built_none words =

@@ -1,5 +1,5 @@
 -- Of how many elements a test holds, counted from the first one on.
-use Rattle.std.proofs.Common.{◌≡◌, ℕ, suc, ◌+◌, ◌<◌, ◌≤◌, Bool, true, false, List, [], ◌∷◌, length, get_or, drop, sym, refl, ap, ◌∙◌, add-one, arith, drop-cons}
+use Rattle.std.proofs.Common.{◌≡◌, ℕ, suc, ◌+◌, ◌<◌, ◌≤◌, Bool, true, false, List, length, get_or, drop, refl, add-one, arith, drop-cons}
 use lib.Seq.{drop-length}
 use Rattle.lists.specs.Lists.{total}
 use Rattle.survey.specs.Shares.{one_if, how_many}

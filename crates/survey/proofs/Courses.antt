@@ -1,6 +1,5 @@
 -- The walk in two parts: what is known between them and behind them.
-use Rattle.std.proofs.Common.{◌≡◌, ℕ, ◌+◌, ◌<◌, ◌≤◌, Bool, true, false, cond, ltb, ◌⊎◌, List, length, drop, sym, refl, ap, ◌∙◌, subst, inl, inr, true≢false, arith, ltb-false, ltb-true}
-use mathlib.Core.Bool.{false≢true}
+use Rattle.std.proofs.Common.{◌≡◌, ℕ, ◌+◌, ◌<◌, ◌≤◌, Bool, true, false, cond, ltb, ◌⊎◌, List, length, drop, refl, ◌∙◌, subst, inl, inr, true≢false, arith, ltb-false, ltb-true}
 use Rattle.lists.proofs.Bools.{by_test}
 use Rattle.layout.specs.Blocks.{cut}
 use Rattle.survey.specs.Index.{keys_left}

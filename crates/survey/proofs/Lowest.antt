@@ -1,10 +1,9 @@
 -- The lowest unused record, found from the first place up.
-use Rattle.std.proofs.Common.{◌≡◌, ℕ, suc, ◌+◌, ◌/◌, ◌%◌, ◌<◌, ◌≤◌, Bool, true, false, cond, not, ltb, List, length, get_or, sym, refl, ap, ◌∙◌, subst, arith, ltb-false, ltb-true, le-ltb, lt-ltb, eq-eqb, ne_eqb}
+use Rattle.std.proofs.Common.{◌≡◌, ℕ, ◌+◌, ◌<◌, ◌≤◌, Bool, true, false, cond, not, ltb, List, sym, refl, ap, ◌∙◌, subst, arith, ltb-false, ltb-true, le-ltb, lt-ltb, ne_eqb}
 use Rattle.lists.proofs.Bools.{by_test, by_eq}
 use Rattle.accounts.specs.declared.Hold.{Hold}
-use Rattle.accounts.specs.declared.Place.TheVariants.{At, Nothing}
-use Rattle.accounts.specs.Accounts.{HOLDS, zero_hold, used, unused, lowest_unused, first_from}
-use Rattle.accounts.proofs.Laws.{First, None, first_found, none_nothing}
+use Rattle.accounts.specs.Accounts.{HOLDS, used, unused, lowest_unused, first_from}
+use Rattle.accounts.proofs.Laws.{first_found, none_nothing}
 use Rattle.audit.specs.Keys.{well_formed}
 use Rattle.audit.proofs.Records.{no_serial}
 use Rattle.words.specs.Words.{hold_in, holds_of, accounts_of}

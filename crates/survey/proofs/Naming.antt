@@ -1,15 +1,13 @@
 -- The object that a handle names is that of the block before the edge, or of none.
-use Rattle.std.proofs.Common.{◌≡◌, ℕ, ◌+◌, ◌-◌, ◌*◌, ◌<◌, ◌≤◌, Bool, true, false, cond, eqb, ltb, leb, ◌⊎◌, List, length, sym, refl, ap, ◌∙◌, inl, inr, arith, ltb-false, ltb-true, eq-eqb, ne_eqb, le-leb, leb-false, leb-true}
+use Rattle.std.proofs.Common.{◌≡◌, ℕ, ◌+◌, ◌-◌, ◌*◌, ◌<◌, ◌≤◌, Bool, true, false, cond, eqb, ltb, leb, List, length, sym, ap, ◌∙◌, inl, inr, arith, ltb-false, ltb-true, eq-eqb, ne_eqb, le-leb, leb-false, leb-true}
 use mathlib.Core.Bool.{false≢true}
 use borrow.Author.Tests.{lt-leb}
 use Rattle.layout.specs.Blocks.{QUARANTINED, greatest_heap}
-use Rattle.layout.specs.declared.Header.{Header}
 use Rattle.model.specs.Objects.{names}
 use Rattle.model.specs.declared.Handle.{Handle}
 use Rattle.lists.proofs.Bools.{and_right, and_no, fails, by_test}
-use Rattle.model.proofs.Lookup.{Narrowed, names_exactly}
+use Rattle.model.proofs.Lookup.{names_exactly}
 use Rattle.lookup.specs.declared.Met.{Met}
-use Rattle.lookup.specs.declared.Lookup.{Lookup}
 use Rattle.lookup.specs.declared.Lookup.TheVariants.{Found, Missing}
 use Rattle.lookup.specs.Walk.{headed, met_at, live_met, object_met, holds_named, named_met, looked_up, find_object}
 use Rattle.lookup.proofs.Walk.{met_known, search_start, search_none}

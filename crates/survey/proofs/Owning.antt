@@ -1,7 +1,7 @@
 -- Whether a record is a quota's own, and whether another quota has one for the same object, by what is read of it.
-use Rattle.std.proofs.Common.{◌≡◌, ℕ, ◌<◌, Bool, true, false, eqb, List, length, sym, refl, ap, ◌∙◌, arith, eq-eqb, ne_eqb}
+use Rattle.std.proofs.Common.{◌≡◌, ℕ, ◌<◌, Bool, true, false, eqb, List, refl, ◌∙◌, arith, eq-eqb, ne_eqb}
 use Rattle.accounts.specs.declared.Hold.{Hold}
-use Rattle.accounts.specs.Accounts.{HOLDS, zero_hold, used}
+use Rattle.accounts.specs.Accounts.{HOLDS, zero_hold}
 use Rattle.lists.specs.Lists.{all, any}
 use Rattle.audit.specs.Keys.{well_formed}
 use Rattle.audit.proofs.Records.{no_serial}

@@ -1,16 +1,14 @@
 -- The pass over the records: on the way, those before place i are well-formed and in the index; behind `top` all are blank.
-use Rattle.std.proofs.Common.{◌≡◌, ℕ, suc, ◌+◌, ◌-◌, ◌*◌, ◌/◌, ◌%◌, ◌<◌, ◌≤◌, Bool, true, false, cond, ltb, ◌⊎◌, List, length, get_or, sym, refl, ap, ◌∙◌, subst, inl, inr, arith, ltb-false, ltb-true}
+use Rattle.std.proofs.Common.{◌≡◌, ℕ, suc, ◌+◌, ◌-◌, ◌<◌, ◌≤◌, true, cond, ltb, List, get_or, sym, refl, ap, ◌∙◌, subst, inl, inr, arith, ltb-false, ltb-true}
 use lib.ListN.{get_or-map}
 use Rattle.lists.proofs.Bools.{by_test, by_eq}
-use Rattle.accounts.specs.Accounts.{HOLDS, zero_hold, used}
-use Rattle.lists.specs.Lists.{all}
+use Rattle.accounts.specs.Accounts.{HOLDS, zero_hold}
 use Rattle.audit.specs.Keys.{well_formed, key_of, keys_of}
 use Rattle.audit.proofs.Tables.{all_places}
-use Rattle.audit.proofs.Records.{no_key, well_blank, well_possible, unused_zero, key_serial}
-use Rattle.words.specs.Words.{serial_in, rest_in, hold_in, holds_of, accounts_of}
+use Rattle.audit.proofs.Records.{no_key}
+use Rattle.words.specs.Words.{serial_in, hold_in, holds_of}
 use Rattle.words.proofs.Words.{holds_long, holds_at}
-use Rattle.survey.specs.Index.{SLOTS, LINKS, FORKED, slot, bits_of, Leads, head_of, Head, Reached, Growing, Built, waiting}
-use Rattle.survey.specs.Survey.{place_of}
+use Rattle.survey.specs.Index.{Head, Built, waiting}
 use Rattle.survey.specs.Clauses.{Blank, Zeros, Index}
 use Rattle.survey.proofs.Building.{built_skip}
 use Rattle.survey.proofs.Waiting.{waiting_zero, waiting_one, waiting_skip}

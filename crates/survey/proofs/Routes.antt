@@ -1,6 +1,6 @@
 -- The walk's way over the blocks: one block on, and what is known at the end.
-use Rattle.std.proofs.Common.{◌≡◌, ℕ, ◌+◌, ◌-◌, ◌*◌, ◌%◌, ◌<◌, ◌≤◌, Bool, true, false, cond, not, ◌&&◌, ltb, leb, ◌⊎◌, List, length, drop, sym, refl, ap, ◌∙◌, subst, inl, inr, arith, length-drop, ltb-false, ltb-true, eq-eqb, ne_eqb, le-leb, leb-false, leb-true}
-use mathlib.Core.Option.{none, some}
+use Rattle.std.proofs.Common.{◌≡◌, ℕ, ◌+◌, ◌-◌, ◌*◌, ◌%◌, ◌<◌, ◌≤◌, Bool, true, false, cond, not, ltb, leb, List, length, drop, sym, refl, ap, ◌∙◌, inl, inr, arith, length-drop, ltb-false, ltb-true, eq-eqb, ne_eqb, le-leb, leb-false, leb-true}
+use mathlib.Core.Option.{some}
 use borrow.Author.Tests.{lt-leb}
 use Rattle.layout.specs.declared.Header.{Header}
 use Rattle.layout.specs.declared.Start.TheVariants.{Block as Starts, Nothing}
@@ -9,12 +9,12 @@ use Rattle.layout.proofs.Starts.{start_header}
 use Rattle.lists.specs.Lists.{first}
 use Rattle.lists.proofs.Bools.{and_no, by_test}
 use Rattle.lookup.specs.declared.Met.{Met}
-use Rattle.lookup.specs.declared.Lookup.TheVariants.{Found, Missing}
+use Rattle.lookup.specs.declared.Lookup.TheVariants.{Found}
 use Rattle.lookup.specs.Walk.{headed, met_at, met, occupied_met, base_in, has_room}
 use Rattle.lookup.proofs.Multiple.{multiple_behind, multiple_gap}
 use Rattle.lookup.proofs.Walk.{met_block, met_short, Searching, search_start, search_found, search_ended, search_passed}
-use Rattle.survey.specs.Survey.{block_at, fit_place}
-use Rattle.survey.specs.Route.{TAKEN, Searched, Reaches, Last, Seeking, Passed}
+use Rattle.survey.specs.Survey.{fit_place}
+use Rattle.survey.specs.Route.{TAKEN, Searched, Reaches, Seeking, Passed}
 use Rattle.survey.proofs.Blocks.{met_block_at}
 
 -- the search as `finder` has it

@@ -1,10 +1,10 @@
 -- The settlement of one serial. Along its path: at each open record of the serial the key is struck and its quota pays; what a link leaps over is of other
 -- serials.
 -- So at the path's end all keys of the serial are struck and paid for. Where the serial's slot has one record, that one is all.
-use Rattle.std.proofs.Common.{◌≡◌, ℕ, suc, ◌+◌, ◌-◌, ◌*◌, ◌/◌, ◌%◌, ◌<◌, ◌≤◌, Bool, true, false, ltb, ◌⊎◌, List, length, get_or, drop, set, sym, refl, ap, ◌∙◌, subst, inl, inr, true≢false, arith, length-set, get_or-set_other, get_or-set_same, drop-set-lt, ltb-false, ltb-true}
+use Rattle.std.proofs.Common.{◌≡◌, ℕ, suc, ◌-◌, ◌/◌, ◌<◌, ◌≤◌, true, false, List, length, get_or, drop, set, sym, refl, ap, ◌∙◌, subst, inl, inr, arith, length-set, get_or-set_other, get_or-set_same, drop-set-lt}
 use mathlib.Core.Option.{Option, none, some}
 use lib.ListN.{get_or-replicate}
-use Rattle.lists.proofs.Bools.{by_test, by_eq}
+use Rattle.lists.proofs.Bools.{by_eq}
 use Rattle.accounts.specs.Accounts.{QUOTAS, HOLDS}
 use Rattle.audit.specs.Keys.{quota_of, for_serial, strike, struck, Payment, cannot_pay, pays, pay, unpaid}
 use Rattle.audit.specs.Audit.{settled}

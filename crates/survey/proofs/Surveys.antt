@@ -1,11 +1,8 @@
 -- The survey by its parts: one that refuses, another quota's record, and the block with room.
 use Rattle.std.proofs.Common.{◌≡◌, ℕ, zero, suc, ◌+◌, ◌%◌, ◌<◌, ◌≤◌, Bool, true, false, cond, ◌&&◌, ◌||◌, eqb, ltb, leb, List, [], ◌∷◌, length, get_or, sym, refl, ap, ◌∙◌, arith, le-ltb, eq-eqb, ne_eqb, leb-true}
-use mathlib.Core.Option.{Option, none, some}
 use Rattle.rounding.specs.Rounding.{table}
 use Rattle.accounts.specs.declared.Accounts.{Accounts}
 use Rattle.accounts.specs.declared.Hold.{Hold}
-use Rattle.accounts.specs.declared.Place.{Place}
-use Rattle.accounts.specs.declared.Place.TheVariants.{At, Nothing}
 use Rattle.accounts.specs.Accounts.{HOLDS, zero_hold, first_from}
 use Rattle.accounts.proofs.Laws.{found_first, nothing_none}
 use Rattle.layout.specs.Blocks.{greatest_heap}
@@ -16,8 +13,6 @@ use Rattle.model.specs.Answers.{Values, verdict_values}
 use Rattle.model.specs.Calls.{check}
 use Rattle.model.specs.declared.Refusal.TheVariants.{HeapLength, Inconsistent}
 use Rattle.model.specs.declared.Verdict.TheVariants.{Accepted, Refused}
-use Rattle.lookup.specs.declared.Met.{Met}
-use Rattle.lookup.specs.declared.Fit.TheVariants.{Nowhere}
 use Rattle.lookup.specs.Walk.{has_room, met, fitted, find_fit}
 use Rattle.lookup.proofs.Fits.{fit_zero, fit_first}
 use Rattle.survey.specs.declared.Wanted.{Wanted}

@@ -1,13 +1,13 @@
 -- What a survey that accepts tells of the object, the records and the room.
-use Rattle.std.proofs.Common.{◌≡◌, ℕ, ◌+◌, ◌-◌, ◌*◌, ◌/◌, ◌<◌, ◌≤◌, Bool, true, false, cond, ◌&&◌, eqb, leb, List, length, sym, refl, ap, ◌∙◌, arith, le-ltb, lt-ltb, eqb-true}
+use Rattle.std.proofs.Common.{◌≡◌, ℕ, ◌+◌, ◌-◌, ◌*◌, ◌/◌, ◌<◌, ◌≤◌, true, false, ◌&&◌, eqb, leb, List, length, sym, refl, ap, ◌∙◌, arith, le-ltb, lt-ltb, eqb-true}
 use mathlib.Core.Option.{Option, none, some}
 use Rattle.accounts.specs.declared.Accounts.{Accounts}
 use Rattle.accounts.specs.declared.Place.TheVariants.{At, Nothing}
-use Rattle.accounts.specs.Accounts.{HOLDS, find_hold, lowest_unused}
+use Rattle.accounts.specs.Accounts.{HOLDS, find_hold}
 use Rattle.lookup.specs.declared.Met.{Met}
 use Rattle.lookup.specs.declared.Lookup.TheVariants.{Found, Missing}
 use Rattle.lookup.specs.declared.Fit.TheVariants.{At as Fits, Nowhere}
-use Rattle.lookup.specs.Walk.{met, live_met, object_met, holds_named, looked_up, multiple_from, base_in, fitted, find_object, find_fit}
+use Rattle.lookup.specs.Walk.{met, live_met, object_met, holds_named, looked_up, multiple_from, fitted, find_object}
 use Rattle.lists.specs.Lists.{first}
 use Rattle.model.specs.Objects.{names}
 use Rattle.model.specs.declared.Handle.{Handle}

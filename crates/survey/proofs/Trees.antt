@@ -1,19 +1,18 @@
 -- The settlement of a serial whose records are in a tree, step by step along its path.
-use Rattle.std.proofs.Common.{◌≡◌, ℕ, suc, ◌+◌, ◌-◌, ◌*◌, ◌/◌, ◌%◌, ◌<◌, ◌≤◌, Bool, true, false, cond, ◌&&◌, eqb, ltb, ◌⊎◌, List, length, get_or, set, replicate, sym, refl, ap, ◌∙◌, subst, inl, inr, true≢false, arith, length-set, ltb-false, ltb-true, eq-eqb, eqb-true}
+use Rattle.std.proofs.Common.{◌≡◌, ℕ, ◌+◌, ◌-◌, ◌/◌, ◌<◌, ◌≤◌, Bool, true, false, ◌&&◌, eqb, ltb, List, length, get_or, set, replicate, sym, refl, ap, ◌∙◌, subst, inl, inr, true≢false, arith, length-set, ltb-false, ltb-true, eq-eqb, eqb-true}
 use mathlib.Core.Bool.{false≢true}
-use mathlib.Core.Option.{none, some}
 use Rattle.accounts.specs.Accounts.{QUOTAS, HOLDS}
 use Rattle.lists.proofs.Bools.{and_left, and_right, by_test, by_eq}
-use Rattle.audit.specs.Keys.{quota_of, for_serial, struck, pay, unpaid}
-use Rattle.audit.specs.Clauses.{Settled, Charged}
+use Rattle.audit.specs.Keys.{quota_of, for_serial, struck, unpaid}
+use Rattle.audit.specs.Clauses.{Settled}
 use Rattle.audit.proofs.Striking.{zero_not}
 use Rattle.words.specs.Words.{serial_in, quota_in}
-use Rattle.survey.specs.Index.{SLOTS, LINKS, END, FORKED, CLOSED, slot, bits_of, inner, plain, step, Leads, Findable, head_of, open_in, keys_left}
+use Rattle.survey.specs.Index.{SLOTS, END, FORKED, CLOSED, slot, bits_of, inner, plain, step, Leads, Findable, head_of, open_in, keys_left}
 use Rattle.survey.specs.Clauses.{Ready, Done}
 use Rattle.survey.proofs.Paths.{slot_small}
 use Rattle.survey.proofs.Plain.{inner_place, inner_end, plain_closed}
 use Rattle.survey.proofs.Closing.{left_long, open_nowhere, open_alone, open_for, alone_for, alone_keys, alone_closed, key_open, tree_for, open_quota}
-use Rattle.survey.proofs.Closing.{quota_small, path_keys, path_closed, some_left}
+use Rattle.survey.proofs.Closing.{path_keys, path_closed, some_left}
 use Rattle.survey.proofs.Settlement.{Settling, settling_start, settling_none, settling_end, settling_skip, struck_less, settling_paid, settling_short}
 use Rattle.survey.proofs.Settlement.{settling_more, settled_none, one_short, one_paid}
 

@@ -2,17 +2,14 @@
 -- objects
 -- fit if those in the rest do. A rest that starts no block, among them one whose size is 0, or a back size that is wrong, is no cut; a block that fails or
 -- does not fit fails the whole.
-use Rattle.std.proofs.Common.{◌≡◌, ℕ, ◌+◌, ◌-◌, ◌*◌, ◌%◌, ◌<◌, ◌≤◌, Bool, true, false, ◌&&◌, ◌⊎◌, List, [], ◌∷◌, length, drop, sym, refl, ap, ◌∙◌, subst, ⊎_elim, arith, length-drop, drop-drop}
-use native.Mathlib.Nat.{sub_self}
+use Rattle.std.proofs.Common.{◌≡◌, ℕ, ◌+◌, ◌-◌, ◌*◌, ◌%◌, ◌<◌, ◌≤◌, Bool, true, false, ◌&&◌, ◌⊎◌, List, [], ◌∷◌, length, drop, sym, refl, ap, ◌∙◌, ⊎_elim, arith, length-drop, drop-drop}
 use mathlib.Core.Option.{Option, none, some}
 use Rattle.layout.specs.declared.Header.{Header}
 use Rattle.layout.specs.declared.Start.TheVariants.{Block as Starts, Nothing}
-use Rattle.layout.specs.Blocks.{Block, size, read_block, header_at, start_at, in_front, cut, parse}
+use Rattle.layout.specs.Blocks.{Block, size, read_block, header_at, start_at, in_front, cut}
 use Rattle.layout.proofs.Starts.{start_found, start_header, start_no}
-use Rattle.layout.proofs.Fuel.{cut_end, cut_nothing, cut_at, cut_other, block_at, size_at}
-use Rattle.audit.specs.Audit.{all_zero, State, begin, behind, visit, audit, audit_parsed}
-use Rattle.lists.specs.Lists.{all}
-use Rattle.model.specs.Objects.{objects_from}
+use Rattle.layout.proofs.Fuel.{cut_nothing, cut_at, cut_other, block_at, size_at}
+use Rattle.audit.specs.Audit.{State, behind, visit, audit, audit_parsed}
 use Rattle.lists.proofs.Bools.{and_no, by_eq}
 use Rattle.audit.specs.Fitting.{fits_block, fitting}
 use Rattle.audit.proofs.Fitting.{fitting_front}

@@ -1,5 +1,5 @@
 -- What the crate's own functions ask and promise.
-use Rattle.std.specs.Prelude.{◌≡◌, ℕ, ◌+◌, ◌-◌, ◌*◌, ◌/◌, ◌%◌, ◌<◌, ◌≤◌, Bool, true, false, cond, ◌&&◌, ◌⊎◌, List, map, length, drop, slice_index, slice_set}
+use Rattle.std.specs.Prelude.{◌≡◌, ℕ, ◌+◌, ◌%◌, ◌<◌, ◌≤◌, Bool, true, false, cond, ◌&&◌, ◌⊎◌, List, length, drop, slice_index, slice_set}
 use Rattle.std.proofs.Math.Option.{Option, none, some}
 use Rattle.accounts.specs.declared.Hold.{Hold}
 use Rattle.accounts.specs.Accounts.{QUOTAS, HOLDS, is_for, lowest_unused}
@@ -11,7 +11,7 @@ use Rattle.audit.specs.Audit.{behind, visit, audit_parsed}
 use Rattle.audit.specs.Clauses.{Settled}
 use Rattle.audit.specs.Fitting.{fits_block, fitting}
 use Rattle.words.specs.Words.{serial_in, rest_in, holds_of, accounts_of}
-use Rattle.survey.specs.Index.{SLOTS, LINKS, FORKED, slot, bits_of, fork, plain, Leads, Ascends, head_of, keys_left, waiting, Linked, Built}
+use Rattle.survey.specs.Index.{SLOTS, LINKS, FORKED, fork, plain, Leads, Ascends, keys_left, waiting, Linked, Built}
 use Rattle.survey.specs.Survey.{place_of, shares}
 
 -- the records from a place on are all zero

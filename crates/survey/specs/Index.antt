@@ -2,10 +2,9 @@
 -- path.
 -- A lone record is closed by its slot, one of a tree by a flag in its first link.
 use Rattle.std.specs.Prelude.{◌≡◌, ℕ, zero, suc, ◌+◌, ◌-◌, ◌*◌, ◌/◌, ◌%◌, ◌<◌, ◌≤◌, Bool, true, cond, ◌&&◌, ◌⊎◌, List, map, length, ◌==◌, ◌≢◌, nat_le, nat_lt, slice_index}
-use Rattle.accounts.specs.Accounts.{QUOTAS, HOLDS}
-use Rattle.lists.specs.Lists.{all}
-use Rattle.audit.specs.Keys.{well_formed, key_of, for_serial}
-use Rattle.words.specs.Words.{tabulate, hold_in, serial_in, holds_of}
+use Rattle.accounts.specs.Accounts.{HOLDS}
+use Rattle.audit.specs.Keys.{key_of, for_serial}
+use Rattle.words.specs.Words.{tabulate, hold_in, serial_in}
 
 -- the number of slots and of links; what an empty slot or link has; what is added to a slot's number when the record has others below it, and to a record's
 -- first link when it is closed

@@ -2,6 +2,7 @@
 // its serial. Each live block closes its serial's records, and their quotas pay for it. At the end no record is open and no quota owes anything.
 // A slot with several records has them in a tree. The bits of a serial lead through it, so a search passes few records of other serials, whatever they are.
 #![tactic(auto)]
+
 ghost use Rattle.std.specs.Prelude.{◌≡◌, ◌&&◌, nat_le, nat_lt};
 ghost use Rattle.model.specs.Consistent.{greatest_serial, in_range};
 ghost use Rattle.words.specs.Words.{last_of, kind_of, edition_of, accounts_of};

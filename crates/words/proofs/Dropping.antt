@@ -8,7 +8,6 @@ use lib.ListN.{length, get_or, set, length-set}
 use lib.Seq.{get_or-set_other, set-get_or}
 use Rattle.accounts.specs.declared.Accounts.{Accounts}
 use Rattle.accounts.specs.declared.Hold.{Hold}
-use Rattle.accounts.specs.declared.Quota.{Quota}
 use Rattle.accounts.specs.Accounts.{zero_hold, with_holds, used, record_of, dropped, drop_records, hold_at, put_hold, drop_hold}
 use Rattle.accounts.proofs.Laws.{mapped_more, mapped_all}
 use Rattle.words.specs.Emptying.{drop_at}

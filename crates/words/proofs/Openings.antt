@@ -7,12 +7,11 @@ use lib.ListN.{length, get_or, set, length-set, replicate, length-replicate, get
 use lib.Seq.{get_or-set_same, get_or-set_other, set_out, ext_get_or}
 use Rattle.accounts.specs.declared.Accounts.{Accounts}
 use Rattle.accounts.specs.declared.Quota.{Quota}
-use Rattle.accounts.specs.declared.Hold.{Hold}
 use Rattle.accounts.specs.declared.settings.Settings.{Settings}
 use Rattle.accounts.specs.Accounts.{QUOTAS, HOLDS, zero_quota, zero_hold, zero_accounts}
 use Rattle.accounts.specs.Accounts.{with_permissions, with_quotas, granted, kind_number, edition_number, opened}
 use Rattle.accounts.proofs.Laws.{mapped_more, mapped_all}
-use Rattle.words.specs.Words.{WORDS, LAST, FIRST, KINDS, hold_in, spare_in, entry_in, holds_of, quotas_of, kinds_of, accounts_of, Padded}
+use Rattle.words.specs.Words.{WORDS, LAST, FIRST, KINDS, spare_in, entry_in, holds_of, quotas_of, kinds_of, accounts_of, Padded}
 use Rattle.words.specs.Opening.{Blank, with_quota, with_grant, with_kinds}
 use Rattle.words.proofs.Words.{holds_long, holds_at, quotas_long, quotas_at}
 use Rattle.words.proofs.Padding.{padded_same, padded_on, padded_grant, padded_remainder, padded_spare, padded_kinds}

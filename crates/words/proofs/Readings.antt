@@ -1,13 +1,13 @@
 -- What the accounts that words hold say, by the words.
 use Prim.Native.Nat.{ℕ, ◌-◌, ◌≤◌, ◌<◌}
-use mathlib.Core.Path.{◌≡◌, ap, sym, ◌∙◌}
+use mathlib.Core.Path.{◌≡◌, ap, sym}
 use mathlib.Core.List.{List}
 use native.Mathlib.Omega.{arith}
-use lib.ListN.{length, get_or-eq_default}
+use lib.ListN.{get_or-eq_default}
 use Rattle.accounts.specs.declared.Quota.{Quota}
 use Rattle.accounts.specs.Accounts.{QUOTAS, HOLDS, zero_hold, zero_quota, quota_at, remaining, spent, hold_at}
 use Rattle.accounts.proofs.Laws.{Sized, hold_at_out}
-use Rattle.words.specs.Words.{hold_in, grant_in, remainder_in, permissions_in, entry_in, holds_of, quotas_of, accounts_of}
+use Rattle.words.specs.Words.{hold_in, grant_in, remainder_in, permissions_in, entry_in, quotas_of, accounts_of}
 use Rattle.words.proofs.Words.{holds_long, holds_at, quotas_long, quotas_at}
 
 module _ (words : List ℕ) where

@@ -1,7 +1,7 @@
 -- What the type of the accounts says of them. The type of an array says of each element what the element's type says, so it goes along the list.
 use Prim.Native.Nat.{ℕ, zero, suc, ◌<◌, ◌^◌}
 use native.Mathlib.Omega.{arith}
-use mathlib.Core.List.{List, [], ◌∷◌, map}
+use mathlib.Core.List.{List, [], ◌∷◌}
 use lib.ListN.{get_or}
 use mir.Val.{Val}
 use denote.Array.{each}

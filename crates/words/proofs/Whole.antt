@@ -14,7 +14,7 @@ use Rattle.accounts.specs.declared.Accounts.{Accounts}
 use Rattle.accounts.specs.declared.Quota.{Quota}
 use Rattle.accounts.specs.declared.Hold.{Hold}
 use Rattle.accounts.specs.Accounts.{QUOTAS, HOLDS, quota_at, hold_at}
-use Rattle.words.specs.Words.{WORDS, LAST, FIRST, KINDS, serial_in, rest_in, hold_in, spare_in, entry_in, kinds_of, accounts_of, Padded}
+use Rattle.words.specs.Words.{WORDS, LAST, FIRST, KINDS, rest_in, hold_in, spare_in, entry_in, kinds_of, accounts_of, Padded}
 use Rattle.words.proofs.Readings.{hold_is, quota_is}
 
 -- a number by its lowest byte, or its two lowest, and the rest

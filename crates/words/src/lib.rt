@@ -2,6 +2,7 @@
 // kind and edition. The definitions in specs/ say which accounts some words hold. The functions read and change the accounts that the words hold, as the
 // methods of the accounts do; padding stays as it was.
 #![tactic(auto)]
+
 ghost use Rattle.std.specs.Prelude.{◌≡◌, length};
 ghost use Rattle.words.specs.Words.{WORDS, Narrow};
 

@@ -19,6 +19,6 @@ overflow_mul-count c = record { fits = product-fits _ _ (search rules) (search r
 pub returns : goal.returns
 unfolding allocate_array
 returns c = record {
-      holds = c.allocate_wide.ensures.holds;
-      pads = c.allocate_wide.ensures.pads;
-    }
+  holds = c.allocate_wide.ensures.holds;
+  pads = c.allocate_wide.ensures.pads;
+}

@@ -127,5 +127,5 @@ returns c =
           (at-carve.carve.ensures ∙ ap (λ (t : ℕ). carve_in b.in-At.block b.in-At.base a.size t a.heap.now) serial) done;
       pads = next.ensures.pads;
       keeps = λ t l. shares_kept t a.quota a.size a.low (x.result + 1) k (accounts_of next.new.words) (sym start.requires.lowest ∙ low)
-            (λ e. omega (arith, e, l, x.ensures)) next.ensures.holds;
+          (λ e. omega (arith, e, l, x.ensures)) next.ensures.holds;
     }

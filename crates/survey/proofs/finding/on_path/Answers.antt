@@ -1,4 +1,4 @@
-use Rattle.std.proofs.Common.{◌≡◌, ℕ, ◌-◌, ◌%◌, cond, not, ◌&&◌, eqb, get_or, refl, ap, ◌∙◌, arith, rules}
+use Rattle.std.proofs.Common.{◌≡◌, ℕ, ◌%◌, cond, not, ◌&&◌, eqb, get_or, refl, ap, ◌∙◌, arith, rules}
 use Rattle.words.specs.Words.{serial_in, quota_in}
 use Rattle.survey.specs.Index.{FORKED, bits_of}
 use Rattle.survey.proofs.Paths.{link_rises}

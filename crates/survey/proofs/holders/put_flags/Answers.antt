@@ -1,4 +1,4 @@
-use Rattle.std.proofs.Common.{◌≡◌, ◌+◌, ◌-◌, ◌*◌, ◌≤◌, Bool, length, set, sym, ◌∙◌, subst, arith, rules}
+use Rattle.std.proofs.Common.{◌≡◌, ◌+◌, ◌*◌, ◌≤◌, Bool, length, set, sym, ◌∙◌, subst, arith, rules}
 use Rattle.layout.specs.declared.Start.TheVariants.{Block as Starts}
 use Rattle.layout.specs.Blocks.{start_at}
 use Rattle.layout.proofs.Starts.{start_found}

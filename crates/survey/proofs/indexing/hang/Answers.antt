@@ -1,4 +1,4 @@
-use Rattle.std.proofs.Common.{◌≡◌, ℕ, ◌+◌, ◌-◌, ◌/◌, ◌<◌, get_or, sym, ap, ◌∙◌, subst, arith}
+use Rattle.std.proofs.Common.{◌≡◌, ℕ, ◌+◌, ◌/◌, ◌<◌, get_or, sym, ap, ◌∙◌, subst, arith}
 use Rattle.accounts.specs.Accounts.{HOLDS}
 use Rattle.survey.specs.Index.{bits_of, fork, step}
 use Rattle.survey.proofs.Paths.{fork_inside, Way, stay, way_more, End, link_rises, hangs_at}

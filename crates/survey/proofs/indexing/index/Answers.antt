@@ -1,4 +1,4 @@
-use Rattle.std.proofs.Common.{◌≡◌, ℕ, ◌+◌, ◌-◌, ◌<◌, Bool, false, sym, ap, ◌∙◌, subst, arith}
+use Rattle.std.proofs.Common.{◌≡◌, ℕ, ◌+◌, ◌<◌, Bool, false, sym, ap, ◌∙◌, subst, arith}
 use borrow.Author.Tests.{not-true, not-false}
 use Rattle.accounts.specs.Accounts.{HOLDS, zero_hold}
 use Rattle.lists.specs.Lists.{all}

@@ -1,4 +1,4 @@
-use Rattle.std.proofs.Common.{◌-◌, arith}
+use Rattle.std.proofs.Common.{arith}
 use borrow.Author.Tests.{not-false}
 use Rattle.survey.proofs.Passes.{blank_more}
 use Rattle.survey.proofs.indexing.used_end.Goals as goal

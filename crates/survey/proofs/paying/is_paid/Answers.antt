@@ -1,4 +1,4 @@
-use Rattle.std.proofs.Common.{◌-◌, sym, refl, ◌∙◌, arith, rules}
+use Rattle.std.proofs.Common.{sym, refl, ◌∙◌, arith, rules}
 use Rattle.audit.proofs.Tables.{zero_more, zero_end}
 use Rattle.survey.proofs.paying.is_paid.Goals as goal
 

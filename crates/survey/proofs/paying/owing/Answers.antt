@@ -1,4 +1,4 @@
-use Rattle.std.proofs.Common.{◌≡◌, ℕ, ◌-◌, ◌%◌, ◌≤◌, Bool, cond, ◌&&◌, ltb, leb, get_or, sym, ap, ◌∙◌, arith, eq-eqb, ne_eqb}
+use Rattle.std.proofs.Common.{◌≡◌, ℕ, ◌%◌, ◌≤◌, Bool, cond, ◌&&◌, ltb, leb, get_or, sym, ap, ◌∙◌, arith, eq-eqb, ne_eqb}
 use mathlib.Core.Bool.{false≢true}
 use lib.Bits.{bit_or, or_mod}
 use Rattle.accounts.specs.declared.Quota.{Quota}

@@ -4,7 +4,6 @@ use borrow.Author.Rules.{part_to_end}
 use mathlib.Core.Bool.{false≢true}
 use Rattle.rounding.specs.Rounding.{table}
 use Rattle.layout.specs.Blocks.{header_at, cut}
-use Rattle.audit.specs.Audit.{behind}
 use Rattle.audit.specs.Fitting.{fitting}
 use Rattle.lookup.specs.Walk.{headed, has_room}
 use Rattle.survey.specs.Index.{keys_left}

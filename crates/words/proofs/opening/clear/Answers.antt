@@ -5,6 +5,6 @@ use Rattle.words.proofs.opening.clear.Goals as goal
 
 pub returns : goal.returns
 returns c = record {
-      holds = blank_zero _ c.wipe.ensures;
-      pads = blank_unpadded c.wipe.ensures;
-    }
+  holds = blank_zero _ c.wipe.ensures;
+  pads = blank_unpadded c.wipe.ensures;
+}

@@ -3,6 +3,6 @@ use Rattle.words.proofs.opening.put_grant.Goals as goal
 
 pub returns : goal.returns
 returns c = let both = c.put_quota.ensures in record {
-      holds = both.holds;
-      pads = both.pads;
-    }
+  holds = both.holds;
+  pads = both.pads;
+}
