@@ -1,5 +1,7 @@
 -- Cutting into frames and back: the lengths, one frame more, and that each is had back from the other.
-use Rattle.std.proofs.Common.{◌≡◌, ℕ, zero, suc, ◌+◌, ◌*◌, ◌%◌, ◌^◌, ◌<◌, ◌≤◌, true, eqb, List, [], ◌∷◌, ◌++◌, length, take, drop, sym, refl, ap, ◌∙◌, append_assoc, append-nil, add-zero, mod-lt, zero-add, add-one, arith, lit<, length-append, length-drop, take-append-drop, length-take, drop-drop, take_at, drop_at, eq-eqb, eqb-true}
+use Rattle.std.proofs.Common.{◌≡◌, ℕ, zero, suc, ◌+◌, ◌*◌, ◌%◌, ◌^◌, ◌<◌, ◌≤◌, true, eqb, List, [], ◌∷◌, ◌++◌, length, take, drop, sym, refl, ap, ◌∙◌}
+use Rattle.std.proofs.Common.{append_assoc, append-nil, add-zero, mod-lt, zero-add, add-one, arith, lit<, length-append, length-drop, take-append-drop}
+use Rattle.std.proofs.Common.{length-take, drop-drop, take_at, drop_at, eq-eqb, eqb-true}
 use Rattle.lists.proofs.Bools.{and_parts}
 use Rattle.layout.specs.Bytes.{bytes, number, Octets, overwrite, write_number}
 use Rattle.layout.proofs.Numbers.{bytes_length, number_fits, bytes_at, part_length, octets_drop}

@@ -1,5 +1,6 @@
 -- Filling a part of the image with the stream's bytes, one after the other.
-use Rattle.std.proofs.Common.{◌≡◌, ℕ, ◌+◌, ◌-◌, ◌<◌, ◌≤◌, List, ◌++◌, length, get_or, drop, set, sym, ap, ◌∙◌, add-one, arith, length-append, get_or-drop, get_or-append-add}
+use Rattle.std.proofs.Common.{◌≡◌, ℕ, ◌+◌, ◌-◌, ◌<◌, ◌≤◌, List, ◌++◌, length, get_or, drop, set, sym, ap, ◌∙◌, add-one, arith, length-append, get_or-drop}
+use Rattle.std.proofs.Common.{get_or-append-add}
 use lib.ListN.{get_or-eq_default}
 use Rattle.layout.specs.Bytes.{overwrite}
 use Rattle.layout.proofs.Overwrite.{overwrite_nil, overwrite_more}

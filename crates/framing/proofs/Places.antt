@@ -1,5 +1,7 @@
 -- Where a byte of the stream stands in the image.
-use Rattle.std.proofs.Common.{◌≡◌, ℕ, zero, suc, ◌+◌, ◌-◌, ◌*◌, ◌/◌, ◌%◌, ◌<◌, ◌≤◌, Bool, true, false, ltb, List, ◌++◌, length, get_or, take, drop, set, sym, refl, ap, ◌∙◌, append-nil, zero-add, arith, length-append, length-drop, get_or-drop, get_or-take, get_or-append-add, ltb-false, ltb-true}
+use Rattle.std.proofs.Common.{◌≡◌, ℕ, zero, suc, ◌+◌, ◌-◌, ◌*◌, ◌/◌, ◌%◌, ◌<◌, ◌≤◌, Bool, true, false, ltb, List, ◌++◌, length, get_or, take, drop, set, sym}
+use Rattle.std.proofs.Common.{refl, ap, ◌∙◌, append-nil, zero-add, arith, length-append, length-drop, get_or-drop, get_or-take, get_or-append-add, ltb-false}
+use Rattle.std.proofs.Common.{ltb-true}
 use lib.ListN.{get_or-append, get_or-eq_default}
 use lib.Seq.{drop-length}
 use Rattle.layout.specs.Bytes.{overwrite}

@@ -1,5 +1,6 @@
 -- What the numbers of a frame say, and of the frames behind it.
-use Rattle.std.proofs.Common.{◌≡◌, ℕ, suc, ◌+◌, ◌-◌, ◌*◌, ◌<◌, ◌≤◌, Bool, true, false, ◌&&◌, eqb, List, length, take, drop, sym, ◌∙◌, add-one, arith, drop-drop, eq-eqb, ne_eqb, le-leb}
+use Rattle.std.proofs.Common.{◌≡◌, ℕ, suc, ◌+◌, ◌-◌, ◌*◌, ◌<◌, ◌≤◌, Bool, true, false, ◌&&◌, eqb, List, length, take, drop, sym, ◌∙◌, add-one, arith, drop-drop}
+use Rattle.std.proofs.Common.{eq-eqb, ne_eqb, le-leb}
 use native.Mathlib.Nat.{sub-zero}
 use Rattle.layout.specs.Bytes.{number, read_number}
 use Rattle.framing.proofs.Rows

@@ -1,5 +1,6 @@
 -- The sum of words: one word more, and that it reads no further than its words.
-use Rattle.std.proofs.Common.{◌≡◌, ℕ, zero, suc, ◌+◌, ◌*◌, ◌%◌, ◌^◌, ◌<◌, ◌≤◌, List, ◌++◌, length, take, drop, refl, ◌∙◌, add-one, arith, length-drop, drop-drop, le-leb}
+use Rattle.std.proofs.Common.{◌≡◌, ℕ, zero, suc, ◌+◌, ◌*◌, ◌%◌, ◌^◌, ◌<◌, ◌≤◌, List, ◌++◌, length, take, drop, refl, ◌∙◌, add-one, arith, length-drop}
+use Rattle.std.proofs.Common.{drop-drop, le-leb}
 use native.Mathlib.Nat.{mod-add-mod}
 use lib.Seq.{take-append-le, drop-append-le}
 use Rattle.layout.specs.Bytes.{number, read_number}

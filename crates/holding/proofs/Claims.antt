@@ -184,7 +184,8 @@ module _ (s : List ℕ) (k : Accounts) (q : ℕ) (l : q < QUOTAS) (o : Handle) w
         go false x = rw x (paid_is x (lowest_unused k) refl)
 
 -- lines 1, 2, 3, 12 and 5 do not hold, or one of the last two does
-module _ (unit : ℕ → ℕ) (s : List ℕ) (k : Accounts) (v : Verdict) (told : verdict_values v ≡ (check unit s k).values) (accepts : v ≡ Accepted) (h : Handle) where
+module _ (unit : ℕ → ℕ) (s : List ℕ) (k : Accounts) (v : Verdict) (told : verdict_values v ≡ (check unit s k).values) (accepts : v ≡ Accepted)
+    (h : Handle) where
   pub claim_found : (m : Met) → find_object h s ≡ Found m → (q : ℕ) → q < QUOTAS → permits CLAIM q k ≡ true
       → first_refusal (claim_lines unit s k q h) ≡ first_refusal (claim_rest k q (found (lookup h s)))
   unfolding row_lines

@@ -1,7 +1,8 @@
 -- What an image carries (rules 13.2 to 13.4): a head with the accounts, then the heap, as one stream of bytes; and the stream in frames.
 -- One definition serves every form. What forms differ in beyond their three numbers stands in four places, each marked below: a full form says all
 -- that accounts have, and the other ones have nothing there but two zero bytes, and so every permission and a plain heap of edition 1.
-use Rattle.std.specs.Prelude.{ℕ, ◌+◌, ◌*◌, ◌<◌, ◌^◌, ◌≡◌, List, [], ◌++◌, Bool, true, false, cond, not, ◌&&◌, ◌||◌, length, take, drop, replicate, get_or, eqb, ltb}
+use Rattle.std.specs.Prelude.{ℕ, ◌+◌, ◌*◌, ◌<◌, ◌^◌, ◌≡◌, List, [], ◌++◌, Bool, true, false, cond, not, ◌&&◌, ◌||◌, length, take, drop, replicate, get_or, eqb}
+use Rattle.std.specs.Prelude.{ltb}
 use Rattle.std.proofs.Math.Option.{Option, none, some}
 use Rattle.accounts.specs.declared.Quota.{Quota}
 use Rattle.accounts.specs.declared.Hold.{Hold}

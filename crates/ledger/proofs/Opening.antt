@@ -63,7 +63,8 @@ opened_fresh t grants s k o = go (allowed (length o.before)) refl o.opens
         absurd (omega arith)
 
 -- each quota has its grant whole, also one that does not exist
-granted_at : (gs : List ℕ) (q : ℕ) → ((get_or (map granted gs) q zero_quota).grant ≡ get_or gs q 0) × ((get_or (map granted gs) q zero_quota).remainder ≡ get_or gs q 0)
+granted_at : (gs : List ℕ) (q : ℕ) → ((get_or (map granted gs) q zero_quota).grant ≡ get_or gs q 0) ×
+    ((get_or (map granted gs) q zero_quota).remainder ≡ get_or gs q 0)
 granted_at [] q = (refl, refl)
 granted_at (g ∷ gs) zero = (refl, refl)
 granted_at (g ∷ gs) (suc q) = granted_at gs q

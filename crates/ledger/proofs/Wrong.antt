@@ -114,14 +114,16 @@ refuted_frees_early d =
 pub refuted_frees_at_once : Demand3 table frees_at_once → ⊥
 unfolding computing recording listing frees_at_once
 refuted_frees_at_once d =
-    let m : Memᴰ block [] = (said waiting frees_at_once d (Release 0 first ∷ Allocate 0 8 ∷ [])).recorded_quarantined block (mathlib.Core.List.Memᴰ.head refl) in
+    let m : Memᴰ block [] = (said waiting frees_at_once d (Release 0 first ∷ Allocate 0 8 ∷ [])).recorded_quarantined block
+    (mathlib.Core.List.Memᴰ.head refl) in
     mathlib.Core.List.Memᴰ.not-nil m
 
 -- `quarantined_recorded`: and the other way round
 pub refuted_never_sweeps : Demand3 table never_sweeps → ⊥
 unfolding computing recording listing never_sweeps choosing
 refuted_never_sweeps d =
-    let m : Memᴰ block [] = (said waiting never_sweeps d (Sweep ∷ Release 0 first ∷ Allocate 0 8 ∷ [])).quarantined_recorded block (mathlib.Core.List.Memᴰ.head refl) in
+    let m : Memᴰ block [] = (said waiting never_sweeps d (Sweep ∷ Release 0 first ∷ Allocate 0 8 ∷ [])).quarantined_recorded block
+    (mathlib.Core.List.Memᴰ.head refl) in
     mathlib.Core.List.Memᴰ.not-nil m
 
 -- `no_space`: 4,089 bytes get 4,096 at a multiple of 16, and a heap of 4,104 bytes has no such place; edition 1 gives

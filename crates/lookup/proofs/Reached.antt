@@ -136,7 +136,8 @@ module _ (h : Handle) (s : List ℕ) where
     where
       test : (b : Met) (t : Bool) → whole h (object_met b) ≡ t → find_object h s ≡ Found b → cond t (Found b) Missing ≡ Found m
           → (find_object h s ≡ Found m) × (h ≡ object_met m)
-      test b true t e f = let q : b ≡ m = cc in let r : (find_object h s ≡ Found b) × (h ≡ object_met b) = (e, (whole_exactly h (object_met b)).0 t) in rw q at r
+      test b true t e f =
+          let q : b ≡ m = cc in let r : (find_object h s ≡ Found b) × (h ≡ object_met b) = (e, (whole_exactly h (object_met b)).0 t) in rw q at r
       test b false t e f = let z : ◌≡◌ {A = ℕ} 0 1 = cc in absurd (omega arith)
 
       go : (x : Lookup) → find_object h s ≡ x → whole_met h x ≡ Found m → (find_object h s ≡ Found m) × (h ≡ object_met m)

@@ -213,7 +213,8 @@ allocate_answer : (unit : ℕ → ℕ) (q : ℕ) (n : ℕ) (s : List ℕ) (k : A
 unfolding answer_of answer_values handle_values step allocate
 allocate_answer unit q n s k = faithful (λ v. OfHandle (handle_from v)) handle_refuses s k _ refl _ (lines_are_refusals unit (Allocate q n) s k)
 
-allocate_array_answer : (unit : ℕ → ℕ) (q : ℕ) (count : ℕ) (size : ℕ) (s : List ℕ) (k : Accounts) → Faithful (answer_of (AllocateArray q count size)) (step unit (AllocateArray q count size) s k).values
+allocate_array_answer : (unit : ℕ → ℕ) (q : ℕ) (count : ℕ) (size : ℕ) (s : List ℕ) (k : Accounts) → Faithful (answer_of (AllocateArray q count size))
+    (step unit (AllocateArray q count size) s k).values
 unfolding answer_of answer_values handle_values step allocate_array allocate
 allocate_array_answer unit q count size s k =
     faithful (λ v. OfHandle (handle_from v)) handle_refuses s k _ refl _ (lines_are_refusals unit (AllocateArray q count size) s k)
@@ -234,7 +235,8 @@ sweep_answer : (unit : ℕ → ℕ) (s : List ℕ) (k : Accounts) → Faithful (
 unfolding answer_of answer_values amount_values step sweep
 sweep_answer unit s k = faithful (λ v. OfAmount (amount_from v)) amount_refuses s k _ refl _ (lines_are_refusals unit Sweep s k)
 
-reallocate_answer : (unit : ℕ → ℕ) (q : ℕ) (h : Object) (n : ℕ) (s : List ℕ) (k : Accounts) → Faithful (answer_of (Reallocate q h n)) (step unit (Reallocate q h n) s k).values
+reallocate_answer : (unit : ℕ → ℕ) (q : ℕ) (h : Object) (n : ℕ) (s : List ℕ) (k : Accounts) → Faithful (answer_of (Reallocate q h n))
+    (step unit (Reallocate q h n) s k).values
 unfolding answer_of answer_values handle_values step reallocate
 reallocate_answer unit q h n s k =
     faithful (λ v. OfHandle (handle_from v)) handle_refuses s k _ refl _ (lines_are_refusals unit (Reallocate q h n) s k)
@@ -247,7 +249,8 @@ remaining_of_answer : (unit : ℕ → ℕ) (q : ℕ) (s : List ℕ) (k : Account
 unfolding answer_of answer_values amount_values step remaining_of
 remaining_of_answer unit q s k = faithful (λ v. OfAmount (amount_from v)) amount_refuses s k _ refl _ (lines_are_refusals unit (Remaining q) s k)
 
-can_release_answer : (unit : ℕ → ℕ) (q : ℕ) (h : Object) (s : List ℕ) (k : Accounts) → Faithful (answer_of (CanRelease q h)) (step unit (CanRelease q h) s k).values
+can_release_answer : (unit : ℕ → ℕ) (q : ℕ) (h : Object) (s : List ℕ) (k : Accounts) → Faithful (answer_of (CanRelease q h))
+    (step unit (CanRelease q h) s k).values
 unfolding answer_of answer_values verdict_values step can_release
 can_release_answer unit q h s k =
     faithful (λ v. OfVerdict (verdict_from v)) verdict_refuses s k _ refl _ (lines_are_refusals unit (CanRelease q h) s k)
@@ -261,7 +264,8 @@ amount_accepts : (n : ℕ) → Faithful (λ v. OfAmount (amount_from v)) (amount
 unfolding answer_values amount_values
 amount_accepts n = refl
 
-clear_answer : (unit : ℕ → ℕ) (q : ℕ) (n : ℕ) (s : List ℕ) (k : Accounts) → Faithful (answer_of (ClearPermissions q n)) (step unit (ClearPermissions q n) s k).values
+clear_answer : (unit : ℕ → ℕ) (q : ℕ) (n : ℕ) (s : List ℕ) (k : Accounts) → Faithful (answer_of (ClearPermissions q n))
+    (step unit (ClearPermissions q n) s k).values
 unfolding answer_of step clear
 clear_answer unit q n s k =
     faithful (λ v. OfAmount (amount_from v)) amount_refuses s k (unchanged s (clear_permissions q n k) (amount_of (left_permissions q n k)))

@@ -9,7 +9,7 @@ use Rattle.accounts.specs.declared.Place.{Place}
 use Rattle.accounts.specs.Accounts.{QUOTAS, find_hold}
 use Rattle.lookup.specs.declared.Met.{Met}
 use Rattle.lookup.specs.declared.Lookup.{Lookup}
-use Rattle.lookup.specs.declared.Lookup.TheVariants.{Found, Missing}
+use Rattle.lookup.specs.declared.Lookup.TheVariants.{Found}
 use Rattle.lookup.specs.Walk.{find_object}
 use Rattle.model.specs.declared.Verdict.TheVariants.{Accepted}
 use Rattle.results.proofs.Lookups.{byte_quota}

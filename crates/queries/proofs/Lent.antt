@@ -1,20 +1,17 @@
 -- What lend and the write of a byte give, from what the check and the lookup answered. The block that the lookup found is one of the heap's, so its
 -- object, and the handle's range in it, lies in the heap.
-use mathlib.Core.Path.{◌≡◌, ap, sym, ◌∙◌}
+use mathlib.Core.Path.{◌≡◌, ap, ◌∙◌}
 use mathlib.Core.List.{List, [], ◌∷◌}
-use mathlib.Core.Bool.{true, false}
 use mathlib.Core.Option.{some}
-use Prim.Native.Nat.{ℕ, ◌+◌, ◌-◌, ◌≤◌, ◌<◌}
+use Prim.Native.Nat.{ℕ, ◌+◌, ◌≤◌, ◌<◌}
 use native.Mathlib.Omega.{arith}
 use borrow.Author.Tests.{lt-ltb, le-ltb}
 use lib.ListN.{length, set}
-use lib.Dec.{ltb}
 use Rattle.accounts.specs.declared.Accounts.{Accounts}
 use Rattle.layout.specs.Blocks.{Block, total_size, parse}
 use Rattle.layout.proofs.Render.{size_append}
-use Rattle.lists.specs.Lists.{or_else}
 use Rattle.model.specs.Answers.{accepted, refused, lent, refusal_number, verdict_values}
-use Rattle.model.specs.Objects.{blocks_of, lookup, found}
+use Rattle.model.specs.Objects.{blocks_of, lookup}
 use Rattle.model.specs.Refusals.{first_refusal, line_5, lend_lines, row_lines}
 use Rattle.model.specs.Calls.{Outcome, unchanged, check, lend}
 use Rattle.model.specs.declared.Handle.{Handle}

@@ -1,6 +1,7 @@
 // The calls that leave blocks and accounts as they are, over the accounts where they lie: check, remaining, can release, can claim, lend and the write
 // of a byte, and the listing. Each surveys heap and accounts for itself, and no word changes.
 #![tactic(auto)]
+
 pub mod by_value;
 mod claiming;
 mod lending;

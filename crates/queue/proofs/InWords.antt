@@ -100,45 +100,46 @@ module _ (words : List ℕ) (long : length words ≡ QUEUE_WORD_COUNT) (h : Hand
 
 -- every place moves up by one: all but the last have, and now the last becomes zero
 module _ (words left : List ℕ) (long : length words ≡ QUEUE_WORD_COUNT) (as_long : length left ≡ QUEUE_WORD_COUNT)
-    (before : (j : ℕ) → j < FIRST → get_or left j 0 ≡ get_or words j 0) (moved : (j : ℕ) → FIRST ≤ j → j < LAST → get_or left j 0 ≡ get_or words (j + 3) 0) where
-  abbrev first_zero : List ℕ
-  first_zero = set left LAST 0
+    (before : (j : ℕ) → j < FIRST → get_or left j 0 ≡ get_or words j 0) (moved : (j : ℕ) → FIRST ≤ j → j < LAST → get_or left j 0 ≡ get_or words (j + 3) 0)
+  where
+    abbrev first_zero : List ℕ
+    first_zero = set left LAST 0
 
-  abbrev two_zero : List ℕ
-  two_zero = set first_zero (LAST + 1) 0
+    abbrev two_zero : List ℕ
+    two_zero = set first_zero (LAST + 1) 0
 
-  abbrev pub all_zero : List ℕ
-  all_zero = set two_zero (LAST + 2) 0
+    abbrev pub all_zero : List ℕ
+    all_zero = set two_zero (LAST + 2) 0
 
-  first_long : length first_zero ≡ QUEUE_WORD_COUNT
-  first_long = length-set left LAST 0 ∙ as_long
+    first_long : length first_zero ≡ QUEUE_WORD_COUNT
+    first_long = length-set left LAST 0 ∙ as_long
 
-  both_long : length two_zero ≡ QUEUE_WORD_COUNT
-  both_long = length-set first_zero (LAST + 1) 0 ∙ first_long
+    both_long : length two_zero ≡ QUEUE_WORD_COUNT
+    both_long = length-set first_zero (LAST + 1) 0 ∙ first_long
 
-  zero_other : (j : ℕ) → (j ≡ LAST → ⊥) → (j ≡ LAST + 1 → ⊥) → (j ≡ LAST + 2 → ⊥) → get_or all_zero j 0 ≡ get_or left j 0
-  zero_other j a b c = get_or-set_other two_zero (LAST + 2) j 0 0 c ∙ get_or-set_other first_zero (LAST + 1) j 0 0 b ∙ get_or-set_other left LAST j 0 0 a
+    zero_other : (j : ℕ) → (j ≡ LAST → ⊥) → (j ≡ LAST + 1 → ⊥) → (j ≡ LAST + 2 → ⊥) → get_or all_zero j 0 ≡ get_or left j 0
+    zero_other j a b c = get_or-set_other two_zero (LAST + 2) j 0 0 c ∙ get_or-set_other first_zero (LAST + 1) j 0 0 b ∙ get_or-set_other left LAST j 0 0 a
 
-  -- a word of the last place: there is none three words behind it
-  zero_at : (j k : ℕ) → LAST ≤ k → j ≡ k → get_or all_zero k 0 ≡ 0 → get_or all_zero j 0 ≡ get_or words (j + 3) 0
-  zero_at j k l e z = ap (λ (x : ℕ). get_or all_zero x 0) e ∙ z ∙ sym (get_or-eq_default words 0 (omega (arith, long)))
+    -- a word of the last place: there is none three words behind it
+    zero_at : (j k : ℕ) → LAST ≤ k → j ≡ k → get_or all_zero k 0 ≡ 0 → get_or all_zero j 0 ≡ get_or words (j + 3) 0
+    zero_at j k l e z = ap (λ (x : ℕ). get_or all_zero x 0) e ∙ z ∙ sym (get_or-eq_default words 0 (omega (arith, long)))
 
-  pub last_zero : MovedUp words all_zero
-  last_zero = (
-    length-set two_zero (LAST + 2) 0 ∙ both_long,
-    λ j l. zero_other j (λ e. omega arith) (λ e. omega arith) (λ e. omega arith) ∙ before j l,
-    λ j f l.
-        by_eq j (LAST + 2)
-        (λ e. zero_at j (LAST + 2) (omega arith) e (get_or-set_same two_zero (LAST + 2) 0 0 (omega (arith, both_long))))
-        (λ x. by_eq j (LAST + 1)
-        (λ e. zero_at j (LAST + 1) (omega arith) e
-        (get_or-set_other two_zero (LAST + 2) (LAST + 1) 0 0 (λ z. omega arith) ∙ get_or-set_same first_zero (LAST + 1) 0 0 (omega (arith, first_long))))
-        (λ y. by_eq j LAST
-        (λ e. zero_at j LAST (omega arith) e
-        (get_or-set_other two_zero (LAST + 2) LAST 0 0 (λ z. omega arith) ∙ get_or-set_other first_zero (LAST + 1) LAST 0 0 (λ z. omega arith)
-        ∙ get_or-set_same left LAST 0 0 (omega (arith, as_long))))
-        (λ z. zero_other j z y x ∙ moved j f (omega arith)))),
-  )
+    pub last_zero : MovedUp words all_zero
+    last_zero = (
+      length-set two_zero (LAST + 2) 0 ∙ both_long,
+      λ j l. zero_other j (λ e. omega arith) (λ e. omega arith) (λ e. omega arith) ∙ before j l,
+      λ j f l.
+          by_eq j (LAST + 2)
+          (λ e. zero_at j (LAST + 2) (omega arith) e (get_or-set_same two_zero (LAST + 2) 0 0 (omega (arith, both_long))))
+          (λ x. by_eq j (LAST + 1)
+          (λ e. zero_at j (LAST + 1) (omega arith) e
+          (get_or-set_other two_zero (LAST + 2) (LAST + 1) 0 0 (λ z. omega arith) ∙ get_or-set_same first_zero (LAST + 1) 0 0 (omega (arith, first_long))))
+          (λ y. by_eq j LAST
+          (λ e. zero_at j LAST (omega arith) e
+          (get_or-set_other two_zero (LAST + 2) LAST 0 0 (λ z. omega arith) ∙ get_or-set_other first_zero (LAST + 1) LAST 0 0 (λ z. omega arith)
+          ∙ get_or-set_same left LAST 0 0 (omega (arith, as_long))))
+          (λ z. zero_other j z y x ∙ moved j f (omega arith)))),
+    )
 
 -- the oldest less: every place moves up by one, and the count is written
 module _ (words words' : List ℕ) (long : length words ≡ QUEUE_WORD_COUNT) (m : MovedUp words words') (v : ℕ) where

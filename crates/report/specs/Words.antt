@@ -1,5 +1,6 @@
 -- A quota's line in the audit report (rules 18.1 and 18.2): six words of eight hexadecimal digits with a space between, and a line feed.
-use Rattle.std.specs.Prelude.{ℕ, zero, suc, ◌+◌, ◌*◌, ◌-◌, ◌/◌, ◌%◌, ◌^◌, List, [], ◌∷◌, ◌++◌, Bool, true, cond, ◌&&◌, length, get_or, take, drop, replicate, leb, ltb, eqb}
+use Rattle.std.specs.Prelude.{ℕ, zero, suc, ◌+◌, ◌*◌, ◌-◌, ◌/◌, ◌%◌, ◌^◌, List, [], ◌∷◌, ◌++◌, Bool, true, cond, ◌&&◌, length, get_or, take, drop, replicate}
+use Rattle.std.specs.Prelude.{leb, ltb, eqb}
 
 -- rule 18.1: the character of a digit, 0 to 9 and a to f; and the digit of a character, 16 where it is none
 unfoldable pub digit : ℕ → ℕ

@@ -104,7 +104,8 @@ module _ (k : Accounts) (serial q : ℕ) (holds : q < QUOTAS) where
   record_missing e = nothing_some (is_for serial q) k.holds 0 (rw (byte_quota q holds) at e)
 
 -- what lend, release and can release are refused with
-module _ (unit : ℕ → ℕ) (s : List ℕ) (k : Accounts) (v : Verdict) (told : verdict_values v ≡ (check unit s k).values) (accepts : v ≡ Accepted) (h : Handle) where
+module _ (unit : ℕ → ℕ) (s : List ℕ) (k : Accounts) (v : Verdict) (told : verdict_values v ≡ (check unit s k).values) (accepts : v ≡ Accepted)
+    (h : Handle) where
   pub lend_missing : find_object h s ≡ Missing → first_refusal (lend_lines unit s k h) ≡ 5
   unfolding row_lines
   lend_missing e =

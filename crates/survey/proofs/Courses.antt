@@ -1,5 +1,6 @@
 -- The walk in two parts: what is known between them and behind them.
-use Rattle.std.proofs.Common.{◌≡◌, ℕ, ◌+◌, ◌<◌, ◌≤◌, Bool, true, false, cond, ltb, ◌⊎◌, List, length, drop, refl, ◌∙◌, subst, inl, inr, true≢false, arith, ltb-false, ltb-true}
+use Rattle.std.proofs.Common.{◌≡◌, ℕ, ◌+◌, ◌<◌, ◌≤◌, Bool, true, false, cond, ltb, ◌⊎◌, List, length, drop, refl, ◌∙◌, subst, inl, inr, true≢false, arith}
+use Rattle.std.proofs.Common.{ltb-false, ltb-true}
 use Rattle.lists.proofs.Bools.{by_test}
 use Rattle.layout.specs.Blocks.{cut}
 use Rattle.survey.specs.Index.{keys_left}

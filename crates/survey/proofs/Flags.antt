@@ -1,6 +1,7 @@
 -- The flags of the live blocks. In well-formed records every quota is below QUOTAS, so a record of another quota than QUOTAS is any record of its serial. The
 -- walk puts one flag for each live block that it meets, until no block starts or every flag is put.
-use Rattle.std.proofs.Common.{◌≡◌, ℕ, zero, suc, ◌+◌, ◌*◌, ◌<◌, ◌≤◌, Bool, true, false, cond, not, ◌&&◌, eqb, ltb, List, [], ◌∷◌, map, length, get_or, set, sym, refl, ap, ◌∙◌, arith, length-set, get_or-set_other, ne_eqb}
+use Rattle.std.proofs.Common.{◌≡◌, ℕ, zero, suc, ◌+◌, ◌*◌, ◌<◌, ◌≤◌, Bool, true, false, cond, not, ◌&&◌, eqb, ltb, List, [], ◌∷◌, map, length, get_or, set, sym}
+use Rattle.std.proofs.Common.{refl, ap, ◌∙◌, arith, length-set, get_or-set_other, ne_eqb}
 use lib.Seq.{set_out}
 use Rattle.accounts.specs.declared.Hold.{Hold}
 use Rattle.accounts.specs.declared.Accounts.{Accounts}

@@ -1,5 +1,6 @@
 -- The verdict: by the length and by the audit, whose parts are the index, what the quotas owe, and the walk.
-use Rattle.std.proofs.Common.{◌≡◌, ℕ, ◌+◌, ◌%◌, ◌<◌, ◌≤◌, Bool, true, false, cond, ◌&&◌, eqb, ltb, leb, List, [], ◌∷◌, map, length, drop, sym, refl, ap, ◌∙◌, arith, length-drop, eqb-true, leb-true}
+use Rattle.std.proofs.Common.{◌≡◌, ℕ, ◌+◌, ◌%◌, ◌<◌, ◌≤◌, Bool, true, false, cond, ◌&&◌, eqb, ltb, leb, List, [], ◌∷◌, map, length, drop, sym, refl, ap, ◌∙◌}
+use Rattle.std.proofs.Common.{arith, length-drop, eqb-true, leb-true}
 use mathlib.Core.Bool.{and-true}
 use mathlib.Core.Option.{some}
 use lib.ListN.{length-map}

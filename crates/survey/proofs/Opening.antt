@@ -1,5 +1,6 @@
 -- The index at the start of the walk: every used record is open, and its path leads to it.
-use Rattle.std.proofs.Common.{◌≡◌, ℕ, ◌+◌, ◌-◌, ◌/◌, ◌%◌, ◌<◌, ◌≤◌, true, ltb, List, length, get_or, sym, ap, ◌∙◌, subst, inl, inr, ⊎_elim, arith, ext_get_or, ltb-false, ltb-true, lt-ltb, eq-eqb}
+use Rattle.std.proofs.Common.{◌≡◌, ℕ, ◌+◌, ◌-◌, ◌/◌, ◌%◌, ◌<◌, ◌≤◌, true, ltb, List, length, get_or, sym, ap, ◌∙◌, subst, inl, inr, ⊎_elim, arith, ext_get_or}
+use Rattle.std.proofs.Common.{ltb-false, ltb-true, lt-ltb, eq-eqb}
 use lib.ListN.{length-map, get_or-map}
 use Rattle.lists.proofs.Bools.{by_test, by_eq}
 use Rattle.accounts.specs.Accounts.{QUOTAS, HOLDS, zero_hold}

@@ -1,5 +1,6 @@
 -- Links without the flags of closed records.
-use Rattle.std.proofs.Common.{◌≡◌, ℕ, ◌+◌, ◌%◌, ◌<◌, ◌≤◌, List, length, get_or, set, sym, ap, ◌∙◌, arith, length-set, get_or-set_other, get_or-set_same, ext_get_or, le-ltb, lt-ltb}
+use Rattle.std.proofs.Common.{◌≡◌, ℕ, ◌+◌, ◌%◌, ◌<◌, ◌≤◌, List, length, get_or, set, sym, ap, ◌∙◌, arith, length-set, get_or-set_other, get_or-set_same}
+use Rattle.std.proofs.Common.{ext_get_or, le-ltb, lt-ltb}
 use lib.ListN.{length-map, get_or-map}
 use Rattle.lists.proofs.Bools.{by_eq}
 use Rattle.accounts.specs.Accounts.{HOLDS}

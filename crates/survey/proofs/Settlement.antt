@@ -1,7 +1,8 @@
 -- The settlement of one serial. Along its path: at each open record of the serial the key is struck and its quota pays; what a link leaps over is of other
 -- serials.
 -- So at the path's end all keys of the serial are struck and paid for. Where the serial's slot has one record, that one is all.
-use Rattle.std.proofs.Common.{◌≡◌, ℕ, suc, ◌-◌, ◌/◌, ◌<◌, ◌≤◌, true, false, List, length, get_or, drop, set, sym, refl, ap, ◌∙◌, subst, inl, inr, arith, length-set, get_or-set_other, get_or-set_same, drop-set-lt}
+use Rattle.std.proofs.Common.{◌≡◌, ℕ, suc, ◌-◌, ◌/◌, ◌<◌, ◌≤◌, true, false, List, length, get_or, drop, set, sym, refl, ap, ◌∙◌, subst, inl, inr, arith}
+use Rattle.std.proofs.Common.{length-set, get_or-set_other, get_or-set_same, drop-set-lt}
 use mathlib.Core.Option.{Option, none, some}
 use lib.ListN.{get_or-replicate}
 use Rattle.lists.proofs.Bools.{by_eq}
@@ -70,7 +71,8 @@ module _ {s c : ℕ} {trail keys₀ : List ℕ} {p₀ : Payment} (live : s ≡ 0
             (subst (λ (x : ℕ). get_or seen x 0 ≡ 0 → ⊥) e n))
 
         pub settling_short : {q : ℕ} → q ≡ quota_of (get_or keys at 0) → get_or owed q 0 < c → pay s c keys₀ (some p₀) ≡ none
-        settling_short e b = fails (short_cannot c (quota_of (get_or keys at 0)) (record { seen = seen; owed = owed }) (subst (λ (x : ℕ). get_or owed x 0 < c) e b))
+        settling_short e b =
+            fails (short_cannot c (quota_of (get_or keys at 0)) (record { seen = seen; owed = owed }) (subst (λ (x : ℕ). get_or owed x 0 < c) e b))
 
         -- one that pays
         module _ (first : get_or seen (quota_of (get_or keys at 0)) 0 ≡ 0) (enough : c ≤ get_or owed (quota_of (get_or keys at 0)) 0) where

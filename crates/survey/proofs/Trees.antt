@@ -1,5 +1,6 @@
 -- The settlement of a serial whose records are in a tree, step by step along its path.
-use Rattle.std.proofs.Common.{◌≡◌, ℕ, ◌+◌, ◌-◌, ◌/◌, ◌<◌, ◌≤◌, Bool, true, false, ◌&&◌, eqb, ltb, List, length, get_or, set, replicate, sym, refl, ap, ◌∙◌, subst, inl, inr, true≢false, arith, length-set, ltb-false, ltb-true, eq-eqb, eqb-true}
+use Rattle.std.proofs.Common.{◌≡◌, ℕ, ◌+◌, ◌-◌, ◌/◌, ◌<◌, ◌≤◌, Bool, true, false, ◌&&◌, eqb, ltb, List, length, get_or, set, replicate, sym, refl, ap, ◌∙◌}
+use Rattle.std.proofs.Common.{subst, inl, inr, true≢false, arith, length-set, ltb-false, ltb-true, eq-eqb, eqb-true}
 use mathlib.Core.Bool.{false≢true}
 use Rattle.accounts.specs.Accounts.{QUOTAS, HOLDS}
 use Rattle.lists.proofs.Bools.{and_left, and_right, by_test, by_eq}

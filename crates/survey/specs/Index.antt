@@ -1,7 +1,8 @@
 -- The index of the hold records: a slot has no record, one, or a tree of records. In a tree, the bits of a serial lead from record to record: the serial's
 -- path.
 -- A lone record is closed by its slot, one of a tree by a flag in its first link.
-use Rattle.std.specs.Prelude.{◌≡◌, ℕ, zero, suc, ◌+◌, ◌-◌, ◌*◌, ◌/◌, ◌%◌, ◌<◌, ◌≤◌, Bool, true, cond, ◌&&◌, ◌⊎◌, List, map, length, ◌==◌, ◌≢◌, nat_le, nat_lt, slice_index}
+use Rattle.std.specs.Prelude.{◌≡◌, ℕ, zero, suc, ◌+◌, ◌-◌, ◌*◌, ◌/◌, ◌%◌, ◌<◌, ◌≤◌, Bool, true, cond, ◌&&◌, ◌⊎◌, List, map, length, ◌==◌, ◌≢◌, nat_le, nat_lt}
+use Rattle.std.specs.Prelude.{slice_index}
 use Rattle.accounts.specs.Accounts.{HOLDS}
 use Rattle.audit.specs.Keys.{key_of, for_serial}
 use Rattle.words.specs.Words.{tabulate, hold_in, serial_in}

@@ -145,7 +145,8 @@ module _ (words : List ℕ) (long : length words ≡ WORDS) (p serial rest : ℕ
 
   pub held_serial : serial_in held p ≡ serial
   held_serial =
-      get_or-set_other renamed (FIRST + 2 * p + 1) (FIRST + 2 * p) rest 0 (λ e. omega arith) ∙ get_or-set_same words (FIRST + 2 * p) serial 0 (omega (arith, long))
+      get_or-set_other renamed (FIRST + 2 * p + 1) (FIRST + 2 * p) rest 0 (λ e. omega arith) ∙ get_or-set_same words (FIRST + 2 * p) serial 0
+      (omega (arith, long))
 
   pub held_rest : rest_in held p ≡ rest
   held_rest = get_or-set_same renamed (FIRST + 2 * p + 1) rest 0 (omega (arith, length-set words (FIRST + 2 * p) serial ∙ long))

@@ -72,7 +72,8 @@ returns c =
     let same =
     ap (λ (t : Outcome). t.accounts.edition) m.claim-claimed.ensures
     ∙ claim_edition a.heap.now a.accounts a.queue.receiver a.handle in
-    ap (λ (u : Queue). record { heap = f.release-released.new.heap; accounts = f.release-released.result.accounts; queue = u; refusal = 0 }) c.with_handle.ensures
+    ap (λ (u : Queue). record { heap = f.release-released.new.heap; accounts = f.release-released.result.accounts; queue = u; refusal = 0 })
+    c.with_handle.ensures
     ∙ send_made (table a.accounts.edition) a.heap.now a.accounts a.queue a.handle e.if-queue-gt-PLACES.false e.if-queue-eq-PLACES.false z
     f.release-released.new.heap m.claim-claimed.result.accounts f.release-released.result.accounts
     (amount_values m.claim-claimed.result.answer) (amount_values f.release-released.result.answer) m.claim-claimed.ensures

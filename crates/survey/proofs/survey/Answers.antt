@@ -27,7 +27,8 @@ use Rattle.survey.specs.Route.{Halved}
 use Rattle.survey.proofs.Naming.{named_half, half_bounds}
 use Rattle.survey.proofs.Surveys.{refused_length, refused_state, allowed_range, fit_known}
 use Rattle.survey.proofs.survey.Goals as goal
-use Rattle.survey.proofs.survey.Goals.{After-index-tally, After-is_named-found, After-is_settled, After-numbers_in-numbers, After-owing, After-walk_parts-course, Else-not-is_settled, Else-not-numbers, Else-not-owing}
+use Rattle.survey.proofs.survey.Goals.{After-index-tally, After-is_named-found, After-is_settled, After-numbers_in-numbers, After-owing}
+use Rattle.survey.proofs.survey.Goals.{After-walk_parts-course, Else-not-is_settled, Else-not-numbers, Else-not-owing}
 
 pub returns-then-not-is_allowed : goal.returns-then-not-is_allowed
 returns-then-not-is_allowed c =
@@ -47,7 +48,8 @@ returns-then-not-numbers c =
     let t = c in
     let r = t in
     refused_state c.refused-then-not-numbers.result c.refused-then-not-numbers.ensures
-    (verdict_range (table (edition_of r.args.words.now)) r.args.heap.now (accounts_of r.args.words.now) (allows (goal.at.returns-then-not-numbers c).After-numbers_in-numbers)
+    (verdict_range (table (edition_of r.args.words.now)) r.args.heap.now (accounts_of r.args.words.now)
+    (allows (goal.at.returns-then-not-numbers c).After-numbers_in-numbers)
     (sym r.numbers_in-numbers.ensures.0 ∙ not-true _ t.if-not-numbers.true))
 
 pub index-tally-requires : goal.index-tally-requires
@@ -68,7 +70,8 @@ returns-then-not-tally c =
     let i = t in
     let r = i in
     refused_state c.refused-then-not-tally.result c.refused-then-not-tally.ensures
-    (verdict_ill (table (edition_of r.args.words.now)) r.args.heap.now (accounts_of r.args.words.now) (allows (goal.at.returns-then-not-tally c).After-numbers_in-numbers) (ranged (goal.at.returns-then-not-tally c).Else-not-numbers)
+    (verdict_ill (table (edition_of r.args.words.now)) r.args.heap.now (accounts_of r.args.words.now)
+    (allows (goal.at.returns-then-not-tally c).After-numbers_in-numbers) (ranged (goal.at.returns-then-not-tally c).Else-not-numbers)
     (quotas_long r.args.words.now) (told (goal.at.returns-then-not-tally c).After-index-tally false (not-true _ t.if-not-tally.true)))
 
 owes-all : (c : After-owing) (t : Bool) → c.owing.result ≡ t → Owing (quotas_of c.args.words.now) t c.owing.new.owed
@@ -81,7 +84,8 @@ returns-then-not-owing c =
     let i = o in
     let r = i in
     refused_state c.refused-then-not-owing.result c.refused-then-not-owing.ensures
-    (verdict_insolvent (table (edition_of r.args.words.now)) r.args.heap.now (accounts_of r.args.words.now) (allows (goal.at.returns-then-not-owing c).After-numbers_in-numbers) (ranged (goal.at.returns-then-not-owing c).Else-not-numbers)
+    (verdict_insolvent (table (edition_of r.args.words.now)) r.args.heap.now (accounts_of r.args.words.now)
+    (allows (goal.at.returns-then-not-owing c).After-numbers_in-numbers) (ranged (goal.at.returns-then-not-owing c).Else-not-numbers)
     (quotas_long r.args.words.now)
     (owes-all (goal.at.returns-then-not-owing c).After-owing false (not-true _ t.if-not-owing.true-raw)))
 
@@ -116,7 +120,14 @@ walk_parts-course-requires c =
       u.edge_of-edge.ensures.1,
       u.unit_of-unit.ensures.0,
       u.unit_of-unit.ensures.1,
-      record { inside = omega arith; even = refl; ready = walk_ready (entered (goal.at.walk_parts-course-requires c).Else-not-owing) (debts (goal.at.walk_parts-course-requires c).Else-not-owing) },
+      record {
+        inside =
+            omega arith;
+        even =
+            refl;
+        ready =
+            walk_ready (entered (goal.at.walk_parts-course-requires c).Else-not-owing) (debts (goal.at.walk_parts-course-requires c).Else-not-owing);
+      },
     )
 
 abbrev Whole : After-walk_parts-course → Bool
@@ -175,7 +186,9 @@ pub returns-then-not-course : goal.returns-then-not-course
 returns-then-not-course c =
     let t = c in
     let w = t in
-    refused_state c.refused-then-not-course.result c.refused-then-not-course.ensures (verdict (goal.at.returns-then-not-course c).After-walk_parts-course false (sym (walked (goal.at.returns-then-not-course c).After-walk_parts-course false (not-true _ t.if-not-course.true))))
+    refused_state c.refused-then-not-course.result c.refused-then-not-course.ensures
+    (verdict (goal.at.returns-then-not-course c).After-walk_parts-course false
+    (sym (walked (goal.at.returns-then-not-course c).After-walk_parts-course false (not-true _ t.if-not-course.true))))
 
 -- at the end, open records and debts decide
 ended : (c : After-walk_parts-course) → c.walk_parts-course.result.fine ≡ true
@@ -234,7 +247,8 @@ returns-then-not-is_settled c =
     let t = c in
     let p = t in
     refused_state c.refused-then-not-is_settled.result c.refused-then-not-is_settled.ensures
-    (verdict (goal.at.returns-then-not-is_settled c).After-walk_parts-course false (sym (decided (goal.at.returns-then-not-is_settled c).After-is_settled ∙ not-true _ t.if-not-is_settled.true-raw)))
+    (verdict (goal.at.returns-then-not-is_settled c).After-walk_parts-course false
+    (sym (decided (goal.at.returns-then-not-is_settled c).After-is_settled ∙ not-true _ t.if-not-is_settled.true-raw)))
 
 passes : (c : Else-not-is_settled) → c.walk_parts-course.result.fine ≡ true
 passes c = not-false _ c.if-not-course.false
@@ -348,7 +362,8 @@ pub returns : goal.returns
 unfolding verdict_of verdict_values
 returns c =
     let e = c in
-    let t = verdict (goal.at.returns c).After-walk_parts-course true (sym (decided (goal.at.returns c).After-is_settled ∙ not-false _ e.if-not-is_settled.false-raw)) in
+    let t = verdict (goal.at.returns c).After-walk_parts-course true (sym
+    (decided (goal.at.returns c).After-is_settled ∙ not-false _ e.if-not-is_settled.false-raw)) in
     record {
       number = ap (λ (v : Values). v.refusal) t;
       refused = λ z. absurd (z refl);

@@ -111,7 +111,9 @@ returns-then-length-eq0 c =
     let u = table k.edition in
     let zero = line_4_zero a.length (from_8 u s k a.quota a.length) c.if-length-eq0.true in
     record {
-      holds = refused_4 u s k a.quota a.length (checked (goal.at.returns-then-length-eq0 c).Else-quota-ge-QUOTAS) (may (goal.at.returns-then-length-eq0 c).Else-permissions-eq0) zero _ refl;
+      holds =
+          refused_4 u s k a.quota a.length (checked (goal.at.returns-then-length-eq0 c).Else-quota-ge-QUOTAS)
+          (may (goal.at.returns-then-length-eq0 c).Else-permissions-eq0) zero _ refl;
       pads = padded_same a.words.now;
     }
 
@@ -126,7 +128,9 @@ returns-then-length-gt-LONGEST c =
     let u = table k.edition in
     let long = line_4_long a.length (from_8 u s k a.quota a.length) c.if-length-gt-LONGEST.true in
     record {
-      holds = refused_4 u s k a.quota a.length (checked (goal.at.returns-then-length-gt-LONGEST c).Else-quota-ge-QUOTAS) (may (goal.at.returns-then-length-gt-LONGEST c).Else-permissions-eq0) long _ refl;
+      holds =
+          refused_4 u s k a.quota a.length (checked (goal.at.returns-then-length-gt-LONGEST c).Else-quota-ge-QUOTAS)
+          (may (goal.at.returns-then-length-gt-LONGEST c).Else-permissions-eq0) long _ refl;
       pads = padded_same a.words.now;
     }
 
@@ -153,7 +157,15 @@ grant-requires c =
     let ok = sym at-verdict.verdict.ensures ∙ at-enum-told.in_default.is in
     let d = rounded_by k a.quota a.length _ w.result nonzero else4.if-length-gt-LONGEST.false e.result e.ensures w.ensures in
     record {
-      requested = record { checked = checked (goal.at.grant-requires c).Else-quota-ge-QUOTAS; permitted = may (goal.at.grant-requires c).Else-permissions-eq0; asked = a.length; rounded = d };
+      requested =
+          record {
+            checked =
+                checked (goal.at.grant-requires c).Else-quota-ge-QUOTAS;
+            permitted =
+                may (goal.at.grant-requires c).Else-permissions-eq0;
+            asked = a.length;
+            rounded = d;
+          };
       lowest = (g.known ok).low;
       room = (g.known ok).fit;
     }

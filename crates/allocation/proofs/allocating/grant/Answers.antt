@@ -122,7 +122,8 @@ returns c =
     (λ j. record { accounts = booked j; answer = answer j }) in
     record {
       holds = λ n d. made start.requires d _ (omega (arith, else1.if-remaining-charge.false, at_remaining.remaining.ensures)) a.low low
-          (omega (arith, else3.if-last-ge-GREATEST_SERIAL.false, at-last-serial.last_serial-last.ensures)) (octets (goal.at.returns c).After-slice_known-1) b.in-At.block b.in-At.base
+          (omega (arith, else3.if-last-ge-GREATEST_SERIAL.false, at-last-serial.last_serial-last.ensures)) (octets (goal.at.returns c).After-slice_known-1)
+          b.in-At.block b.in-At.base
           (sym at_room.room.ensures ∙ b.in-At.is) at-carve.carve.new.heap
           (at-carve.carve.ensures ∙ ap (λ (t : ℕ). carve_in b.in-At.block b.in-At.base a.size t a.heap.now) serial) done;
       pads = next.ensures.pads;

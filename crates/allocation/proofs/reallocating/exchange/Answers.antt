@@ -194,6 +194,8 @@ returns c =
     let r = at-drop-claim.drop_claim in
     let left = amount_result r.new.words (Amount r.result) in
     record {
-      holds = λ m d. exchanged y f long i p o l d g.new.heap x (g.ensures.holds m d) n.in-Given.new n.in-Given.is _ (copied (goal.at.returns c).After-copy_part) r.new.heap left r.ensures.holds;
+      holds =
+          λ m d. exchanged y f long i p o l d g.new.heap x (g.ensures.holds m d) n.in-Given.new n.in-Given.is _ (copied (goal.at.returns c).After-copy_part)
+          r.new.heap left r.ensures.holds;
       pads = padded_on g.ensures.pads r.ensures.pads;
     }

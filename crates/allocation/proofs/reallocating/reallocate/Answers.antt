@@ -116,7 +116,8 @@ returns-then-length-eq0 c =
     let k = accounts_of a.words.now in
     let u = table k.edition in
     let zero = line_4_zero a.length (from_5 u s k a.quota a.handle a.length) c.if-length-eq0.true in
-    let by = by_length u s k a.quota a.handle a.length (checked (goal.at.returns-then-length-eq0 c).Else-quota-ge-QUOTAS) (may (goal.at.returns-then-length-eq0 c).Else-permissions-eq0) zero in
+    let by = by_length u s k a.quota a.handle a.length (checked (goal.at.returns-then-length-eq0 c).Else-quota-ge-QUOTAS)
+    (may (goal.at.returns-then-length-eq0 c).Else-permissions-eq0) zero in
     record {
       holds = refuses u s k a.quota a.handle a.length _ ObjectLength refl by;
       pads = padded_same a.words.now;
@@ -132,7 +133,8 @@ returns-then-length-gt-GREATEST_LENGTH c =
     let k = accounts_of a.words.now in
     let u = table k.edition in
     let long = line_4_long a.length (from_5 u s k a.quota a.handle a.length) c.if-length-gt-GREATEST_LENGTH.true in
-    let by = by_length u s k a.quota a.handle a.length (checked (goal.at.returns-then-length-gt-GREATEST_LENGTH c).Else-quota-ge-QUOTAS) (may (goal.at.returns-then-length-gt-GREATEST_LENGTH c).Else-permissions-eq0) long in
+    let by = by_length u s k a.quota a.handle a.length (checked (goal.at.returns-then-length-gt-GREATEST_LENGTH c).Else-quota-ge-QUOTAS)
+    (may (goal.at.returns-then-length-gt-GREATEST_LENGTH c).Else-permissions-eq0) long in
     record {
       holds = refuses u s k a.quota a.handle a.length _ ObjectLength refl by;
       pads = padded_same a.words.now;
@@ -161,7 +163,14 @@ exchange-requires c =
     let ok = sym at-verdict.verdict.ensures ∙ at-enum-told.in_default.is in
     let d = rounded_by k a.quota a.length _ w.result nonzero else4.if-length-gt-GREATEST_LENGTH.false e.result e.ensures w.ensures in
     let y : Requested s k a.quota w.result.need w.result.unit =
-    record { checked = checked (goal.at.exchange-requires c).Else-quota-ge-QUOTAS; permitted = may (goal.at.exchange-requires c).Else-permissions-eq0; asked = a.length; rounded = d } in
+    record {
+      checked =
+          checked (goal.at.exchange-requires c).Else-quota-ge-QUOTAS;
+      permitted =
+          may (goal.at.exchange-requires c).Else-permissions-eq0;
+      asked = a.length;
+      rounded = d;
+    } in
     let z = subst (λ (q : ℕ). Requested s k q w.result.need w.result.unit) (sym w.ensures.quota) y in
     record { requested = z; survey = g; accepted = ok }
 

@@ -34,7 +34,9 @@ returns-then-hold-gt1 c =
     let h = at-hold-at.hold_at-hold in
     let p = c.put_hold in
     record {
-      holds = few_dropped a.heap.now k (octets (goal.at.returns-then-hold-gt1 c).After-slice_known-1) a.quota (block_at a.at a.heap.now) a.place a.shared start.requires
+      holds =
+          few_dropped a.heap.now k (octets (goal.at.returns-then-hold-gt1 c).After-slice_known-1) a.quota (block_at a.at a.heap.now) a.place a.shared
+          start.requires
           (rw (sym h.ensures) then1.if-hold-gt1.true) (accounts_of p.new.words)
           (p.ensures.holds ∙ ap (λ (x : Hold). put_hold a.place (with_count (x.count - 1) x) k) h.ensures) _ refl;
       pads = p.ensures.pads;
@@ -92,8 +94,11 @@ returns-then-shared c =
     let r = at-refund.refund in
     let z = at-drop-hold.drop_hold in
     record {
-      holds = held_dropped a.heap.now k (octets (goal.at.returns-then-shared c).After-slice_known-1) a.quota at-block-at.block_at-block.result a.place a.shared (droppable (goal.at.returns-then-shared c).After-block_at-block)
-          (rw (sym h.ensures) (omega (arith, else1.if-hold-gt1.false))) (accounts_of r.new.words) (accounts_of z.new.words) r.ensures.holds z.ensures.holds _ refl
+      holds =
+          held_dropped a.heap.now k (octets (goal.at.returns-then-shared c).After-slice_known-1) a.quota at-block-at.block_at-block.result a.place a.shared
+          (droppable (goal.at.returns-then-shared c).After-block_at-block)
+          (rw (sym h.ensures) (omega (arith, else1.if-hold-gt1.false))) (accounts_of r.new.words) (accounts_of z.new.words) r.ensures.holds z.ensures.holds _
+          refl
           c.if-shared.true
           ∙ ap (λ (x : Met). claim_dropped a.heap.now k a.quota (object_met x)) at-block-at.block_at-block.ensures;
       pads = padded_on r.ensures.pads z.ensures.pads;
@@ -118,8 +123,11 @@ returns c =
     let z = at-drop-hold.drop_hold in
     let v = at-vacate-block.vacate_block in
     record {
-      holds = freed_dropped a.heap.now k (octets (goal.at.returns c).After-slice_known-1) a.quota at-block-at.block_at-block.result a.place a.shared (droppable (goal.at.returns c).After-block_at-block)
-          (rw (sym h.ensures) (omega (arith, else1.if-hold-gt1.false))) (accounts_of r.new.words) (accounts_of z.new.words) r.ensures.holds z.ensures.holds _ refl
+      holds =
+          freed_dropped a.heap.now k (octets (goal.at.returns c).After-slice_known-1) a.quota at-block-at.block_at-block.result a.place a.shared
+          (droppable (goal.at.returns c).After-block_at-block)
+          (rw (sym h.ensures) (omega (arith, else1.if-hold-gt1.false))) (accounts_of r.new.words) (accounts_of z.new.words) r.ensures.holds z.ensures.holds _
+          refl
           else2.if-shared.false at-kind.kind.result at-kind.kind.ensures v.new.heap v.ensures.leaves
           ∙ ap (λ (x : Met). claim_dropped a.heap.now k a.quota (object_met x)) at-block-at.block_at-block.ensures;
       pads = padded_on r.ensures.pads z.ensures.pads;

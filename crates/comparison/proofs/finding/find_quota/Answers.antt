@@ -25,7 +25,8 @@ loop-q-preserved c =
     let l = c in
     let s = l in
     l.loop-q.invariant
-    ∙ from_pass same_quota QuotaAt zero_quota s.args.first s.args.second l.loop-q.q (omega (arith, long (goal.at.loop-q-preserved c).Start, long_2 (goal.at.loop-q-preserved c).Start))
+    ∙ from_pass same_quota QuotaAt zero_quota s.args.first s.args.second l.loop-q.q
+    (omega (arith, long (goal.at.loop-q-preserved c).Start, long_2 (goal.at.loop-q-preserved c).Start))
     (sym c.is_same_quota.ensures ∙ not-false _ c.if-not-is_same_quota.false-raw)
 
 pub returns : goal.returns

@@ -25,7 +25,8 @@ loop-p-preserved c =
     let l = c in
     let s = l in
     l.loop-p.invariant
-    ∙ from_pass same_record RecordAt zero_hold s.args.first s.args.second l.loop-p.p (omega (arith, long (goal.at.loop-p-preserved c).Start, long_2 (goal.at.loop-p-preserved c).Start))
+    ∙ from_pass same_record RecordAt zero_hold s.args.first s.args.second l.loop-p.p
+    (omega (arith, long (goal.at.loop-p-preserved c).Start, long_2 (goal.at.loop-p-preserved c).Start))
     (sym c.is_same_record.ensures ∙ not-false _ c.if-not-is_same_record.false-raw)
 
 pub returns : goal.returns

@@ -46,7 +46,8 @@ returns-in-Image c =
     let s = r in
     let l = s in
     let a = l.args in
-    r.rewrite.ensures ∙ move_rewritten (form_from a.up) (form_to a.up) a.image.now a.out.now (of-form (goal.at.returns-in-Image c).Else-form-number_from) _ _ _ (found (goal.at.returns-in-Image c).In-Image)
+    r.rewrite.ensures ∙ move_rewritten (form_from a.up) (form_to a.up) a.image.now a.out.now (of-form (goal.at.returns-in-Image c).Else-form-number_from) _ _ _
+    (found (goal.at.returns-in-Image c).In-Image)
 
 pub returns-in-Refused : goal.returns-in-Refused
 returns-in-Refused c =

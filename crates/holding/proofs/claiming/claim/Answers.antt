@@ -73,7 +73,9 @@ pub returns-then-quota-ge-QUOTAS : goal.returns-then-quota-ge-QUOTAS
 returns-then-quota-ge-QUOTAS c =
     let t = c in
     record {
-      holds = claim_numbered (surveyed (goal.at.returns-then-quota-ge-QUOTAS c).After-survey-known) (accepts (goal.at.returns-then-quota-ge-QUOTAS c).In_default) c.if-quota-ge-QUOTAS.true _ refl;
+      holds =
+          claim_numbered (surveyed (goal.at.returns-then-quota-ge-QUOTAS c).After-survey-known) (accepts (goal.at.returns-then-quota-ge-QUOTAS c).In_default)
+          c.if-quota-ge-QUOTAS.true _ refl;
       pads = padded_same t.args.words.now;
     }
 
@@ -84,7 +86,9 @@ returns-then-permissions-eq0 c =
     let t = e in
     let no = ap (λ (x : ℕ). x / CLAIM % 2) (sym p.permissions.ensures) ∙ c.if-permissions-eq0.true in
     record {
-      holds = claim_barred (surveyed (goal.at.returns-then-permissions-eq0 c).After-survey-known) (accepts (goal.at.returns-then-permissions-eq0 c).In_default) e.if-quota-ge-QUOTAS.false no _ refl;
+      holds =
+          claim_barred (surveyed (goal.at.returns-then-permissions-eq0 c).After-survey-known) (accepts (goal.at.returns-then-permissions-eq0 c).In_default)
+          e.if-quota-ge-QUOTAS.false no _ refl;
       pads = padded_same t.args.words.now;
     }
 
@@ -114,7 +118,10 @@ returns-then-at-lt-HOLDS c =
     let at = y.survey-known.result.holder in
     let d = c.claim_again.ensures in
     record {
-      holds = claimed_again (surveyed (goal.at.returns-then-at-lt-HOLDS c).After-survey-known) (accepts (goal.at.returns-then-at-lt-HOLDS c).In_default) e.if-quota-ge-QUOTAS.false (may (goal.at.returns-then-at-lt-HOLDS c).Else-permissions-eq0) (object (goal.at.returns-then-at-lt-HOLDS c).After-struct_known-2-1) (finds (goal.at.returns-then-at-lt-HOLDS c).After-struct_known-2-1) at
+      holds =
+          claimed_again (surveyed (goal.at.returns-then-at-lt-HOLDS c).After-survey-known) (accepts (goal.at.returns-then-at-lt-HOLDS c).In_default)
+          e.if-quota-ge-QUOTAS.false (may (goal.at.returns-then-at-lt-HOLDS c).Else-permissions-eq0)
+          (object (goal.at.returns-then-at-lt-HOLDS c).After-struct_known-2-1) (finds (goal.at.returns-then-at-lt-HOLDS c).After-struct_known-2-1) at
           (place_at at c.if-at-lt-HOLDS.true) _
           (d.holds ∙ ap (λ (n : ℕ). claim_again at (n - 8) (accounts_of a.words.now)) (size_is (goal.at.returns-then-at-lt-HOLDS c).After-struct_known-2-1));
       pads = d.pads;
@@ -125,8 +132,11 @@ claim_first-requires c =
     let f = c in
     let t = f in
     let l = lies (goal.at.claim_first-requires c).After-struct_known-2-1 in
-    let n = size_is (goal.at.claim_first-requires c).After-struct_known-2-1 in
-    (omega (arith, l.header, l.end), ((surveyed (goal.at.claim_first-requires c).After-survey-known).known (accepts (goal.at.claim_first-requires c).In_default)).low)
+    let n = size_is (goal.at.claim_first-requires c).After-struct_known-2-1 in (
+      omega (arith, l.header, l.end),
+      ((surveyed (goal.at.claim_first-requires c).After-survey-known).known
+          (accepts (goal.at.claim_first-requires c).In_default)).low,
+    )
 
 pub returns : goal.returns
 returns c =
@@ -140,7 +150,14 @@ returns c =
     let k = accounts_of a.words.now in
     let d = c.claim_first.ensures in
     record {
-      holds = claimed_anew g (accepts (goal.at.returns c).In_default) e.if-quota-ge-QUOTAS.false (may (goal.at.returns c).Else-permissions-eq0) (object (goal.at.returns c).After-struct_known-2-1) (finds (goal.at.returns c).After-struct_known-2-1) (place_nothing at c.if-at-lt-HOLDS.false) _
-          (d.holds ∙ (λ i. claim_first a.quota (record { serial = serial i; quota = a.quota % 256; count = 1 }) (size_is (goal.at.returns c).After-struct_known-2-1 i - 8) k));
+      holds =
+          claimed_anew g (accepts (goal.at.returns c).In_default) e.if-quota-ge-QUOTAS.false (may (goal.at.returns c).Else-permissions-eq0)
+          (object (goal.at.returns c).After-struct_known-2-1) (finds (goal.at.returns c).After-struct_known-2-1) (place_nothing at c.if-at-lt-HOLDS.false) _
+          (d.holds ∙ (λ i. claim_first a.quota (record {
+            serial =
+                serial i;
+            quota = a.quota % 256;
+            count = 1;
+          }) (size_is (goal.at.returns c).After-struct_known-2-1 i - 8) k));
       pads = d.pads;
     }

@@ -55,7 +55,8 @@ returns-then-quota-ge-QUOTAS c =
     let k = accounts_of w in
     let u = table (edition_of w) in
     let n = verdict_of y.survey-known.result.refusal in
-    let by = all_by_quota u a.heap.now k a.quota n y.survey-known.ensures.told (accepts (goal.at.returns-then-quota-ge-QUOTAS c).In_default) c.if-quota-ge-QUOTAS.true in
+    let by = all_by_quota u a.heap.now k a.quota n y.survey-known.ensures.told (accepts (goal.at.returns-then-quota-ge-QUOTAS c).In_default)
+    c.if-quota-ge-QUOTAS.true in
     record {
       holds = all_refuses u a.heap.now k a.quota _ QuotaNumber refl by;
       pads = padded_same w;
@@ -73,7 +74,8 @@ returns-then-permissions-eq0 c =
     let u = table (edition_of w) in
     let n = verdict_of y.survey-known.result.refusal in
     let no = ap (λ (z : ℕ). z / FREE_ALL % 2) (sym p.permissions.ensures) ∙ c.if-permissions-eq0.true in
-    let by = all_by_permission u a.heap.now k a.quota n y.survey-known.ensures.told (accepts (goal.at.returns-then-permissions-eq0 c).In_default) e.if-quota-ge-QUOTAS.false no in
+    let by = all_by_permission u a.heap.now k a.quota n y.survey-known.ensures.told (accepts (goal.at.returns-then-permissions-eq0 c).In_default)
+    e.if-quota-ge-QUOTAS.false no in
     record {
       holds = all_refuses u a.heap.now k a.quota _ NotPermitted refl by;
       pads = padded_same w;

@@ -11,7 +11,8 @@ use Rattle.holding.proofs.freeing.free_unkept.Given as goal
 
 abbrev pub invariant-loop-i : goal.invariant-loop-i
 invariant-loop-i l =
-    (length l.heap ≡ length l.initial.heap) × ((hs : List Hold) (bs : List Block) → Emptying l.kind hs bs l.kept 0 0 l.initial.heap → Emptying l.kind hs bs l.kept l.i l.at l.heap)
+    (length l.heap ≡ length l.initial.heap) × ((hs : List Hold) (bs : List Block) → Emptying l.kind hs bs l.kept 0 0 l.initial.heap → Emptying l.kind hs bs
+    l.kept l.i l.at l.heap)
 
 abbrev pub decreases-loop-i : goal.decreases-loop-i
 decreases-loop-i l = 32768 - l.at

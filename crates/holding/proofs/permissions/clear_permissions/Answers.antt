@@ -48,6 +48,7 @@ returns c =
     let d = c.clear_permissions.ensures in
     record {
       holds = clear_gives (table (edition_of w)) a.heap.now (accounts_of w) a.quota a.bits (verdict_of y.survey-known.result.refusal)
-          y.survey-known.ensures.told (accepts (goal.at.returns c).In_default) e.if-quota-ge-QUOTAS.false _ p.left_permissions-left.result d.holds p.left_permissions-left.ensures _ refl;
+          y.survey-known.ensures.told (accepts (goal.at.returns c).In_default) e.if-quota-ge-QUOTAS.false _ p.left_permissions-left.result d.holds
+          p.left_permissions-left.ensures _ refl;
       pads = d.pads;
     }

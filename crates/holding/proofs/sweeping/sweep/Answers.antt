@@ -38,7 +38,8 @@ returns-in-Refused c =
     let a = y.args in
     let w = a.words.now in
     let x = c in
-    sweep_refuses (table (edition_of w)) a.heap.now (accounts_of w) (verdict_of y.survey-known.result.refusal) y.survey-known.ensures.told _ x.in-Refused.refusal refl
+    sweep_refuses (table (edition_of w)) a.heap.now (accounts_of w) (verdict_of y.survey-known.result.refusal) y.survey-known.ensures.told _
+    x.in-Refused.refusal refl
     (sym v.verdict.ensures ∙ x.in-Refused.is)
 
 pub sweep_blocks-sum-requires : goal.sweep_blocks-sum-requires
@@ -57,5 +58,6 @@ returns c =
     let y = t in
     let a = y.args in
     let w = a.words.now in
-    sweep_gives (table (edition_of w)) a.heap.now (accounts_of w) (octets (goal.at.returns c).After-slice_known-1) (verdict_of y.survey-known.result.refusal) y.survey-known.ensures.told
+    sweep_gives (table (edition_of w)) a.heap.now (accounts_of w) (octets (goal.at.returns c).After-slice_known-1) (verdict_of y.survey-known.result.refusal)
+    y.survey-known.ensures.told
     (accepts (goal.at.returns c).In_default) _ b.sweep_blocks-sum.result b.sweep_blocks-sum.ensures _ refl

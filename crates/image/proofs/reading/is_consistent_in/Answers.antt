@@ -22,12 +22,14 @@ pub returns-in_default : goal.returns-in_default
 returns-in_default c =
     let k = c in
     let s = k in
-    check_unsound (heap (goal.at.returns-in_default c).Start) (heap (goal.at.returns-in_default c).Start) (accounts_of s.args.words.now) k.check_in_frames.result k.check_in_frames.ensures refl
+    check_unsound (heap (goal.at.returns-in_default c).Start) (heap (goal.at.returns-in_default c).Start) (accounts_of s.args.words.now)
+    k.check_in_frames.result k.check_in_frames.ensures refl
     (ap allowed (length_padded s.args.size (stream (goal.at.returns-in_default c).Start)) ∙ s.requires) c.in_default.field-0 c.in_default.is
 
 pub returns : goal.returns
 returns c =
     let k = c in
     let s = k in
-    check_consistent (heap (goal.at.returns c).Start) (heap (goal.at.returns c).Start) (accounts_of s.args.words.now) k.check_in_frames.result k.check_in_frames.ensures refl
+    check_consistent (heap (goal.at.returns c).Start) (heap (goal.at.returns c).Start) (accounts_of s.args.words.now) k.check_in_frames.result
+    k.check_in_frames.ensures refl
     c.in-Accepted.is

@@ -13,7 +13,8 @@ use Rattle.image.proofs.records.read_records.Given as goal
 
 abbrev pub invariant-loop-i : goal.invariant-loop-i
 invariant-loop-i l =
-    (l.i ≤ l.count) × (length l.holds ≡ HOLDS) × ((f : Form) → l.holds ≡ each record_of record_width l.i (drop l.at (stream_of l.image)) ++ drop l.i (blank f).holds)
+    (l.i ≤ l.count) × (length l.holds ≡ HOLDS) × ((f : Form) → l.holds ≡ each record_of record_width l.i (drop l.at (stream_of l.image)) ++ drop l.i
+    (blank f).holds)
 
 abbrev pub decreases-loop-i : goal.decreases-loop-i
 decreases-loop-i l = l.count - l.i

@@ -68,13 +68,15 @@ returns-in-Refused c =
     let v = c in
     let x = c in
     let k = accounts_of v.args.words.now in
-    claim_refuses x.in-Refused.refusal (claim_checked (surveyed (goal.at.returns-in-Refused c).After-survey-known) x.in-Refused.refusal (sym v.verdict.ensures ∙ x.in-Refused.is) (not_claimed x.in-Refused.refusal k) refl)
+    claim_refuses x.in-Refused.refusal (claim_checked (surveyed (goal.at.returns-in-Refused c).After-survey-known) x.in-Refused.refusal
+    (sym v.verdict.ensures ∙ x.in-Refused.is) (not_claimed x.in-Refused.refusal k) refl)
 
 pub returns-then-quota-ge-QUOTAS : goal.returns-then-quota-ge-QUOTAS
 returns-then-quota-ge-QUOTAS c =
     let t = c in
     let k = accounts_of t.args.words.now in
-    claim_refuses QuotaNumber (claim_numbered (surveyed (goal.at.returns-then-quota-ge-QUOTAS c).After-survey-known) (accepts (goal.at.returns-then-quota-ge-QUOTAS c).In_default) c.if-quota-ge-QUOTAS.true (not_claimed QuotaNumber k) refl)
+    claim_refuses QuotaNumber (claim_numbered (surveyed (goal.at.returns-then-quota-ge-QUOTAS c).After-survey-known)
+    (accepts (goal.at.returns-then-quota-ge-QUOTAS c).In_default) c.if-quota-ge-QUOTAS.true (not_claimed QuotaNumber k) refl)
 
 pub returns-then-permissions-eq0 : goal.returns-then-permissions-eq0
 returns-then-permissions-eq0 c =
@@ -83,7 +85,8 @@ returns-then-permissions-eq0 c =
     let t = e in
     let no = ap (λ (x : ℕ). x / CLAIM % 2) (sym p.permissions.ensures) ∙ c.if-permissions-eq0.true in
     let k = accounts_of t.args.words.now in
-    claim_refuses NotPermitted (claim_barred (surveyed (goal.at.returns-then-permissions-eq0 c).After-survey-known) (accepts (goal.at.returns-then-permissions-eq0 c).In_default) e.if-quota-ge-QUOTAS.false no (not_claimed NotPermitted k) refl)
+    claim_refuses NotPermitted (claim_barred (surveyed (goal.at.returns-then-permissions-eq0 c).After-survey-known)
+    (accepts (goal.at.returns-then-permissions-eq0 c).In_default) e.if-quota-ge-QUOTAS.false no (not_claimed NotPermitted k) refl)
 
 pub returns-then-not-known : goal.returns-then-not-known
 returns-then-not-known c =
@@ -92,7 +95,8 @@ returns-then-not-known c =
     let ok = accepts (goal.at.returns-then-not-known c).In_default in
     let none = is_missing g ok (not-true _ c.if-not-known.true) in
     let k = accounts_of e.args.words.now in
-    claim_refuses NoSuchObject (claim_missed g ok e.if-quota-ge-QUOTAS.false (may (goal.at.returns-then-not-known c).Else-permissions-eq0) none (not_claimed NoSuchObject k) refl)
+    claim_refuses NoSuchObject (claim_missed g ok e.if-quota-ge-QUOTAS.false (may (goal.at.returns-then-not-known c).Else-permissions-eq0) none
+    (not_claimed NoSuchObject k) refl)
 
 pub overflow_sub-length : goal.overflow_sub-length
 overflow_sub-length c = let l = lies c in let n = size_is c in omega (arith, l.header)
@@ -110,7 +114,9 @@ returns-then-at-lt-HOLDS c =
     let few = e.if-quota-ge-QUOTAS.false in
     let r = claim_again at ((object (goal.at.returns-then-at-lt-HOLDS c).After-struct_known-2-1).size - 8) (accounts_of a.words.now) in
     claim_tells r
-    (claimed_again (surveyed (goal.at.returns-then-at-lt-HOLDS c).After-survey-known) (accepts (goal.at.returns-then-at-lt-HOLDS c).In_default) few (may (goal.at.returns-then-at-lt-HOLDS c).Else-permissions-eq0) (object (goal.at.returns-then-at-lt-HOLDS c).After-struct_known-2-1) (finds (goal.at.returns-then-at-lt-HOLDS c).After-struct_known-2-1) at (place_at at c.if-at-lt-HOLDS.true) r refl)
+    (claimed_again (surveyed (goal.at.returns-then-at-lt-HOLDS c).After-survey-known) (accepts (goal.at.returns-then-at-lt-HOLDS c).In_default) few
+    (may (goal.at.returns-then-at-lt-HOLDS c).Else-permissions-eq0) (object (goal.at.returns-then-at-lt-HOLDS c).After-struct_known-2-1)
+    (finds (goal.at.returns-then-at-lt-HOLDS c).After-struct_known-2-1) at (place_at at c.if-at-lt-HOLDS.true) r refl)
     (verdict_values c.can_count.result) (c.can_count.ensures ((object (goal.at.returns-then-at-lt-HOLDS c).After-struct_known-2-1).size - 8))
 
 pub can_pay-requires : goal.can_pay-requires
@@ -133,6 +139,7 @@ returns c =
     let k = accounts_of a.words.now in
     let r = claim_first a.quota hold ((object (goal.at.returns c).After-struct_known-2-1).size - 8) k in
     claim_tells r
-    (claimed_anew (surveyed (goal.at.returns c).After-survey-known) (accepts (goal.at.returns c).In_default) few (may (goal.at.returns c).Else-permissions-eq0) (object (goal.at.returns c).After-struct_known-2-1) (finds (goal.at.returns c).After-struct_known-2-1) (place_nothing at c.if-at-lt-HOLDS.false) r refl)
+    (claimed_anew (surveyed (goal.at.returns c).After-survey-known) (accepts (goal.at.returns c).In_default) few (may (goal.at.returns c).Else-permissions-eq0)
+    (object (goal.at.returns c).After-struct_known-2-1) (finds (goal.at.returns c).After-struct_known-2-1) (place_nothing at c.if-at-lt-HOLDS.false) r refl)
     (verdict_values c.can_pay.result)
     (c.can_pay.ensures hold ∙ ap (λ (n : ℕ). refusal_in (claim_first a.quota hold (n - 8) k)) (size_is (goal.at.returns c).After-struct_known-2-1))

@@ -1,6 +1,5 @@
 use borrow.Author.Tests.{eq-eqb, ne_eqb}
 use native.Mathlib.Omega.{arith}
-use Prim.Native.Nat.{◌-◌}
 use mathlib.Core.Path.{◌≡◌, ap, sym, ◌∙◌}
 use Rattle.layout.specs.Blocks.{start_at}
 use Rattle.layout.specs.declared.Start.TheVariants.{Block as Starts}
@@ -47,7 +46,8 @@ returns-then-place-at c =
     let l = h in
     let a = l.args in
     sym (ap answered (search_found (stands_at a.at) a.heap.now l.loop-header.place l.loop-header.invariant (headed l.loop-header.place h.in-Block.header)
-    (met_block l.loop-header.place a.heap.now h.in-Block.header (found (goal.at.returns-then-place-at c).After-struct_known-1)) (eq-eqb l.loop-header.place a.at c.if-place-at.true)))
+    (met_block l.loop-header.place a.heap.now h.in-Block.header (found (goal.at.returns-then-place-at c).After-struct_known-1))
+    (eq-eqb l.loop-header.place a.at c.if-place-at.true)))
 
 pub overflow_add-place : goal.overflow_add-place
 overflow_add-place c =
@@ -67,4 +67,5 @@ loop-header-preserved c =
     let l = h in
     let a = l.args in
     search_passed (stands_at a.at) a.heap.now l.loop-header.place l.loop-header.invariant (headed l.loop-header.place h.in-Block.header)
-    (met_block l.loop-header.place a.heap.now h.in-Block.header (found (goal.at.loop-header-preserved c).After-struct_known-1)) (ne_eqb l.loop-header.place a.at c.if-place-at.false)
+    (met_block l.loop-header.place a.heap.now h.in-Block.header (found (goal.at.loop-header-preserved c).After-struct_known-1))
+    (ne_eqb l.loop-header.place a.at c.if-place-at.false)

@@ -68,9 +68,12 @@ returns-in-Refused-can_claim c =
     let k = accounts_of w in
     let unit = table (edition_of w) in
     let x = c in
-    let no = ap (λ (q : ℕ). (claim unit s k q a.handle).values.refusal) (sym r.word_at-receiver.ensures) ∙ answer-is p.can_claim.ensures x.in-Refused-can_claim.is in
+    let no = ap (λ (q : ℕ). (claim unit s k q a.handle).values.refusal) (sym r.word_at-receiver.ensures) ∙ answer-is p.can_claim.ensures
+    x.in-Refused-can_claim.is in
     record {
-      holds = send_unclaimed unit s k (queue_of a.queue.now) a.handle (whole (goal.at.returns-in-Refused-can_claim c).Else-count-eq-PLACES) (not_full (goal.at.returns-in-Refused-can_claim c).Else-count-eq-PLACES) (refusal_number x.in-Refused-can_claim.first) no
+      holds =
+          send_unclaimed unit s k (queue_of a.queue.now) a.handle (whole (goal.at.returns-in-Refused-can_claim c).Else-count-eq-PLACES)
+          (not_full (goal.at.returns-in-Refused-can_claim c).Else-count-eq-PLACES) (refusal_number x.in-Refused-can_claim.first) no
           (refusal_number_is x.in-Refused-can_claim.first).1;
       pads = padded_same w;
     }
@@ -95,7 +98,9 @@ returns-in-Refused c =
     ap (λ (q : ℕ). (can_release unit s k q a.handle).values.refusal) (sym r.word_at-sender.ensures)
     ∙ answer-is v.can_release.ensures x.in-Refused.is in
     record {
-      holds = send_unreleased unit s k (queue_of a.queue.now) a.handle (whole (goal.at.returns-in-Refused c).Else-count-eq-PLACES) (not_full (goal.at.returns-in-Refused c).Else-count-eq-PLACES) claims (refusal_number x.in-Refused.refusal) no
+      holds =
+          send_unreleased unit s k (queue_of a.queue.now) a.handle (whole (goal.at.returns-in-Refused c).Else-count-eq-PLACES)
+          (not_full (goal.at.returns-in-Refused c).Else-count-eq-PLACES) claims (refusal_number x.in-Refused.refusal) no
           (refusal_number_is x.in-Refused.refusal).1;
       pads = padded_same w;
     }
@@ -115,11 +120,13 @@ returns-in-Refused-claim c =
     let u = queue_of a.queue.now in
     let unit = table (edition_of w) in
     let x = c in
-    let n : (amount_values d.claim.result).refusal ≡ refusal_number x.in-Refused-claim.refusal = ap (λ (y : AmountAnswer). (amount_values y).refusal) x.in-Refused-claim.is in
+    let n : (amount_values d.claim.result).refusal ≡ refusal_number x.in-Refused-claim.refusal = ap (λ (y : AmountAnswer). (amount_values y).refusal)
+    x.in-Refused-claim.is in
     let made = d.claim.ensures.holds ∙ ap (λ (q : ℕ). claim unit s k q a.handle) r.word_at-receiver.ensures in
     record {
       holds = ap (kept s k₁ u) (sym n)
-          ∙ send_stopped unit s k u a.handle (whole (goal.at.returns-in-Refused-claim c).Else-count-eq-PLACES) (not_full (goal.at.returns-in-Refused-claim c).Else-count-eq-PLACES) k₁ (amount_values d.claim.result) made
+          ∙ send_stopped unit s k u a.handle (whole (goal.at.returns-in-Refused-claim c).Else-count-eq-PLACES)
+          (not_full (goal.at.returns-in-Refused-claim c).Else-count-eq-PLACES) k₁ (amount_values d.claim.result) made
           (omega (arith, n, (refusal_number_is x.in-Refused-claim.refusal).1));
       pads = d.claim.ensures.pads;
     }
@@ -154,7 +161,8 @@ returns c =
     ∙ ap (λ (q : ℕ). release unit s k₁ q a.handle) r.word_at-sender.ensures in
     record {
       holds = ap (λ (u : Queue). record { heap = s'; accounts = k₂; queue = u; refusal = 0 }) c.put_handle.ensures
-          ∙ send_made unit s k (queue_of a.queue.now) a.handle (whole (goal.at.returns c).Else-count-eq-PLACES) (not_full (goal.at.returns c).Else-count-eq-PLACES) claims s' k₁ k₂
+          ∙ send_made unit s k (queue_of a.queue.now) a.handle (whole (goal.at.returns c).Else-count-eq-PLACES)
+          (not_full (goal.at.returns c).Else-count-eq-PLACES) claims s' k₁ k₂
           (amount_values d.claim.result) (amount_values f.release.result) made releases freed;
       pads = padded_on d.claim.ensures.pads f.release.ensures.pads;
     }

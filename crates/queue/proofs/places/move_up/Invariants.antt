@@ -9,7 +9,8 @@ use Rattle.queue.proofs.places.move_up.Given as goal
 abbrev pub invariant-loop-i : goal.invariant-loop-i
 invariant-loop-i l =
     (FIRST ≤ l.i) × (l.i ≤ LAST) × (length l.queue ≡ QUEUE_WORD_COUNT) × ((j : ℕ) → j < FIRST → get_or l.queue j 0 ≡ get_or l.initial.queue j 0)
-    × ((j : ℕ) → FIRST ≤ j → j < l.i → get_or l.queue j 0 ≡ get_or l.initial.queue (j + 3) 0) × ((j : ℕ) → l.i ≤ j → get_or l.queue j 0 ≡ get_or l.initial.queue j 0)
+    × ((j : ℕ) → FIRST ≤ j → j < l.i → get_or l.queue j 0 ≡ get_or l.initial.queue (j + 3) 0) ×
+    ((j : ℕ) → l.i ≤ j → get_or l.queue j 0 ≡ get_or l.initial.queue j 0)
 
 abbrev pub decreases-loop-i : goal.decreases-loop-i
 decreases-loop-i l = LAST - l.i

@@ -38,7 +38,8 @@ pub returns-then-not-is_rest_zero : goal.returns-then-not-is_rest_zero
 returns-then-not-is_rest_zero c =
     let e = c in
     let a = e.args in
-    line_reserved (drop a.at a.text.now) (right (goal.at.returns-then-not-is_rest_zero c).Else-not-is_line) (rest a.text.now a.at c.is_rest_zero.result c.is_rest_zero.ensures
+    line_reserved (drop a.at a.text.now) (right (goal.at.returns-then-not-is_rest_zero c).Else-not-is_line)
+    (rest a.text.now a.at c.is_rest_zero.result c.is_rest_zero.ensures
     ∙ not-true c.is_rest_zero.result c.if-not-is_rest_zero.true-raw)
 
 pub read_word-requires : goal.read_word-requires

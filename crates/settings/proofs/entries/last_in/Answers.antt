@@ -34,8 +34,11 @@ pub loop-at-preserved : goal.loop-at-preserved
 loop-at-preserved c =
     let at = c in
     let e = c.in-Whole.entry in
-    let r = at.loop-at.invariant.0 in
-    (r ++ (e ∷ []), walk_more at.args.store.now r at.loop-at.last at.loop-at.at at.loop-at.invariant.1 (omega arith) e (turn (goal.at.loop-at-preserved c).In-Whole))
+    let r = at.loop-at.invariant.0 in (
+      r ++ (e ∷ []),
+      walk_more at.args.store.now r at.loop-at.last at.loop-at.at at.loop-at.invariant.1 (omega arith) e
+          (turn (goal.at.loop-at-preserved c).In-Whole),
+    )
 
 pub returns : goal.returns
 unfolding last_of

@@ -39,7 +39,8 @@ returns-then-is_sought c =
     let b = c in
     let s = b in
     let a = s.args in
-    trace_hit s.requires.0 a.own a.serial a.quota b.loop-at.invariant b.if-serial-eq0.false b.loop-at-test.true (tests (goal.at.returns-then-is_sought c).After-is_sought) c.if-is_sought.true
+    trace_hit s.requires.0 a.own a.serial a.quota b.loop-at.invariant b.if-serial-eq0.false b.loop-at-test.true
+    (tests (goal.at.returns-then-is_sought c).After-is_sought) c.if-is_sought.true
 
 pub link_in-at-requires : goal.link_in-at-requires
 link_in-at-requires c = c.loop-at-test.true
@@ -57,7 +58,8 @@ loop-at-preserved c =
     let b = e in
     let s = b in
     let a = s.args in
-    trace_on s.requires.0 a.own a.serial a.quota b.loop-at.invariant b.if-serial-eq0.false b.loop-at-test.true (tests (goal.at.loop-at-preserved c).After-is_sought) e.if-is_sought.false
+    trace_on s.requires.0 a.own a.serial a.quota b.loop-at.invariant b.if-serial-eq0.false b.loop-at-test.true
+    (tests (goal.at.loop-at-preserved c).After-is_sought) e.if-is_sought.false
     c.link_in-at.ensures.0
 
 pub returns : goal.returns

@@ -52,7 +52,8 @@ returns-then-not-numbers c =
     let r = t in
     let s = r in
     ap verdict_values c.verdict-then-not-numbers.ensures
-    ∙ verdict_range (table (edition_of s.args.words.now)) (heap (goal.at.returns-then-not-numbers c).Start) (accounts_of s.args.words.now) (allows (goal.at.returns-then-not-numbers c).After-numbers_in-numbers)
+    ∙ verdict_range (table (edition_of s.args.words.now)) (heap (goal.at.returns-then-not-numbers c).Start) (accounts_of s.args.words.now)
+    (allows (goal.at.returns-then-not-numbers c).After-numbers_in-numbers)
     (sym r.numbers_in-numbers.ensures.0 ∙ not-true _ t.if-not-numbers.true)
 
 pub index-tally-requires : goal.index-tally-requires
@@ -75,7 +76,9 @@ returns-then-not-tally c =
     let r = i in
     let s = r in
     ap verdict_values c.verdict-then-not-tally.ensures
-    ∙ verdict_ill (table (edition_of s.args.words.now)) (heap (goal.at.returns-then-not-tally c).Start) (accounts_of s.args.words.now) (allows (goal.at.returns-then-not-tally c).After-numbers_in-numbers) (ranged (goal.at.returns-then-not-tally c).After-index-tally) (quotas_long s.args.words.now)
+    ∙ verdict_ill (table (edition_of s.args.words.now)) (heap (goal.at.returns-then-not-tally c).Start) (accounts_of s.args.words.now)
+    (allows (goal.at.returns-then-not-tally c).After-numbers_in-numbers) (ranged (goal.at.returns-then-not-tally c).After-index-tally)
+    (quotas_long s.args.words.now)
     (told (goal.at.returns-then-not-tally c).After-index-tally false (not-true _ t.if-not-tally.true))
 
 owes-all : (c : After-owing) (t : Bool) → c.owing.result ≡ t → Owing (quotas_of c.args.words.now) t c.owing.new.owed
@@ -90,7 +93,9 @@ returns-then-not-owing c =
     let r = i in
     let s = r in
     ap verdict_values c.verdict-then-not-owing.ensures
-    ∙ verdict_insolvent (table (edition_of s.args.words.now)) (heap (goal.at.returns-then-not-owing c).Start) (accounts_of s.args.words.now) (allows (goal.at.returns-then-not-owing c).After-numbers_in-numbers) (ranged (goal.at.returns-then-not-owing c).After-index-tally) (quotas_long s.args.words.now)
+    ∙ verdict_insolvent (table (edition_of s.args.words.now)) (heap (goal.at.returns-then-not-owing c).Start) (accounts_of s.args.words.now)
+    (allows (goal.at.returns-then-not-owing c).After-numbers_in-numbers) (ranged (goal.at.returns-then-not-owing c).After-index-tally)
+    (quotas_long s.args.words.now)
     (owes-all (goal.at.returns-then-not-owing c).After-owing false (not-true _ t.if-not-owing.true-raw))
 
 told_2 : (c : After-left-1) (t : Bool) → c.index-tally.result.fine ≡ t
@@ -163,7 +168,8 @@ pub returns-then-not-walk_frames : goal.returns-then-not-walk_frames
 unfolding verdict_of
 returns-then-not-walk_frames c =
     let t = c in
-    ap verdict_values c.verdict-then-not-walk_frames.ensures ∙ decided (goal.at.returns-then-not-walk_frames c).After-walk_frames false (not-true _ t.if-not-walk_frames.true-raw)
+    ap verdict_values c.verdict-then-not-walk_frames.ensures ∙ decided (goal.at.returns-then-not-walk_frames c).After-walk_frames false
+    (not-true _ t.if-not-walk_frames.true-raw)
 
 pub returns : goal.returns
 unfolding verdict_of

@@ -28,7 +28,12 @@ loop-at-init c =
     let s = c in
     let a = s.args in (
       omega arith,
-      walking_start (table a.edition) a.kind a.last (heap (goal.at.loop-at-init c).Start) (record { inside = omega arith; even = refl; ready = s.requires.2 }) 0 1 refl,
+      walking_start (table a.edition) a.kind a.last (heap (goal.at.loop-at-init c).Start) (record {
+        inside =
+            omega arith;
+        even = refl;
+        ready = s.requires.2;
+      }) 0 1 refl,
     )
 
 pub overflow_add-at : goal.overflow_add-at
@@ -67,7 +72,12 @@ pub returns-then-size-at : goal.returns-then-size-at
 unfolding judged
 returns-then-size-at c =
     let h = c in
-    sym (one_fails _ _ (walking_long h.loop-at.invariant.1 (read (goal.at.returns-then-size-at c).After-header_in-header) (some-rest (goal.at.returns-then-size-at c).After-header_in-header) (omega (arith, rest-long (goal.at.returns-then-size-at c).After-header_in-header, c.if-size-at.true))))
+    sym (one_fails _ _ (walking_long h.loop-at.invariant.1 (read (goal.at.returns-then-size-at c).After-header_in-header)
+    (some-rest (goal.at.returns-then-size-at c).After-header_in-header) (omega (
+      arith,
+      rest-long (goal.at.returns-then-size-at c).After-header_in-header,
+      c.if-size-at.true,
+    ))))
 
 abbrev heap_3 : Else-size-at → List ℕ
 heap_3 c = heap_in c.args.from c.args.size c.args.image.now
@@ -93,7 +103,9 @@ unfolding judged
 returns-then-header-back c =
     let f = c in
     let h = f in
-    sym (one_fails _ _ (walking_back h.loop-at.invariant.1 (read (goal.at.returns-then-header-back c).After-header_in-header) (some-rest (goal.at.returns-then-header-back c).After-header_in-header) (fits (goal.at.returns-then-header-back c).Else-size-at) (λ e. omega (arith, c.if-header-back.true))))
+    sym (one_fails _ _ (walking_back h.loop-at.invariant.1 (read (goal.at.returns-then-header-back c).After-header_in-header)
+    (some-rest (goal.at.returns-then-header-back c).After-header_in-header) (fits (goal.at.returns-then-header-back c).Else-size-at)
+    (λ e. omega (arith, c.if-header-back.true))))
 
 pub overflow_add-end : goal.overflow_add-end
 overflow_add-end c =
@@ -165,7 +177,9 @@ unfolding judged
 returns-then-not-visit c =
     let v = c in
     let h = v in
-    sym (walking_fails h.loop-at.invariant.1 (read (goal.at.returns-then-not-visit c).After-header_in-header) (some-rest (goal.at.returns-then-not-visit c).After-header_in-header) (fits (goal.at.returns-then-not-visit c).Else-size-at) (beyond (goal.at.returns-then-not-visit c).After-visit) (same_back (goal.at.returns-then-not-visit c).After-visit)
+    sym (walking_fails h.loop-at.invariant.1 (read (goal.at.returns-then-not-visit c).After-header_in-header)
+    (some-rest (goal.at.returns-then-not-visit c).After-header_in-header) (fits (goal.at.returns-then-not-visit c).Else-size-at)
+    (beyond (goal.at.returns-then-not-visit c).After-visit) (same_back (goal.at.returns-then-not-visit c).After-visit)
     (visited (goal.at.returns-then-not-visit c).After-visit false (not-true _ c.if-not-visit.true-raw)))
 
 abbrev Answers_2 : Else-not-visit → ℕ → Bool → Type 0
@@ -212,7 +226,9 @@ loop-at-preserved c =
     let v = c in
     let h = v in (
       within (goal.at.loop-at-preserved c).After-visit,
-      walking_on h.loop-at.invariant.1 (read (goal.at.loop-at-preserved c).After-header_in-header) (some-rest (goal.at.loop-at-preserved c).After-header_in-header) (fits (goal.at.loop-at-preserved c).Else-size-at) (beyond (goal.at.loop-at-preserved c).After-visit) (answer c) (same_back (goal.at.loop-at-preserved c).After-visit),
+      walking_on h.loop-at.invariant.1 (read (goal.at.loop-at-preserved c).After-header_in-header)
+          (some-rest (goal.at.loop-at-preserved c).After-header_in-header) (fits (goal.at.loop-at-preserved c).Else-size-at)
+          (beyond (goal.at.loop-at-preserved c).After-visit) (answer c) (same_back (goal.at.loop-at-preserved c).After-visit),
     )
 
 pub is_settled-requires : goal.is_settled-requires

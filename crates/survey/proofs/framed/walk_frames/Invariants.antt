@@ -15,7 +15,8 @@ abbrev pub invariant-loop-at : goal.invariant-loop-at
 invariant-loop-at l =
     let s = heap_in l.from l.size l.image in
     (l.at ≤ l.size)
-    × Walking (table l.edition) l.kind l.last s l.words (audit_parsed l.last (cut 0 (drop 0 s)) (some (behind 1 (keys_left l.words l.initial.heads l.initial.links) l.initial.owed)))
+    × Walking (table l.edition) l.kind l.last s l.words (audit_parsed l.last (cut 0 (drop 0 s))
+    (some (behind 1 (keys_left l.words l.initial.heads l.initial.links) l.initial.owed)))
     (fitting (table l.edition) l.kind 0 (cut 0 (drop 0 s))) l.heads l.links l.owed l.left l.before l.back (drop l.at s)
 
 abbrev pub decreases-loop-at : goal.decreases-loop-at

@@ -23,4 +23,5 @@ pub returns : goal.returns
 returns c =
     let e = c in
     let s = e in
-    held_found (holds_of s.args.words.now) s.args.serial c.on_path.result (indexed (goal.at.returns c).Start true (not-false _ e.if-not-fine.false-raw)).1 c.on_path.ensures
+    held_found (holds_of s.args.words.now) s.args.serial c.on_path.result (indexed (goal.at.returns c).Start true (not-false _ e.if-not-fine.false-raw)).1
+    c.on_path.ensures

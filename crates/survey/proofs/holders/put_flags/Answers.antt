@@ -55,7 +55,8 @@ loop-i-preserved-then-is_live c =
     let next = l.at + 8 * h.in-Block.header.size in
     subst (λ (x : Bool). Flagging (holds_of a.words.now) a.heap.now a.kept.now (l.i + 1) next (set l.kept l.i x))
     (sym c.is_held.ensures)
-    (flagging_live l.invariant h.in-Block.header (found (goal.at.loop-i-preserved-then-is_live c).In-Block) h.loop-i-test.true (sym t.is_live.ensures ∙ t.if-is_live.true))
+    (flagging_live l.invariant h.in-Block.header (found (goal.at.loop-i-preserved-then-is_live c).In-Block) h.loop-i-test.true
+    (sym t.is_live.ensures ∙ t.if-is_live.true))
 
 pub overflow_mul-at-else-is_live : goal.overflow_mul-at-else-is_live
 overflow_mul-at-else-is_live c = let f = fits (goal.at.overflow_mul-at-else-is_live c).In-Block in omega arith

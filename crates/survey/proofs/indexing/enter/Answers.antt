@@ -52,12 +52,17 @@ above : (c : Else-head-lt-HOLDS) → HOLDS ≤ c.head_in-head.result
 above c = omega (arith, c.if-head-lt-HOLDS.false)
 
 pub overflow_sub-head : goal.overflow_sub-head
-overflow_sub-head c = (forked (goal.at.overflow_sub-head c).After-head_in-head (above (goal.at.overflow_sub-head c).Else-head-lt-HOLDS) c.if-head-eq-END.false).0
+overflow_sub-head c =
+    (forked (goal.at.overflow_sub-head c).After-head_in-head (above (goal.at.overflow_sub-head c).Else-head-lt-HOLDS) c.if-head-eq-END.false).0
 
 pub hang-requires-else-head-lt-HOLDS : goal.hang-requires-else-head-lt-HOLDS
 hang-requires-else-head-lt-HOLDS c =
-    let h = c in
-    ((forked (goal.at.hang-requires-else-head-lt-HOLDS c).After-head_in-head (above (goal.at.hang-requires-else-head-lt-HOLDS c).Else-head-lt-HOLDS) c.if-head-eq-END.false).1, h.requires.0, h.requires.2.growing)
+    let h = c in (
+      (forked (goal.at.hang-requires-else-head-lt-HOLDS c).After-head_in-head (above (goal.at.hang-requires-else-head-lt-HOLDS c).Else-head-lt-HOLDS)
+          c.if-head-eq-END.false).1,
+      h.requires.0,
+      h.requires.2.growing,
+    )
 
 -- the path is that of the record's serial
 hung : (c : After-head_in-head) {root : ℕ} {links' : List ℕ}
@@ -69,16 +74,26 @@ hung c {root} {links'} h =
 pub returns-then-head-lt-HOLDS : goal.returns-then-head-lt-HOLDS
 returns-then-head-lt-HOLDS c =
     let h = c in
-    built_fork h.requires.2 h.requires.0 (at_slot (goal.at.returns-then-head-lt-HOLDS c).After-head_in-head) (small (goal.at.returns-then-head-lt-HOLDS c).After-head_in-head) (hung (goal.at.returns-then-head-lt-HOLDS c).After-head_in-head c.hang.ensures) h.head_in-head.ensures.0 c.if-head-lt-HOLDS.true
+    built_fork h.requires.2 h.requires.0 (at_slot (goal.at.returns-then-head-lt-HOLDS c).After-head_in-head)
+    (small (goal.at.returns-then-head-lt-HOLDS c).After-head_in-head) (hung (goal.at.returns-then-head-lt-HOLDS c).After-head_in-head c.hang.ensures)
+    h.head_in-head.ensures.0 c.if-head-lt-HOLDS.true
 
 pub returns-then-head-eq-END : goal.returns-then-head-eq-END
 returns-then-head-eq-END c =
     let h = c in
-    built_alone h.requires.2 h.requires.0 (at_slot (goal.at.returns-then-head-eq-END c).After-head_in-head) (small (goal.at.returns-then-head-eq-END c).After-head_in-head) (sym h.head_in-head.ensures.0 ∙ c.if-head-eq-END.true)
+    built_alone h.requires.2 h.requires.0 (at_slot (goal.at.returns-then-head-eq-END c).After-head_in-head)
+    (small (goal.at.returns-then-head-eq-END c).After-head_in-head) (sym h.head_in-head.ensures.0 ∙ c.if-head-eq-END.true)
 
 pub returns-else-head-lt-HOLDS : goal.returns-else-head-lt-HOLDS
 returns-else-head-lt-HOLDS c =
     let h = c in
     let e = h.head_in-head.ensures.0 in
-    built_hung h.requires.2 h.requires.0 (at_slot (goal.at.returns-else-head-lt-HOLDS c).After-head_in-head) (small (goal.at.returns-else-head-lt-HOLDS c).After-head_in-head) (hung (goal.at.returns-else-head-lt-HOLDS c).After-head_in-head c.hang-else-head-lt-HOLDS.ensures) (ap (λ (x : ℕ). x - FORKED) e)
-    (omega (arith, e, (forked (goal.at.returns-else-head-lt-HOLDS c).After-head_in-head (above (goal.at.returns-else-head-lt-HOLDS c).Else-head-lt-HOLDS) c.if-head-eq-END.false).0))
+    built_hung h.requires.2 h.requires.0 (at_slot (goal.at.returns-else-head-lt-HOLDS c).After-head_in-head)
+    (small (goal.at.returns-else-head-lt-HOLDS c).After-head_in-head) (hung (goal.at.returns-else-head-lt-HOLDS c).After-head_in-head
+    c.hang-else-head-lt-HOLDS.ensures) (ap (λ (x : ℕ). x - FORKED) e)
+    (omega (
+      arith,
+      e,
+      (forked (goal.at.returns-else-head-lt-HOLDS c).After-head_in-head (above (goal.at.returns-else-head-lt-HOLDS c).Else-head-lt-HOLDS)
+          c.if-head-eq-END.false).0,
+    ))

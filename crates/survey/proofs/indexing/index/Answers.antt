@@ -63,7 +63,9 @@ returns-then-not-is_blank c =
     let b = c in
     let k = b in
     let r = c.ill_formed.result in
-    subst (Says (goal.at.returns-then-not-is_blank c).After-serial_in-serial r.low r.used) (sym c.ill_formed.ensures) (ill (goal.at.returns-then-not-is_blank c).After-serial_in-serial (blank-tests (goal.at.returns-then-not-is_blank c).After-is_blank ∙ not-true _ c.if-not-is_blank.true-raw))
+    subst (Says (goal.at.returns-then-not-is_blank c).After-serial_in-serial r.low r.used) (sym c.ill_formed.ensures)
+    (ill (goal.at.returns-then-not-is_blank c).After-serial_in-serial (blank-tests (goal.at.returns-then-not-is_blank c).After-is_blank ∙ not-true _
+    c.if-not-is_blank.true-raw))
 
 pub overflow_add-blank : goal.overflow_add-blank
 overflow_add-blank c = let t = c in omega (arith, inside (goal.at.overflow_add-blank c).In-loop-i, t.loop-i.invariant.counted)
@@ -82,7 +84,8 @@ loop-i-preserved-then-serial-eq0 c =
     let l = t.loop-i in
     let z = sym k.serial_in-serial.ensures ∙ b.if-serial-eq0.true in
     subst (λ (x : ℕ). Passed k.args.words.now l.heads l.links t.args.top (l.i + 1) x (l.blank + 1)) (sym c.lower-low.ensures)
-    (passed_blank l.invariant t.loop-i-test.true (blank-tests (goal.at.loop-i-preserved-then-serial-eq0 c).After-is_blank ∙ not-false _ c.if-not-is_blank.false-raw) z)
+    (passed_blank l.invariant t.loop-i-test.true (blank-tests (goal.at.loop-i-preserved-then-serial-eq0 c).After-is_blank ∙ not-false _
+    c.if-not-is_blank.false-raw) z)
 
 pub is_possible-requires : goal.is_possible-requires
 is_possible-requires c = inside (goal.at.is_possible-requires c).In-loop-i
@@ -92,7 +95,9 @@ returns-then-not-is_possible c =
     let b = c in
     let k = b in
     let r = c.ill_formed-then-not-is_possible.result in
-    subst (Says (goal.at.returns-then-not-is_possible c).After-serial_in-serial r.low r.used) (sym c.ill_formed-then-not-is_possible.ensures) (ill (goal.at.returns-then-not-is_possible c).After-serial_in-serial (possible-tests (goal.at.returns-then-not-is_possible c).After-is_possible ∙ not-true _ c.if-not-is_possible.true-raw))
+    subst (Says (goal.at.returns-then-not-is_possible c).After-serial_in-serial r.low r.used) (sym c.ill_formed-then-not-is_possible.ensures)
+    (ill (goal.at.returns-then-not-is_possible c).After-serial_in-serial
+    (possible-tests (goal.at.returns-then-not-is_possible c).After-is_possible ∙ not-true _ c.if-not-is_possible.true-raw))
 
 pub enter-requires : goal.enter-requires
 enter-requires c =
@@ -111,7 +116,8 @@ loop-i-preserved c =
     let e = c in
     let p = c in
     let t = e in
-    passed_used t.loop-i.invariant t.loop-i-test.true (possible-tests (goal.at.loop-i-preserved c).After-is_possible ∙ not-false _ p.if-not-is_possible.false-raw) (some-serial (goal.at.loop-i-preserved c).Else-serial-eq0) c.enter.ensures
+    passed_used t.loop-i.invariant t.loop-i-test.true (possible-tests (goal.at.loop-i-preserved c).After-is_possible ∙ not-false _
+    p.if-not-is_possible.false-raw) (some-serial (goal.at.loop-i-preserved c).Else-serial-eq0) c.enter.ensures
 
 pub overflow_sub-used : goal.overflow_sub-used
 overflow_sub-used c = let g = c.loop-i.invariant in omega (arith, g.counted, g.within)

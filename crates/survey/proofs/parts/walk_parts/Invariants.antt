@@ -14,7 +14,8 @@ Whole heap words kind edition last heads links owed = judged (table edition) kin
 
 abbrev pub invariant-loop-going : goal.invariant-loop-going
 invariant-loop-going l =
-    Touring (table l.edition) l.kind l.last l.heap l.words (Whole l.heap l.words l.kind l.edition l.last l.initial.heads l.initial.links l.initial.owed) l.first l.unit l.sought l.heads l.links l.owed l.left l.edge l.at l.back
+    Touring (table l.edition) l.kind l.last l.heap l.words (Whole l.heap l.words l.kind l.edition l.last l.initial.heads l.initial.links l.initial.owed) l.first
+    l.unit l.sought l.heads l.links l.owed l.left l.edge l.at l.back
     l.before l.fit l.need
     l.half_at l.half_back l.half_before l.going
 

@@ -54,6 +54,7 @@ returns c =
     let l = c in
     let ws = l.args.words.now in
     let h : QUOTAS ≤ l.loop-i.i = omega (arith, c.loop-i-test.false) in (
-      sym (tallied_end l.loop-i.invariant (quotas_long ws) h ∙ ap (λ (b : Bool). b && leb (l.loop-i.bits % 256) 7) (eq-eqb l.loop-i.short 0 c.if-short-ne0.false)),
+      sym (tallied_end l.loop-i.invariant (quotas_long ws) h ∙ ap (λ (b : Bool). b && leb (l.loop-i.bits % 256) 7)
+          (eq-eqb l.loop-i.short 0 c.if-short-ne0.false)),
       λ e. tallied_dues l.loop-i.invariant (quotas_long ws) h c.if-short-ne0.false,
     )

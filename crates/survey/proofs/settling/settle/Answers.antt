@@ -20,8 +20,16 @@ pub settle_path-requires : goal.settle_path-requires
 settle_path-requires c =
     let t = c in
     let h = t in
-    let s = h in
-    (s.requires.0, omega (arith, t.if-head-ge-HOLDS.true, h.head_in-head.ensures.0 ∙ ap (λ (x : ℕ). get_or s.args.heads.now x 0) (slots (goal.at.settle_path-requires c).After-head_in-head)), s.requires.1)
+    let s = h in (
+      s.requires.0,
+      omega (
+        arith,
+        t.if-head-ge-HOLDS.true,
+        h.head_in-head.ensures.0 ∙ ap (λ (x : ℕ). get_or s.args.heads.now x 0)
+            (slots (goal.at.settle_path-requires c).After-head_in-head),
+      ),
+      s.requires.1,
+    )
 
 pub returns-then-head-ge-HOLDS : goal.returns-then-head-ge-HOLDS
 returns-then-head-ge-HOLDS c = c.settle_path.ensures
@@ -37,7 +45,8 @@ returns-then-serial_in-serial c =
     let h = e in
     let s = h in
     let a = s.args in
-    alone_other s.requires.1 s.requires.0 (slots (goal.at.returns-then-serial_in-serial c).After-head_in-head) h.slot_of-slot.ensures.1 h.head_in-head.ensures.0 (alone (goal.at.returns-then-serial_in-serial c).Else-head-ge-HOLDS) a.charge a.heads.now
+    alone_other s.requires.1 s.requires.0 (slots (goal.at.returns-then-serial_in-serial c).After-head_in-head) h.slot_of-slot.ensures.1 h.head_in-head.ensures.0
+    (alone (goal.at.returns-then-serial_in-serial c).Else-head-ge-HOLDS) a.charge a.heads.now
     a.links.now a.owed.now a.left.now
     (λ q. c.if-serial_in-serial.true (k.serial_in.ensures ∙ q))
 
@@ -76,7 +85,8 @@ returns-then-not-pay c =
     let h = q in
     let s = h in
     let a = s.args in
-    alone_short s.requires.1 s.requires.0 (slots (goal.at.returns-then-not-pay c).After-head_in-head) h.slot_of-slot.ensures.1 h.head_in-head.ensures.0 (alone (goal.at.returns-then-not-pay c).Else-head-ge-HOLDS) (same (goal.at.returns-then-not-pay c).After-quota_in-quota) a.charge
+    alone_short s.requires.1 s.requires.0 (slots (goal.at.returns-then-not-pay c).After-head_in-head) h.slot_of-slot.ensures.1 h.head_in-head.ensures.0
+    (alone (goal.at.returns-then-not-pay c).Else-head-ge-HOLDS) (same (goal.at.returns-then-not-pay c).After-quota_in-quota) a.charge
     a.heads.now a.links.now p.pay.new.owed a.left.now
     q.quota_in-quota.ensures (charged (goal.at.returns-then-not-pay c).After-pay false (not-true _ c.if-not-pay.true-raw))
 
@@ -90,7 +100,8 @@ overflow_sub-left c =
     let q = c in
     let h = q in
     let s = h in
-    alone_left s.requires.1 s.requires.0 (slots (goal.at.overflow_sub-left c).After-head_in-head) h.slot_of-slot.ensures.1 h.head_in-head.ensures.0 (alone (goal.at.overflow_sub-left c).Else-head-ge-HOLDS) (same (goal.at.overflow_sub-left c).After-quota_in-quota)
+    alone_left s.requires.1 s.requires.0 (slots (goal.at.overflow_sub-left c).After-head_in-head) h.slot_of-slot.ensures.1 h.head_in-head.ensures.0
+    (alone (goal.at.overflow_sub-left c).Else-head-ge-HOLDS) (same (goal.at.overflow_sub-left c).After-quota_in-quota)
 
 pub returns : goal.returns
 returns c =
@@ -99,5 +110,6 @@ returns c =
     let h = q in
     let s = h in
     let o = charged (goal.at.returns c).After-pay true (not-false _ c.if-not-pay.false-raw) in
-    alone_paid s.requires.1 s.requires.0 (slots (goal.at.returns c).After-head_in-head) h.slot_of-slot.ensures.1 h.head_in-head.ensures.0 (alone (goal.at.returns c).Else-head-ge-HOLDS) (same (goal.at.returns c).After-quota_in-quota) s.args.charge
+    alone_paid s.requires.1 s.requires.0 (slots (goal.at.returns c).After-head_in-head) h.slot_of-slot.ensures.1 h.head_in-head.ensures.0
+    (alone (goal.at.returns c).Else-head-ge-HOLDS) (same (goal.at.returns c).After-quota_in-quota) s.args.charge
     q.quota_in-quota.ensures (few (goal.at.returns c).After-quota_in-quota) o.0 o.1

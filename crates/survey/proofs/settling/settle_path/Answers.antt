@@ -1,4 +1,5 @@
-use Rattle.std.proofs.Common.{◌≡◌, ℕ, ◌-◌, ◌/◌, ◌<◌, Bool, true, false, ◌&&◌, eqb, ltb, get_or, set, sym, refl, ap, ◌∙◌, subst, arith, le-ltb, lt-ltb, eq-eqb, ne_eqb}
+use Rattle.std.proofs.Common.{◌≡◌, ℕ, ◌-◌, ◌/◌, ◌<◌, Bool, true, false, ◌&&◌, eqb, ltb, get_or, set, sym, refl, ap, ◌∙◌, subst, arith, le-ltb, lt-ltb, eq-eqb}
+use Rattle.std.proofs.Common.{ne_eqb}
 use borrow.Author.Tests.{not-true, not-false}
 use Rattle.accounts.specs.Accounts.{QUOTAS}
 use Rattle.lists.proofs.Bools.{and_no, and_both}
@@ -9,7 +10,8 @@ use Rattle.survey.proofs.Closing.{quota_small}
 use Rattle.survey.proofs.Trees.{Going, goes, inner_less, going_start, going_end}
 use Rattle.survey.proofs.Trees.{going_skip, going_paid, going_short, going_more, unflagged, one_left}
 use Rattle.survey.proofs.settling.settle_path.Goals as goal
-use Rattle.survey.proofs.settling.settle_path.Goals.{After-next_in-at-else-flag_in-ge-CLOSED, After-pay, After-quota_in-quota, Else-flag_in-ge-CLOSED, In-loop-at, Then-flag_in-ge-CLOSED, Then-word-serial}
+use Rattle.survey.proofs.settling.settle_path.Goals.{After-next_in-at-else-flag_in-ge-CLOSED, After-pay, After-quota_in-quota, Else-flag_in-ge-CLOSED}
+use Rattle.survey.proofs.settling.settle_path.Goals.{In-loop-at, Then-flag_in-ge-CLOSED, Then-word-serial}
 
 pub head_in-requires : goal.head_in-requires
 head_in-requires c = c.slot_of.ensures.1
@@ -87,7 +89,8 @@ pub loop-at-preserved-then-word-serial : goal.loop-at-preserved-then-word-serial
 loop-at-preserved-then-word-serial c =
     let h = c in
     let t = h in
-    goes (going_skip (going (goal.at.loop-at-preserved-then-word-serial c).In-loop-at) t.requires.0 t.loop-at-test.true (other (goal.at.loop-at-preserved-then-word-serial c).Then-word-serial) refl c.next_in-at.ensures)
+    goes (going_skip (going (goal.at.loop-at-preserved-then-word-serial c).In-loop-at) t.requires.0 t.loop-at-test.true
+    (other (goal.at.loop-at-preserved-then-word-serial c).Then-word-serial) refl c.next_in-at.ensures)
 
 pub flag_in-requires : goal.flag_in-requires
 flag_in-requires c = c.loop-at-test.true
@@ -106,7 +109,8 @@ pub loop-at-preserved-then-flag_in-ge-CLOSED : goal.loop-at-preserved-then-flag_
 loop-at-preserved-then-flag_in-ge-CLOSED c =
     let h = c in
     let t = h in
-    goes (going_skip (going (goal.at.loop-at-preserved-then-flag_in-ge-CLOSED c).In-loop-at) t.requires.0 t.loop-at-test.true (closed (goal.at.loop-at-preserved-then-flag_in-ge-CLOSED c).Then-flag_in-ge-CLOSED) refl c.next_in-at-then-flag_in-ge-CLOSED.ensures)
+    goes (going_skip (going (goal.at.loop-at-preserved-then-flag_in-ge-CLOSED c).In-loop-at) t.requires.0 t.loop-at-test.true
+    (closed (goal.at.loop-at-preserved-then-flag_in-ge-CLOSED c).Then-flag_in-ge-CLOSED) refl c.next_in-at-then-flag_in-ge-CLOSED.ensures)
 
 pub quota_in-quota-requires : goal.quota_in-quota-requires
 quota_in-quota-requires c = c.loop-at-test.true
@@ -137,7 +141,8 @@ returns-then-seen-quota-ne0 c =
     let h = q in
     let t = h in
     let l = t.loop-at in
-    going_paid (going (goal.at.returns-then-seen-quota-ne0 c).In-loop-at) t.requires.0 t.loop-at-test.true (opens (goal.at.returns-then-seen-quota-ne0 c).Else-flag_in-ge-CLOSED) refl l.links l.owed l.left q.quota_in-quota.ensures c.if-seen-quota-ne0.true
+    going_paid (going (goal.at.returns-then-seen-quota-ne0 c).In-loop-at) t.requires.0 t.loop-at-test.true
+    (opens (goal.at.returns-then-seen-quota-ne0 c).Else-flag_in-ge-CLOSED) refl l.links l.owed l.left q.quota_in-quota.ensures c.if-seen-quota-ne0.true
 
 pub pay-requires : goal.pay-requires
 pay-requires c =
@@ -156,7 +161,8 @@ returns-then-not-pay c =
     let h = q in
     let t = p in
     let l = t.loop-at in
-    going_short (going (goal.at.returns-then-not-pay c).In-loop-at) t.requires.0 t.loop-at-test.true (opens (goal.at.returns-then-not-pay c).Else-flag_in-ge-CLOSED) refl l.links p.pay.new.owed l.left q.quota_in-quota.ensures
+    going_short (going (goal.at.returns-then-not-pay c).In-loop-at) t.requires.0 t.loop-at-test.true
+    (opens (goal.at.returns-then-not-pay c).Else-flag_in-ge-CLOSED) refl l.links p.pay.new.owed l.left q.quota_in-quota.ensures
     (charged (goal.at.returns-then-not-pay c).After-pay false (not-true _ c.if-not-pay.true-raw))
 
 pub bounds-seen-quota-else-flag_in-ge-CLOSED : goal.bounds-seen-quota-else-flag_in-ge-CLOSED
@@ -167,8 +173,12 @@ close-requires c =
     let p = c in
     let h = p in
     let t = p in
-    let l = t.loop-at in
-    (t.loop-at-test.true, (going (goal.at.close-requires c).In-loop-at).ready.links_long, unflagged (going (goal.at.close-requires c).In-loop-at) t.requires.0 t.loop-at-test.true (opens (goal.at.close-requires c).Else-flag_in-ge-CLOSED) refl)
+    let l = t.loop-at in (
+      t.loop-at-test.true,
+      (going (goal.at.close-requires c).In-loop-at).ready.links_long,
+      unflagged (going (goal.at.close-requires c).In-loop-at) t.requires.0
+          t.loop-at-test.true (opens (goal.at.close-requires c).Else-flag_in-ge-CLOSED) refl,
+    )
 
 pub overflow_sub-left : goal.overflow_sub-left
 overflow_sub-left c =

@@ -8,7 +8,8 @@ use Rattle.survey.proofs.sharing.held_in.Given as goal
 
 abbrev pub invariant-loop-i : goal.invariant-loop-i
 invariant-loop-i l =
-    Counted (is_own l.quota) (holds_of l.words) zero_hold l.i l.objects × Counted (is_shared (holds_of l.words) l.quota) (holds_of l.words) zero_hold l.i l.shared
+    Counted (is_own l.quota) (holds_of l.words) zero_hold l.i l.objects × Counted (is_shared (holds_of l.words) l.quota) (holds_of l.words) zero_hold l.i
+    l.shared
 
 abbrev pub decreases-loop-i : goal.decreases-loop-i
 decreases-loop-i l = HOLDS - l.i

@@ -39,7 +39,8 @@ tells c =
     ∙ sym (shared_by hs a.quota (hold_in a.words.now a.at) (λ z. e.if-own_at-eq0.false (e.own_at.ensures ∙ z)))
 
 pub returns-then-on_path-lt-HOLDS : goal.returns-then-on_path-lt-HOLDS
-returns-then-on_path-lt-HOLDS c = ap one_if (sym (lt-ltb c.on_path.result HOLDS c.if-on_path-lt-HOLDS.true) ∙ tells (goal.at.returns-then-on_path-lt-HOLDS c).After-on_path)
+returns-then-on_path-lt-HOLDS c =
+    ap one_if (sym (lt-ltb c.on_path.result HOLDS c.if-on_path-lt-HOLDS.true) ∙ tells (goal.at.returns-then-on_path-lt-HOLDS c).After-on_path)
 
 pub returns : goal.returns
 returns c = ap one_if (sym (le-ltb c.on_path.result HOLDS c.if-on_path-lt-HOLDS.false) ∙ tells (goal.at.returns c).After-on_path)

@@ -59,5 +59,6 @@ returns c =
     let r = c.settle in
     visit_settled (table a.edition) a.kind a.last a.serial a.size (a.whole - a.after) a.before
     s.requires.0 e.if-serial-eq0.false
-    (λ q. omega (arith, f.if-last-serial.false, s.requires.1)) (sym f.is_fitting.ensures ∙ not-false _ u.if-not-is_fitting.false-raw) (omega (arith, f.if-last-serial.false))
+    (λ q. omega (arith, f.if-last-serial.false, s.requires.1)) (sym f.is_fitting.ensures ∙ not-false _ u.if-not-is_fitting.false-raw)
+    (omega (arith, f.if-last-serial.false))
     r.result r.new.heads r.new.links r.new.owed r.new.left r.ensures

@@ -1,4 +1,5 @@
-use Rattle.std.proofs.Common.{◌≡◌, ℕ, ◌-◌, ◌*◌, ◌<◌, ◌≤◌, Bool, true, false, cond, List, length, take, drop, sym, refl, ap, ◌∙◌, subst, arith, length-drop, rules}
+use Rattle.std.proofs.Common.{◌≡◌, ℕ, ◌-◌, ◌*◌, ◌<◌, ◌≤◌, Bool, true, false, cond, List, length, take, drop, sym, refl, ap, ◌∙◌, subst, arith, length-drop}
+use Rattle.std.proofs.Common.{rules}
 use borrow.Author.Tests.{not-true, not-false}
 use borrow.Author.Rules.{part_to_end}
 use mathlib.Core.Bool.{false≢true}
@@ -65,7 +66,8 @@ returns-then-rest-size c =
     let l = h.loop-rest in
     let r = c.failed.result in (
       subst (Says (goal.at.returns-then-rest-size c).After-header_at-header r.at r.back r.before l.heads l.links l.owed l.left) (sym c.failed.ensures)
-          (one_fails _ _ (walking_long l.invariant.0 (read (goal.at.returns-then-rest-size c).After-header_at-header) (some-rest (goal.at.returns-then-rest-size c).After-header_at-header) c.if-rest-size.true)),
+          (one_fails _ _ (walking_long l.invariant.0 (read (goal.at.returns-then-rest-size c).After-header_at-header)
+          (some-rest (goal.at.returns-then-rest-size c).After-header_at-header) c.if-rest-size.true)),
       λ e. absurd (false≢true (sym c.failed.ensures ∙ e)),
     )
 
@@ -76,8 +78,10 @@ returns-then-header-back c =
     let h = f in
     let l = h.loop-rest in
     let r = c.failed-then-header-back.result in (
-      subst (Says (goal.at.returns-then-header-back c).After-header_at-header r.at r.back r.before l.heads l.links l.owed l.left) (sym c.failed-then-header-back.ensures)
-          (one_fails _ _ (walking_back l.invariant.0 (read (goal.at.returns-then-header-back c).After-header_at-header) (some-rest (goal.at.returns-then-header-back c).After-header_at-header) f.if-rest-size.false (λ e. omega (arith, c.if-header-back.true)))),
+      subst (Says (goal.at.returns-then-header-back c).After-header_at-header r.at r.back r.before l.heads l.links l.owed l.left)
+          (sym c.failed-then-header-back.ensures)
+          (one_fails _ _ (walking_back l.invariant.0 (read (goal.at.returns-then-header-back c).After-header_at-header)
+          (some-rest (goal.at.returns-then-header-back c).After-header_at-header) f.if-rest-size.false (λ e. omega (arith, c.if-header-back.true)))),
       λ e. absurd (false≢true (sym c.failed-then-header-back.ensures ∙ e)),
     )
 
@@ -125,8 +129,11 @@ returns-then-not-visit c =
     let l = h.loop-rest in
     let r = c.failed-then-not-visit.result in
     let w = v.visit.new in (
-      subst (Says (goal.at.returns-then-not-visit c).After-header_at-header r.at r.back r.before w.heads w.links w.owed w.left) (sym c.failed-then-not-visit.ensures)
-          (walking_fails l.invariant.0 (read (goal.at.returns-then-not-visit c).After-header_at-header) (some-rest (goal.at.returns-then-not-visit c).After-header_at-header) v.if-rest-size.false (beyond (goal.at.returns-then-not-visit c).After-visit) (same_back (goal.at.returns-then-not-visit c).After-visit)
+      subst (Says (goal.at.returns-then-not-visit c).After-header_at-header r.at r.back r.before w.heads w.links w.owed w.left)
+          (sym c.failed-then-not-visit.ensures)
+          (walking_fails l.invariant.0 (read (goal.at.returns-then-not-visit c).After-header_at-header)
+          (some-rest (goal.at.returns-then-not-visit c).After-header_at-header) v.if-rest-size.false (beyond (goal.at.returns-then-not-visit c).After-visit)
+          (same_back (goal.at.returns-then-not-visit c).After-visit)
           (visited (goal.at.returns-then-not-visit c).After-visit false (not-true _ c.if-not-visit.true-raw))),
       λ e. absurd (false≢true (sym c.failed-then-not-visit.ensures ∙ e)),
     )
@@ -159,7 +166,12 @@ ends : (c : Else-not-visit)
 ends c =
     let v = c in
     let h = v in
-    omega (arith, ap length (beyond_2 c) ∙ length-drop (8 * h.header_at-header.result.size) h.loop-rest.rest.now, h.loop-rest.invariant.0.inside, v.if-rest-size.false)
+    omega (
+      arith,
+      ap length (beyond_2 c) ∙ length-drop (8 * h.header_at-header.result.size) h.loop-rest.rest.now,
+      h.loop-rest.invariant.0.inside,
+      v.if-rest-size.false,
+    )
 
 -- the rest behind it is a part of the heap, and shorter than the rest before it
 part : (c : Else-not-visit) → length (after_2 c) ≤ length c.args.heap.now
@@ -256,7 +268,12 @@ is_roomy-room-requires c =
       p.2,
       p.3,
       (answer (goal.at.is_roomy-room-requires c).Else-not-visit).0,
-      omega (arith, ap length (beyond (goal.at.is_roomy-room-requires c).After-visit) ∙ length-drop (8 * h.header_at-header.result.size) h.loop-rest.rest.now, h.loop-rest.invariant.0.inside, v.if-rest-size.false),
+      omega (
+        arith,
+        ap length (beyond (goal.at.is_roomy-room-requires c).After-visit) ∙ length-drop (8 * h.header_at-header.result.size) h.loop-rest.rest.now,
+        h.loop-rest.invariant.0.inside,
+        v.if-rest-size.false,
+      ),
       omega (arith, h.header_at-header.ensures.1),
     )
 
@@ -264,7 +281,13 @@ pub overflow_sub-end-else-serial-ne0 : goal.overflow_sub-end-else-serial-ne0
 overflow_sub-end-else-serial-ne0 c =
     let v = c in
     let h = v in
-    omega (arith, ap length (beyond (goal.at.overflow_sub-end-else-serial-ne0 c).After-visit) ∙ length-drop (8 * h.header_at-header.result.size) h.loop-rest.rest.now, h.loop-rest.invariant.0.inside, v.if-rest-size.false)
+    omega (
+      arith,
+      ap length (beyond (goal.at.overflow_sub-end-else-serial-ne0 c).After-visit) ∙ length-drop (8 * h.header_at-header.result.size)
+          h.loop-rest.rest.now,
+      h.loop-rest.invariant.0.inside,
+      v.if-rest-size.false,
+    )
 
 pub loop-rest-smaller : goal.loop-rest-smaller
 loop-rest-smaller c = shorter (goal.at.loop-rest-smaller c).Else-not-visit

@@ -18,7 +18,8 @@ Whole heap last at units before keys owed = audit_parsed last (cut units (drop a
 
 abbrev pub invariant-loop-rest : goal.invariant-loop-rest
 invariant-loop-rest l =
-    Walking (table l.edition) l.kind l.last l.heap l.words (Whole l.heap l.last l.at l.units l.serial_before (keys_left l.words l.initial.heads l.initial.links) l.initial.owed)
+    Walking (table l.edition) l.kind l.last l.heap l.words (Whole l.heap l.last l.at l.units l.serial_before (keys_left l.words l.initial.heads l.initial.links)
+    l.initial.owed)
     (fitting (table l.edition) l.kind l.at (cut l.units (drop l.at l.heap))) l.heads l.links l.owed l.left l.before l.back l.rest
     × (l.rest ≡ drop (length l.heap - length l.rest) l.heap)
     × (Reaches l.heap l.at → Passed l.heap l.edge l.unit l.at l.fit_before l.need_before (length l.heap - length l.rest) l.back l.before l.fit l.need)

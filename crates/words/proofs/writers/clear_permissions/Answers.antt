@@ -20,8 +20,12 @@ returns c =
     let k = e in
     let a = k.args in
     record {
-      holds = rw c.word_at-spare.ensures (clears a.words.now a.quota a.bits (omega (arith, e.if-q-ge-QUOTAS.false)) k.count.ensures.0 w.wide-left.result w.wide-left.ensures.1
+      holds =
+          rw c.word_at-spare.ensures (clears a.words.now a.quota a.bits (omega (arith, e.if-q-ge-QUOTAS.false)) k.count.ensures.0 w.wide-left.result
+          w.wide-left.ensures.1
           (w.wide-left.ensures.0 ∙ l.left_permissions.ensures)).0;
-      pads = rw c.word_at-spare.ensures (clears a.words.now a.quota a.bits (omega (arith, e.if-q-ge-QUOTAS.false)) k.count.ensures.0 w.wide-left.result w.wide-left.ensures.1
+      pads =
+          rw c.word_at-spare.ensures (clears a.words.now a.quota a.bits (omega (arith, e.if-q-ge-QUOTAS.false)) k.count.ensures.0 w.wide-left.result
+          w.wide-left.ensures.1
           (w.wide-left.ensures.0 ∙ l.left_permissions.ensures)).1;
     }

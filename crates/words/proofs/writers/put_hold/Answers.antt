@@ -24,8 +24,12 @@ returns c =
     let k = e in
     let a = k.args in
     record {
-      holds = rw c.word_at-rest.ensures (puts a.words.now k.count.ensures.0 a.at (omega (arith, e.if-at-ge-HOLDS.false)) a.hold t.wide-times.result w.wide-quota.result
+      holds =
+          rw c.word_at-rest.ensures (puts a.words.now k.count.ensures.0 a.at (omega (arith, e.if-at-ge-HOLDS.false)) a.hold t.wide-times.result
+          w.wide-quota.result
           t.wide-times.ensures.0 w.wide-quota.ensures.0 t.wide-times.ensures.1 w.wide-quota.ensures.1).0;
-      pads = rw c.word_at-rest.ensures (puts a.words.now k.count.ensures.0 a.at (omega (arith, e.if-at-ge-HOLDS.false)) a.hold t.wide-times.result w.wide-quota.result
+      pads =
+          rw c.word_at-rest.ensures (puts a.words.now k.count.ensures.0 a.at (omega (arith, e.if-at-ge-HOLDS.false)) a.hold t.wide-times.result
+          w.wide-quota.result
           t.wide-times.ensures.0 w.wide-quota.ensures.0 t.wide-times.ensures.1 w.wide-quota.ensures.1).1;
     }

@@ -16,7 +16,8 @@ returns-then-amount-remainder c =
     let w = c in
     let e = w in
     let a = e.args in
-    let both = refunds_over a.words.now a.quota a.amount (omega (arith, e.if-q-ge-QUOTAS.false)) (omega (arith, c.if-amount-remainder.true, w.word_at-remainder.ensures)) in record {
+    let both = refunds_over a.words.now a.quota a.amount (omega (arith, e.if-q-ge-QUOTAS.false))
+    (omega (arith, c.if-amount-remainder.true, w.word_at-remainder.ensures)) in record {
       holds = both.0;
       pads = both.1;
     }
@@ -28,6 +29,10 @@ returns c =
     let k = e in
     let a = k.args in
     record {
-      holds = rw w.word_at-remainder.ensures (refunds a.words.now a.quota a.amount (omega (arith, e.if-q-ge-QUOTAS.false)) k.count.ensures.0 (omega (arith, c.if-amount-remainder.false, w.word_at-remainder.ensures))).0;
-      pads = rw w.word_at-remainder.ensures (refunds a.words.now a.quota a.amount (omega (arith, e.if-q-ge-QUOTAS.false)) k.count.ensures.0 (omega (arith, c.if-amount-remainder.false, w.word_at-remainder.ensures))).1;
+      holds =
+          rw w.word_at-remainder.ensures (refunds a.words.now a.quota a.amount (omega (arith, e.if-q-ge-QUOTAS.false)) k.count.ensures.0
+          (omega (arith, c.if-amount-remainder.false, w.word_at-remainder.ensures))).0;
+      pads =
+          rw w.word_at-remainder.ensures (refunds a.words.now a.quota a.amount (omega (arith, e.if-q-ge-QUOTAS.false)) k.count.ensures.0
+          (omega (arith, c.if-amount-remainder.false, w.word_at-remainder.ensures))).1;
     }

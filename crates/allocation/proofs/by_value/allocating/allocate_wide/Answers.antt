@@ -73,7 +73,8 @@ returns-then-accounts-quota-eq0 c =
     let s = a.heap.now in
     let k = a.accounts in
     let u = table k.edition in
-    refused_12 u s k a.quota a.length (checked (goal.at.returns-then-accounts-quota-eq0 c).Else-quota-ge-QUOTAS) then2.if-accounts-quota-eq0.true c.refused-then-accounts-quota-eq0.result c.refused-then-accounts-quota-eq0.ensures
+    refused_12 u s k a.quota a.length (checked (goal.at.returns-then-accounts-quota-eq0 c).Else-quota-ge-QUOTAS) then2.if-accounts-quota-eq0.true
+    c.refused-then-accounts-quota-eq0.result c.refused-then-accounts-quota-eq0.ensures
 
 -- and once its permission was
 may : (c : Else-accounts-quota-eq0) →
@@ -96,7 +97,8 @@ returns-then-length-eq0 c =
     let k = a.accounts in
     let u = table k.edition in
     let zero = line_4_zero a.length (from_8 u s k a.quota a.length) then3.if-length-eq0.true in
-    refused_4 u s k a.quota a.length (checked (goal.at.returns-then-length-eq0 c).Else-quota-ge-QUOTAS) (may (goal.at.returns-then-length-eq0 c).Else-accounts-quota-eq0) zero c.refused-then-length-eq0.result c.refused-then-length-eq0.ensures
+    refused_4 u s k a.quota a.length (checked (goal.at.returns-then-length-eq0 c).Else-quota-ge-QUOTAS)
+    (may (goal.at.returns-then-length-eq0 c).Else-accounts-quota-eq0) zero c.refused-then-length-eq0.result c.refused-then-length-eq0.ensures
 
 pub returns-then-length-gt-LONGEST : goal.returns-then-length-gt-LONGEST
 returns-then-length-gt-LONGEST c =
@@ -109,7 +111,9 @@ returns-then-length-gt-LONGEST c =
     let k = a.accounts in
     let u = table k.edition in
     let long = line_4_long a.length (from_8 u s k a.quota a.length) then4.if-length-gt-LONGEST.true in
-    refused_4 u s k a.quota a.length (checked (goal.at.returns-then-length-gt-LONGEST c).Else-quota-ge-QUOTAS) (may (goal.at.returns-then-length-gt-LONGEST c).Else-accounts-quota-eq0) long c.refused-then-length-gt-LONGEST.result c.refused-then-length-gt-LONGEST.ensures
+    refused_4 u s k a.quota a.length (checked (goal.at.returns-then-length-gt-LONGEST c).Else-quota-ge-QUOTAS)
+    (may (goal.at.returns-then-length-gt-LONGEST c).Else-accounts-quota-eq0) long c.refused-then-length-gt-LONGEST.result
+    c.refused-then-length-gt-LONGEST.ensures
 
 pub grant-requires : goal.grant-requires
 grant-requires c =
@@ -132,7 +136,15 @@ grant-requires c =
     let ok = sym at-verdict.verdict.ensures ∙ at-enum-told.in_default.is in
     let d = rounded_by k a.quota a.length _ w.result nonzero else4.if-length-gt-LONGEST.false k.edition refl w.ensures in
     record {
-      requested = record { checked = checked (goal.at.grant-requires c).Else-quota-ge-QUOTAS; permitted = may (goal.at.grant-requires c).Else-accounts-quota-eq0; asked = a.length; rounded = d };
+      requested =
+          record {
+            checked =
+                checked (goal.at.grant-requires c).Else-quota-ge-QUOTAS;
+            permitted =
+                may (goal.at.grant-requires c).Else-accounts-quota-eq0;
+            asked = a.length;
+            rounded = d;
+          };
       lowest = (g.known ok).low;
       room = (g.known ok).fit;
     }

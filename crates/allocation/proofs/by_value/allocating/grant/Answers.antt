@@ -71,7 +71,9 @@ returns-then-last-ge-GREATEST_SERIAL c =
     let i = at-place2 in
     let p = sym at_place.place.ensures ∙ i.in-At.is in
     record {
-      holds = λ n d. unnumbered y d c.refused-then-last-ge-GREATEST_SERIAL.result (omega (arith, else1.if-accounts-quota.false)) i.in-At.place p (omega (arith, then2.if-last-ge-GREATEST_SERIAL.true)) c.refused-then-last-ge-GREATEST_SERIAL.ensures;
+      holds =
+          λ n d. unnumbered y d c.refused-then-last-ge-GREATEST_SERIAL.result (omega (arith, else1.if-accounts-quota.false)) i.in-At.place p
+          (omega (arith, then2.if-last-ge-GREATEST_SERIAL.true)) c.refused-then-last-ge-GREATEST_SERIAL.ensures;
       keeps = λ t l. ap (λ (x : HandleResult). any (shares t a.quota) x.accounts.holds) c.refused-then-last-ge-GREATEST_SERIAL.ensures;
     }
 
@@ -91,7 +93,9 @@ returns-in_default-room c =
     let p = sym at_place.place.ensures ∙ i.in-At.is in
     let none = sym at_room.room.ensures ∙ at-enum-told2.in_default-room.is in
     record {
-      holds = λ n d. unplaced y d c.refused-in_default-room.result (omega (arith, else1.if-accounts-quota.false)) i.in-At.place p (omega (arith, else2.if-last-ge-GREATEST_SERIAL.false)) none c.refused-in_default-room.ensures;
+      holds =
+          λ n d. unplaced y d c.refused-in_default-room.result (omega (arith, else1.if-accounts-quota.false)) i.in-At.place p
+          (omega (arith, else2.if-last-ge-GREATEST_SERIAL.false)) none c.refused-in_default-room.ensures;
       keeps = λ t l. ap (λ (x : HandleResult). any (shares t a.quota) x.accounts.holds) c.refused-in_default-room.ensures;
     }
 
@@ -126,7 +130,9 @@ returns c =
     let next = at-booked.booked-next in
     let v = at-carve.carve in
     record {
-      holds = λ n d. made y d _ (omega (arith, else1.if-accounts-quota.false)) i.in-At.place p (omega (arith, else2.if-last-ge-GREATEST_SERIAL.false)) (octets (goal.at.returns c).After-slice_known-1) b.in-At-room.block
+      holds =
+          λ n d. made y d _ (omega (arith, else1.if-accounts-quota.false)) i.in-At.place p (omega (arith, else2.if-last-ge-GREATEST_SERIAL.false))
+          (octets (goal.at.returns c).After-slice_known-1) b.in-At-room.block
           b.in-At-room.base there v.new.heap v.ensures (λ j. record { accounts = next.ensures j; answer = c.given.ensures j });
       keeps = λ t l. shares_kept t a.quota a.size i.in-At.place (a.accounts.last_serial + 1) a.accounts next.result (sym y.lowest ∙ p)
           (λ e. omega (arith, e, l)) next.ensures;

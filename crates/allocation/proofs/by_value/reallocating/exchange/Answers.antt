@@ -196,7 +196,8 @@ drop_claim-released-requires c =
     let at = placed (goal.at.drop_claim-released-requires c).In-Found ∙ block_place a.known.at a.heap.now in
     let d = y.requested.rounded in
     let same = g.ensures.keeps (old y f).serial (serial_given y f long i.in-At.place p) in
-    let z = droppable y f long i.in-At.place p o l d g.new.heap g.result (g.ensures.holds _ d) n.in-Given.new n.in-Given.is _ (copied (goal.at.drop_claim-released-requires c).After-copy_part) same in
+    let z = droppable y f long i.in-At.place p o l d g.new.heap g.result (g.ensures.holds _ d) n.in-Given.new n.in-Given.is _
+    (copied (goal.at.drop_claim-released-requires c).After-copy_part) same in
     let t = at-copy-part.copy_part.new.heap in
     subst (λ (x : ℕ). Droppable t g.result.accounts a.wanted.quota (block_at x t) i.in-At.place (ltb a.known.other HOLDS)) (sym at) z
 
@@ -237,5 +238,6 @@ returns c =
     λ m d.
     ap (handle_outcome r.new.heap) c.with_accounts.ensures
     ∙ ap (λ (x : HandleAnswer). handle_outcome r.new.heap (record { accounts = r.result.accounts; answer = x })) n.in-Given.is
-    ∙ exchanged y f long i.in-At.place p o l d g.new.heap g.result (g.ensures.holds m d) n.in-Given.new n.in-Given.is t (copied (goal.at.returns c).After-copy_part)
+    ∙ exchanged y f long i.in-At.place p o l d g.new.heap g.result (g.ensures.holds m d) n.in-Given.new n.in-Given.is t
+    (copied (goal.at.returns c).After-copy_part)
     r.new.heap r.result left

@@ -104,7 +104,8 @@ returns-then-length-eq0 c =
     let u = table k.edition in
     let zero = line_4_zero a.length (from_5 u s k a.quota a.handle a.length) then3.if-length-eq0.true in
     refuses u s k a.quota a.handle a.length c.refused-then-length-eq0.result ObjectLength c.refused-then-length-eq0.ensures
-    (by_length u s k a.quota a.handle a.length (checked (goal.at.returns-then-length-eq0 c).Else-quota-ge-QUOTAS) (may (goal.at.returns-then-length-eq0 c).Else-accounts-quota-eq0) zero)
+    (by_length u s k a.quota a.handle a.length (checked (goal.at.returns-then-length-eq0 c).Else-quota-ge-QUOTAS)
+    (may (goal.at.returns-then-length-eq0 c).Else-accounts-quota-eq0) zero)
 
 pub returns-then-length-gt-GREATEST_LENGTH : goal.returns-then-length-gt-GREATEST_LENGTH
 returns-then-length-gt-GREATEST_LENGTH c =
@@ -118,7 +119,8 @@ returns-then-length-gt-GREATEST_LENGTH c =
     let u = table k.edition in
     let long = line_4_long a.length (from_5 u s k a.quota a.handle a.length) then4.if-length-gt-GREATEST_LENGTH.true in
     refuses u s k a.quota a.handle a.length c.refused-then-length-gt-GREATEST_LENGTH.result ObjectLength c.refused-then-length-gt-GREATEST_LENGTH.ensures
-    (by_length u s k a.quota a.handle a.length (checked (goal.at.returns-then-length-gt-GREATEST_LENGTH c).Else-quota-ge-QUOTAS) (may (goal.at.returns-then-length-gt-GREATEST_LENGTH c).Else-accounts-quota-eq0) long)
+    (by_length u s k a.quota a.handle a.length (checked (goal.at.returns-then-length-gt-GREATEST_LENGTH c).Else-quota-ge-QUOTAS)
+    (may (goal.at.returns-then-length-gt-GREATEST_LENGTH c).Else-accounts-quota-eq0) long)
 
 pub exchange-requires : goal.exchange-requires
 exchange-requires c =
@@ -141,7 +143,14 @@ exchange-requires c =
     let ok = sym at-verdict.verdict.ensures ∙ at-enum-told.in_default.is in
     let d = rounded_by k a.quota a.length _ w.result nonzero else4.if-length-gt-GREATEST_LENGTH.false k.edition refl w.ensures in
     let y : Requested s k a.quota w.result.need w.result.unit =
-    record { checked = checked (goal.at.exchange-requires c).Else-quota-ge-QUOTAS; permitted = may (goal.at.exchange-requires c).Else-accounts-quota-eq0; asked = a.length; rounded = d } in
+    record {
+      checked =
+          checked (goal.at.exchange-requires c).Else-quota-ge-QUOTAS;
+      permitted =
+          may (goal.at.exchange-requires c).Else-accounts-quota-eq0;
+      asked = a.length;
+      rounded = d;
+    } in
     let z = subst (λ (q : ℕ). Requested s k q w.result.need w.result.unit) (sym w.ensures.quota) y in
     record { requested = z; survey = g; accepted = ok }
 

@@ -46,7 +46,8 @@ returns-then-hold-gt1 c =
     let at-slice-known = then1 in
     let start = at-slice-known in
     let a = start.args in
-    few_dropped a.heap.now a.accounts (octets (goal.at.returns-then-hold-gt1 c).After-slice_known-1) a.quota (block_at a.at a.heap.now) a.place a.shared start.requires
+    few_dropped a.heap.now a.accounts (octets (goal.at.returns-then-hold-gt1 c).After-slice_known-1) a.quota (block_at a.at a.heap.now) a.place a.shared
+    start.requires
     (omega (arith, then1.if-hold-gt1.true)) at-put-hold.put_hold.result at-put-hold.put_hold.ensures c.given.result c.given.ensures
 
 -- what is known of the block that was read
@@ -99,7 +100,8 @@ returns-then-shared c =
     let a = start.args in
     let r = at-refund.refund in
     let z = at-drop-hold.drop_hold-left in
-    held_dropped a.heap.now a.accounts (octets (goal.at.returns-then-shared c).After-slice_known-1) a.quota at-block-at.block_at-block.result a.place a.shared (droppable (goal.at.returns-then-shared c).After-block_at-block)
+    held_dropped a.heap.now a.accounts (octets (goal.at.returns-then-shared c).After-slice_known-1) a.quota at-block-at.block_at-block.result a.place a.shared
+    (droppable (goal.at.returns-then-shared c).After-block_at-block)
     (omega (arith, else1.if-hold-gt1.false)) r.result z.result r.ensures z.ensures c.given-then-shared.result c.given-then-shared.ensures then2.if-shared.true
     ∙ ap (λ (x : Met). claim_dropped a.heap.now a.accounts a.quota (object_met x)) at-block-at.block_at-block.ensures
 
@@ -118,7 +120,8 @@ returns c =
     let r = at-refund.refund in
     let z = at-drop-hold.drop_hold-left in
     let v = at-vacate-block.vacate_block in
-    freed_dropped a.heap.now a.accounts (octets (goal.at.returns c).After-slice_known-1) a.quota at-block-at.block_at-block.result a.place a.shared (droppable (goal.at.returns c).After-block_at-block)
+    freed_dropped a.heap.now a.accounts (octets (goal.at.returns c).After-slice_known-1) a.quota at-block-at.block_at-block.result a.place a.shared
+    (droppable (goal.at.returns c).After-block_at-block)
     (omega (arith, else1.if-hold-gt1.false)) r.result z.result r.ensures z.ensures c.given-2.result c.given-2.ensures else2.if-shared.false
     z.result.kind refl v.new.heap v.ensures.leaves
     ∙ ap (λ (x : Met). claim_dropped a.heap.now a.accounts a.quota (object_met x)) at-block-at.block_at-block.ensures

@@ -63,25 +63,30 @@ pub returns-in-Refused : goal.returns-in-Refused
 returns-in-Refused c =
     let x = c in
     let v = c in
-    claim_checked (surveyed (goal.at.returns-in-Refused c).After-survey_of-known) x.in-Refused.refusal (sym v.verdict.ensures ∙ x.in-Refused.is) c.refused.result c.refused.ensures
+    claim_checked (surveyed (goal.at.returns-in-Refused c).After-survey_of-known) x.in-Refused.refusal (sym v.verdict.ensures ∙ x.in-Refused.is)
+    c.refused.result c.refused.ensures
 
 pub returns-then-quota-ge-QUOTAS : goal.returns-then-quota-ge-QUOTAS
 returns-then-quota-ge-QUOTAS c =
     let t = c in
-    claim_numbered (surveyed (goal.at.returns-then-quota-ge-QUOTAS c).After-survey_of-known) (accepts (goal.at.returns-then-quota-ge-QUOTAS c).In_default) c.if-quota-ge-QUOTAS.true c.refused-then-quota-ge-QUOTAS.result c.refused-then-quota-ge-QUOTAS.ensures
+    claim_numbered (surveyed (goal.at.returns-then-quota-ge-QUOTAS c).After-survey_of-known) (accepts (goal.at.returns-then-quota-ge-QUOTAS c).In_default)
+    c.if-quota-ge-QUOTAS.true c.refused-then-quota-ge-QUOTAS.result c.refused-then-quota-ge-QUOTAS.ensures
 
 pub returns-then-accounts-quota-eq0 : goal.returns-then-accounts-quota-eq0
 returns-then-accounts-quota-eq0 c =
     let f = c in
     let t = f in
-    claim_barred (surveyed (goal.at.returns-then-accounts-quota-eq0 c).After-survey_of-known) (accepts (goal.at.returns-then-accounts-quota-eq0 c).In_default) f.if-quota-ge-QUOTAS.false c.if-accounts-quota-eq0.true c.refused-then-accounts-quota-eq0.result c.refused-then-accounts-quota-eq0.ensures
+    claim_barred (surveyed (goal.at.returns-then-accounts-quota-eq0 c).After-survey_of-known) (accepts (goal.at.returns-then-accounts-quota-eq0 c).In_default)
+    f.if-quota-ge-QUOTAS.false c.if-accounts-quota-eq0.true c.refused-then-accounts-quota-eq0.result c.refused-then-accounts-quota-eq0.ensures
 
 pub returns-in_default-found : goal.returns-in_default-found
 returns-in_default-found c =
     let f = c in
     let e = f in
     let t = e in
-    claim_missed (surveyed (goal.at.returns-in_default-found c).After-survey_of-known) (accepts (goal.at.returns-in_default-found c).In_default) e.if-quota-ge-QUOTAS.false (may (goal.at.returns-in_default-found c).Else-accounts-quota-eq0) (looks (goal.at.returns-in_default-found c).After-found ∙ c.in_default-found.is) c.refused-in_default-found.result
+    claim_missed (surveyed (goal.at.returns-in_default-found c).After-survey_of-known) (accepts (goal.at.returns-in_default-found c).In_default)
+    e.if-quota-ge-QUOTAS.false (may (goal.at.returns-in_default-found c).Else-accounts-quota-eq0)
+    (looks (goal.at.returns-in_default-found c).After-found ∙ c.in_default-found.is) c.refused-in_default-found.result
     c.refused-in_default-found.ensures
 
 pub overflow_sub-length : goal.overflow_sub-length
@@ -97,15 +102,20 @@ returns-in-At c =
     let b = d in
     let e = b in
     let t = e in
-    claimed_again (surveyed (goal.at.returns-in-At c).After-survey_of-known) (accepts (goal.at.returns-in-At c).In_default) e.if-quota-ge-QUOTAS.false (may (goal.at.returns-in-At c).Else-accounts-quota-eq0) b.in-Found.block (finds (goal.at.returns-in-At c).In-Found) p.in-At.at
+    claimed_again (surveyed (goal.at.returns-in-At c).After-survey_of-known) (accepts (goal.at.returns-in-At c).In_default) e.if-quota-ge-QUOTAS.false
+    (may (goal.at.returns-in-At c).Else-accounts-quota-eq0) b.in-Found.block (finds (goal.at.returns-in-At c).In-Found) p.in-At.at
     (sym d.place.ensures ∙ p.in-At.is) c.claim_again.result c.claim_again.ensures
 
 pub claim_first-requires : goal.claim_first-requires
 claim_first-requires c =
     let b = c in
     let t = b in
-    let l = lies (goal.at.claim_first-requires c).In-Found in
-    (b.if-quota-ge-QUOTAS.false, omega (arith, l.header, l.end), c.place-2.ensures ∙ ((surveyed (goal.at.claim_first-requires c).After-survey_of-known).known (accepts (goal.at.claim_first-requires c).In_default)).low)
+    let l = lies (goal.at.claim_first-requires c).In-Found in (
+      b.if-quota-ge-QUOTAS.false,
+      omega (arith, l.header, l.end),
+      c.place-2.ensures ∙
+          ((surveyed (goal.at.claim_first-requires c).After-survey_of-known).known (accepts (goal.at.claim_first-requires c).In_default)).low,
+    )
 
 pub returns : goal.returns
 returns c =
@@ -114,5 +124,6 @@ returns c =
     let b = d in
     let e = b in
     let t = e in
-    claimed_anew (surveyed (goal.at.returns c).After-survey_of-known) (accepts (goal.at.returns c).In_default) e.if-quota-ge-QUOTAS.false (may (goal.at.returns c).Else-accounts-quota-eq0) b.in-Found.block (finds (goal.at.returns c).In-Found)
+    claimed_anew (surveyed (goal.at.returns c).After-survey_of-known) (accepts (goal.at.returns c).In_default) e.if-quota-ge-QUOTAS.false
+    (may (goal.at.returns c).Else-accounts-quota-eq0) b.in-Found.block (finds (goal.at.returns c).In-Found)
     (sym d.place.ensures ∙ n.in_default-place.is) c.claim_first.result c.claim_first.ensures

@@ -45,7 +45,8 @@ pub returns-then-quota-ge-QUOTAS : goal.returns-then-quota-ge-QUOTAS
 returns-then-quota-ge-QUOTAS c =
     let a = c.args in
     let k = c.check in
-    all_refuses (table a.accounts.edition) a.heap.now a.accounts a.quota c.refused-then-quota-ge-QUOTAS.result QuotaNumber c.refused-then-quota-ge-QUOTAS.ensures
+    all_refuses (table a.accounts.edition) a.heap.now a.accounts a.quota c.refused-then-quota-ge-QUOTAS.result QuotaNumber
+    c.refused-then-quota-ge-QUOTAS.ensures
     (all_by_quota (table a.accounts.edition) a.heap.now a.accounts a.quota k.result k.ensures c.in_default.is
     c.if-quota-ge-QUOTAS.true)
 
@@ -54,7 +55,8 @@ returns-then-accounts-quota-eq0 c =
     let f = c in
     let a = f.args in
     let k = f.check in
-    all_refuses (table a.accounts.edition) a.heap.now a.accounts a.quota c.refused-then-accounts-quota-eq0.result NotPermitted c.refused-then-accounts-quota-eq0.ensures
+    all_refuses (table a.accounts.edition) a.heap.now a.accounts a.quota c.refused-then-accounts-quota-eq0.result NotPermitted
+    c.refused-then-accounts-quota-eq0.ensures
     (all_by_permission (table a.accounts.edition) a.heap.now a.accounts a.quota k.result k.ensures f.in_default.is f.if-quota-ge-QUOTAS.false
     c.if-accounts-quota-eq0.true)
 

@@ -28,5 +28,6 @@ returns c =
     let a = e.args in
     let k = e.check in
     clear_gives (table a.accounts.edition) a.heap.now a.accounts a.quota a.bits k.result k.ensures e.in_default.is
-    f.if-quota-ge-QUOTAS.false d.clear_permissions-cleared.result p.left_permissions-left.result d.clear_permissions-cleared.ensures p.left_permissions-left.ensures
+    f.if-quota-ge-QUOTAS.false d.clear_permissions-cleared.result p.left_permissions-left.result d.clear_permissions-cleared.ensures
+    p.left_permissions-left.ensures
     c.given.result c.given.ensures

@@ -49,5 +49,6 @@ returns c =
     let k = t in
     let b = k in
     let a = b.args in
-    sweep_gives (table a.accounts.edition) a.heap.now a.accounts (octets (goal.at.returns c).After-slice_known-1) k.check.result k.check.ensures t.in_default.is _
+    sweep_gives (table a.accounts.edition) a.heap.now a.accounts (octets (goal.at.returns c).After-slice_known-1) k.check.result k.check.ensures t.in_default.is
+    _
     w.sweep_blocks-sum.result w.sweep_blocks-sum.ensures c.given.result c.given.ensures

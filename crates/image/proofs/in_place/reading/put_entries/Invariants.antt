@@ -19,7 +19,8 @@ Read f i image = each (entry_of f) (entry_width f) i (drop 12 (stream_of image))
 
 abbrev pub invariant-loop-i : goal.invariant-loop-i
 invariant-loop-i l =
-    (l.i ≤ l.count) × ((f : Form) → f.full ≡ l.full → accounts_of l.words ≡ with_quotas (Read f l.i l.image) (accounts_of l.initial.words)) × Padded l.initial.words l.words
+    (l.i ≤ l.count) × ((f : Form) → f.full ≡ l.full → accounts_of l.words ≡ with_quotas (Read f l.i l.image) (accounts_of l.initial.words)) × Padded
+    l.initial.words l.words
 
 abbrev pub decreases-loop-i : goal.decreases-loop-i
 decreases-loop-i l = l.count - l.i

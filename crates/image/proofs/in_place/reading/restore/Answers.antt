@@ -28,7 +28,8 @@ returns-then-heap-size c =
     let e = c.refused.ensures in
     record {
       holds = (λ i. restored_to s.args.heap.now (e.holds i) (e.tells i))
-          ∙ restore_room s.args.form s.args.size (stream (goal.at.returns-then-heap-size c).Start) s.args.heap.now (said (goal.at.returns-then-heap-size c).Start) t.if-heap-size.true;
+          ∙ restore_room s.args.form s.args.size (stream (goal.at.returns-then-heap-size c).Start) s.args.heap.now
+          (said (goal.at.returns-then-heap-size c).Start) t.if-heap-size.true;
       pads = e.pads;
     }
 
@@ -54,7 +55,8 @@ returns-then-not-is_consistent_in c =
     let e = c.refused-then-not-is_consistent_in.ensures in
     record {
       holds = (λ i. restored_to s.args.heap.now (e.holds i) (e.tells i))
-          ∙ restore_unsound s.args.form s.args.size (stream (goal.at.returns-then-not-is_consistent_in c).Start) s.args.heap.now (said (goal.at.returns-then-not-is_consistent_in c).Start) v.if-heap-size.false h.result h.ensures.0
+          ∙ restore_unsound s.args.form s.args.size (stream (goal.at.returns-then-not-is_consistent_in c).Start) s.args.heap.now
+          (said (goal.at.returns-then-not-is_consistent_in c).Start) v.if-heap-size.false h.result h.ensures.0
           v.is_consistent_in.result (told (goal.at.returns-then-not-is_consistent_in c).After-is_consistent_in) (not-true _ t.if-not-is_consistent_in.true-raw);
       pads = e.pads;
     }
@@ -69,7 +71,9 @@ returns c =
     let there = w.copy_stream.new.out in
     record {
       holds = ap (λ (k : Accounts). restored_to there k Restored) v.put_accounts.ensures.holds
-          ∙ restore_done s.args.form s.args.size (stream (goal.at.returns c).Start) s.args.heap.now (said (goal.at.returns c).Start) v.if-heap-size.false h.result h.ensures.0
-          v.is_consistent_in.result there (told (goal.at.returns c).After-is_consistent_in) (not-false _ p.if-not-is_consistent_in.false-raw) w.copy_stream.ensures;
+          ∙ restore_done s.args.form s.args.size (stream (goal.at.returns c).Start) s.args.heap.now (said (goal.at.returns c).Start) v.if-heap-size.false
+          h.result h.ensures.0
+          v.is_consistent_in.result there (told (goal.at.returns c).After-is_consistent_in) (not-false _ p.if-not-is_consistent_in.false-raw)
+          w.copy_stream.ensures;
       pads = v.put_accounts.ensures.pads;
     }

@@ -22,7 +22,8 @@ returns-in-Refused c =
     let v = c.verdict in
     let told = ap verdict_values v.ensures ∙ g.told in
     let x = c in
-    spans_refused u s k a.handle c.number.result x.in-Refused.refusal c.number.ensures (lend_refused u s k a.handle v.result told x.in-Refused.refusal x.in-Refused.is)
+    spans_refused u s k a.handle c.number.result x.in-Refused.refusal c.number.ensures
+    (lend_refused u s k a.handle v.result told x.in-Refused.refusal x.in-Refused.is)
 
 pub returns-in_default-found : goal.returns-in_default-found
 returns-in_default-found c =
@@ -38,7 +39,8 @@ returns-in_default-found c =
     let yes = c.in_default.is in
     let ok = sym v.ensures ∙ yes in
     let f = looked_up_is g ok c.found.result c.found.ensures _ c.in_default-found.is in
-    spans_refused u s k a.handle c.number-in_default-found.result NoSuchObject c.number-in_default-found.ensures (lend_missing u s k a.handle v.result told yes f)
+    spans_refused u s k a.handle c.number-in_default-found.result NoSuchObject c.number-in_default-found.ensures
+    (lend_missing u s k a.handle v.result told yes f)
 
 pub returns : goal.returns
 returns c =
