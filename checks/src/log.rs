@@ -45,10 +45,15 @@ fn place(label: &str, (file, line): At, all: &[Declaration]) -> Place {
     }
 }
 
-/// Whether a place is where the edit says. Where that is a goal of an older kit's proof, the function is compared: today's
-/// goals have other names, and rt names one of a function with no proof file at the function's source.
-fn agrees(said: &Place, found: &Place) -> bool {
-    said == found || said.is_of_older_proof() && said.function() == found.function()
+/// Whether a place is where the edit says. Where one of the two is at the function's source, or the edit names a goal of an
+/// older kit's proof, the function is compared: rt names the source of a goal that no proof file answers, and today's goals
+/// have other names than those.
+pub fn agrees(said: &Place, found: &Place) -> bool {
+    let of_source = said.is_of_source() || found.is_of_source();
+    said == found
+        || (of_source || said.is_of_older_proof())
+            && said.function().is_some()
+            && said.function() == found.function()
 }
 
 /// The places of the first errors that a log has, by edits.
@@ -147,6 +152,12 @@ mod tests {
         ));
         assert!(!agrees(&said, &of("src/writers.rt", "refund")));
         assert!(!agrees(&said, &of("proofs/Rows.antt", "charge")));
+        let today = of("proofs/writers/charge/Answers.antt", "returns");
+        assert!(agrees(&today, &of("src/writers.rt", "charge")));
+        assert!(!agrees(
+            &today,
+            &of("proofs/writers/charge/Answers.antt", "loop-i-preserved")
+        ));
     }
 
     #[test]

@@ -26,9 +26,14 @@ impl Place {
         self.file.ends_with(OLDER_PROOF)
     }
 
+    /// Whether it is in the crate's code.
+    pub fn is_of_source(&self) -> bool {
+        self.file.starts_with("src/")
+    }
+
     /// The name of the function whose proof or source this is.
     pub fn function(&self) -> Option<&str> {
-        if self.file.starts_with("src/") {
+        if self.is_of_source() {
             return self.fact.rsplit("::").next();
         }
         let folder = PROOFS.iter().find_map(|end| self.file.strip_suffix(end))?;
@@ -268,8 +273,8 @@ fn functions(declared: &[Declaration], static_crates: &[String]) -> Vec<Function
         .collect()
 }
 
-/// Writes into the third line of each edit that a log of rt has as refused where that was, where it says otherwise. What stands behind the first place stays if
-/// it is still there.
+/// Writes into the third line of each edit that a log of rt has as refused where that was, where it says otherwise. What
+/// stands behind the first place stays if it is still there.
 pub fn write_places(name: &str) -> Result<String, Vec<String>> {
     let all = declared::of_crates()?;
     let declared: HashSet<(String, String)> = all
@@ -285,7 +290,7 @@ pub fn write_places(name: &str) -> Result<String, Vec<String>> {
         let Some(place) = found.get(&format!("{}/{}", edit.of, edit.label)) else {
             continue;
         };
-        if said[0] == *place {
+        if log::agrees(&said[0], place) {
             continue;
         }
         let stays = said[1..].iter().all(|place| {
