@@ -3,8 +3,8 @@
 #
 # make run       tell a story, prove the heap and the replay program (minutes), and run the story
 # make try       tell the story and run it at once, with nothing proved
-# make test      prove everything from nothing, try every must-fail edit, run every test
-# make check     run every check that takes seconds and proves nothing: documents, layout, lints
+# make test      prove everything, try every must-fail edit, run every test
+# make check     run every check that takes seconds and proves nothing: documents, lints
 #
 # make lib       prove the exported calls, and write build/lib/liblokhazim.a with its headers
 # make cli       prove the library and build the command build/bin/lokhazim over it
@@ -20,7 +20,7 @@
 # make bench     time the proved calls, the reference and other allocators, such as glibc's with a check
 # make fuzz      compare the proved code with the reference from a fresh seed: SECONDS=600 SEED=..
 # make sanitize  compare calls under valgrind: SECONDS=600 SEED=..
-# make clean     remove build/ and target/; what was proved has to be proved again
+# make clean     remove build/ and what rt keeps beside the crates
 
 SECONDS := 60
 SEED :=
@@ -82,4 +82,4 @@ sanitize:
 	@scripts/sanitize $(SECONDS) $(SEED)
 
 clean:
-	rm -rf target build
+	rm -rf build crates/*/out

@@ -1,17 +1,11 @@
 /*
- * The calls as the proved module has them (port/retarget.awk): every struct and every lent slice by pointer, an answer that is a struct through the first one.
- * Numbers that are size_t in lokhazim.h have 64 bits here on every processor.
+ * The calls as the proved module has them (port/retarget.awk): every struct by pointer, an answer that is a struct through the first one, and a lent slice as its
+ * address and its length. Numbers that are size_t in lokhazim.h, lengths too, have 64 bits here on every processor.
  */
 #ifndef LOKHAZIM_PORT_CORE_H
 #define LOKHAZIM_PORT_CORE_H
 
 #include "lokhazim.h"
-
-/* A lent slice: the address at 0, the length as 64 bits at 8. */
-struct slice {
-    _Alignas(8) const uint8_t *bytes;
-    _Alignas(8) uint64_t length;
-};
 
 struct core_range {
     _Alignas(8) uint32_t refusal;
@@ -33,7 +27,6 @@ struct core_written {
     _Alignas(8) uint64_t length;
 };
 
-LOKHAZIM_ASSERT(sizeof(struct slice) == 16 && offsetof(struct slice, length) == 8, "a slice is not as the module has it");
 LOKHAZIM_ASSERT(sizeof(struct core_range) == 24 && offsetof(struct core_range, start) == 8 && offsetof(struct core_range, end) == 16,
                 "a range is not as the module has it");
 LOKHAZIM_ASSERT(sizeof(struct core_block) == 32 && offsetof(struct core_block, offset) == 8 && offsetof(struct core_block, size) == 16 &&
@@ -41,12 +34,6 @@ LOKHAZIM_ASSERT(sizeof(struct core_block) == 32 && offsetof(struct core_block, o
                 "a block is not as the module has it");
 
 LOKHAZIM_ASSERT(sizeof(struct core_written) == 16 && offsetof(struct core_written, length) == 8, "a length is not as the module has it");
-
-static inline struct slice lent(const uint8_t *heap, size_t length)
-{
-    const struct slice slice = { heap, length };
-    return slice;
-}
 
 static inline struct lokhazim_range_reply range_of(const struct core_range *core)
 {

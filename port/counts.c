@@ -39,12 +39,11 @@ static struct lokhazim_block_count count_of(const struct core_count *core)
     return count;
 }
 
-void lokhazim_core_raw_statistics(struct core_statistics *, const struct slice *, const struct lokhazim_accounts *);
+void lokhazim_core_raw_statistics(struct core_statistics *, const uint8_t *, uint64_t, const struct lokhazim_accounts *);
 struct lokhazim_statistics lokhazim_raw_statistics(const uint8_t *heap, size_t length, const struct lokhazim_accounts *accounts)
 {
-    const struct slice slice = lent(heap, length);
     struct core_statistics core;
-    lokhazim_core_raw_statistics(&core, &slice, accounts);
+    lokhazim_core_raw_statistics(&core, heap, length, accounts);
     const struct lokhazim_statistics reply = {
         core.refusal, core.last_serial, (size_t)core.records, count_of(&core.free), count_of(&core.live), count_of(&core.quarantined),
         (size_t)core.largest_free, (size_t)core.fragmented, (size_t)core.largest_8, (size_t)core.largest_16, (size_t)core.largest_32,
@@ -53,13 +52,12 @@ struct lokhazim_statistics lokhazim_raw_statistics(const uint8_t *heap, size_t l
     return reply;
 }
 
-void lokhazim_core_raw_quota_statistics(struct core_quota *, const struct slice *, const struct lokhazim_accounts *, uint32_t);
+void lokhazim_core_raw_quota_statistics(struct core_quota *, const uint8_t *, uint64_t, const struct lokhazim_accounts *, uint32_t);
 struct lokhazim_quota_statistics lokhazim_raw_quota_statistics(
     const uint8_t *heap, size_t length, const struct lokhazim_accounts *accounts, uint32_t quota)
 {
-    const struct slice slice = lent(heap, length);
     struct core_quota core;
-    lokhazim_core_raw_quota_statistics(&core, &slice, accounts, quota);
+    lokhazim_core_raw_quota_statistics(&core, heap, length, accounts, quota);
     const struct lokhazim_quota_statistics reply = { core.refusal, core.grant, core.remaining, (size_t)core.objects, (size_t)core.shared };
     return reply;
 }

@@ -52,88 +52,79 @@ size_t lokhazim_image_length_form_1(size_t heap_length)
     return (size_t)lokhazim_core_image_length_form_1(heap_length);
 }
 
-void lokhazim_core_raw_image_write(struct core_written *, const struct slice *, const struct slice *, const struct lokhazim_accounts *);
+void lokhazim_core_raw_image_write(struct core_written *, const uint8_t *, uint64_t, const uint8_t *, uint64_t, const struct lokhazim_accounts *);
 struct lokhazim_image_reply lokhazim_raw_image_write(
     uint8_t *image, size_t image_length, const uint8_t *heap, size_t length, const struct lokhazim_accounts *accounts)
 {
-    const struct slice to = lent(image, image_length), from = lent(heap, length);
     struct core_written reply;
-    lokhazim_core_raw_image_write(&reply, &to, &from, accounts);
+    lokhazim_core_raw_image_write(&reply, image, image_length, heap, length, accounts);
     return written_of(&reply);
 }
 
-void lokhazim_core_raw_image_write_form_1(struct core_written *, const struct slice *, const struct slice *, const struct lokhazim_accounts *);
+void lokhazim_core_raw_image_write_form_1(struct core_written *, const uint8_t *, uint64_t, const uint8_t *, uint64_t, const struct lokhazim_accounts *);
 struct lokhazim_image_reply lokhazim_raw_image_write_form_1(
     uint8_t *image, size_t image_length, const uint8_t *heap, size_t length, const struct lokhazim_accounts *accounts)
 {
-    const struct slice to = lent(image, image_length), from = lent(heap, length);
     struct core_written reply;
-    lokhazim_core_raw_image_write_form_1(&reply, &to, &from, accounts);
+    lokhazim_core_raw_image_write_form_1(&reply, image, image_length, heap, length, accounts);
     return written_of(&reply);
 }
 
-uint32_t lokhazim_core_raw_image_resume(const struct slice *, const struct slice *, struct lokhazim_accounts *);
+uint32_t lokhazim_core_raw_image_resume(const uint8_t *, uint64_t, const uint8_t *, uint64_t, struct lokhazim_accounts *);
 uint32_t lokhazim_raw_image_resume(
     const uint8_t *image, size_t image_length, uint8_t *heap, size_t length, struct lokhazim_accounts *accounts)
 {
-    const struct slice from = lent(image, image_length), to = lent(heap, length);
-    return lokhazim_core_raw_image_resume(&from, &to, accounts);
+    return lokhazim_core_raw_image_resume(image, image_length, heap, length, accounts);
 }
 
-uint32_t lokhazim_core_raw_image_restore(const struct slice *, const struct slice *, struct lokhazim_accounts *);
+uint32_t lokhazim_core_raw_image_restore(const uint8_t *, uint64_t, const uint8_t *, uint64_t, struct lokhazim_accounts *);
 uint32_t lokhazim_raw_image_restore(
     const uint8_t *image, size_t image_length, uint8_t *heap, size_t length, struct lokhazim_accounts *accounts)
 {
-    const struct slice from = lent(image, image_length), to = lent(heap, length);
-    return lokhazim_core_raw_image_restore(&from, &to, accounts);
+    return lokhazim_core_raw_image_restore(image, image_length, heap, length, accounts);
 }
 
-void lokhazim_core_image_examine(struct core_examined *, const struct slice *);
+void lokhazim_core_image_examine(struct core_examined *, const uint8_t *, uint64_t);
 struct lokhazim_examine_reply lokhazim_image_examine(const uint8_t *image, size_t image_length)
 {
-    const struct slice slice = lent(image, image_length);
     struct core_examined core;
-    lokhazim_core_image_examine(&core, &slice);
+    lokhazim_core_image_examine(&core, image, image_length);
     const struct lokhazim_examine_reply reply = { core.refusal, core.form, (size_t)core.heap_length };
     return reply;
 }
 
-void lokhazim_core_image_move_up(struct core_written *, const struct slice *, const struct slice *);
+void lokhazim_core_image_move_up(struct core_written *, const uint8_t *, uint64_t, const uint8_t *, uint64_t);
 struct lokhazim_image_reply lokhazim_image_move_up(const uint8_t *image, size_t image_length, uint8_t *out, size_t out_length)
 {
-    const struct slice from = lent(image, image_length), to = lent(out, out_length);
     struct core_written reply;
-    lokhazim_core_image_move_up(&reply, &from, &to);
+    lokhazim_core_image_move_up(&reply, image, image_length, out, out_length);
     return written_of(&reply);
 }
 
-void lokhazim_core_image_move_down(struct core_written *, const struct slice *, const struct slice *);
+void lokhazim_core_image_move_down(struct core_written *, const uint8_t *, uint64_t, const uint8_t *, uint64_t);
 struct lokhazim_image_reply lokhazim_image_move_down(const uint8_t *image, size_t image_length, uint8_t *out, size_t out_length)
 {
-    const struct slice from = lent(image, image_length), to = lent(out, out_length);
     struct core_written reply;
-    lokhazim_core_image_move_down(&reply, &from, &to);
+    lokhazim_core_image_move_down(&reply, image, image_length, out, out_length);
     return written_of(&reply);
 }
 
-void lokhazim_core_image_compare(struct core_compared *, const struct slice *, const struct slice *, uint64_t);
+void lokhazim_core_image_compare(struct core_compared *, const uint8_t *, uint64_t, const uint8_t *, uint64_t, uint64_t);
 struct lokhazim_compare_reply lokhazim_image_compare(
     const uint8_t *first, size_t first_length, const uint8_t *second, size_t second_length, size_t n)
 {
-    const struct slice one = lent(first, first_length), two = lent(second, second_length);
     struct core_compared core;
-    lokhazim_core_image_compare(&core, &one, &two, n);
+    lokhazim_core_image_compare(&core, first, first_length, second, second_length, n);
     const struct lokhazim_compare_reply reply = { core.refusal, core.which, core.kind, (size_t)core.place, (size_t)core.length };
     return reply;
 }
 
-void lokhazim_core_image_compare_next(struct core_next *, const struct slice *, const struct slice *, uint32_t, uint64_t);
+void lokhazim_core_image_compare_next(struct core_next *, const uint8_t *, uint64_t, const uint8_t *, uint64_t, uint32_t, uint64_t);
 struct lokhazim_next_reply lokhazim_image_compare_next(
     const uint8_t *first, size_t first_length, const uint8_t *second, size_t second_length, uint32_t part, size_t at)
 {
-    const struct slice one = lent(first, first_length), two = lent(second, second_length);
     struct core_next core;
-    lokhazim_core_image_compare_next(&core, &one, &two, part, at);
+    lokhazim_core_image_compare_next(&core, first, first_length, second, second_length, part, at);
     const struct lokhazim_next_reply reply = {
         core.refusal, core.which, core.kind, (size_t)core.place, (size_t)core.length, core.part, (size_t)core.at
     };

@@ -10,12 +10,11 @@ struct lokhazim_queue lokhazim_queue_new(uint32_t sender, uint32_t receiver)
     return queue;
 }
 
-uint32_t lokhazim_core_raw_queue_send(const struct slice *, struct lokhazim_accounts *, struct lokhazim_queue *, const struct lokhazim_handle *);
+uint32_t lokhazim_core_raw_queue_send(const uint8_t *, uint64_t, struct lokhazim_accounts *, struct lokhazim_queue *, const struct lokhazim_handle *);
 uint32_t lokhazim_raw_queue_send(
     uint8_t *heap, size_t length, struct lokhazim_accounts *accounts, struct lokhazim_queue *queue, struct lokhazim_handle handle)
 {
-    const struct slice slice = lent(heap, length);
-    return lokhazim_core_raw_queue_send(&slice, accounts, queue, &handle);
+    return lokhazim_core_raw_queue_send(heap, length, accounts, queue, &handle);
 }
 
 void lokhazim_core_raw_queue_receive(struct lokhazim_handle_reply *, struct lokhazim_queue *);

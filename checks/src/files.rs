@@ -8,7 +8,8 @@ pub fn text(path: &str) -> Result<String, Vec<String>> {
     fs::read_to_string(path).map_err(|error| vec![format!("{path}: {error}")])
 }
 
-/// The files below some files and folders whose names end so, sorted; `build` and `target` folders are left out.
+/// The files below some files and folders whose names end so, sorted; `build`, `target` and `out` folders are left
+/// out.
 pub fn below(starts: &[&str], ends: &[&str]) -> Result<Vec<String>, Vec<String>> {
     let mut found = Vec::new();
     for start in starts {
@@ -24,7 +25,7 @@ fn gather(path: &Path, ends: &[&str], found: &mut Vec<String>) -> std::io::Resul
         for entry in fs::read_dir(path)? {
             let entry = entry?.path();
             let name = entry.file_name().unwrap_or_default();
-            if name != "build" && name != "target" {
+            if name != "build" && name != "target" && name != "out" {
                 gather(&entry, ends, found)?;
             }
         }
@@ -40,16 +41,24 @@ fn gather(path: &Path, ends: &[&str], found: &mut Vec<String>) -> std::io::Resul
 /// The names of the crates that crates.txt lists, in its order.
 pub fn crates() -> Result<Vec<String>, Vec<String>> {
     let lines = text("crates.txt")?;
-    Ok(crate_names(&lines))
+    Ok(heads(&lines).map(|head| head[0].to_string()).collect())
 }
 
-fn crate_names(lines: &str) -> Vec<String> {
+/// The names of the crates that crates.txt lists as static libraries.
+pub fn static_crates() -> Result<Vec<String>, Vec<String>> {
+    let lines = text("crates.txt")?;
+    let all = heads(&lines).filter(|head| head[1..].contains(&"staticlib"));
+    Ok(all.map(|head| head[0].to_string()).collect())
+}
+
+/// What stands in front of the `:` of each line, word for word: the crate's name first.
+fn heads(lines: &str) -> impl Iterator<Item = Vec<&str>> {
     let code = lines
         .lines()
         .map(|line| line.split('#').next().unwrap_or_default());
     code.filter_map(|line| line.split_once(':'))
-        .map(|(name, _)| name.trim().to_string())
-        .collect()
+        .map(|(head, _)| head.split_whitespace().collect::<Vec<_>>())
+        .filter(|head| !head.is_empty())
 }
 
 #[cfg(test)]
@@ -58,7 +67,8 @@ mod tests {
 
     #[test]
     fn comments_of_the_list_of_crates_are_passed_over() {
-        let names = crate_names("# leaves\nlists:\nwords: lists accounts # in place\n\n");
-        assert_eq!(names, ["lists", "words"]);
+        let lines = "# leaves\nlists:\nwords_c staticlib: lists accounts # in place\n\n";
+        let found: Vec<Vec<&str>> = heads(lines).collect();
+        assert_eq!(found, [vec!["lists"], vec!["words_c", "staticlib"]]);
     }
 }

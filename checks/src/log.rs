@@ -5,12 +5,24 @@ use crate::edits::Tried;
 use crate::wrong::{Place, Wrong};
 use std::collections::HashSet;
 
-/// The edit that a line of the log tells of, as `crate/label`, and the file and line of its first error.
-fn first_error(line: &str) -> Option<(&str, &str, usize)> {
+/// A file of a crate and a line of it.
+type At<'a> = (&'a str, usize);
+
+/// The edit that a line of the log has as refused, as `crate/label`, and the file and line of its first error, if rt
+/// names these: `rt: must-fail words/adds.edit: refused, as it must be: ./proofs/A.antt:2:5: error: ..`, or `note:
+/// src/lib.rt:2:5: ..`.
+fn first_error(line: &str) -> Option<(&str, Option<At<'_>>)> {
     let (_, rest) = line.split_once("must-fail ")?;
-    let (label, rest) = rest.split_once(": refused, as it must be (first at ")?;
-    let mut parts = rest.split(':');
-    Some((label, parts.next()?, parts.next()?.parse().ok()?))
+    let (label, rest) = rest.split_once(".edit: refused, as it must be")?;
+    Some((label, rest.split_whitespace().find_map(at)))
+}
+
+/// A word such as `./proofs/A.antt:2:5:` as a place.
+fn at(word: &str) -> Option<At<'_>> {
+    let mut parts = word.strip_suffix(':')?.rsplitn(3, ':');
+    let (column, line, file) = (parts.next()?, parts.next()?, parts.next()?);
+    column.parse::<usize>().ok()?;
+    Some((file.strip_prefix("./").unwrap_or(file), line.parse().ok()?))
 }
 
 /// What is declared at a line of a file, or above it.
@@ -24,6 +36,34 @@ fn declared_at(all: &[Declaration], file: &str, line: usize) -> String {
         .unwrap_or_default()
 }
 
+/// The place of an edit's first error, with the fact that is declared there.
+fn place(label: &str, (file, line): At, all: &[Declaration]) -> Place {
+    let of = label.split('/').next().unwrap_or_default();
+    Place {
+        file: file.to_string(),
+        fact: declared_at(all, &format!("crates/{of}/{file}"), line),
+    }
+}
+
+/// Whether a place is where the edit says. Where one of the two is at the function's source, or the edit names a goal of an
+/// older kit's proof, the function is compared: rt names the source of a goal that no proof file answers, and today's goals
+/// have other names than those.
+pub fn agrees(said: &Place, found: &Place) -> bool {
+    let of_source = said.is_of_source() || found.is_of_source();
+    said == found
+        || (of_source || said.is_of_older_proof())
+            && said.function().is_some()
+            && said.function() == found.function()
+}
+
+/// The places of the first errors that a log has, by edits.
+pub fn found(text: &str, all: &[Declaration]) -> Vec<(String, Place)> {
+    let errors = text.lines().filter_map(first_error);
+    errors
+        .filter_map(|(label, at)| Some((label.to_string(), place(label, at?, all))))
+        .collect()
+}
+
 /// How many first errors were compared, and every difference.
 pub fn compare(
     name: &str,
@@ -34,19 +74,18 @@ pub fn compare(
 ) -> (String, Vec<String>) {
     let mut seen = HashSet::new();
     let mut bad = Vec::new();
-    for (label, file, line) in text.lines().filter_map(first_error) {
+    let mut compared = 0;
+    for (label, at) in text.lines().filter_map(first_error) {
         let Some((_, said)) = wrong.firsts.get(label).filter(|first| first.0 == tried) else {
             bad.push(format!("{name}: {label} is no edit that is tried there."));
             continue;
         };
         seen.insert(label);
-        let of = label.split('/').next().unwrap_or_default();
-        let fact = declared_at(all, &format!("crates/{of}/{file}"), line);
-        let found = Place {
-            file: file.to_string(),
-            fact,
+        let Some(found) = at.map(|at| place(label, at, all)) else {
+            continue;
         };
-        if *said != found {
+        compared += 1;
+        if !agrees(said, &found) {
             let differ = format!("but the log says \"{} {}\"", found.file, found.fact);
             bad.push(format!(
                 "{label}: refused at \"{} {}\", {differ}.",
@@ -68,8 +107,7 @@ pub fn compare(
     );
     (
         format!(
-            "{} first errors compared, of {} edits",
-            seen.len(),
+            "{compared} first errors compared, of {} edits",
             wrong.tried(tried)
         ),
         bad,
@@ -82,12 +120,44 @@ mod tests {
     use crate::declared::of_text;
 
     const LINE: &str =
-        "rt: must-fail words/adds: refused, as it must be (first at proofs/A.antt:2:5; 7 s)";
+        "rt: must-fail words/adds.edit: refused, as it must be: ./proofs/A.antt:2:5: error: `one`: no";
 
     #[test]
     fn a_line_of_the_log() {
-        assert_eq!(first_error(LINE), Some(("words/adds", "proofs/A.antt", 2)));
-        assert_eq!(first_error("rt: words proved (9 s)"), None);
+        assert_eq!(
+            first_error(LINE),
+            Some(("words/adds", Some(("proofs/A.antt", 2))))
+        );
+        let note = "rt: must-fail words/a.edit: refused, as it must be (only by a limit: so): note: src/lib.rt:7:1: it is";
+        assert_eq!(
+            first_error(note),
+            Some(("words/a", Some(("src/lib.rt", 7))))
+        );
+        let bare = "rt: must-fail words/a.edit: refused, as it must be";
+        assert_eq!(first_error(bare), Some(("words/a", None)));
+        assert_eq!(first_error("rt: words proved"), None);
+    }
+
+    #[test]
+    fn a_goal_of_an_older_proof_is_compared_by_its_function() {
+        let of = |file: &str, fact: &str| Place {
+            file: file.to_string(),
+            fact: fact.to_string(),
+        };
+        let said = of("proofs/writers/charge/Proof.antt", "returns-3");
+        assert!(agrees(&said, &of("src/writers.rt", "Words::charge")));
+        assert!(agrees(
+            &said,
+            &of("proofs/writers/charge/Answers.antt", "returns")
+        ));
+        assert!(!agrees(&said, &of("src/writers.rt", "refund")));
+        assert!(!agrees(&said, &of("proofs/Rows.antt", "charge")));
+        let today = of("proofs/writers/charge/Answers.antt", "returns");
+        assert!(agrees(&today, &of("src/writers.rt", "charge")));
+        assert!(!agrees(
+            &today,
+            &of("proofs/writers/charge/Answers.antt", "loop-i-preserved")
+        ));
     }
 
     #[test]

@@ -16,6 +16,7 @@ use std::process::ExitCode;
 const USAGE: &str = "\
 usage: checks names                     the names, rules and links that documents cite
        checks wrong [--log LOG [wrong]] the wrong programs; with --log where a log of rt has them refused
+       checks wrong --write LOG         writes that into their third lines
        checks declared FILE..           what files of the crates declare: file, name, kind and line
 Run it in the project's folder.";
 
@@ -28,6 +29,7 @@ fn run(words: &[&str]) -> Checked {
         ["wrong"] => wrong::check(None),
         ["wrong", "--log", log] => wrong::check(Some((log, edits::Tried::Gate))),
         ["wrong", "--log", log, "wrong"] => wrong::check(Some((log, edits::Tried::Apart))),
+        ["wrong", "--write", log] => wrong::write_places(log),
         ["declared", files @ ..] => declared::list(files),
         _ => Err(vec![USAGE.to_string()]),
     }

@@ -14,6 +14,33 @@ pub struct Place {
     pub fact: String,
 }
 
+/// The files that rt reads in the folder of a function's proof.
+const PROOFS: [&str; 3] = ["/Answers.antt", "/Invariants.antt", OLDER_PROOF];
+
+/// The one that holds a proof which walks the code: the form of older kits.
+const OLDER_PROOF: &str = "/Proof.antt";
+
+impl Place {
+    /// Whether it is a goal of a proof as older kits had them.
+    pub fn is_of_older_proof(&self) -> bool {
+        self.file.ends_with(OLDER_PROOF)
+    }
+
+    /// Whether it is in the crate's code.
+    pub fn is_of_source(&self) -> bool {
+        self.file.starts_with("src/")
+    }
+
+    /// The name of the function whose proof or source this is.
+    pub fn function(&self) -> Option<&str> {
+        if self.is_of_source() {
+            return self.fact.rsplit("::").next();
+        }
+        let folder = PROOFS.iter().find_map(|end| self.file.strip_suffix(end))?;
+        folder.rsplit('/').next()
+    }
+}
+
 /// What the table tells of one edit, for one function or definition.
 #[derive(Clone)]
 pub struct Row {
@@ -62,7 +89,10 @@ fn shown(place: &Place) -> String {
     let inside = place.file.strip_prefix("proofs/").unwrap_or(&place.file);
     format!(
         "{} `{}`",
-        inside.strip_suffix("/Proof.antt").unwrap_or(inside),
+        PROOFS
+            .iter()
+            .find_map(|end| inside.strip_suffix(end))
+            .unwrap_or(inside),
         place.fact
     )
 }
@@ -114,10 +144,7 @@ impl Wrong {
         }
         let places = places(&edit.refused);
         for place in &places {
-            if !declared.contains(&(
-                format!("crates/{}/{}", edit.of, place.file),
-                place.fact.clone(),
-            )) {
+            if !self.is_there(edit, place, declared) {
                 let told = format!("refused at \"{} {}\"", place.file, place.fact);
                 self.bad.push(format!(
                     "{}: {told}, but {} has no such fact in such a file.",
@@ -144,6 +171,16 @@ impl Wrong {
             refused,
         };
         self.put_rows(edit, &row, declared);
+    }
+
+    /// Whether the crate has a fact in a file; of a goal of an older kit's proof, whether it has the function.
+    fn is_there(&self, edit: &Edit, place: &Place, declared: &HashSet<(String, String)>) -> bool {
+        let file = format!("crates/{}/{}", edit.of, place.file);
+        let named = |function: &&Function| {
+            function.of == edit.of && function.name.rsplit("::").next() == place.function()
+        };
+        declared.contains(&(file, place.fact.clone()))
+            || place.is_of_older_proof() && self.functions.iter().any(|f| named(&f))
     }
 
     fn put_rows(&mut self, edit: &Edit, row: &Row, declared: &HashSet<(String, String)>) {
@@ -224,13 +261,53 @@ impl Wrong {
     }
 }
 
-fn functions(declared: &[Declaration]) -> Vec<Function> {
+/// The functions of the crates but for those of static libraries, which hand on a library's functions with its clauses: the
+/// wrong programs are the library's.
+fn functions(declared: &[Declaration], static_crates: &[String]) -> Vec<Function> {
     let mut seen = HashSet::new();
     declared
         .iter()
         .filter_map(called)
+        .filter(|function| !static_crates.contains(&function.of))
         .filter(|function| seen.insert(function.name.clone()))
         .collect()
+}
+
+/// Writes into the third line of each edit that a log of rt has as refused where that was, where it says otherwise. What
+/// stands behind the first place stays if it is still there.
+pub fn write_places(name: &str) -> Result<String, Vec<String>> {
+    let all = declared::of_crates()?;
+    let declared: HashSet<(String, String)> = all
+        .iter()
+        .map(|found| (found.file.clone(), found.name.clone()))
+        .collect();
+    let found: HashMap<String, Place> = log::found(&files::text(name)?, &all).into_iter().collect();
+    let mut count = 0;
+    for path in edits::paths()? {
+        let text = files::text(&path)?;
+        let edit = edits::read(&path, &text);
+        let said = places(&edit.refused);
+        let Some(place) = found.get(&format!("{}/{}", edit.of, edit.label)) else {
+            continue;
+        };
+        if log::agrees(&said[0], place) {
+            continue;
+        }
+        let stays = said[1..].iter().all(|place| {
+            declared.contains(&(
+                format!("crates/{}/{}", edit.of, place.file),
+                place.fact.clone(),
+            ))
+        });
+        let rest = edit.refused.split_once(", then ").filter(|_| stays);
+        let rest = rest.map_or(String::new(), |(_, rest)| format!(", then {rest}"));
+        let old = format!("# refused at: {}\n", edit.refused);
+        let new = format!("# refused at: {} {}{rest}\n", place.file, place.fact);
+        std::fs::write(&path, text.replacen(&old, &new, 1))
+            .map_err(|error| vec![format!("{path}: {error}")])?;
+        count += 1;
+    }
+    Ok(format!("{count} third lines written"))
 }
 
 /// Checks the wrong programs and writes their table; or holds a log of rt to them.
@@ -241,7 +318,7 @@ pub fn check(log_of: Option<(&str, Tried)>) -> Result<String, Vec<String>> {
         .map(|found| (found.file.clone(), found.name.clone()))
         .collect();
     let mut wrong = Wrong {
-        functions: functions(&all),
+        functions: functions(&all, &files::static_crates()?),
         ..Wrong::default()
     };
     let mut texts = HashMap::new();
@@ -298,12 +375,13 @@ mod tests {
         }
     }
 
-    fn edit(path: &str, wrong: &str) -> Edit {
-        let text = format!("# wrong: {wrong}\n# false: 1: 2\n# refused at: proofs/charge/Proof.antt returns\nfile: src/a.rt\nold: a\nnew: b\n");
+    fn edit(path: &str, wrong: &str, refused: &str) -> Edit {
+        let text = format!("# wrong: {wrong}\n# false: 1: 2\n# refused at: {refused} returns\nfile: src/a.rt\nold: a\nnew: b\n");
         edits::read(path, &text)
     }
 
-    const FACT: (&str, &str) = ("crates/words/proofs/charge/Proof.antt", "returns");
+    const ANSWERS: &str = "proofs/charge/Answers.antt";
+    const FACT: (&str, &str) = ("crates/words/proofs/charge/Answers.antt", "returns");
 
     #[test]
     fn the_places_of_a_third_line() {
@@ -325,7 +403,7 @@ mod tests {
     fn an_edit_that_is_right() {
         let mut wrong = some();
         wrong.take(
-            &edit("crates/words/must-fail/a.edit", "words::charge"),
+            &edit("crates/words/must-fail/a.edit", "words::charge", ANSWERS),
             &declared(&[FACT]),
         );
         assert_eq!(wrong.bad, [""; 0]);
@@ -334,7 +412,7 @@ mod tests {
             ["words::charge: a public function has two wrong programs or more, this one has 1."]
         );
         wrong.take(
-            &edit("wrong/words/b.edit", "words::charge"),
+            &edit("wrong/words/b.edit", "words::charge", ANSWERS),
             &declared(&[FACT]),
         );
         assert_eq!(wrong.lacks(), [""; 0]);
@@ -348,12 +426,27 @@ mod tests {
     fn an_edit_that_names_what_is_not_there() {
         let mut wrong = some();
         wrong.take(
-            &edit("wrong/words/b.edit", "words::refund, charge, charge"),
+            &edit(
+                "wrong/words/b.edit",
+                "words::refund, charge, charge",
+                ANSWERS,
+            ),
             &declared(&[]),
         );
         assert_eq!(wrong.bad.len(), 3);
         assert!(wrong.bad[0].contains("has no such fact"));
         assert!(wrong.bad[1].contains("has no such function"));
         assert!(wrong.bad[2].contains("twice"));
+    }
+
+    #[test]
+    fn a_goal_of_an_older_proof_is_one_of_a_function_that_is_there() {
+        let mut wrong = some();
+        for (folder, bad) in [("proofs/by_value/charge", 0), ("proofs/gone", 1)] {
+            let path = format!("wrong/words/{bad}.edit");
+            let refused = format!("{folder}/Proof.antt");
+            wrong.take(&edit(&path, "words::charge", &refused), &declared(&[]));
+            assert_eq!(wrong.bad.len(), bad);
+        }
     }
 }

@@ -11,7 +11,7 @@
 
 #[cfg(all(library_missing, not(clippy)))]
 compile_error!(
-    "target/staticlib/libexports.a is missing: run 'make lib' in the repository's folder, then build again"
+    "build/lib/liblokhazim.a is missing: run 'make lib' in the repository's folder, then build again"
 );
 
 pub mod cases;

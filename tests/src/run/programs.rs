@@ -27,8 +27,8 @@ pub enum Feed {
 impl Programs {
     /// Finds the programs, or says what to run.
     pub fn find() -> Result<Programs, Failure> {
-        let proved = repository().join("target/bin/replay");
-        need(&proved, "rt check replay")?;
+        let proved = repository().join("crates/replay/out/replay");
+        need(&proved, "make run")?;
         let (reference, command) = (built("replay-reference"), built("lokhazim"));
         need(&reference, "cargo build --offline --workspace")?;
         need(&command, "cargo build --offline --workspace")?;
