@@ -1,6 +1,7 @@
 // The shared heap: every call under one name, and `perform`, which makes any call of a history. The module `in_place`
 // has the same over the accounts where they lie.
 #![tactic(auto)]
+
 pub mod in_place;
 mod performing;
 

@@ -1,6 +1,6 @@
 -- A restore where a heap and its accounts are in use (rule 13.19). A refused one leaves both, so the history goes on
 -- with the same events; an accepted one is the event of a history.
-use mathlib.Core.Path.{◌≡◌, refl, ap, sym}
+use mathlib.Core.Path.{◌≡◌, refl}
 use mathlib.Core.List.{List, ◌∷◌}
 use Prim.Native.Nat.{ℕ, zero, suc}
 use Rattle.accounts.specs.declared.Accounts.{Accounts}

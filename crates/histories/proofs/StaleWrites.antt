@@ -3,7 +3,7 @@
 -- has left, until an image is read.
 use Prim.Native.Nat.{ℕ}
 use mathlib.Core.Path.{◌≡◌, refl, ap, sym, ◌∙◌}
-use mathlib.Core.List.{List, [], ◌∷◌}
+use mathlib.Core.List.{List}
 use mathlib.Core.Bool.{false}
 use Rattle.accounts.specs.declared.Accounts.{Accounts}
 use Rattle.lists.specs.Lists.{any}

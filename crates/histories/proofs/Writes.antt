@@ -2,10 +2,10 @@
 -- so in the object that the handle names; a refused write, and one at or beyond the range's length, leaves the heap as it is.
 use Prim.Native.Nat.{ℕ, zero, suc, ◌+◌, ◌<◌}
 use native.Mathlib.Omega.{arith}
-use mathlib.Core.Path.{◌≡◌, refl, sym}
+use mathlib.Core.Path.{◌≡◌, refl}
 use mathlib.Core.List.{List, [], ◌∷◌}
 use mathlib.Core.Bool.{Bool, true, false, cond}
-use lib.ListN.{length, get_or, set, length-set}
+use lib.ListN.{set, length-set}
 use lib.Seq.{get_or-set_other}
 use lib.Dec.{ltb}
 use borrow.Author.Tests.{ltb-true}
@@ -14,11 +14,10 @@ use Rattle.rounding.specs.Rounding.{Units}
 use Rattle.layout.specs.Bytes.{Octets}
 use Rattle.model.specs.Refusals.{first_refusal, lend_lines}
 use Rattle.model.specs.Calls.{Outcome}
-use Rattle.model.specs.Step.{step}
 use Rattle.model.specs.declared.Handle.{Handle}
 use Rattle.model.proofs.Refusals.{unless_has, unless_where}
 use Rattle.ledger.specs.Ledger.{Ledger, Event, Wrote}
-use Rattle.ledger.specs.History.{by_own, in_object, Written, History}
+use Rattle.ledger.specs.History.{by_own, Written, History}
 use Rattle.ledger.proofs.LentParts.{range_inside}
 use Rattle.ledger.proofs.Theorem.{history_agrees}
 use Rattle.queries.specs.Lending.{written, write_object}

@@ -1,5 +1,6 @@
 // The replay's text: the lines of an input are read as calls, the calls are performed on a heap, and the answers are written as lines.
 #![tactic(auto)]
+
 use accounts::QUOTAS;
 use model::Call;
 use replay_model::Word;

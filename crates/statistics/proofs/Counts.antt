@@ -2,7 +2,7 @@
 -- counts make the whole.
 use Prim.Native.Nat.{ℕ, ◌+◌, ◌≤◌}
 use native.Mathlib.Omega.{arith}
-use mathlib.Core.Path.{◌≡◌, refl, ap, sym, ◌∙◌}
+use mathlib.Core.Path.{◌≡◌, refl, ap}
 use mathlib.Core.List.{List, [], ◌∷◌}
 use mathlib.Core.Bool.{Bool, true, false}
 use mathlib.Core.Option.{some}
@@ -14,7 +14,7 @@ use Rattle.lookup.specs.declared.Met.{Met}
 use Rattle.lookup.specs.Walk.{met, live_met}
 use Rattle.lookup.proofs.Parsed.{met_of, met_parsed, placed}
 use Rattle.survey.specs.Shares.{one_if, how_many}
-use Rattle.statistics.specs.Statistics.{if_so, higher, most, count_of, largest_free}
+use Rattle.statistics.specs.Statistics.{if_so, most, count_of, largest_free}
 use Rattle.statistics.specs.Tallies.{free_met, waiting_met, count_met, tally_of}
 use Rattle.statistics.proofs.Joins.{higher_right, higher_left, higher_cases}
 

@@ -1,12 +1,12 @@
 -- The tally of the blocks that a walk meets, joined from the tally of each block: from where a walk stands, the tally so far and that of the blocks to come
 -- make the whole.
-use Prim.Native.Nat.{ℕ, zero, suc, ◌+◌, ◌≤◌, ◌<◌}
-use native.Mathlib.Nat.{zero-add, add-zero, add_assoc}
+use Prim.Native.Nat.{ℕ, zero, suc, ◌+◌, ◌≤◌}
+use native.Mathlib.Nat.{zero-add, add-zero}
 use native.Mathlib.Omega.{arith}
 use mathlib.Core.Path.{◌≡◌, refl, ap, sym, ◌∙◌}
 use mathlib.Core.List.{List, [], ◌∷◌}
 use mathlib.Core.Bool.{Bool, true, false}
-use borrow.Author.Tests.{leb-true, leb-false, le-leb, lt-leb}
+use borrow.Author.Tests.{leb-true, leb-false, le-leb}
 use lib.Dec.{leb}
 use lib.ListN.{length}
 use Rattle.lists.specs.Lists.{total}
@@ -18,7 +18,7 @@ use Rattle.survey.specs.Shares.{one_if, how_many}
 use Rattle.statistics.specs.declared.BlockCount.{BlockCount}
 use Rattle.statistics.specs.declared.tallying.Tally.{Tally}
 use Rattle.statistics.specs.Statistics.{if_so, higher, most}
-use Rattle.statistics.specs.Tallies.{free_met, waiting_met, room_in, count_met, tally_of, single, joined, Small, Within}
+use Rattle.statistics.specs.Tallies.{free_met, waiting_met, count_met, tally_of, single, joined, Small, Within}
 
 -- the higher of two numbers
 pub higher_right : (a b : ℕ) → a ≤ b → higher a b ≡ b

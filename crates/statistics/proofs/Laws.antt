@@ -1,9 +1,9 @@
 -- What the statistics say of a heap that the check accepts: the three counts make the heap (rule 25.3), a request is
 -- refused for space exactly if it is longer than the number of its unit (rule 25.7), and the numbers by the tally of the
 -- blocks and by the pass over the records are the definitions'.
-use Prim.Native.Nat.{ℕ, suc, ◌+◌, ◌-◌, ◌≤◌, ◌<◌}
+use Prim.Native.Nat.{ℕ, ◌+◌, ◌-◌, ◌≤◌, ◌<◌}
 use native.Mathlib.Omega.{arith}
-use mathlib.Core.Path.{◌≡◌, refl, ap, sym, ◌∙◌}
+use mathlib.Core.Path.{◌≡◌, ap, sym, ◌∙◌}
 use mathlib.Core.List.{List}
 use mathlib.Core.Bool.{true}
 use mathlib.Core.Logic.{◌⊎◌}
@@ -11,21 +11,19 @@ use mathlib.Core.Option.{some}
 use lib.Dec.{ltb}
 use lib.ListN.{length}
 use borrow.Author.Tests.{lt-ltb}
-use Rattle.accounts.specs.declared.Hold.{Hold}
 use Rattle.accounts.specs.declared.Accounts.{Accounts}
 use Rattle.rounding.specs.Rounding.{table, object_length, alignment}
 use Rattle.rounding.proofs.Rounding.{at_least_8}
 use Rattle.rounding.proofs.Editions.{table_is}
 use Rattle.layout.specs.Blocks.{size, free, live, quarantined, greatest_heap, parse}
 use Rattle.model.specs.Answers.{refusal_number}
-use Rattle.lists.specs.Lists.{all, total, is_none}
+use Rattle.lists.specs.Lists.{total, is_none}
 use Rattle.model.specs.Objects.{blocks_of}
 use Rattle.model.specs.Consistent.{accounted}
 use Rattle.model.specs.Refusals.{◌when◌, line_11, base_for}
 use Rattle.model.specs.declared.Refusal.{Refusal}
 use Rattle.model.proofs.Blocks.{total_is}
 use Rattle.model.proofs.Consistent.{accounted_cut, accounted_apart, tests_exactly}
-use Rattle.audit.specs.Keys.{well_formed}
 use Rattle.audit.proofs.Consistency.{tests_well}
 use Rattle.lookup.specs.Walk.{met}
 use Rattle.lookup.proofs.Parsed.{total_parsed}
@@ -33,7 +31,7 @@ use Rattle.results.proofs.Lines.{number_some}
 use Rattle.survey.specs.Shares.{how_many, is_own, is_shared, holdings}
 use Rattle.statistics.specs.declared.Statistics.{Statistics}
 use Rattle.statistics.specs.declared.QuotaStatistics.{QuotaStatistics}
-use Rattle.statistics.specs.Statistics.{most, count_of, largest_free, fragmented, largest}
+use Rattle.statistics.specs.Statistics.{most, count_of, largest_free, largest}
 use Rattle.statistics.specs.Statistics.{no_statistics, unless_refused, no_quota_statistics, quota_unless_refused}
 use Rattle.statistics.specs.Tallies.{room_in, most_units, reach, tally_of}
 use Rattle.statistics.proofs.Rooms.{rooms_inside, room_exactly}

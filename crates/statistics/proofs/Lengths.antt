@@ -2,18 +2,18 @@
 -- no longer.
 use Prim.Native.Nat.{ℕ, zero, suc, ◌+◌, ◌*◌, ◌-◌, ◌/◌, ◌%◌, ◌≤◌, ◌<◌}
 use native.Mathlib.Omega.{arith}
-use mathlib.Core.Path.{◌≡◌, refl, ap, sym, subst, ◌∙◌}
+use mathlib.Core.Path.{◌≡◌, ap, sym, subst, ◌∙◌}
 use mathlib.Core.List.{List}
 use mathlib.Core.Bool.{Bool, true, false, not, ◌&&◌}
-use mathlib.Core.Logic.{◌⊎◌, inl, inr, ⊎_elim}
-use borrow.Author.Tests.{leb-true, leb-false, le-leb, lt-leb, eqb-true, eqb-false, eq-eqb, ne_eqb, lt-ltb, le-ltb, ltb-true, ltb-false}
+use mathlib.Core.Logic.{◌⊎◌, inl, inr}
+use borrow.Author.Tests.{leb-true, leb-false, lt-leb, eq-eqb, ne_eqb, lt-ltb, le-ltb}
 use lib.Dec.{leb, ltb, eqb}
 use lib.ListN.{length}
 use Rattle.rounding.specs.Rounding.{object_length, alignment, Units}
-use Rattle.rounding.proofs.Rounding.{rounded, at_least_8}
+use Rattle.rounding.proofs.Rounding.{rounded}
 use Rattle.lists.specs.Lists.{is_none}
 use Rattle.model.specs.Refusals.{base_for}
-use Rattle.lists.proofs.Bools.{and_left, and_right, and_no, fails, by_test, by_eq}
+use Rattle.lists.proofs.Bools.{and_no, by_test, by_eq}
 use Rattle.statistics.specs.Statistics.{greatest, has_base, largest}
 use Rattle.statistics.specs.Tallies.{units_in, reach}
 use Rattle.statistics.proofs.Units.{Told, Makes, Rows, whole, under, counts, times, apart, some_unit, rounds}

@@ -2,7 +2,7 @@
 -- such a multiple on.
 use Prim.Native.Nat.{ℕ, ◌+◌, ◌-◌, ◌≤◌, ◌<◌}
 use native.Mathlib.Omega.{arith}
-use mathlib.Core.Path.{◌≡◌, refl, ap, sym, ◌∙◌}
+use mathlib.Core.Path.{◌≡◌, refl, sym, ◌∙◌}
 use mathlib.Core.List.{List, [], ◌∷◌}
 use mathlib.Core.Bool.{Bool, true, false}
 use mathlib.Core.Option.{Option, none, some}
@@ -21,7 +21,7 @@ use Rattle.lookup.proofs.Multiple.{multiple_behind}
 use Rattle.lookup.proofs.Parsed.{met_of, met_parsed, placed}
 use Rattle.lookup.proofs.Lowest.{base_found, base_nowhere}
 use Rattle.statistics.specs.Statistics.{higher, most}
-use Rattle.statistics.specs.Tallies.{free_met, room_in}
+use Rattle.statistics.specs.Tallies.{room_in}
 use Rattle.statistics.proofs.Joins.{higher_right, higher_left, higher_cases}
 
 -- the first element for which f reaches n, and the greatest of f

@@ -1,7 +1,7 @@
 -- The lengths of each unit, counted in units: at most so many, and more than half as many where the unit is not 8.
 use Prim.Native.Nat.{ℕ, zero, suc, ◌+◌, ◌*◌, ◌-◌, ◌/◌, ◌%◌, ◌≤◌, ◌<◌}
 use native.Mathlib.Omega.{arith}
-use mathlib.Core.Path.{◌≡◌, refl, ap, sym, ◌∙◌}
+use mathlib.Core.Path.{◌≡◌, refl}
 use mathlib.Core.Logic.{◌⊎◌, inl, inr}
 use Rattle.rounding.specs.Rounding.{unit, unit_2, table, object_length}
 use Rattle.rounding.proofs.Rounding.{by_row}

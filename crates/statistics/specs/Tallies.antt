@@ -3,11 +3,11 @@ use Rattle.std.specs.Prelude.{ℕ, zero, suc, ◌+◌, ◌*◌, ◌-◌, ◌/◌
 use Rattle.layout.specs.Blocks.{QUARANTINED}
 use Rattle.lists.specs.Lists.{total}
 use Rattle.lookup.specs.declared.Met.{Met}
-use Rattle.lookup.specs.Walk.{occupied_met, live_met, base_in}
+use Rattle.lookup.specs.Walk.{live_met, base_in}
 use Rattle.survey.specs.Shares.{one_if, how_many}
 use Rattle.statistics.specs.declared.BlockCount.{BlockCount}
 use Rattle.statistics.specs.declared.tallying.Tally.{Tally}
-use Rattle.statistics.specs.Statistics.{if_so, higher, most, no_blocks}
+use Rattle.statistics.specs.Statistics.{if_so, higher, most}
 
 -- a block that was met is free, or waits in quarantine
 abbrev pub free_met : Met → Bool

@@ -1,6 +1,7 @@
 // The statistics of a heap (rules, section 25): what is free, live and quarantined, the greatest lengths that could be
 // allocated now, and what a quota has. Each function checks heap and accounts for itself and changes nothing.
 #![tactic(auto)]
+
 ghost use Rattle.std.specs.Prelude.{◌≡◌, ◌<◌};
 ghost use Rattle.accounts.specs.Accounts.{QUOTAS};
 ghost use Rattle.rounding.specs.Rounding.{table};

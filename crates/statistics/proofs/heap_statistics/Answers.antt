@@ -112,8 +112,11 @@ returns c =
       largest_free = biggest i;
       fragmented = (free i).bytes - biggest i;
       largest_8 = (r1.reach.ensures ∙ (λ j. reach (y j).room_8 8 (n j)) ∙ largest_by_room s acc ok (short (goal.at.returns c).In_default) (edition_of w) u8) i;
-      largest_16 = (r2.reach-2.ensures ∙ (λ j. reach (y j).room_16 16 (n j)) ∙ largest_by_room s acc ok (short (goal.at.returns c).In_default) (edition_of w) u16) i;
-      largest_32 = (r3.reach-3.ensures ∙ (λ j. reach (y j).room_32 32 (n j)) ∙ largest_by_room s acc ok (short (goal.at.returns c).In_default) (edition_of w) u32) i;
-      largest_64 = (c.reach-4.ensures ∙ (λ j. reach (y j).room_64 64 (n j)) ∙ largest_by_room s acc ok (short (goal.at.returns c).In_default) (edition_of w) u64) i;
+      largest_16 =
+          (r2.reach-2.ensures ∙ (λ j. reach (y j).room_16 16 (n j)) ∙ largest_by_room s acc ok (short (goal.at.returns c).In_default) (edition_of w) u16) i;
+      largest_32 =
+          (r3.reach-3.ensures ∙ (λ j. reach (y j).room_32 32 (n j)) ∙ largest_by_room s acc ok (short (goal.at.returns c).In_default) (edition_of w) u32) i;
+      largest_64 =
+          (c.reach-4.ensures ∙ (λ j. reach (y j).room_64 64 (n j)) ∙ largest_by_room s acc ok (short (goal.at.returns c).In_default) (edition_of w) u64) i;
     })
     ∙ statistics_accepted _ (counted u s acc) (check_accepts u s acc e.result e.ensures [] o.in_default.is)

@@ -1,6 +1,5 @@
 use borrow.Author.Rules.{rules}
 use native.Mathlib.Omega.{arith}
-use Prim.Native.Nat.{◌-◌}
 use mathlib.Core.Path.{refl, sym, ◌∙◌}
 use Rattle.replay_text.proofs.Reading.{digit_low, digit_high, digit_large, digit_more, digits_done}
 use Rattle.replay_text.proofs.digits.read_digits.Goals as goal

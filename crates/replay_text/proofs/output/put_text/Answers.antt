@@ -1,6 +1,5 @@
 use borrow.Author.Rules.{rules}
 use native.Mathlib.Omega.{arith}
-use Prim.Native.Nat.{◌-◌}
 use Rattle.replay_text.proofs.Puts.{text_start, text_length, text_more, text_end}
 use Rattle.replay_text.proofs.output.put_text.Goals as goal
 

@@ -2,7 +2,7 @@ use borrow.Enum.Refused.{opened}
 use types.Run.{OneOf}
 use denote.Enum.Declared.{tag_of}
 use native.Mathlib.Omega.{arith}
-use Prim.Native.Nat.{ℕ, ◌+◌, ◌-◌, ◌≤◌}
+use Prim.Native.Nat.{ℕ, ◌+◌, ◌≤◌}
 use mathlib.Core.Path.{◌≡◌, refl, ap, sym, subst, ◌∙◌}
 use mathlib.Core.List.{List, [], ◌∷◌, ◌++◌}
 use mathlib.Core.Logic.{⊎_elim}
@@ -112,7 +112,8 @@ put_block-next-requires c =
     let n = next-block (goal.at.put_block-next-requires c).In-Listed in (
       omega (arith, ends (goal.at.put_block-next-requires c).In-Listed, reached_length a.heap.now a.accounts e.requires.0),
       room_first l.loop-block.next (block_line b) (rest_lines (goal.at.put_block-next-requires c).In-Listed) l.loop-block.output
-          (run_room (heap_lines a.heap.now) a.at a.output.now l.loop-block.output l.loop-block.next (block_line b ++ rest_lines (goal.at.put_block-next-requires c).In-Listed) e.requires.1
+          (run_room (heap_lines a.heap.now) a.at a.output.now l.loop-block.output l.loop-block.next
+          (block_line b ++ rest_lines (goal.at.put_block-next-requires c).In-Listed) e.requires.1
           (running (goal.at.put_block-next-requires c).In-Listed)),
     )
 
@@ -155,5 +156,6 @@ loop-block-preserved c =
       n.behind,
       next_passing l.loop-block.invariant.0 l.loop-block.place b n (blocks_of a.heap.now) l.loop-block.invariant.1,
       run_more (heap_lines a.heap.now) a.at a.output.now l.loop-block.output q.put_block-next.new.output l.loop-block.next q.put_block-next.result
-          (block_line b) (rest_lines (goal.at.loop-block-preserved c).In-Listed) e.requires.1 (running (goal.at.loop-block-preserved c).In-Listed) q.put_block-next.ensures,
+          (block_line b) (rest_lines (goal.at.loop-block-preserved c).In-Listed) e.requires.1 (running (goal.at.loop-block-preserved c).In-Listed)
+          q.put_block-next.ensures,
     )

@@ -1,6 +1,6 @@
 use borrow.Author.Rules.{rules}
 use native.Mathlib.Omega.{arith}
-use Prim.Native.Nat.{ℕ, ◌+◌, ◌-◌, ◌<◌}
+use Prim.Native.Nat.{ℕ, ◌+◌, ◌<◌}
 use mathlib.Core.Path.{◌≡◌, refl, ap, sym, subst, ◌∙◌}
 use mathlib.Core.List.{List, ◌++◌}
 use lib.ListN.{length}
@@ -187,7 +187,8 @@ shape_of-output-then-end-len c =
     let p = c in
     let l = p in
     let a = l.args in
-    kept_length (goal.at.shape_of-output-then-end-len c).At-loop-heap (ending (slice l.loop-heap.start (length a.input.now) a.input.now) l.loop-heap.heap) p.put_ending.new.output
+    kept_length (goal.at.shape_of-output-then-end-len c).At-loop-heap (ending (slice l.loop-heap.start (length a.input.now) a.input.now) l.loop-heap.heap)
+    p.put_ending.new.output
     p.put_ending.result p.put_ending.ensures
 
 pub returns-then-end-len : goal.returns-then-end-len
@@ -196,9 +197,11 @@ returns-then-end-len c =
     let t = p in
     let l = t in
     let a = l.args in
-    last-piece (goal.at.returns-then-end-len c).At-loop-heap (ending (slice l.loop-heap.start (length a.input.now) a.input.now) l.loop-heap.heap) p.put_ending.new.output
+    last-piece (goal.at.returns-then-end-len c).At-loop-heap (ending (slice l.loop-heap.start (length a.input.now) a.input.now) l.loop-heap.heap)
+    p.put_ending.new.output
     p.put_ending.result
-    (subst (so_far (goal.at.returns-then-end-len c).At-loop-heap) (ended (goal.at.returns-then-end-len c).Then-end-len) l.loop-heap.invariant.3) p.put_ending.ensures
+    (subst (so_far (goal.at.returns-then-end-len c).At-loop-heap) (ended (goal.at.returns-then-end-len c).Then-end-len) l.loop-heap.invariant.3)
+    p.put_ending.ensures
 
 pub read_call-requires : goal.read_call-requires
 read_call-requires c = record { ordered = c.find_mark-end.ensures.low; inside = c.find_mark-end.ensures.high }
@@ -207,7 +210,8 @@ pub put_bad-requires : goal.put_bad-requires
 put_bad-requires c =
     let t = c in
     let l = t in
-    there-is-room (goal.at.put_bad-requires c).At-loop-heap bad_line (subst (so_far (goal.at.put_bad-requires c).At-loop-heap) (not-a-call (goal.at.put_bad-requires c).In_default) l.loop-heap.invariant.3)
+    there-is-room (goal.at.put_bad-requires c).At-loop-heap bad_line (subst (so_far (goal.at.put_bad-requires c).At-loop-heap)
+    (not-a-call (goal.at.put_bad-requires c).In_default) l.loop-heap.invariant.3)
 
 pub shape_of-heap-in_default : goal.shape_of-heap-in_default
 shape_of-heap-in_default c = c.loop-heap.invariant.1
@@ -223,7 +227,9 @@ returns-in_default c =
     let p = c in
     let t = p in
     let l = t in
-    last-piece (goal.at.returns-in_default c).At-loop-heap bad_line p.put_bad.new.output p.put_bad.result (subst (so_far (goal.at.returns-in_default c).At-loop-heap) (not-a-call (goal.at.returns-in_default c).In_default) l.loop-heap.invariant.3) p.put_bad.ensures
+    last-piece (goal.at.returns-in_default c).At-loop-heap bad_line p.put_bad.new.output p.put_bad.result
+    (subst (so_far (goal.at.returns-in_default c).At-loop-heap) (not-a-call (goal.at.returns-in_default c).In_default) l.loop-heap.invariant.3)
+    p.put_bad.ensures
 
 pub perform-done-requires : goal.perform-done-requires
 perform-done-requires c = tt
@@ -233,8 +239,11 @@ unfolding answer_of
 put_answer-place-requires c =
     let q = c in
     let l = q in
-    room_first l.loop-heap.place (answer_of (goal.at.put_answer-place-requires c).After-perform-done) (behind (goal.at.put_answer-place-requires c).After-perform-done) l.loop-heap.output
-    (there-is-room (goal.at.put_answer-place-requires c).At-loop-heap (answer_of (goal.at.put_answer-place-requires c).After-perform-done ++ behind (goal.at.put_answer-place-requires c).After-perform-done) (subst (so_far (goal.at.put_answer-place-requires c).At-loop-heap) (made (goal.at.put_answer-place-requires c).After-perform-done) l.loop-heap.invariant.3))
+    room_first l.loop-heap.place (answer_of (goal.at.put_answer-place-requires c).After-perform-done)
+    (behind (goal.at.put_answer-place-requires c).After-perform-done) l.loop-heap.output
+    (there-is-room (goal.at.put_answer-place-requires c).At-loop-heap (answer_of (goal.at.put_answer-place-requires c).After-perform-done ++ behind
+    (goal.at.put_answer-place-requires c).After-perform-done) (subst (so_far (goal.at.put_answer-place-requires c).At-loop-heap)
+    (made (goal.at.put_answer-place-requires c).After-perform-done) l.loop-heap.invariant.3))
 
 pub overflow_add-start : goal.overflow_add-start
 overflow_add-start c =
@@ -261,8 +270,11 @@ loop-heap-preserved c =
       omega (arith, before-end (goal.at.loop-heap-preserved c).Else-end-len),
       q.perform-done.auto.heap ∙ l.loop-heap.invariant.1,
       reached_next l.loop-heap.heap l.loop-heap.current q.in-Call.call q.perform-done.new.heap
-          q.perform-done.result.accounts (answer_values q.perform-done.result.answer) l.loop-heap.invariant.2 (stepped (goal.at.loop-heap-preserved c).After-perform-done),
-      run_more (whole (goal.at.loop-heap-preserved c).At-loop-heap) a.at a.output.now l.loop-heap.output p.put_answer-place.new.output l.loop-heap.place p.put_answer-place.result (answer_of (goal.at.loop-heap-preserved c).After-perform-done)
+          q.perform-done.result.accounts (answer_values q.perform-done.result.answer) l.loop-heap.invariant.2
+          (stepped (goal.at.loop-heap-preserved c).After-perform-done),
+      run_more (whole (goal.at.loop-heap-preserved c).At-loop-heap) a.at a.output.now l.loop-heap.output p.put_answer-place.new.output l.loop-heap.place
+          p.put_answer-place.result (answer_of (goal.at.loop-heap-preserved c).After-perform-done)
           (behind (goal.at.loop-heap-preserved c).After-perform-done) e.requires.2
-          (subst (so_far (goal.at.loop-heap-preserved c).At-loop-heap) (made (goal.at.loop-heap-preserved c).After-perform-done) l.loop-heap.invariant.3) p.put_answer-place.ensures,
+          (subst (so_far (goal.at.loop-heap-preserved c).At-loop-heap) (made (goal.at.loop-heap-preserved c).After-perform-done) l.loop-heap.invariant.3)
+          p.put_answer-place.ensures,
     )

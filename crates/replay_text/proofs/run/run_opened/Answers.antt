@@ -65,7 +65,8 @@ run_calls-requires c =
           p.put_ok-at.result
           (subst (λ (x : List ℕ). Room 0 x a.output.now)
           (sym (opened_runs a.heap.now a.grants o.open_plain-opened.new.heap o.open_plain-opened.result.accounts o.open_plain-opened.result.verdict
-          o.open_plain-opened.ensures v.verdict_refusal-refusal.result v.verdict_refusal-refusal.ensures ls x.if-refusal-ne0.false)) e.requires.2) p.put_ok-at.ensures,
+          o.open_plain-opened.ensures v.verdict_refusal-refusal.result v.verdict_refusal-refusal.ensures ls x.if-refusal-ne0.false)) e.requires.2)
+          p.put_ok-at.ensures,
     )
 
 pub returns : goal.returns

@@ -1,6 +1,5 @@
 use borrow.Author.Rules.{rules}
 use native.Mathlib.Omega.{arith}
-use Prim.Native.Nat.{◌-◌}
 use Rattle.replay_text.proofs.Marks.{absent_start, absent_more}
 use Rattle.replay_text.proofs.tokens.find_mark.Goals as goal
 

@@ -1,6 +1,6 @@
 use borrow.Author.Rules.{rules}
 use native.Mathlib.Omega.{arith}
-use Prim.Native.Nat.{◌+◌, ◌-◌}
+use Prim.Native.Nat.{◌+◌}
 use mathlib.Core.Path.{refl, sym, ◌∙◌}
 use Rattle.replay_text.proofs.Reading.{same_start, same_apart, same_differ, same_turn, same_done}
 use Rattle.replay_text.proofs.tokens.is_same.Goals as goal

@@ -1,4 +1,4 @@
-use Prim.Native.Nat.{◌+◌, ◌-◌, ◌^◌}
+use Prim.Native.Nat.{◌+◌, ◌^◌}
 use native.Mathlib.Omega.{arith}
 use mathlib.Core.Path.{◌≡◌, ap, sym, subst, ◌∙◌}
 use Rattle.layout.specs.Blocks.{start_at}
@@ -61,7 +61,8 @@ joined-tally-requires c =
     let b = t.loop-header.invariant.1 in (
       within_more t.loop-header.at (2 ^ 62) t.loop-header.tally (omega arith) t.loop-header.invariant.0.small,
       within_more (block (goal.at.joined-tally-requires c).After-struct_known-1).size (2 ^ 62) c.single.result (omega arith)
-          (subst (λ (x : Tally). Within (block (goal.at.joined-tally-requires c).After-struct_known-1).size x) (sym (alone c)) (single_within (block (goal.at.joined-tally-requires c).After-struct_known-1) (omega arith))),
+          (subst (λ (x : Tally). Within (block (goal.at.joined-tally-requires c).After-struct_known-1).size x) (sym (alone c))
+          (single_within (block (goal.at.joined-tally-requires c).After-struct_known-1) (omega arith))),
     )
 
 pub overflow_add-at : goal.overflow_add-at
@@ -80,8 +81,10 @@ pub loop-header-preserved : goal.loop-header-preserved
 loop-header-preserved c =
     let e = c in
     let t = e in (
-      subst (λ (x : Tally). Tallied e.args.heap.now (t.loop-header.at + (block (goal.at.loop-header-preserved c).After-struct_known-1).size) x) (sym (c.joined-tally.ensures ∙ ap (joined t.loop-header.tally) (alone (goal.at.loop-header-preserved c).After-single)))
-          (tallied_next e.args.heap.now t.loop-header.at t.loop-header.tally t.loop-header.invariant.0 (block (goal.at.loop-header-preserved c).After-struct_known-1)
+      subst (λ (x : Tally). Tallied e.args.heap.now (t.loop-header.at + (block (goal.at.loop-header-preserved c).After-struct_known-1).size) x)
+          (sym (c.joined-tally.ensures ∙ ap (joined t.loop-header.tally) (alone (goal.at.loop-header-preserved c).After-single)))
+          (tallied_next e.args.heap.now t.loop-header.at t.loop-header.tally t.loop-header.invariant.0
+          (block (goal.at.loop-header-preserved c).After-struct_known-1)
           (met_block t.loop-header.at e.args.heap.now e.in-Block.header (found (goal.at.loop-header-preserved c).After-struct_known-1))),
       t.loop-header.invariant.1,
     )
