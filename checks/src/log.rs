@@ -8,13 +8,14 @@ use std::collections::HashSet;
 /// A file of a crate and a line of it.
 type At<'a> = (&'a str, usize);
 
-/// The edit that a line of the log has as refused, as `crate/label`, and the file and line of its first error, if rt
-/// names these: `rt: must-fail words/adds.edit: refused, as it must be: ./proofs/A.antt:2:5: error: ..`, or `note:
+/// The edit that a line of the log has as refused, as `crate/label`, and the file and line of its first error. Only a limit
+/// of the prover may have none: `rt: must-fail words/adds.edit: refused, as it must be: ./proofs/A.antt:2:5: error: ..`, or `note:
 /// src/lib.rt:2:5: ..`.
 fn first_error(line: &str) -> Option<(&str, Option<At<'_>>)> {
     let (_, rest) = line.split_once("must-fail ")?;
     let (label, rest) = rest.split_once(".edit: refused, as it must be")?;
-    Some((label, rest.split_whitespace().find_map(at)))
+    let found = rest.split_whitespace().find_map(at);
+    (found.is_some() || rest.starts_with(" (only by a limit")).then_some((label, found))
 }
 
 /// A word such as `./proofs/A.antt:2:5:` as a place.
@@ -128,13 +129,15 @@ mod tests {
             first_error(LINE),
             Some(("words/adds", Some(("proofs/A.antt", 2))))
         );
-        let note = "rt: must-fail words/a.edit: refused, as it must be (only by a limit: so): note: src/lib.rt:7:1: it is";
+        let note = "rt: must-fail words/a.edit: refused, as it must be (only by a limit, so): note: src/lib.rt:7:1: it is";
         assert_eq!(
             first_error(note),
             Some(("words/a", Some(("src/lib.rt", 7))))
         );
         let bare = "rt: must-fail words/a.edit: refused, as it must be";
-        assert_eq!(first_error(bare), Some(("words/a", None)));
+        assert_eq!(first_error(bare), None);
+        let limit = format!("{bare} (only by a limit of the prover): out of steps");
+        assert_eq!(first_error(&limit), Some(("words/a", None)));
         assert_eq!(first_error("rt: words proved"), None);
     }
 
