@@ -21,6 +21,7 @@ use Rattle.accounts.specs.Accounts.{with_last_serial, grants, granted, opened}
 use Rattle.accounts.specs.Accounts.{quota_at, remaining, spent, put_quota, change_quota, less_paid, paid_back, charged, refunded, charge, refund}
 use Rattle.accounts.specs.Accounts.{without, clear_permissions, used}
 use Rattle.accounts.specs.Accounts.{is_for, first_from, hold_at, put_hold}
+use Rattle.accounts.proofs.Rows
 
 -- the first record that passes a test stands at place i
 pub record First (p : Hold → Bool) (hs : List Hold) (i : ℕ) : Type 0 where

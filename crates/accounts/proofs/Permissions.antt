@@ -9,6 +9,7 @@ use borrow.Author.Tests.{ne_eqb, eq-eqb}
 use Rattle.accounts.specs.declared.Quota.{Quota}
 use Rattle.accounts.specs.declared.Accounts.{Accounts}
 use Rattle.accounts.specs.Accounts.{zero_quota, bit_left, cleared, left_permissions}
+use Rattle.accounts.proofs.Rows
 
 -- a bit is left where the number's bit is not set
 pub bit_stays : (n p : ℕ) → n % 2 ≡ 0 → bit_left n p ≡ p % 2

@@ -21,6 +21,7 @@ use Rattle.ledger.specs.Demand3.{Holds}
 use Rattle.ledger.proofs.Theorem.{demand_3}
 use Rattle.results.specs.Results.{opened_outcome, opened_result}
 use Rattle.histories.specs.Performs.{Granted, Performs, Opens, Calls, Writes}
+use Rattle.histories.proofs.CallRows
 
 -- what the contracts of `in_place::open` and `in_place::perform` promise, word for word, are the first event and the
 -- next one

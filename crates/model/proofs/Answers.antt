@@ -21,6 +21,7 @@ use Rattle.model.specs.Step.{Answered, step, performed}
 use Rattle.model.specs.Answers.{Values, refusal_number, zero_handle, zero_range, refused, accepted, listed, amount_of}
 use Rattle.model.specs.Answers.{verdict_values, handle_values, amount_values, range_values, block_values, answer_values}
 use Rattle.model.specs.Answers.{refusals, refusal_at, answer_from, verdict_from, handle_from, amount_from, range_from, block_from, answer_of}
+use Rattle.model.proofs.Rows
 use Rattle.lists.proofs.Bools.{and_left, and_right}
 use Rattle.model.specs.Rows.{call_lines}
 use Rattle.model.proofs.Refusals.{tables}

@@ -13,6 +13,7 @@ use lib.Dec.{leb, ltb}
 use borrow.Author.Tests.{leb-true, leb-false, ltb-true, ltb-false, le-leb, lt-leb, lt-ltb, le-ltb}
 use Rattle.layout.specs.Blocks.{Block, size, occupied}
 use Rattle.model.specs.Space.{outside_occupied, suitable, first_candidate, lowest_base}
+use Rattle.model.proofs.Rows
 use Rattle.lists.proofs.Bools.{and_left, and_right, and_both, and_no, or_neither, fails}
 
 -- b is so many steps behind the start, passes the test, and no earlier candidate does

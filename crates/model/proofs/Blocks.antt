@@ -16,6 +16,7 @@ use Rattle.lists.specs.Lists.{all, total}
 use Rattle.model.specs.Objects.{object, objects_from}
 use Rattle.model.specs.Consistent.{starts_free, free_apart}
 use Rattle.model.specs.declared.Handle.{Handle}
+use Rattle.model.proofs.Rows
 use Rattle.lists.proofs.Bools.{and_left, and_right, and_both, or_left}
 
 -- the size is a multiple of 8

@@ -19,6 +19,7 @@ use Rattle.model.specs.Objects.{objects_from, objects}
 use Rattle.model.specs.Consistent.{long_enough, starts_free, free_apart, well_cut}
 use Rattle.model.specs.Space.{outside_occupied, suitable, left_over, cut_block, carve_from, carve}
 use Rattle.model.specs.declared.Handle.{Handle}
+use Rattle.model.proofs.Rows
 use Rattle.lists.proofs.Bools.{and_left, and_right, and_both, and_no, or_right}
 use Rattle.lists.proofs.Lists.{all_append, total_append}
 use Rattle.model.proofs.Blocks.{whole_size, Whole, whole_total, objects_live, objects_free, objects_append, apart_head, apart_tail, apart_cons}

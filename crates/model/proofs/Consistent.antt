@@ -25,6 +25,7 @@ use Rattle.model.specs.Consistent.{long_enough, starts_free, free_apart, well_cu
 use Rattle.model.specs.Consistent.{records_differ, is_of, held, charges, balanced_from, accounted_blocks, accounted_parsed, accounted, consistent}
 use Rattle.model.specs.Consistent.{in_units, in_kind, in_range, greatest_serial}
 use Rattle.model.specs.declared.Handle.{Handle}
+use Rattle.model.proofs.Rows
 use Rattle.lists.proofs.Bools.{and_left, and_right, and_both, or_cases, or_left, or_right, implies, implied, fails}
 use Rattle.lists.proofs.Lists.{all_member, member_all, none_member, all_exactly, any_exactly, any_and, unrelated, unrelated_places, places_unrelated}
 

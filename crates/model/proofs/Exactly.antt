@@ -18,6 +18,7 @@ use Rattle.lists.specs.Lists.{all}
 use Rattle.model.specs.Objects.{objects, objects_of, blocks_of}
 use Rattle.model.specs.Consistent.{in_units, in_kind, in_range, greatest_serial, accounted, consistent}
 use Rattle.model.specs.declared.Handle.{Handle}
+use Rattle.model.proofs.Rows
 use Rattle.lists.proofs.Bools.{and_left, and_right, and_both, implies, implied}
 use Rattle.lists.proofs.Lists.{all_exactly}
 use Rattle.model.proofs.Consistent.{Accounted, accounted_is, blocks_parsed}

@@ -21,6 +21,7 @@ use Rattle.model.specs.Refusals.{claims_first}
 use Rattle.model.specs.Consistent.{charge_of}
 use Rattle.model.specs.Calls.{State, allocated, claimed, given_back, released, freed, copied}
 use Rattle.model.specs.declared.Handle.{Handle}
+use Rattle.model.proofs.Rows
 use Rattle.lists.proofs.Bools.{and_left, and_right, and_both, and_no}
 
 -- from k to k' every grant stays, every quota but those that pay, each record at a place that passes a test, how many quotas and records there are, and the

@@ -23,6 +23,7 @@ use Rattle.model.specs.Consistent.{accounted, has_record, charged_for, charges}
 use Rattle.model.specs.Refusals.{first_refusal, free_all_lines}
 use Rattle.model.specs.Calls.{State, leaves, unless, unchanged, state_of, freed, free_all}
 use Rattle.model.specs.declared.Handle.{Handle}
+use Rattle.model.proofs.Rows
 use Rattle.lists.proofs.Bools.{and_both}
 use Rattle.model.proofs.Consistent.{Tests, tests_exactly, accounted_cut, accounted_apart, accounted_facts, is_for_exactly}
 use Rattle.model.proofs.Settle.{stays_objects, drop_none, settle_none}

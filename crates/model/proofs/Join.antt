@@ -15,6 +15,7 @@ use Rattle.model.specs.Objects.{objects_from}
 use Rattle.model.specs.Consistent.{long_enough, starts_free, free_apart}
 use Rattle.model.specs.Space.{join_front, join_free}
 use Rattle.model.specs.Joining.{append_joined, join_neighbours}
+use Rattle.model.proofs.Rows
 use Rattle.lists.proofs.Bools.{and_left, and_right, and_both}
 use Rattle.model.proofs.Blocks.{whole_size, Whole, objects_free, apart_head, apart_tail, apart_cons, free_not_live}
 

@@ -22,6 +22,7 @@ use Rattle.model.specs.Objects.{blocks_of}
 use Rattle.model.specs.Refusals.{first_refusal, check_lines}
 use Rattle.model.specs.Calls.{unless, unchanged, listing_from, list_block}
 use Rattle.model.specs.declared.ListedBlock.{ListedBlock}
+use Rattle.model.proofs.Rows
 use Rattle.lists.proofs.Bools.{and_both}
 use Rattle.lists.proofs.Lists.{member_any, first_some, first_found, first_none, none_exactly, total_append, unrelated, unrelated_same}
 

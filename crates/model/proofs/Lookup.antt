@@ -20,6 +20,7 @@ use Rattle.model.specs.Objects.{object, objects_from, objects, blocks_of, object
 use Rattle.model.specs.Consistent.{accounted, has_serial, serials_differ, records_differ}
 use Rattle.model.specs.declared.Handle.{Handle}
 use Rattle.model.proofs.Blocks.{live_occupied}
+use Rattle.model.proofs.Rows
 use Rattle.lists.proofs.Bools.{and_left, and_right, and_both}
 use Rattle.lists.proofs.Lists.{first_some, first_none, first_found, member_any, search_some, search_none, unrelated_same}
 use Rattle.model.proofs.Consistent.{is_for_exactly, serials_unrelated, records_unrelated, same_hold, tests_exactly, accounted_cut}

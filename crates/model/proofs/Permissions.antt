@@ -32,6 +32,7 @@ use Rattle.model.specs.declared.Handle.{Handle}
 use Rattle.model.specs.declared.Call.{Call}
 use Rattle.model.specs.declared.Call.TheVariants.{Allocate, AllocateArray, Claim, Release, FreeAll, Reallocate, Lend, Remaining, CanRelease, ListBlock}
 use Rattle.model.specs.declared.Call.TheVariants.{ClearPermissions, Sweep}
+use Rattle.model.proofs.Rows
 use Rattle.lists.proofs.Bools.{and_both, and_left, and_right, and_no, and_yes}
 
 -- payments leave the permissions

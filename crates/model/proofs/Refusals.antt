@@ -29,6 +29,7 @@ use Rattle.model.specs.declared.Call.{Call}
 use Rattle.model.specs.declared.Call.TheVariants.{Allocate, AllocateArray, Claim, Release, FreeAll, Reallocate, Lend, Remaining, CanRelease}
 use Rattle.model.specs.declared.Call.TheVariants.{ListBlock}
 use Rattle.model.specs.declared.Call.TheVariants.{ClearPermissions, Sweep}
+use Rattle.model.proofs.Rows
 use Rattle.lists.proofs.Bools.{and_left, and_right}
 
 -- no line has the number 0, which stands for no refusal

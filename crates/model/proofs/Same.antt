@@ -18,6 +18,7 @@ use Rattle.layout.proofs.Numbers.{bytes_length}
 use Rattle.layout.proofs.Overwrite.{length_overwrite, get_d_front, get_or_behind}
 use Rattle.layout.proofs.Fields.{header_length}
 use Rattle.model.proofs.Touched.{within}
+use Rattle.model.proofs.Rows
 use Rattle.lists.proofs.Bools.{and_no}
 
 -- a place that is not from start up to end is before start or from end on, and the other way round

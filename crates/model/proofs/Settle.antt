@@ -17,6 +17,7 @@ use Rattle.model.specs.Consistent.{long_enough, free_apart, well_cut, held}
 use Rattle.model.specs.Space.{join_front, join_free, vacates, vacant, vacate, stays, changed, reclaim, settle}
 use Rattle.model.specs.Joining.{join_neighbours}
 use Rattle.model.specs.declared.Handle.{Handle}
+use Rattle.model.proofs.Rows
 use Rattle.lists.proofs.Bools.{and_left, and_right, and_both, or_left, or_right, or_neither, implies}
 use Rattle.lists.proofs.Lists.{total_append}
 use Rattle.model.proofs.Blocks.{whole_size, Whole, objects_live, objects_free, live_occupied}

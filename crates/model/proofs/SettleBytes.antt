@@ -19,6 +19,7 @@ use Rattle.lists.specs.Lists.{total}
 use Rattle.model.specs.Consistent.{starts_free, free_apart, held}
 use Rattle.model.specs.Space.{join_front, join_free, vacates, vacate, changed, reclaim, settle}
 use Rattle.model.proofs.Touched.{within, starts_changed, reclaim_touches, settle_touches}
+use Rattle.model.proofs.Rows
 use Rattle.lists.proofs.Bools.{and_left}
 use Rattle.model.proofs.Blocks.{apart_head, apart_tail, live_occupied}
 use Rattle.model.proofs.Join.{joined, join_apart, join_assoc}

@@ -13,6 +13,7 @@ use Rattle.model.specs.Consistent.{long_enough, free_apart, well_cut}
 use Rattle.model.specs.Space.{join_front, join_free, changed, reclaim, unquarantine, not_quarantined, swept}
 use Rattle.model.specs.Joining.{join_neighbours}
 use Rattle.model.proofs.Touched.{sweep_touches}
+use Rattle.model.proofs.Rows
 use Rattle.lists.proofs.Bools.{and_left, and_right, and_both}
 use Rattle.lists.proofs.Lists.{total_append}
 use Rattle.model.proofs.Blocks.{whole_size, Whole, objects_free}

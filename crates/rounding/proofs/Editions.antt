@@ -5,6 +5,7 @@ use mathlib.Core.Path.{◌≡◌, refl}
 use borrow.Author.Tests.{le-leb}
 use Rattle.rounding.specs.Rounding.{unit, rows_2, unit_2, table, Units, object_length}
 use Rattle.rounding.proofs.Rounding.{multiple_stable, by_rows, by_row, unit_is}
+use Rattle.rounding.proofs.Rows
 
 -- what holds of each row's unit on its row holds of the unit of any length
 module _ (P : ℕ → Type 0) (n : ℕ)

@@ -11,6 +11,7 @@ use lib.Arith.{digits_div}
 use lib.Dec.{leb}
 use borrow.Author.Tests.{leb-true, leb-false}
 use Rattle.rounding.specs.Rounding.{by, rows, unit, Units, object_length, alignment, leading_zeros, exponent, representable_alignment}
+use Rattle.rounding.proofs.Rows
 
 -- what an object's length is to the request
 pub record Rounded (u : ℕ → ℕ) (n : ℕ) : Type 0 where

@@ -10,6 +10,7 @@ use lib.Pow.{pow_pos, pow_mono}
 use lib.Count.{count_leading_zeros, leading_unique}
 use borrow.Author.Tests.{leb-true, leb-false, ltb-true, ltb-false}
 use Rattle.rounding.specs.Rounding.{leading_zeros}
+use Rattle.rounding.proofs.Rows
 
 le_or_lt : (a b : ℕ) → (a ≤ b) ⊎ (b < a)
 le_or_lt a b = go (leb a b) refl
