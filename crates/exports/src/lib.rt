@@ -2,6 +2,7 @@
 // the refusal's number, 0 where the call is accepted, and what is answered, else zeros. Every call works in place. No
 // call asks anything of its caller but that each pointer and length are those of memory that is its own.
 #![tactic(auto)]
+
 mod comparisons;
 mod counts;
 mod heaps;

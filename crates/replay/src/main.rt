@@ -1,5 +1,6 @@
 // The replay program: it reads standard input, has it replayed, and writes what that prints to standard output.
 #![tactic(auto)]
+
 ghost use Rattle.std.specs.Prelude.{◌≡◌, length};
 ghost use Rattle.io.specs.Counts.{IsPrefixLen};
 ghost use Rattle.replay_model.specs.Replay.{OUTPUT as OutputLength};

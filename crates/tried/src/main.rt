@@ -2,6 +2,7 @@
 // compares what each leaves with what is expected: every byte of a heap and of a buffer, every word of accounts. It
 // prints a line for each function.
 #![tactic(auto)]
+
 mod answers;
 mod calls;
 mod comparing;

@@ -9,9 +9,9 @@ use Rattle.exports.proofs.replies.reply_of_block.Goals as goal
 pub returns-in-Listed : goal.returns-in-Listed
 unfolding block_values found_block reply_with
 returns-in-Listed c = record {
-      answers = sym (ap block_values c.in-Listed.is);
-      zeros = refl;
-    }
+  answers = sym (ap block_values c.in-Listed.is);
+  zeros = refl;
+}
 
 pub returns-in-NoBlock : goal.returns-in-NoBlock
 unfolding block_values found_block reply_with
