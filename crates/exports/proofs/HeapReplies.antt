@@ -7,7 +7,7 @@ use mathlib.Core.Option.{Option, none, some}
 use Rattle.accounts.specs.declared.Accounts.{Accounts}
 use Rattle.model.specs.declared.ListedBlock.{ListedBlock}
 use Rattle.model.specs.Answers.{Values, zero_handle, refused}
-use Rattle.model.specs.Calls.{Outcome, check}
+use Rattle.model.specs.Calls.{check}
 use Rattle.model.proofs.Refusals.{changes_nothing}
 use Rattle.words.specs.Words.{accounts_of}
 use Rattle.results.specs.Results.{outcome}

@@ -3,7 +3,6 @@ use mathlib.Core.Path.{◌≡◌, refl}
 use mathlib.Core.List.{List, [], ◌∷◌, map}
 use Prim.Native.Nat.{ℕ}
 use Rattle.words.specs.Words.{accounts_of}
-use Rattle.model.specs.Answers.{zero_handle}
 use Rattle.model.specs.declared.Handle.{Handle}
 use Rattle.model.specs.declared.Refusal.TheVariants.{NotHeld, NotPermitted}
 use Rattle.queue.specs.declared.QueueRefusal.TheVariants.{Damaged, Full, Empty, Heap}

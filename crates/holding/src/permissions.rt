@@ -1,7 +1,7 @@
 // The call that takes permissions away from a quota (rules, section 15).
 ghost use Rattle.std.specs.Prelude.{◌≡◌};
 ghost use Rattle.rounding.specs.Rounding.{table};
-ghost use Rattle.model.specs.Calls.{clear as Clear-of};
+ghost use Rattle.model.specs.Calls.{clear as clear_of};
 ghost use Rattle.results.specs.Results.{amount_outcome, amount_result};
 ghost use Rattle.words.specs.Words.{edition_of, accounts_of, Padded};
 
@@ -17,7 +17,7 @@ pub fn clear_permissions(
     bits: u32,
 ) -> AmountAnswer
     ensures holds { amount_outcome heap.now (amount_result words.new result)
-        ≡ Clear-of (table (edition_of words.old)) heap.now (accounts_of words.old) quota bits }
+        ≡ clear_of (table (edition_of words.old)) heap.now (accounts_of words.old) quota bits }
     ensures pads { Padded words.old words.new }
 {
     let known = survey::survey(heap, words, survey::unasked());

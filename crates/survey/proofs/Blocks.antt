@@ -3,7 +3,7 @@ use Rattle.std.proofs.Common.{◌≡◌, ℕ, ◌+◌, List, length, refl, ap, �
 use mathlib.Core.Option.{Option, none, some}
 use Rattle.layout.specs.Blocks.{header_at, start_at}
 use Rattle.layout.specs.declared.Start.{Start}
-use Rattle.layout.specs.declared.Start.TheVariants.{Block as Starts, Nothing as No-start}
+use Rattle.layout.specs.declared.Start.TheVariants.{Block as Starts, Nothing as NoStart}
 use Rattle.layout.proofs.Starts.{start_found}
 use Rattle.lists.specs.Lists.{first}
 use Rattle.model.specs.declared.Handle.{Handle}
@@ -19,7 +19,7 @@ unfolding met_at block_at header_at
 met_block_at at s m = go (start_at at s) refl
   where
     go : (x : Start) → start_at at s ≡ x → met_start at x ≡ Found m → headed at (header_at at s) ≡ m
-    go No-start e t = let z : ◌≡◌ {A = ℕ} 0 1 = cc in absurd (omega arith)
+    go NoStart e t = let z : ◌≡◌ {A = ℕ} 0 1 = cc in absurd (omega arith)
     go (Starts h) e t =
         let q : headed at h ≡ m = cc in
         let f = start_found at s h e in

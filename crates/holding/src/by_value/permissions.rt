@@ -1,7 +1,7 @@
 // The call that takes permissions away from a quota (rules, section 15).
 ghost use Rattle.std.specs.Prelude.{◌≡◌};
 ghost use Rattle.rounding.specs.Rounding.{table};
-ghost use Rattle.model.specs.Calls.{clear as Clear-of};
+ghost use Rattle.model.specs.Calls.{clear as clear_of};
 ghost use Rattle.results.specs.Results.{amount_outcome};
 
 use accounts::{Accounts, QUOTAS};
@@ -10,7 +10,7 @@ use results::AmountResult;
 
 // Rule 15.4: those permissions of a quota are cleared whose bit is set in a number: bit 0 is allocate, 1 claim, 2 free-all. The answer is what is left.
 pub fn clear_permissions(heap: &[u8], accounts: Accounts, quota: u32, bits: u32) -> AmountResult
-    ensures { amount_outcome heap.now result ≡ Clear-of (table accounts.edition) heap.now accounts quota bits }
+    ensures { amount_outcome heap.now result ≡ clear_of (table accounts.edition) heap.now accounts quota bits }
 {
     if let Verdict::Refused(refusal) = survey::check(heap, accounts) {
         return AmountResult::refused(accounts, refusal);

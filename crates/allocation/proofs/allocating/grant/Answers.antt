@@ -47,7 +47,7 @@ returns-then-low-ge-HOLDS c =
     let start = at_remaining in
     let a = start.args in
     record {
-      holds = λ n d. unrecorded start.requires d _ (omega (arith, else1.if-remaining-charge.false, at_remaining.remaining.ensures))
+      holds = λ n d. unrecorded start.requires d _ (omega (arith, at_remaining.remaining.ensures))
           (place_nothing a.low c.if-low-ge-HOLDS.true) refl;
       pads = padded_same a.words.now;
       keeps = λ t l. refl;
@@ -62,7 +62,7 @@ returns-then-last-ge-GREATEST_SERIAL c =
     let start = at_remaining in
     let a = start.args in
     record {
-      holds = λ n d. unnumbered start.requires d _ (omega (arith, else1.if-remaining-charge.false, at_remaining.remaining.ensures)) a.low
+      holds = λ n d. unnumbered start.requires d _ (omega (arith, at_remaining.remaining.ensures)) a.low
           (place_at a.low (omega (arith, else2.if-low-ge-HOLDS.false)))
           (omega (arith, c.if-last-ge-GREATEST_SERIAL.true, at-last-serial.last_serial-last.ensures)) refl;
       pads = padded_same a.words.now;
@@ -80,7 +80,7 @@ returns-in_default c =
     let start = at_remaining in
     let a = start.args in
     record {
-      holds = λ n d. unplaced start.requires d _ (omega (arith, else1.if-remaining-charge.false, at_remaining.remaining.ensures)) a.low
+      holds = λ n d. unplaced start.requires d _ (omega (arith, at_remaining.remaining.ensures)) a.low
           (place_at a.low (omega (arith, else2.if-low-ge-HOLDS.false)))
           (omega (arith, else3.if-last-ge-GREATEST_SERIAL.false, at-last-serial.last_serial-last.ensures)) (sym at_room.room.ensures ∙ c.in_default.is) refl;
       pads = padded_same a.words.now;
@@ -121,7 +121,7 @@ returns c =
     let done : handle_result next.new.words c.given.result ≡ result_of a.quota a.size a.low b.in-At.base k =
     (λ j. record { accounts = booked j; answer = answer j }) in
     record {
-      holds = λ n d. made start.requires d _ (omega (arith, else1.if-remaining-charge.false, at_remaining.remaining.ensures)) a.low low
+      holds = λ n d. made start.requires d _ (omega (arith, at_remaining.remaining.ensures)) a.low low
           (omega (arith, else3.if-last-ge-GREATEST_SERIAL.false, at-last-serial.last_serial-last.ensures)) (octets (goal.at.returns c).After-slice_known-1)
           b.in-At.block b.in-At.base
           (sym at_room.room.ensures ∙ b.in-At.is) at-carve.carve.new.heap
