@@ -20,6 +20,7 @@ fn put_lines(text: &mut [u8], grants: [u32; QUOTAS])
 }
 
 // The grants as a line each, written at the front of a lent text; bytes behind them stay. Without room nothing is written.
+#[tactic(auto, using(crate::proofs::Exports::export_room))]
 pub fn export_grants(text: &mut [u8], grants: [u32; QUOTAS]) -> ExportAnswer
     ensures { text_told text.new result ≡ export_told (export_of text.old grants) }
 {

@@ -6,6 +6,7 @@ ghost use Rattle.std.specs.Prelude.{◌≡◌, ◌≤◌};
 ghost use Rattle.rounding.specs.Rounding.{unit as unit_1, unit_2, table, object_length, leading_zeros, power as power_of, by_zeros};
 
 // Edition 1's unit of a length, row by row.
+#[tactic(auto, unfolding(crate::specs::Rounding::unit))]
 fn first_unit(length: u32) -> u32
     ensures { result ≡ unit_1 length }
 {

@@ -6,12 +6,6 @@ use borrow.Author.Tests.{not-true, not-false}
 use Rattle.layout.proofs.Starts.{start_header, start_no}
 use Rattle.layout.proofs.start_at.Goals as goal
 
-pub returns-then-size-lt1 : goal.returns-then-size-lt1
-returns-then-size-lt1 c =
-    let r = c in
-    let a = r.args in
-    sym (start_no a.at a.heap.now (sym r.header_at-header.ensures.0) (λ p. absurd (omega arith)))
-
 pub returns-then-not-ends_by : goal.returns-then-not-ends_by
 returns-then-not-ends_by c =
     let r = c in

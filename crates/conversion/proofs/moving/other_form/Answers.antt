@@ -18,7 +18,7 @@ unfolding shape_parts
 returns-then-number-gt22 c k =
     let n = c in
     let s = n in
-    other_behind (image_refusal_number s.in-Refused.refusal) (omega (arith, c.if-number-gt22.true, n.number.ensures))
+    other_behind (image_refusal_number s.in-Refused.refusal) (omega (arith, n.number.ensures))
     ∙ sym (ap (λ (x : Shape). other_form (shape_parts x k).refusal) s.in-Refused.is)
 
 pub returns : goal.returns
@@ -27,5 +27,5 @@ returns c k =
     let n = c in
     let s = n in
     let r = s.in-Refused.refusal in
-    other_before (image_refusal_number r) (image_refusal_is r).1 (omega (arith, c.if-number-gt22.false, n.number.ensures))
+    other_before (image_refusal_number r) (image_refusal_is r).1 (omega (arith, n.number.ensures))
     ∙ sym (ap (λ (x : Shape). other_form (shape_parts x k).refusal) s.in-Refused.is)

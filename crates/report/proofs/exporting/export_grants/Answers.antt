@@ -2,13 +2,8 @@
 use native.Mathlib.Omega.{arith}
 use mathlib.Core.Path.{ap}
 use Rattle.report.specs.Export.{export_told}
-use Rattle.report.proofs.Exports.{export_room, export_put}
+use Rattle.report.proofs.Exports.{export_put}
 use Rattle.report.proofs.exporting.export_grants.Goals as goal
-
-pub returns-then-text-lt-REPORT_LENGTH : goal.returns-then-text-lt-REPORT_LENGTH
-returns-then-text-lt-REPORT_LENGTH c =
-    let a = c.args in
-    ap export_told (export_room a.text.now a.grants (omega arith))
 
 pub returns : goal.returns
 returns c =
