@@ -76,7 +76,8 @@ pending != "" { add_callee(pending); pending = "" }
 /\tj[a-z]+ .*<[^+>]+>$/ && $NF != "<" current ">" { pending = substr($NF, 2, length($NF) - 2) }
 /\tjmp +\*%/ && (current in inside) && !(current in outside) { next }
 /\t(call|jmp) +\*/ { stop("a call through a pointer") }
-# A long frame is taken a page or three quarters of one at a time, in a loop that ends where %r11 says: it takes what %r11 is below the stack pointer.
+# A long frame is taken a page or three quarters of one at a time, in a loop that ends where %r11 says: it takes what
+# %r11 is below the stack pointer.
 /\tmov +%rsp,%r11$/ { probing = 1; next }
 probing == 1 { if (!/\tsub +\$0x[0-9a-f]+,%r11$/) stop("'" $0 "'"); frame[current] += number($0); probing = 2; next }
 probing == 2 { if (!/\tsub +\$0x(1000|c00),%rsp$/) stop("'" $0 "'"); probing = 3; next }

@@ -1,11 +1,13 @@
-# Takes the text of the proved build's LLVM module and takes off what is for x86-64 alone: the data layout, the target, the attributes of that processor, and
-# the wrappers that pass structs as C does there. What a wrapper calls becomes visible as lokhazim_core_NAME; it takes every struct by
-# pointer, and a lent slice as its address and a length of 64 bits, which all processors pass alike. An answer that is a pair of numbers comes from the module as two
-# values, which C can take on no processor: there lokhazim_core_NAME is written here, calls that function and stores the two where its first argument points.
-# The files port/*.c give C's functions over these.
-# A function that is to be left out stays hidden, so that the compiler drops it with all that it alone calls. A function that stands by itself in the proved
-# library is not put into its caller: else its frame would be there while another function with a large one runs, and a call would need twice the stack.
-# Nothing else is changed. It stops where the module is not of the form that it knows.
+# Takes the text of the proved build's LLVM module and takes off what is for x86-64 alone: the data layout, the
+# target, the attributes of that processor, and the wrappers that pass structs as C does there. What a wrapper calls
+# becomes visible as lokhazim_core_NAME; it takes every struct by pointer, and a lent slice as its address and a
+# length of 64 bits, which all processors pass alike. An answer that is a pair of numbers comes from the module as two
+# values, which C can take on no processor: there lokhazim_core_NAME is written here, calls that function and stores
+# the two where its first argument points. The files port/*.c give C's functions over these. A function that is to be
+# left out stays hidden, so that the compiler drops it with all that it alone calls. A function that stands by itself
+# in the proved library is not put into its caller: else its frame would be there while another function with a large
+# one runs, and a call would need twice the stack. Nothing else is changed. It stops where the module is not of the
+# form that it knows.
 # Usage: awk -v crate=NAME -v without=EXPORTED_NAME -f port/retarget.awk NAMES MODULE.ll >CORE.ll
 #   NAMES: a file with the functions that stand by themselves, a line each, such as survey::survey
 
