@@ -1,10 +1,6 @@
--- `tried::replaying::room` meets its contract: a list of one number has its length, which is not counted out.
-use Rattle.std.proofs.Common.{◌≡◌, ℕ, length, sym}
-use Rattle.std.proofs.Math.ListN.{replicate, length-replicate}
+-- `tried::replaying::room` meets its contract: a list of one number has its length.
+use Rattle.tried.proofs.Lengths.{repeated_long}
 use Rattle.tried.proofs.replaying.room.Goals as goal
 
-long : (n : ℕ) → n ≡ length {A = ℕ} (replicate n 170)
-long n = sym (length-replicate n 170)
-
 pub returns : goal.returns
-returns c = long 589824
+returns c = repeated_long 589824 170
